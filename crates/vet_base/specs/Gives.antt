@@ -1,0 +1,18 @@
+-- What a call answers that a definition tells.
+use Rattle.std.specs.Prelude.{◌≡◌, ◌⊎◌, Result, Ok, Err, MatchResult}
+use Rattle.vet_base.specs.declared.refusal.Refusal.{Refusal}
+use Rattle.vet_base.specs.declared.refusal.Refusal.TheVariants.{NoMemory}
+
+-- a value, or the refusal that comes in its place
+abbrev pub Told : Type 0 → Type 0
+Told A = Result A Refusal
+
+-- what is told of a value, or the refusal that was told first
+infixl 10 ◌>>=◌
+abbrev pub ◌>>=◌ : {A B : Type 0} → Told A → (A → Told B) → Told B
+Ok x >>= f = f x
+Err e >>= f = Err e
+
+-- the answer is what is told, as this view sees it, but for want of memory
+abbrev pub Gives : {A T : Type 0} → (T → A) → Told A → Result T Refusal → Type 0
+Gives view told answer = MatchResult answer (λ v. told ≡ Ok (view v)) (λ e. (e ≡ NoMemory) ⊎ (told ≡ Err e))

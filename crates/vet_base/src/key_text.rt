@@ -1,0 +1,65 @@
+//! Paths and keys as a refusal tells them.
+ghost use Rattle.std.specs.Prelude.{◌≡◌, IfOk};
+ghost use Rattle.vet_base.specs.KeyText.{is_visible, told_key};
+
+use crate::limits::MOST_KEY_BYTES;
+use crate::name::are_visible;
+use crate::text::Text;
+use std::alloc::{AllocError, Global};
+use std::fmt;
+use std::marker::Model;
+
+/// A table's path or a key as a refusal tells it: 1 to 200 ASCII characters from `!` to `~`. Any other
+/// path or key is told as `?`.
+#[derive(Clone, Debug, Drop, PartialEq, Eq)]
+pub struct KeyText {
+    text: Text,
+}
+
+impl Model for KeyText {
+    ghost use Rattle.std.specs.Prelude.{◌≡◌, ℕ, List, true};
+    ghost use Rattle.vet_base.specs.KeyText.{is_visible};
+
+    ghost Value = { List ℕ };
+
+    ghost view = { λ k. k.text };
+
+    ghost invariant = { λ k. is_visible k.text ≡ true };
+
+    ghost inverse = { λ t. record { text = t } };
+}
+
+fn is_visible(text: &str) -> bool
+    ensures { result ≡ is_visible text.now }
+{
+    1 <= text.len() && text.len() <= MOST_KEY_BYTES && are_visible(text.as_bytes())
+}
+
+impl KeyText {
+    /// The key or the path as it is told.
+    pub fn told(alloc: Global, key: &str) -> Result<KeyText, AllocError>
+        ensures { IfOk result (λ k. k ≡ told_key key.now) }
+    {
+        let shown = if is_visible(key) { key } else { "?" };
+        Ok(KeyText {
+            text: Text::of(alloc, shown)?,
+        })
+    }
+
+    /// The text that is told.
+    pub fn as_str(&self) -> &str
+        ensures { result.now ≡ self.now }
+    {
+        self.text.as_str()
+    }
+}
+
+impl fmt::Display for KeyText {
+    ghost use Rattle.std.specs.Prelude.{Some};
+
+    ghost output = { λ k. Some k };
+
+    fn fmt<W: fmt::Write>(&self, f: &mut fmt::Formatter<W>) -> fmt::Result {
+        f.write_str(self.text.as_str())
+    }
+}
