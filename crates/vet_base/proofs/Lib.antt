@@ -1,3 +1,10 @@
+pub mod BuiltIn
+pub mod Closing
+pub mod Held
+pub mod Missing
 pub mod OrderLemmas
+pub mod Rising
 pub mod SemverErrors
+pub mod Tables
 pub mod VersionLemmas
+pub mod Walks

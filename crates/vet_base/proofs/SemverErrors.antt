@@ -1,12 +1,11 @@
 -- What SemVer's readers refuse is the text's fault, and never want of memory.
-use Rattle.std.proofs.Common.{◌≡◌, sym, ℕ, ◌+◌, ◌-◌, ◌*◌, ◌^◌, ◌==◌, Bool, true, false, not, nat_le, nat_lt, cond, List, [], ◌∷◌, length, Option, Some, None, zero, suc, inl, inr, Result, Ok, Err, refl, ap, ◌∙◌}
-use Rattle.std.proofs.lemmas.Bool.{cases_Bool, false≢true}
+use Rattle.std.proofs.Common.{◌≡◌, sym, ℕ, ◌+◌, ◌-◌, ◌*◌, ◌^◌, ◌==◌, Bool, true, false, not, nat_le, nat_lt, cond, List, [], ◌∷◌, length, Result, Ok, Err, refl, ap, ◌∙◌}
+use Rattle.std.proofs.lemmas.Bool.{false≢true}
 use Rattle.std.specs.Char.{is_ascii_digit}
 use Rattle.semver.specs.declared.error.Error.{Error}
 use Rattle.semver.specs.declared.error.Position.{Position}
 use Rattle.semver.specs.declared.error.Position.TheVariants as place
-use Rattle.semver.specs.Parse.{◌>>=◌, memory_error, is_memory, is_leading_zero, is_letter, starts_zero, is_bad_zero, numeric, digits_from, digits_end, end_error, dot_of, scan, part_end, identifier_len, identifier_of, tail_end, tail_build, tail_pre, version_parts, strip_spaces, minor_of, minor_part, wildcard_of, patch_number, patch_of, patch_part, pre_part, build_part, op_of, has, comparator_of, comparator_or, comparator_in, Parsed, Held, wild_error_after, wild_error_of, next_text, req_next, req_from, wild_req, req_after, req_of}
-use Rattle.semver.specs.declared.Op.{Op}
+use Rattle.semver.specs.Parse.{◌>>=◌, memory_error, is_memory, is_leading_zero, is_letter, starts_zero, is_bad_zero, numeric, digits_from, digits_end, end_error, dot_of, scan, part_end, identifier_len, identifier_of, tail_end, tail_build, tail_pre, version_parts}
 
 -- the answer is no want of memory
 abbrev pub is_told : {A : Type 0} → Result A Error → Bool

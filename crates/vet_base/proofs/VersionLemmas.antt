@@ -1,5 +1,5 @@
 -- A version's text is read as that version.
-use Rattle.std.proofs.Common.{◌≡◌, ℕ, suc, ◌+◌, ◌<◌, ◌≤◌, ◌==◌, ◌&&◌, nat_lt, true, false, List, [], ◌∷◌, ◌++◌, length, map, drop, get_or, Option, Some, None, IsSome, Result, Ok, Err, option_map, nat_eq, refl, sym, ap, ◌∙◌, arith, inl, inr}
+use Rattle.std.proofs.Common.{◌≡◌, ℕ, suc, ◌+◌, ◌<◌, ◌≤◌, ◌==◌, ◌&&◌, nat_lt, true, false, List, [], ◌∷◌, ◌++◌, length, map, drop, get_or, Some, None, Result, Ok, Err, option_map, nat_eq, refl, sym, ap, ◌∙◌, arith, inl, inr}
 use Rattle.std.proofs.lemmas.Bool.{cases_Bool, and_parts, eqb-true}
 use Rattle.std.proofs.lemmas.Bool.Decides.{nat_tests}
 use Rattle.std.proofs.lemmas.Grind.{common_steps}
@@ -121,12 +121,3 @@ read_version-IsVersion text v e = elim (cases_Bool (nat_lt 256 (length text))) [
         ]
   ]
 ]
-
--- a version is read of V where V is one
-pub option_map-None : {A B : Type 0} (f : A → B) (o : Option A) → option_map f o ≡ None → o ≡ None
-option_map-None f None e = refl
-option_map-None f (Some x) e = cc e
-
-pub option_map-IsSome : {A B : Type 0} (f : A → B) (o : Option A) → IsSome (option_map f o) → IsSome o
-option_map-IsSome f None h = h
-option_map-IsSome f (Some x) h = refl

@@ -1,11 +1,16 @@
 -- What a call answers that a definition tells.
-use Rattle.std.specs.Prelude.{◌≡◌, ◌⊎◌, Result, Ok, Err, MatchResult}
+use Rattle.std.specs.Prelude.{◌≡◌, ◌⊎◌, Option, Some, None, Result, Ok, Err, MatchResult}
 use Rattle.vet_base.specs.declared.refusal.Refusal.{Refusal}
 use Rattle.vet_base.specs.declared.refusal.Refusal.TheVariants.{NoMemory}
 
 -- a value, or the refusal that comes in its place
 abbrev pub Told : Type 0 → Type 0
 Told A = Result A Refusal
+
+-- what was found, or the refusal of what lacks
+abbrev pub found_or : {A : Type 0} → Refusal → Option A → Told A
+found_or refusal None = Err refusal
+found_or refusal (Some x) = Ok x
 
 -- what is told of a value, or the refusal that was told first
 infixl 10 ◌>>=◌

@@ -1,5 +1,11 @@
+pub mod Criteria
+pub mod CriteriaSet
+pub mod CriteriaTable
 pub mod Gives
 pub mod KeyText
 pub mod Name
+pub mod Names
+pub mod PlaceLaws
 pub mod Refusal
 pub mod Version
+pub mod VersionOrder

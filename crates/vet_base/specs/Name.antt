@@ -1,5 +1,5 @@
 -- Which texts are names.
-use Rattle.std.specs.Prelude.{ℕ, ◌==◌, ◌&&◌, ◌||◌, nat_le, Bool, List, length}
+use Rattle.std.specs.Prelude.{ℕ, ◌==◌, ◌&&◌, ◌||◌, nat_le, Bool, List, length, Option, Some, None, if◌then◌else◌}
 use Rattle.std.specs.List.{list_all}
 use Rattle.std.specs.Char.{is_ascii_alphanumeric, is_ascii_graphic}
 use Rattle.vet_base.specs.declared.limits.TheConstants.{MOST_NAME_BYTES}
@@ -15,6 +15,13 @@ is_package_byte b = is_ascii_alphanumeric b || (b == 45) || (b == 95)
 abbrev pub is_package_name : List ℕ → Bool
 is_package_name = is_short is_package_byte
 
+-- the name that a text is, if it is one
+abbrev pub read_package_name : List ℕ → Option (List ℕ)
+read_package_name text = if is_package_name text then Some text else None
+
 -- the bytes of other names are the ASCII characters from `!` to `~`
 abbrev pub is_name : List ℕ → Bool
 is_name = is_short is_ascii_graphic
+
+abbrev pub read_name : List ℕ → Option (List ℕ)
+read_name text = if is_name text then Some text else None

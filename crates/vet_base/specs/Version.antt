@@ -1,22 +1,14 @@
--- Which texts are versions, and their order.
-use Rattle.std.specs.Prelude.{ℕ, ◌≡◌, ◌==◌, ◌&&◌, ◌||◌, nat_le, nat_lt, Bool, List, [], ◌∷◌, ◌++◌, length, map, codes, Option, Some, None, if◌then◌else◌, option_map, drop, nat_eq}
+-- Which texts are versions (Semantic Versioning 2.0.0, 2, 9 and 10), and how they are printed.
+use Rattle.std.specs.Prelude.{ℕ, ◌≡◌, ◌==◌, ◌&&◌, nat_lt, Bool, List, [], ◌∷◌, ◌++◌, length, map, codes, Option, Some, None, if◌then◌else◌, option_map, drop, nat_eq}
 use Rattle.std.specs.List.{list_all, starts_with, position_or_len, before_first, after_first}
-use Rattle.std.specs.Option.{option_cmp}
 use Rattle.std.specs.Result.{result_ok}
-use Rattle.std.specs.Ordering.{nat_cmp, on, then_cmp, ordering_then}
-use Rattle.std.specs.Cmp.Lexicographic.{slice_cmp}
-use Rattle.std.specs.declared.cmp.Ordering.{Ordering}
 use Rattle.std.specs.Char.{is_ascii_hexdigit, to_ascii_lowercase}
 use Rattle.std.specs.Prelude.{String, string_bytes}
 use Rattle.std.specs.declared.alloc.Global.{Global}
-use Rattle.std.specs.Cmp.{IsTotalOrder, then_total, on_total, nat_cmp_total}
-use Rattle.std.specs.Cmp.Lexicographic.{options_total, nat_list_cmp_total}
 use Rattle.vet_base.specs.declared.limits.TheConstants.{MOST_VERSION_BYTES, REVISION_DIGITS}
-use Rattle.semver.specs.OrderLaws.{pre_total}
 use Rattle.semver.specs.declared.Version.{Version}
 use Rattle.semver.specs.Parse.{Parts, version_parts}
 use Rattle.semver.specs.Identifiers.{parts_text, parts_of}
-use Rattle.semver.specs.Order.{pre_cmp}
 
 -- a version: the parts of V, and the revision where there is one
 pub record VersionValue : Type 0 where
@@ -70,23 +62,3 @@ IsVersion v = read_version (version_text v) ≡ Some v
 -- what the code holds of a version
 abbrev pub value_of : Version × Option (String Global) → VersionValue
 value_of p = record { parts = parts_of p.0; revision = option_map string_bytes p.1 }
-
--- SemVer's precedence of V
-abbrev pub parts_precedence : Parts → Parts → Ordering
-parts_precedence a b = ordering_then (nat_cmp a.0 b.0) (ordering_then (nat_cmp a.1 b.1)
-    (ordering_then (nat_cmp a.2 b.2) (pre_cmp a.3 b.3)))
-
--- the order of versions: precedence, the printed V, no revision before one, its bytes
-abbrev pub version_cmp : VersionValue → VersionValue → Ordering
-version_cmp = then_cmp (on (λ v. v.parts) parts_precedence)
-    (then_cmp (on (λ v. parts_text v.parts) (slice_cmp nat_cmp)) (on (λ v. v.revision) (option_cmp (slice_cmp nat_cmp))))
-
-pub precedence_parts_total : IsTotalOrder parts_precedence
-precedence_parts_total = then_total (on_total (λ (p : Parts). p.0) nat_cmp_total) (then_total (on_total (λ (p : Parts). p.1) nat_cmp_total)
-    (then_total (on_total (λ (p : Parts). p.2) nat_cmp_total) (on_total (λ (p : Parts). p.3) pre_total)))
-
--- the order of versions is total
-pub version_total : IsTotalOrder version_cmp
-version_total = then_total (on_total (λ (v : VersionValue). v.parts) precedence_parts_total)
-    (then_total (on_total (λ (v : VersionValue). parts_text v.parts) nat_list_cmp_total)
-    (on_total (λ (v : VersionValue). v.revision) (options_total nat_list_cmp_total)))

@@ -1,15 +1,21 @@
-//! The values of the register: names, versions and texts, the limits that they keep, and the refusals
-//! that every call answers with.
+//! The values of the register: names, versions, texts and criteria, the limits that they keep, and the
+//! refusals that every call answers with.
 //!
 //! **A parser takes exactly the texts of its definition, and what `Display` prints is read again as the
-//! same value.**
+//! same value; the closure of some criteria is the least set that holds them and what they imply.**
 //!
 //! Scope of this crate: values alone. What an entry, a project or a class is stands in the crates above.
 #![tactic(auto)]
 
+pub mod criteria_set;
+pub mod criteria_table;
+pub mod criterion;
 pub mod key_text;
 pub mod limits;
 pub mod name;
+pub mod names;
 pub mod refusal;
+#[cfg(test)]
+mod tests;
 pub mod text;
 pub mod version;

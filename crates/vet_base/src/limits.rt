@@ -20,3 +20,6 @@ pub const MOST_INPUT_BYTES: usize = 8_388_608;
 
 /// The most reads that one run makes of its input.
 pub const MOST_READS: u32 = 10_000_000;
+
+/// The most criteria of a table, the built-in ones among them.
+pub const MOST_CRITERIA: usize = 64;

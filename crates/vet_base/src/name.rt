@@ -1,13 +1,14 @@
 //! Names of packages, and of criteria, peers and members.
-ghost use Rattle.std.specs.Prelude.{◌≡◌, true, false, IfOk, IfErr, Err};
+ghost use Rattle.std.specs.Prelude.{◌≡◌, true, None, Ok, Err, IfOk};
 ghost use Rattle.std.specs.Char.{is_ascii_graphic};
 ghost use Rattle.std.specs.List.{list_all};
-ghost use Rattle.vet_base.specs.Name.{is_name, is_package_byte, is_package_name};
+ghost use Rattle.vet_base.specs.Gives.{Gives, found_or};
+ghost use Rattle.vet_base.specs.Name.{is_name, is_package_byte, is_package_name, read_name, read_package_name};
 
 use crate::limits::MOST_NAME_BYTES;
 use crate::refusal::Refusal;
 use crate::text::Text;
-use std::alloc::Global;
+use std::alloc::{AllocError, Global};
 use std::fmt;
 use std::marker::Model;
 
@@ -50,18 +51,25 @@ fn is_package_name(text: &str) -> bool
 }
 
 impl PackageName {
-    /// The name that a text is. Refused: `BadName`, and `NoMemory`.
-    pub fn parse(alloc: Global, text: &str) -> Result<PackageName, Refusal>
-        ensures ok { IfOk result (λ n. (n ≡ text.now) × (is_package_name text.now ≡ true)) }
-        ensures refused { is_package_name text.now ≡ false → result ≡ Err Refusal.BadName }
-        ensures memory { is_package_name text.now ≡ true → IfErr result (λ e. e ≡ Refusal.NoMemory) }
+    /// The name that a text is, if it is one.
+    pub fn read(alloc: Global, text: &str) -> Result<Option<PackageName>, AllocError>
+        ensures ok { IfOk result (λ name. name ≡ read_package_name text.now) }
+        ensures no_name { read_package_name text.now ≡ None → result ≡ Ok None }
     {
         if !is_package_name(text) {
-            return Err(Refusal::BadName);
+            return Ok(None);
         }
-        Ok(PackageName {
+        Ok(Some(PackageName {
             text: Text::of(alloc, text)?,
-        })
+        }))
+    }
+
+    /// The name that a text is. Refused: `BadName`, and `NoMemory`.
+    pub fn parse(alloc: Global, text: &str) -> Result<PackageName, Refusal>
+        ensures told { Gives (λ name. name) (found_or Refusal.BadName (read_package_name text.now)) result }
+        ensures refused { read_package_name text.now ≡ None → result ≡ Err Refusal.BadName }
+    {
+        PackageName::read(alloc, text)?.ok_or(Refusal::BadName)
     }
 
     /// The name's text.
@@ -116,18 +124,25 @@ fn is_name(text: &str) -> bool
 }
 
 impl Name {
-    /// The name that a text is. Refused: `BadName`, and `NoMemory`.
-    pub fn parse(alloc: Global, text: &str) -> Result<Name, Refusal>
-        ensures ok { IfOk result (λ n. (n ≡ text.now) × (is_name text.now ≡ true)) }
-        ensures refused { is_name text.now ≡ false → result ≡ Err Refusal.BadName }
-        ensures memory { is_name text.now ≡ true → IfErr result (λ e. e ≡ Refusal.NoMemory) }
+    /// The name that a text is, if it is one.
+    pub fn read(alloc: Global, text: &str) -> Result<Option<Name>, AllocError>
+        ensures ok { IfOk result (λ name. name ≡ read_name text.now) }
+        ensures no_name { read_name text.now ≡ None → result ≡ Ok None }
     {
         if !is_name(text) {
-            return Err(Refusal::BadName);
+            return Ok(None);
         }
-        Ok(Name {
+        Ok(Some(Name {
             text: Text::of(alloc, text)?,
-        })
+        }))
+    }
+
+    /// The name that a text is. Refused: `BadName`, and `NoMemory`.
+    pub fn parse(alloc: Global, text: &str) -> Result<Name, Refusal>
+        ensures told { Gives (λ name. name) (found_or Refusal.BadName (read_name text.now)) result }
+        ensures refused { read_name text.now ≡ None → result ≡ Err Refusal.BadName }
+    {
+        Name::read(alloc, text)?.ok_or(Refusal::BadName)
     }
 
     /// The name's text.

@@ -4,12 +4,14 @@ ghost use Rattle.std.specs.List.{list_all};
 ghost use Rattle.std.specs.Char.{is_ascii_hexdigit};
 ghost use Rattle.std.specs.Option.{option_cmp};
 ghost use Rattle.std.specs.Result.{result_ok};
-ghost use Rattle.std.specs.Ordering.{nat_cmp, eq_by_cmp, as_partial_cmp};
+ghost use Rattle.std.specs.Ordering.{as_partial_cmp, nat_cmp};
 ghost use Rattle.std.specs.Cmp.{partial_equiv_from_equiv, eq_by_cmp_equiv, partial_order_from_total};
 ghost use Rattle.std.specs.Cmp.Lexicographic.{slice_cmp};
 ghost use Rattle.semver.specs.Parse.{version_parts, memory_error};
 ghost use Rattle.semver.specs.Identifiers.{parts_of};
-ghost use Rattle.vet_base.specs.Version.{is_revision, plain_version, read_version, revised_version, value_of, version_at, version_cmp, version_text, version_total};
+ghost use Rattle.vet_base.specs.VersionOrder.{version_cmp, version_eq, version_total};
+ghost use Rattle.vet_base.specs.Gives.{Gives, found_or};
+ghost use Rattle.vet_base.specs.Version.{is_revision, plain_version, read_version, revised_version, value_of, version_at, version_text};
 
 use crate::limits::{MOST_VERSION_BYTES, REVISION_DIGITS};
 use crate::refusal::Refusal;
@@ -64,70 +66,74 @@ pub(crate) fn is_memory(error: semver::Error) -> bool
     error == semver::Error::from(AllocError)
 }
 
-// The version that SemVer reads, where the only other error is want of memory.
+// The version that SemVer reads, if it reads one. No text is refused for want of memory.
 #[tactic(auto, using(crate::proofs::SemverErrors::version_no_memory))]
-fn semver_version(alloc: Global, text: &str) -> Result<Version, Refusal>
-    ensures ok { IfOk result (λ v. version_parts text.now ≡ Ok (parts_of v)) }
-    ensures refused { result_ok (version_parts text.now) ≡ None → result ≡ Err Refusal.BadVersion }
-    ensures memory { IsSome (result_ok (version_parts text.now)) → IfErr result (λ e. e ≡ Refusal.NoMemory) }
+fn semver_version(alloc: Global, text: &str) -> Result<Option<Version>, AllocError>
+    ensures ok { IfOk result (λ v. option_map parts_of v ≡ result_ok (version_parts text.now)) }
+    ensures no_version { result_ok (version_parts text.now) ≡ None → result ≡ Ok None }
 {
     match Version::parse(alloc, text) {
-        Ok(version) => Ok(version),
+        Ok(version) => Ok(Some(version)),
         Err(error) => {
             if is_memory(error) {
-                Err(Refusal::NoMemory)
+                Err(AllocError)
             } else {
-                Err(Refusal::BadVersion)
+                Ok(None)
             }
         }
     }
 }
 
-fn plain(alloc: Global, text: &str) -> Result<(Version, Option<String>), Refusal>
-    ensures ok { IfOk result (λ v. plain_version text.now ≡ Some (value_of v)) }
-    ensures refused { plain_version text.now ≡ None → result ≡ Err Refusal.BadVersion }
-    ensures memory { IsSome (plain_version text.now) → IfErr result (λ e. e ≡ Refusal.NoMemory) }
-{
-    let version = semver_version(alloc, text)?;
-    Ok((version, None))
-}
-
+// V with a revision, which is held as small letters.
 fn at_revision(
     alloc: Global,
     text: &str,
     revision: &str,
-) -> Result<(Version, Option<String>), Refusal>
-    ensures ok { IfOk result (λ v. version_at text.now revision.now ≡ Some (value_of v)) }
-    ensures refused { version_at text.now revision.now ≡ None → result ≡ Err Refusal.BadVersion }
-    ensures memory { IsSome (version_at text.now revision.now) → IfErr result (λ e. e ≡ Refusal.NoMemory) }
+) -> Result<Option<(Version, Option<String>)>, AllocError>
+    ensures ok { IfOk result (λ v. option_map value_of v ≡ version_at text.now revision.now) }
+    ensures no_version { version_at text.now revision.now ≡ None → result ≡ Ok None }
 {
-    let version = semver_version(alloc, text)?;
+    let Some(version) = semver_version(alloc, text)? else {
+        return Ok(None);
+    };
     let mut small = String::from_str(alloc, revision)?;
     small.make_ascii_lowercase();
-    Ok((version, Some(small)))
+    Ok(Some((version, Some(small))))
 }
 
-fn revised(alloc: Global, text: &str, rest: &str) -> Result<(Version, Option<String>), Refusal>
-    ensures ok { IfOk result (λ v. revised_version text.now rest.now ≡ Some (value_of v)) }
-    ensures refused { revised_version text.now rest.now ≡ None → result ≡ Err Refusal.BadVersion }
-    ensures memory { IsSome (revised_version text.now rest.now) → IfErr result (λ e. e ≡ Refusal.NoMemory) }
+fn revised(
+    alloc: Global,
+    text: &str,
+    rest: &str,
+) -> Result<Option<(Version, Option<String>)>, AllocError>
+    ensures ok { IfOk result (λ v. option_map value_of v ≡ revised_version text.now rest.now) }
+    ensures no_version { revised_version text.now rest.now ≡ None → result ≡ Ok None }
 {
     let Some(revision) = rest.strip_prefix("git:") else {
-        return Err(Refusal::BadVersion);
+        return Ok(None);
     };
     if !is_revision(revision) {
-        return Err(Refusal::BadVersion);
+        return Ok(None);
     }
     at_revision(alloc, text, revision)
 }
 
-fn parts(alloc: Global, text: &str) -> Result<(Version, Option<String>), Refusal>
-    ensures ok { IfOk result (λ v. read_version text.now ≡ Some (value_of v)) }
-    ensures refused { read_version text.now ≡ None → result ≡ Err Refusal.BadVersion }
-    ensures memory { IsSome (read_version text.now) → IfErr result (λ e. e ≡ Refusal.NoMemory) }
+fn plain(alloc: Global, text: &str) -> Result<Option<(Version, Option<String>)>, AllocError>
+    ensures ok { IfOk result (λ v. option_map value_of v ≡ plain_version text.now) }
+    ensures no_version { plain_version text.now ≡ None → result ≡ Ok None }
+{
+    let Some(version) = semver_version(alloc, text)? else {
+        return Ok(None);
+    };
+    Ok(Some((version, None)))
+}
+
+fn parts(alloc: Global, text: &str) -> Result<Option<(Version, Option<String>)>, AllocError>
+    ensures ok { IfOk result (λ v. option_map value_of v ≡ read_version text.now) }
+    ensures no_version { read_version text.now ≡ None → result ≡ Ok None }
 {
     if text.len() > MOST_VERSION_BYTES {
-        return Err(Refusal::BadVersion);
+        return Ok(None);
     }
     match text.split_once('@') {
         None => plain(alloc, text),
@@ -136,14 +142,23 @@ fn parts(alloc: Global, text: &str) -> Result<(Version, Option<String>), Refusal
 }
 
 impl VetVersion {
+    /// The version that a text is, if it is one.
+    pub fn read(alloc: Global, text: &str) -> Result<Option<VetVersion>, AllocError>
+        ensures ok { IfOk result (λ v. v ≡ read_version text.now) }
+        ensures no_version { read_version text.now ≡ None → result ≡ Ok None }
+    {
+        let Some((version, revision)) = parts(alloc, text)? else {
+            return Ok(None);
+        };
+        Ok(Some(VetVersion { version, revision }))
+    }
+
     /// The version that a text is. Refused: `BadVersion`, and `NoMemory`.
     pub fn parse(alloc: Global, text: &str) -> Result<VetVersion, Refusal>
-        ensures ok { IfOk result (λ v. read_version text.now ≡ Some v) }
+        ensures told { Gives (λ v. v) (found_or Refusal.BadVersion (read_version text.now)) result }
         ensures refused { read_version text.now ≡ None → result ≡ Err Refusal.BadVersion }
-        ensures memory { IsSome (read_version text.now) → IfErr result (λ e. e ≡ Refusal.NoMemory) }
     {
-        let (version, revision) = parts(alloc, text)?;
-        Ok(VetVersion { version, revision })
+        VetVersion::read(alloc, text)?.ok_or(Refusal::BadVersion)
     }
 }
 
@@ -168,16 +183,16 @@ pub fn version_text_reads_back(version: &VetVersion)
 }
 
 impl PartialEq for VetVersion {
-    ghost eq = { eq_by_cmp version_cmp };
+    ghost eq = { version_eq };
 
     ghost laws = { partial_equiv_from_equiv (eq_by_cmp_equiv version_total) };
 
     // Only a version itself ties with it.
     fn eq(&self, other: &VetVersion) -> bool
-        ensures value { result ≡ eq_by_cmp version_cmp self.now other.now }
+        ensures value { result ≡ version_eq self.now other.now }
         ensures same { IsTrue result ↔ (self.now ≡ other.now) }
     {
-        self.cmp(other) == Ordering::Equal
+        self.cmp(other).is_eq()
     }
 }
 

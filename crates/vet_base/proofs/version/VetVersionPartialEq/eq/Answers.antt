@@ -1,19 +1,10 @@
-use Rattle.std.proofs.Common.{◌≡◌, ◌∙◌, ◌==◌, Ordering, Less, Equal, Greater, true, refl, sym, ap}
-use Rattle.std.specs.Ordering.{ordering_index}
-use Rattle.std.specs.Cmp.{tied_itself}
-use Rattle.vet_base.specs.Version.{version_cmp, version_total}
-use Rattle.vet_base.proofs.OrderLemmas.{version_cmp-IsAntisymmetric}
+use Rattle.std.proofs.Common.{◌≡◌, ◌∙◌, sym, ap}
+use Rattle.std.specs.Ordering.{is_eq}
+use Rattle.vet_base.specs.VersionOrder.{version_eq, version_eq-Decides}
 use Rattle.vet_base.proofs.version.VetVersionPartialEq.eq.Goals as goal
 
-Equal-from_index : (r : Ordering) → (ordering_index r == 1) ≡ true → r ≡ Equal
-Equal-from_index Less e = cc e
-Equal-from_index Equal e = refl
-Equal-from_index Greater e = cc e
-
 pub returns-clause-same : goal.returns-clause-same
-returns-clause-same c = (
-  λ yes. version_cmp-IsAntisymmetric _ _ (sym c.cmp.ensures ∙ Equal-from_index c.cmp.result (sym c.eq.ensures ∙ yes)),
-  λ same.
-      let tied : c.cmp.result ≡ Equal = c.cmp.ensures ∙ ap (λ v. version_cmp v c.args.other.now) same ∙ tied_itself version_total c.args.other.now in
-      c.eq.ensures ∙ ap (λ (r : Ordering). ordering_index r == 1) tied,
-)
+returns-clause-same c =
+    let value : c.is_eq.result ≡ version_eq c.args.self.now c.args.other.now = c.is_eq.ensures ∙ ap is_eq c.cmp.ensures in
+    let decides = version_eq-Decides c.args.self.now c.args.other.now in
+    (λ yes. decides.0 (sym value ∙ yes), λ same. value ∙ decides.1 same)

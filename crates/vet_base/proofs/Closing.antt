@@ -1,0 +1,147 @@
+-- The closure of a set of names is the least one.
+use Rattle.std.proofs.Common.{◌≡◌, ℕ, zero, suc, ◌⊎◌, ◌↔◌, true, false, ◌||◌, List, [], ◌∷◌, map as mapped, Option, Some, None, Less, refl, sym, ap, ◌∙◌, arith, inl, inr}
+use Rattle.std.specs.List.{All, Contains}
+use Rattle.std.specs.Option.{option_map_or}
+use Rattle.std.specs.Ordering.{is_eq, eq_by_cmp}
+use Rattle.std.specs.FinSet as set
+use Rattle.std.specs.FinMap as map
+use Rattle.std.proofs.lemmas.Cmp.{nat_list_cmp_total}
+use Rattle.std.proofs.lemmas.Bool.{cases_Bool, false≢true, or_cases, or_left, or_right, cond-true, cond-false}
+use Rattle.vet_base.specs.declared.criterion.Criterion.{Criterion}
+use Rattle.std.proofs.lemmas.List.{get_or-map, length-map}
+use Rattle.vet_base.specs.Names.{NameSet, IsRising}
+use Rattle.vet_base.specs.Criteria.{Criteria, implied_by, InClosure, reached_by, closure_of}
+use Rattle.vet_base.specs.Criteria.InClosure.{named, implied}
+use Rattle.vet_base.proofs.Rising.{R, eq-itself, equal-from_eq, above, IsRising-head, IsRising-tail, rising_entries}
+
+abbrev Entries : Type 0
+Entries = List (List ℕ × Criterion)
+
+-- the same by a list of criteria
+data Reached (es : Entries) (names : NameSet) : List ℕ → Type 0 where
+  first : {n : List ℕ} → set.contains names n ≡ true → Reached es names n
+  next : {m n : List ℕ} (c : Criterion) → Reached es names m → Contains es (m, c) → set.contains c.implies n ≡ true → Reached es names n
+
+Contains-here : (e : List ℕ × Criterion) (es : Entries) → Contains (e ∷ es) e
+Contains-here e es = (0, omega arith, refl)
+
+Contains-later : (e d : List ℕ × Criterion) (es : Entries) → Contains es e → Contains (d ∷ es) e
+Contains-later e d es h = (suc h.0, omega (arith, h.1), h.2)
+
+Contains-cases : (d : List ℕ × Criterion) (es : Entries) (e : List ℕ × Criterion) → Contains (d ∷ es) e → (d ≡ e) ⊎ Contains es e
+Contains-cases d es e (zero, l, h) = inl h
+Contains-cases d es e (suc k, l, h) = inr (k, omega arith, h)
+
+one_more : (e : List ℕ × Criterion) (es : Entries) (names : NameSet) (n : List ℕ) → Reached es names n → Reached (e ∷ es) names n
+one_more e es names n (first h) = first h
+one_more e es names n (next {m = m} c r at h) = next c (one_more e es names m r) (Contains-later (m, c) e es at) h
+
+-- what a criterion's names reach is reached where the criterion is
+after : (name : List ℕ) (c : Criterion) (es : Entries) (names : NameSet) → Reached ((name, c) ∷ es) names name → (n : List ℕ) → Reached es c.implies n → Reached ((name, c) ∷ es) names n
+after name c es names at n (first h) = next c at (Contains-here (name, c) es) h
+after name c es names at n (next {m = m} d r in_es h) = next d (after name c es names at m r) (Contains-later (m, d) (name, c) es in_es) h
+
+module _ (name : List ℕ) (c : Criterion) (es : Entries) (names : NameSet) where
+  grown : set.contains (reached_by es names) name ≡ true → reached_by ((name, c) ∷ es) names ≡ set.union (reached_by es names) (reached_by es c.implies)
+  unfolding reached_by
+  grown h = cond-true (set.contains (reached_by es names) name) (set.union (reached_by es names) (reached_by es c.implies)) (reached_by es names) h
+
+  stayed : set.contains (reached_by es names) name ≡ false → reached_by ((name, c) ∷ es) names ≡ reached_by es names
+  unfolding reached_by
+  stayed h = cond-false (set.contains (reached_by es names) name) (set.union (reached_by es names) (reached_by es c.implies)) (reached_by es names) h
+
+  contains-grown : set.contains (reached_by es names) name ≡ true → (n : List ℕ) → set.contains (reached_by ((name, c) ∷ es) names) n ≡ (set.contains (reached_by es names) n || set.contains (reached_by es c.implies) n)
+  contains-grown h n = ap (λ s. set.contains s n) (grown h) ∙ set.contains-union nat_list_cmp_total (reached_by es names) (reached_by es c.implies) n
+
+  contains-stayed : set.contains (reached_by es names) name ≡ false → (n : List ℕ) → set.contains (reached_by ((name, c) ∷ es) names) n ≡ set.contains (reached_by es names) n
+  contains-stayed h n = ap (λ s. set.contains s n) (stayed h)
+
+contains-nil : (names : NameSet) (n : List ℕ) → set.contains (reached_by [] names) n ≡ set.contains names n
+unfolding reached_by
+contains-nil names n = refl
+
+sound : (es : Entries) (names : NameSet) (n : List ℕ) → set.contains (reached_by es names) n ≡ true → Reached es names n
+sound [] names n h = first (sym (contains-nil names n) ∙ h)
+sound ((name, c) ∷ es) names n h = elim (cases_Bool (set.contains (reached_by es names) name)) [
+  | inl at ↦ elim (or_cases _ _ (sym (contains-grown name c es names at n) ∙ h)) [
+    | inl old ↦ one_more (name, c) es names n (sound es names n old)
+    | inr new ↦ after name c es names (one_more (name, c) es names name (sound es names name at)) n (sound es c.implies n new)
+  ]
+  | inr none ↦ one_more (name, c) es names n (sound es names n (sym (contains-stayed name c es names none n) ∙ h))
+]
+
+holds : (es : Entries) (names : NameSet) (n : List ℕ) → set.contains names n ≡ true → set.contains (reached_by es names) n ≡ true
+holds [] names n h = contains-nil names n ∙ h
+holds ((name, c) ∷ es) names n h = elim (cases_Bool (set.contains (reached_by es names) name)) [
+  | inl at ↦ contains-grown name c es names at n ∙ or_left _ _ (holds es names n h)
+  | inr none ↦ contains-stayed name c es names none n ∙ holds es names n h
+]
+
+closed : (es : Entries) (names : NameSet) (m n : List ℕ) (d : Criterion) → Contains es (m, d) → set.contains (reached_by es names) m ≡ true → set.contains d.implies n ≡ true → set.contains (reached_by es names) n ≡ true
+closed [] names m n d in_es reached h = absurd (omega (arith, in_es.1))
+closed ((name, c) ∷ es) names m n d in_es reached h = elim (cases_Bool (set.contains (reached_by es names) name)) [
+  | inl at ↦ contains-grown name c es names at n ∙ elim (Contains-cases (name, c) es (m, d) in_es) [
+    | inl head ↦ or_right _ _ (holds es c.implies n (ap (λ (e : List ℕ × Criterion). set.contains e.1.implies n) head ∙ h))
+    | inr tail ↦ elim (or_cases _ _ (sym (contains-grown name c es names at m) ∙ reached)) [
+      | inl old ↦ or_left _ _ (closed es names m n d tail old h)
+      | inr new ↦ or_right _ _ (closed es c.implies m n d tail new h)
+    ]
+  ]
+  | inr none ↦ contains-stayed name c es names none n ∙ (let old : set.contains (reached_by es names) m ≡ true = sym (contains-stayed name c es names none m) ∙ reached in elim (Contains-cases (name, c) es (m, d) in_es) [
+    | inl head ↦ absurd (false≢true (sym none ∙ ap (λ (e : List ℕ × Criterion). set.contains (reached_by es names) e.0) head ∙ old))
+    | inr tail ↦ closed es names m n d tail old h
+  ])
+]
+
+complete : (es : Entries) (names : NameSet) (n : List ℕ) → Reached es names n → set.contains (reached_by es names) n ≡ true
+complete es names n (first h) = holds es names n h
+complete es names n (next {m = m} c r at h) = closed es names m n c at (complete es names m r) h
+
+-- ---- the criteria of a table
+
+pub found_entry : (n : List ℕ) (es : Entries) (c : Criterion) → map.find R n es ≡ Some c → Contains es (n, c)
+found_entry n [] c h = cc h
+found_entry n (e ∷ es) c h = elim (cases_Bool (eq_by_cmp R n e.0)) [
+  | inl same ↦ (let is : e.1 ≡ c = cc (sym (cond-true (eq_by_cmp R n e.0) (Some e.1) (map.find R n es) same) ∙ h) in (0, omega arith, λ i. (sym (equal-from_eq n e.0 same) i, is i)))
+  | inr other ↦ Contains-later (n, c) e es (found_entry n es c (sym (cond-false (eq_by_cmp R n e.0) (Some e.1) (map.find R n es) other) ∙ h))
+]
+
+pub not_tied : (a b : List ℕ) → R b a ≡ Less → eq_by_cmp R a b ≡ false
+not_tied a b h = ap is_eq (above b a h)
+
+later_key : (x n : List ℕ) (c : Criterion) (es : Entries) → All (λ y. R x y ≡ Less) (mapped (λ e. e.0) es) → Contains es (n, c) → R x n ≡ Less
+later_key x n c es h in_es = rw (get_or-map (λ e. e.0) es in_es.0 (n, c) n in_es.1 ∙ ap (λ (e : List ℕ × Criterion). e.0) in_es.2) at (h in_es.0 n (rw length-map in_es.1))
+
+pub entry_found : (n : List ℕ) (es : Entries) (c : Criterion) → IsRising (mapped (λ e. e.0) es) → Contains es (n, c) → map.find R n es ≡ Some c
+entry_found n [] c h in_es = absurd (omega (arith, in_es.1))
+entry_found n (e ∷ es) c h in_es = elim (Contains-cases e es (n, c) in_es) [
+  | inl head ↦ cond-true (eq_by_cmp R n e.0) (Some e.1) (map.find R n es) (ap (λ (d : List ℕ × Criterion). eq_by_cmp R n d.0) head ∙ eq-itself n) ∙ ap (λ (d : List ℕ × Criterion). Some d.1) head
+  | inr tail ↦ cond-false (eq_by_cmp R n e.0) (Some e.1) (map.find R n es) (not_tied n e.0 (later_key e.0 n c es (IsRising-head e.0 (mapped (λ d. d.0) es) h) tail))
+      ∙ entry_found n es c (IsRising-tail e.0 (mapped (λ d. d.0) es) h) tail
+]
+
+module _ (table : Criteria) where
+  step_from : (m n : List ℕ) → set.contains (implied_by table m) n ≡ true → (c : Criterion) × Contains (map.entries table) (m, c) × (set.contains c.implies n ≡ true)
+  step_from m n = by (map.get table m) refl
+    where
+      by : (o : Option Criterion) → map.get table m ≡ o → set.contains (option_map_or (λ c. c.implies) o set.empty) n ≡ true → (c : Criterion) × Contains (map.entries table) (m, c) × (set.contains c.implies n ≡ true)
+      by None e h = absurd (false≢true (sym (set.contains-empty R n) ∙ h))
+      by (Some c) e h = (c, found_entry m (map.entries table) c (sym (map.get-entries table m) ∙ e), h)
+
+  step_to : (m n : List ℕ) (c : Criterion) → Contains (map.entries table) (m, c) → set.contains c.implies n ≡ true → set.contains (implied_by table m) n ≡ true
+  step_to m n c in_es h =
+      ap (λ o. set.contains (option_map_or (λ c. c.implies) o set.empty) n) (map.get-entries table m ∙ entry_found m (map.entries table) c (rising_entries (map.entries table) (map.entries_sorted table)) in_es) ∙ h
+
+  to_closure : (names : NameSet) (n : List ℕ) → Reached (map.entries table) names n → InClosure table names n
+  to_closure names n (first h) = named h
+  to_closure names n (next {m = m} c r at h) = implied (to_closure names m r) (step_to m n c at h)
+
+  from_closure : (names : NameSet) (n : List ℕ) → InClosure table names n → Reached (map.entries table) names n
+  from_closure names n (named h) = first h
+  from_closure names n (implied {m = m} r h) = (let s = step_from m n h in next s.0 (from_closure names m r) s.1 s.2)
+
+  pub closure-law : (names : NameSet) (n : List ℕ) → (set.contains (closure_of table names) n ≡ true) ↔ InClosure table names n
+  closure-law names n = (
+    λ h. to_closure names n (sound (map.entries table) names n h),
+    λ r. complete (map.entries table) names n (from_closure names n r),
+  )

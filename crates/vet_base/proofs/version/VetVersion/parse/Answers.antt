@@ -1,5 +1,0 @@
-use Rattle.vet_base.proofs.VersionLemmas.{read_version-IsVersion}
-use Rattle.vet_base.proofs.version.VetVersion.parse.Goals as goal
-
-pub invariant_of-result : goal.invariant_of-result
-invariant_of-result c = read_version-IsVersion c.args.text.now _ c.in_ok-version.ensures.ok

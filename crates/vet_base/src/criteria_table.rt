@@ -1,0 +1,245 @@
+//! The table of criteria, and the closure of a set of them.
+//!
+//! **The closure of some names is the least set that holds them and, with each name, what it implies.**
+ghost use Rattle.std.specs.Prelude.{◌≡◌, ◌↔◌, ◌⊎◌, ◌&&◌, ◌<◌, ℕ, List, true, ◌≤◌, IfOk, IfErr, OnOk, OnErr, IfSome, IfNone, vec_len, insert};
+ghost use Rattle.std.specs.Option.{option_copied};
+ghost use Rattle.std.specs.FinSet as set;
+ghost use Rattle.std.specs.FinMap as map;
+ghost use Rattle.vet_base.specs.Name.{is_name};
+ghost use Rattle.vet_base.specs.Names.{NameSet};
+ghost use Rattle.vet_base.specs.Criteria.{Criteria, InClosure, IsTable, built_in_criteria, closure_of, is_in, least_unknown, place_of, placed};
+ghost use Rattle.vet_base.specs.CriteriaTable.{AllIn, IsClosed, IsLeastClosed, LeadsOut, OneOut};
+
+use crate::criteria_set::CriteriaSet;
+use crate::criterion::Criterion;
+use crate::limits::MOST_CRITERIA;
+use crate::name::Name;
+use crate::names::Names;
+use crate::refusal::Refusal;
+use std::alloc::Global;
+use std::marker::Model;
+
+/// The name of the built-in criterion that implies nothing.
+const SAFE_TO_RUN: &str = "safe-to-run";
+
+/// The name of the built-in criterion that implies the other.
+const SAFE_TO_DEPLOY: &str = "safe-to-deploy";
+
+/// A table of at most 64 criteria, the built-in ones among them. Each name that a criterion implies is in
+/// the table. Criteria may imply one another in a cycle.
+#[derive(Debug, Drop)]
+pub struct CriteriaTable {
+    names: Vec<Name>,
+    criteria: Vec<Criterion>,
+}
+
+impl Model for CriteriaTable {
+    ghost use Rattle.std.specs.Coded.{coded_list, coded_ℕ};
+    ghost use Rattle.std.specs.FinMap as map;
+    ghost use Rattle.vet_base.specs.Criteria.{Criteria, criterion_code};
+    ghost use Rattle.vet_base.specs.CriteriaTable.{by_name, IsKept};
+
+    ghost Value = { Criteria };
+
+    ghost coded = { map.code (coded_list coded_ℕ) criterion_code };
+
+    ghost view = { λ t. map.from_sorted (by_name t.criteria.items) };
+
+    ghost invariant = { λ t. IsKept t.names.items t.criteria.items };
+}
+
+/// The closure of some names holds a name just where it is one of them, or a name of the closure implies it.
+pub fn closure_is_least()
+    ensures { (table : Criteria) (names : NameSet) (n : List ℕ)
+        → (set.contains (closure_of table names) n ≡ true) ↔ InClosure table names n }
+{}
+
+/// A name is among the places of a set where the table holds it and it is in the set.
+pub fn placed_names_are_in()
+    ensures { (table : Criteria) (names : NameSet) (n : List ℕ)
+        → is_in table (placed table names) n ≡ (map.contains_key table n && set.contains names n) }
+{}
+
+// Puts a criterion and its name at a place of their lists, or at none.
+fn put(
+    names: &mut Vec<Name>,
+    criteria: &mut Vec<Criterion>,
+    place: usize,
+    name: Name,
+    criterion: Criterion,
+) -> Result<(), Refusal>
+    requires names { place ≤ vec_len names.old }
+    requires criteria { place ≤ vec_len criteria.old }
+    ensures names { OnOk result (names.new.items ≡ insert names.old.items place name) }
+    ensures criteria { OnOk result (criteria.new.items ≡ insert criteria.old.items place criterion) }
+    ensures memory { IfErr result (λ e. e ≡ Refusal.NoMemory) }
+    ensures names_stay { OnErr result (names.new.items ≡ names.old.items) }
+    ensures criteria_stay { OnErr result (criteria.new.items ≡ criteria.old.items) }
+{
+    criteria.insert(place, criterion)?;
+    if names.insert(place, name).is_err() {
+        let _ = criteria.remove(place);
+        return Err(Refusal::NoMemory);
+    }
+    Ok(())
+}
+
+// A criterion of no more than a name and what it implies.
+fn built_in(alloc: Global, name: &str, implies: Names) -> Result<Criterion, Refusal>
+    requires { is_name name.now ≡ true }
+    ensures ok { IfOk result (λ c.
+        c ≡ record { name = name.now; description = None; url = None; implies = implies }) }
+    ensures memory { IfErr result (λ e. e ≡ Refusal.NoMemory) }
+{
+    Ok(Criterion {
+        name: Name::parse(alloc, name)?,
+        description: None,
+        url: None,
+        implies,
+    })
+}
+
+impl CriteriaTable {
+    /// The table of the built-in criteria. Refused: `NoMemory`.
+    pub fn new(alloc: Global) -> Result<CriteriaTable, Refusal>
+        ensures ok { IfOk result (λ t. t ≡ built_in_criteria) }
+        ensures memory { IfErr result (λ e. e ≡ Refusal.NoMemory) }
+    {
+        let mut implied = Names::new(alloc);
+        implied.insert(Name::parse(alloc, SAFE_TO_RUN)?)?;
+        let mut names = Vec::new(alloc);
+        names.push(Name::parse(alloc, SAFE_TO_DEPLOY)?)?;
+        names.push(Name::parse(alloc, SAFE_TO_RUN)?)?;
+        let mut criteria = Vec::new(alloc);
+        criteria.push(built_in(alloc, SAFE_TO_DEPLOY, implied)?)?;
+        criteria.push(built_in(alloc, SAFE_TO_RUN, Names::new(alloc))?)?;
+        Ok(CriteriaTable { names, criteria })
+    }
+
+    /// Whether a name is in the table.
+    pub fn has(&self, name: &Name) -> bool
+        ensures { result ≡ map.contains_key self.now name.now }
+    {
+        self.names.binary_search(name).is_ok()
+    }
+
+    /// The criterion of a name.
+    pub fn get(&self, name: &Name) -> Option<&Criterion>
+        ensures { option_copied result ≡ map.get self.now name.now }
+    {
+        match self.names.binary_search(name) {
+            Ok(place) => Some(&self.criteria[place]),
+            Err(_) => None,
+        }
+    }
+
+    /// The table's names, in the order of their bytes.
+    pub fn names(&self) -> &[Name]
+        ensures names { result.now ≡ map.keys self.now }
+        ensures table { IsTable self.now }
+    {
+        self.names.as_slice()
+    }
+
+    /// The place of a name among the table's names.
+    pub fn place(&self, name: &Name) -> Option<usize>
+        ensures value { result ≡ place_of self.now name.now }
+        ensures within { IfSome result (λ p. p < MOST_CRITERIA) }
+    {
+        self.names.binary_search(name).ok()
+    }
+
+    /// What some names imply in the end, and they themselves. Refused: `UnknownCriterion` of the least name
+    /// that the table lacks, and then `NoMemory`.
+    pub fn closure(&self, names: &Names) -> Result<CriteriaSet, Refusal>
+        ensures known { least_unknown self.now names.now ≡ None
+            → result ≡ Ok (placed self.now (closure_of self.now names.now)) }
+        ensures unknown { IfSome (least_unknown self.now names.now) (λ n.
+            (result ≡ Err (Refusal.UnknownCriterion n)) ⊎ (result ≡ Err Refusal.NoMemory)) }
+    {
+        if let Some(name) = self.least_unknown(names) {
+            return Err(Refusal::UnknownCriterion(name.clone()?));
+        }
+        Ok(self.close(self.places(names.as_slice())))
+    }
+
+    /// The least of some names that the table lacks.
+    pub fn least_unknown<'a>(&self, names: &'a Names) -> Option<&'a Name>
+        ensures { option_copied result ≡ least_unknown self.now names.now }
+    {
+        for name in names.as_slice() {
+            if !self.has(name) {
+                return Some(name);
+            }
+        }
+        None
+    }
+
+    // The places of the names that the table holds.
+    fn places(&self, names: &[Name]) -> CriteriaSet
+        ensures { result ≡ placed self.now (set.from_list names.now) }
+    {
+        let mut places = CriteriaSet::empty();
+        for name in names {
+            if let Some(place) = self.place(name) {
+                places = places.with(place);
+            }
+        }
+        places
+    }
+
+    // Adds to a set what its names imply, until nothing is missing.
+    fn close(&self, start: CriteriaSet) -> CriteriaSet
+        ensures { IsLeastClosed self.now start result }
+    {
+        let mut places = start;
+        'rounds: while let Some(place) = self.next(&places) {
+            places = places.with(place);
+        }
+        places
+    }
+
+    // A place that a name in the set leads to, and that is not in it.
+    fn next(&self, places: &CriteriaSet) -> Option<usize>
+        ensures some { IfSome result (LeadsOut self.now places.now) }
+        ensures none { IfNone result (IsClosed self.now places.now) }
+    {
+        for place in 0..self.criteria.len() {
+            if places.has(place) {
+                let implied = self.criteria[place].implies.as_slice();
+                if let Some(out) = self.first_out(implied, places) {
+                    return Some(out);
+                }
+            }
+        }
+        None
+    }
+
+    // The place of the first of some names that is not in the set.
+    fn first_out(&self, names: &[Name], places: &CriteriaSet) -> Option<usize>
+        ensures some { IfSome result (OneOut self.now places.now names.now) }
+        ensures within { IfSome result (λ p. p < MOST_CRITERIA) }
+        ensures none { IfNone result (AllIn self.now places.now names.now) }
+    {
+        for name in names {
+            if let Some(place) = self.place(name) {
+                if !places.has(place) {
+                    return Some(place);
+                }
+            }
+        }
+        None
+    }
+}
+
+impl CriteriaSet {
+    /// Whether the criterion of a name of the table is in the set.
+    pub fn contains(&self, name: &Name, table: &CriteriaTable) -> bool
+        ensures { result ≡ is_in table.now self.now name.now }
+    {
+        match table.place(name) {
+            Some(place) => self.has(place),
+            None => false,
+        }
+    }
+}

@@ -1,0 +1,11 @@
+//! Entries, and the steps of trust that they give a package.
+//!
+//! **`steps_of` gives the steps of the definition, list for list.**
+//!
+//! Scope of this crate: what is vouched for, and for which criteria. Where chains of steps lead stands in
+//! `vet_graph`; what projects ask for, in `vet_demand`.
+#![tactic(auto)]
+
+pub mod entry;
+pub mod facts;
+pub mod step;

@@ -1,0 +1,42 @@
+-- The class of a version for a criterion (ours): the first of five that holds.
+use Rattle.std.specs.Prelude.{◌≡◌, ℕ, true, List, codes}
+use Rattle.vet_base.specs.Version.{VersionValue}
+use Rattle.vet_entries.specs.declared.step.Step.{Step}
+use Rattle.vet_graph.specs.declared.class.Class.{Class}
+use Rattle.vet_graph.specs.declared.class.Class.TheVariants.{Conflicting, Full, Partial, Exempted, Unvetted}
+use Rattle.vet_graph.specs.Chain.{Condemned, EndsReviewed, HasChain, HasCleanChain, HasNoExempt, IsAny}
+
+-- the version is condemned, and yet some chain leads to it
+abbrev pub IsConflicting : List Step → Condemned → ℕ → VersionValue → Type 0
+IsConflicting steps condemned c v = (condemned c v ≡ true) × HasChain steps c v
+
+-- some clean chain has no exempt step
+abbrev pub IsFull : List Step → Condemned → ℕ → VersionValue → Type 0
+IsFull steps condemned c v = HasCleanChain steps condemned c v HasNoExempt
+
+-- some clean chain ends in a step that isn't exempt
+abbrev pub IsPartial : List Step → Condemned → ℕ → VersionValue → Type 0
+IsPartial steps condemned c v = HasCleanChain steps condemned c v EndsReviewed
+
+-- some clean chain leads to it
+abbrev pub IsExempted : List Step → Condemned → ℕ → VersionValue → Type 0
+IsExempted steps condemned c v = HasCleanChain steps condemned c v IsAny
+
+-- the class is the first that holds
+abbrev pub IsClass : List Step → Condemned → ℕ → VersionValue → Class → Type 0
+IsClass steps condemned c v Conflicting = IsConflicting steps condemned c v
+IsClass steps condemned c v Full = ¬ IsConflicting steps condemned c v × IsFull steps condemned c v
+IsClass steps condemned c v Partial =
+    ¬ IsConflicting steps condemned c v × ¬ IsFull steps condemned c v × IsPartial steps condemned c v
+IsClass steps condemned c v Exempted =
+    ¬ IsConflicting steps condemned c v × ¬ IsFull steps condemned c v × ¬ IsPartial steps condemned c v × IsExempted steps condemned c v
+IsClass steps condemned c v Unvetted =
+    ¬ IsConflicting steps condemned c v × ¬ IsFull steps condemned c v × ¬ IsPartial steps condemned c v × ¬ IsExempted steps condemned c v
+
+-- the word of a class: its name in small letters
+abbrev pub class_word : Class → List ℕ
+class_word Conflicting = codes "conflicting"
+class_word Full = codes "full"
+class_word Partial = codes "partial"
+class_word Exempted = codes "exempted"
+class_word Unvetted = codes "unvetted"

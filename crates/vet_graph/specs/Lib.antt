@@ -1,0 +1,4 @@
+pub mod Chain
+pub mod Class
+pub mod ClassAt
+pub mod Decisions

@@ -1,0 +1,71 @@
+//! The class that chains of steps give a version.
+ghost use Rattle.std.specs.Prelude.{◌≡◌, ℕ, List};
+ghost use Rattle.std.specs.List.{All, list_any};
+ghost use Rattle.vet_base.specs.Version.{VersionValue};
+ghost use Rattle.vet_entries.specs.declared.step.Step.{Step};
+ghost use Rattle.vet_graph.specs.declared.class.Class.{Class};
+ghost use Rattle.vet_graph.specs.Chain.{Condemned, IsReviewFromNothing, none_condemned, vouches};
+ghost use Rattle.vet_graph.specs.Class.{IsClass, class_word};
+ghost use Rattle.vet_graph.specs.ClassAt.{class_at};
+
+use vet_base::version::VetVersion;
+use vet_entries::step::Step;
+
+/// How well a version is vouched for, for one criterion.
+#[derive(Clone, Copy, Debug, PartialEq, Eq)]
+pub enum Class {
+    /// The version is condemned, and yet some chain leads to it.
+    Conflicting,
+    /// Some clean chain leads to it by reviews alone.
+    Full,
+    /// Some clean chain leads to it whose last step is a review.
+    Partial,
+    /// Some clean chain leads to it.
+    Exempted,
+    /// None of these.
+    Unvetted,
+}
+
+impl Class {
+    /// The class's word: its name in small letters.
+    pub fn word(self) -> &'static str
+        ensures { result.now ≡ class_word self }
+    {
+        match self {
+            Class::Conflicting => "conflicting",
+            Class::Full => "full",
+            Class::Partial => "partial",
+            Class::Exempted => "exempted",
+            Class::Unvetted => "unvetted",
+        }
+    }
+}
+
+/// The class of a version for the criterion at a place, where each step is a review from nothing and no
+/// version is condemned: a chain is then a single step. Takes no memory; looks at each step once.
+pub fn class_of_reviews(steps: &[Step], place: usize, version: &VetVersion) -> Class
+    requires { All IsReviewFromNothing steps.now }
+    ensures { result ≡ class_at steps.now none_condemned place version.now }
+{
+    if has_review(steps, place, version) {
+        Class::Full
+    } else {
+        Class::Unvetted
+    }
+}
+
+fn has_review(steps: &[Step], place: usize, version: &VetVersion) -> bool
+    ensures { result ≡ list_any (vouches place version.now) steps.now }
+{
+    steps
+        .iter()
+        .any(|step| step.criteria.has(place) && step.target == *version)
+}
+
+/// The class that the definition by chains gives is the first that holds.
+pub fn class_is_first_that_holds()
+    ensures first { (steps : List Step) (condemned : Condemned) (c : ℕ) (v : VersionValue)
+        → IsClass steps condemned c v (class_at steps condemned c v) }
+    ensures only { (steps : List Step) (condemned : Condemned) (c : ℕ) (v : VersionValue) (class : Class)
+        → IsClass steps condemned c v class → class ≡ class_at steps condemned c v }
+{}

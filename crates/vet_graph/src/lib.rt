@@ -1,0 +1,4 @@
+//! Chains of steps, and the class that they give a version.
+#![tactic(auto)]
+
+pub mod class;

@@ -1,0 +1,2 @@
+pub mod ClassOfFileLemmas
+pub mod Walks

@@ -1,0 +1,2 @@
+pub mod AuditsFile
+pub mod ClassOfFile

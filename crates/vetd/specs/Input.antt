@@ -1,0 +1,7 @@
+-- What reads take.
+use Rattle.std.specs.Prelude.{ℕ, ◌≤◌, List, Option, length}
+use Rattle.std.specs.Io.KnownBytes.{Consumes}
+
+-- no more than so many bytes were read
+abbrev pub TakesAtMost : ℕ → Option (List ℕ) → Option (List ℕ) → Type 0
+TakesAtMost limit known known' = (bytes : List ℕ) × ((length bytes ≤ limit) × Consumes known known' bytes)

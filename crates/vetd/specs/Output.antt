@@ -1,0 +1,7 @@
+-- What a write that failed leaves.
+use Rattle.std.specs.Prelude.{ℕ, ◌<◌, List, Option, length, take}
+use Rattle.std.specs.Io.KnownBytes.{Appends}
+
+-- some of the bytes were written, from their front, and not all
+abbrev pub AppendsPart : Option (List ℕ) → Option (List ℕ) → List ℕ → Type 0
+AppendsPart known known' bytes = (n : ℕ) × ((n < length bytes) × Appends known known' (take n bytes))

@@ -1,0 +1,71 @@
+-- The command line, as clap reads it.
+use Rattle.std.specs.Prelude.{◌≡◌, List, [], ◌∷◌, Option, None, codes, if◌then◌else◌, true, false}
+use Rattle.std.specs.Prelude.{option_and_then, option_map}
+use Rattle.std.specs.Str.{bytes_eq}
+use Rattle.clap.specs.Walk.{Row, Rule, Text, first_of}
+use Rattle.clap.specs.Simple.{App, app_of, new_app, new_rule, with_rule, with_subcommand, subcommand_of}
+use Rattle.clap.specs.Walk.{rule_of}
+use Rattle.clap.specs.Faults.{fault_of}
+use Rattle.clap.specs.Kinds.{Kinds}
+use Rattle.vetd.specs.declared.words.ClassWords.{ClassWords}
+use Rattle.clap.specs.declared.builder.arg.Arg.{Arg}
+use Rattle.clap.specs.declared.builder.command.Command.{Command}
+use Rattle.clap.specs.declared.builder.command.Command.TheViews.{out-Command}
+
+-- a required argument of one word
+abbrev pub word_rule : Text → Rule
+word_rule id = record (new_rule id) { required = true }
+
+-- the argument has this rule, for its own command alone
+pub record IsRule (rule : Rule) (arg : Arg) : Type 0 where
+  pub is : rule_of arg ≡ rule
+  pub own : arg.global ≡ false
+
+-- what a parse reads of the command, which has no global argument
+pub record IsApp (app : App) (command : Command) : Type 0 where
+  pub is : app_of command ≡ app
+  pub own : (out-Command command).has_globals ≡ false
+
+-- `class PACKAGE VERSION CRITERION`
+abbrev pub class_app : App
+class_app = with_rule (with_rule (with_rule (new_app (codes "class")) (word_rule (codes "PACKAGE")))
+    (word_rule (codes "VERSION"))) (word_rule (codes "CRITERION"))
+
+-- the program, whose words come without its own name, before its subcommands
+abbrev pub bare_app : App
+bare_app = record (new_app (codes "vetd")) {
+  top = record ((new_app (codes "vetd")).top) { subcommand_required = true; no_binary_name = true };
+}
+
+-- the program's command line
+abbrev pub top_app : App
+top_app = with_subcommand bare_app class_app.top
+
+-- a package, a version and a criterion
+pub record AskedWords : Type 0 where
+  pub package_name : Text
+  pub version : Text
+  pub criterion : Text
+
+-- what the code holds of them
+abbrev pub asked_of : ClassWords → AskedWords
+asked_of w = record { package_name = w.package_name.now; version = w.version.now; criterion = w.criterion.now }
+
+-- the three words, where each was given
+abbrev pub words_from : List Row → Option AskedWords
+words_from rows = option_and_then (λ p. option_and_then (λ v.
+    option_map (λ c. record { package_name = p; version = v; criterion = c })
+    (first_of (codes "CRITERION") rows)) (first_of (codes "VERSION") rows)) (first_of (codes "PACKAGE") rows)
+
+-- the words of the subcommand `class`
+abbrev pub words_of_sub : Option (Text × List Row) → Option AskedWords
+words_of_sub sub = option_and_then (λ s. if bytes_eq s.0 (codes "class") then words_from s.1 else None) sub
+
+-- nothing, where there is a fault
+abbrev pub unless_fault : Kinds → Option AskedWords → Option AskedWords
+unless_fault [] asked = asked
+unless_fault (k ∷ ks) asked = None
+
+-- what clap gives of the words, where it takes them
+unfoldable pub given : List Text → Option AskedWords
+given words = unless_fault (fault_of top_app words) (words_of_sub (subcommand_of top_app words))

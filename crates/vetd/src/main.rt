@@ -1,0 +1,77 @@
+//! `vetd`: the class of one version of a package, by an audits file on standard input.
+//!
+//! `vetd class PACKAGE VERSION CRITERION` prints the class's word and ends with status 0. A refusal goes
+//! to standard error as one line, with status 1. Where the words are no command, or ask for help, clap's
+//! text goes to standard error, with status 2, and nothing is read.
+//!
+//! **The words and the input alone decide what is written and the status. A run that ends with a fault
+//! wrote nothing, or, where a write failed, the front of that answer.**
+//!
+//! Scope of this crate: words, reads and writes. What a class is stands in the crates below.
+#![tactic(auto)]
+
+ghost use Rattle.std.specs.Prelude.{◌≡◌};
+
+mod class_run;
+mod input;
+mod io_fault;
+mod output;
+mod refusal_text;
+mod words;
+
+use crate::class_run::{EXPLAINED, class_run};
+use crate::io_fault::IoFault;
+use crate::words::not_text;
+use std::process::ExitCode;
+use std::rt::Env;
+use std::{env, io};
+
+/// The status of a run that ended with a fault.
+const FAULTED: u8 = 1;
+
+/// The words after the program's own name.
+fn words_after_name<R: Env + AllocGlobal>(rt: &R) -> io::Result<Vec<String>> {
+    let mut words = env::args(rt)?;
+    let _name = words.next();
+    Ok(words.collect(rt.alloc())?)
+}
+
+/// Tells why the words can't be had: there was no memory, or one of them is no text.
+fn without_words<R: Eprint + AllocGlobal>(rt: &R, kind: io::ErrorKind) -> u8 {
+    if kind == io::ErrorKind::OutOfMemory {
+        return fault_status(rt, IoFault::NoMemory);
+    }
+    match not_text(rt.alloc()) {
+        Ok(error) => {
+            let _ = rt.eprint(error);
+            EXPLAINED
+        }
+        Err(error) => fault_status(rt, IoFault::from(error)),
+    }
+}
+
+/// Tells a fault. The status stays where even that can't be written.
+fn fault_status<R: Eprint>(rt: &R, fault: IoFault) -> u8
+    ensures { result ≡ FAULTED }
+{
+    let _ = rt.eprintln(fault);
+    FAULTED
+}
+
+fn main(rt: HostRuntime) -> ExitCode {
+    let words = match words_after_name(&rt) {
+        Ok(words) => words,
+        Err(error) => return ExitCode::from(without_words(&rt, error.kind())),
+    };
+    let run = class_run(
+        rt.alloc(),
+        words.as_slice(),
+        &mut rt.reader(),
+        &mut io::writer(&rt),
+        &mut rt.stderr(),
+    );
+    match run {
+        Ok(status) => ExitCode::from(status),
+        Err(fault) => ExitCode::from(fault_status(&rt, fault)),
+    }
+}
