@@ -1,6 +1,8 @@
 pub mod BuiltIn
+pub mod Changes
 pub mod Closing
 pub mod Held
+pub mod Kept
 pub mod Missing
 pub mod OrderLemmas
 pub mod Rising

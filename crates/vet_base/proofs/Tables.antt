@@ -25,7 +25,7 @@ use Rattle.vet_base.specs.CriteriaTable.{by_name, IsKept}
 use Rattle.vet_base.proofs.Rising.{R, Lacks, eq-itself, equal-from_eq, any_lacks, found_or_not, sorted_entries, rising_entries}
 use Rattle.vet_base.proofs.Closing.{entry_found, found_entry, not_tied}
 
-keys-by_name : (criteria : List Criterion) → mapped (λ (e : List ℕ × Criterion). e.0) (by_name criteria) ≡ mapped (λ c. c.name) criteria
+pub keys-by_name : (criteria : List Criterion) → mapped (λ (e : List ℕ × Criterion). e.0) (by_name criteria) ≡ mapped (λ c. c.name) criteria
 keys-by_name [] = refl
 keys-by_name (c ∷ cs) = ap (λ t. c.name ∷ t) (keys-by_name cs)
 
@@ -183,7 +183,7 @@ module _ (table : Criteria) where
         | inr high ↦ rw (le-ltb q (map.len table) (omega (arith, high, len-keys table)), ne_eqb q p (λ s. omega (arith, s, high, at.0))) refl
       ]
 
-nothing : {X : Type 0} (o : Option X) → is_some o ≡ false → o ≡ None
+pub nothing : {X : Type 0} (o : Option X) → is_some o ≡ false → o ≡ None
 nothing None h = refl
 nothing (Some x) h = cc h
 
@@ -219,3 +219,10 @@ module _ (names : List (List ℕ)) (criteria : List Criterion) (kept : IsKept na
 
   pub none_is : (n : List ℕ) (i : ℕ) → Lacks names n i → map.get table n ≡ None
   none_is n i h = nothing (map.get table n) (map.contains_key-keys table n ∙ ap (list_any (eq_by_cmp R n)) keys_is ∙ any_lacks names n i h)
+
+values-by_name : (criteria : List Criterion) → mapped (λ (e : List ℕ × Criterion). e.1) (by_name criteria) ≡ criteria
+values-by_name [] = refl
+values-by_name (c ∷ cs) = ap (λ t. c ∷ t) (values-by_name cs)
+
+pub values_is : (names : List (List ℕ)) (criteria : List Criterion) → IsKept names criteria → (table : Criteria) → map.from_sorted {R = R} (by_name criteria) ≡ table → map.values table ≡ criteria
+values_is names criteria kept table is = ap map.values (sym is) ∙ ap (mapped (λ e. e.1)) (entries_kept names criteria kept) ∙ values-by_name criteria

@@ -1,5 +1,5 @@
 -- Tables of criteria, and what a set of them implies in the end.
-use Rattle.std.specs.Prelude.{ℕ, ◌≡◌, ◌≤◌, true, false, Bool, not, List, [], ◌∷◌, codes, Option, Some, None, if◌then◌else◌, slice_index_or, find}
+use Rattle.std.specs.Prelude.{ℕ, ◌≡◌, ◌≤◌, true, false, Bool, not, List, [], ◌∷◌, codes, Option, Some, None, if◌then◌else◌, slice_index_or, find, ◌↔◌, ◌&&◌, slice_get}
 use Rattle.std.specs.List.{position}
 use Rattle.std.specs.Option.{option_map_or}
 use Rattle.std.specs.Ordering.{nat_cmp, eq_by_cmp}
@@ -10,7 +10,7 @@ use Rattle.std.specs.FinMap as map
 use Rattle.std.proofs.Common.{refl}
 use Rattle.vet_base.specs.declared.limits.TheConstants.{MOST_CRITERIA}
 use Rattle.vet_base.specs.declared.criterion.Criterion.{Criterion}
-use Rattle.vet_base.specs.CriteriaSet.{places_below}
+use Rattle.vet_base.specs.CriteriaSet.{Places, places_below}
 use Rattle.vet_base.specs.Names.{NameSet, members}
 
 -- criteria by their names
@@ -42,16 +42,28 @@ abbrev pub place_of : Criteria → List ℕ → Option ℕ
 place_of table name = position (eq_by_cmp (slice_cmp nat_cmp) name) (map.keys table)
 
 -- the places of those names of a set that the table holds
-abbrev pub placed : Criteria → NameSet → set.FinSet nat_cmp
+abbrev pub placed : Criteria → NameSet → Places
 placed table names = set.retain (places_below (map.len table)) (λ p. set.contains names (slice_index_or (map.keys table) p []))
 
 -- whether the place of a name is in a set
-abbrev pub is_in : Criteria → set.FinSet nat_cmp → List ℕ → Bool
+abbrev pub is_in : Criteria → Places → List ℕ → Bool
 is_in table places name = option_map_or (set.contains places) (place_of table name) false
 
 -- the least name of a set that the table lacks
 abbrev pub least_unknown : Criteria → NameSet → Option (List ℕ)
 least_unknown table names = find (λ n. not (map.contains_key table n)) (members names)
+
+-- the closure of some names has a name just where it is one of them, or a name of the closure implies it
+abbrev pub ClosureIsLeast : Type 0
+ClosureIsLeast = (table : Criteria) (names : NameSet) (n : List ℕ) → (set.contains (closure_of table names) n ≡ true) ↔ InClosure table names n
+
+-- a name is among the places of a set where the table holds it and it is in the set
+abbrev pub PlacedNamesAreIn : Type 0
+PlacedNamesAreIn = (table : Criteria) (names : NameSet) (n : List ℕ) → is_in table (placed table names) n ≡ (map.contains_key table n && set.contains names n)
+
+-- the place of a name is where it stands among the table's names
+abbrev pub PlacesAreOfNames : Type 0
+PlacesAreOfNames = (table : Criteria) (n : List ℕ) (p : ℕ) → (place_of table n ≡ Some p) ↔ (slice_get (map.keys table) p ≡ Some n)
 
 -- the built-in criteria
 abbrev pub safe_to_run : List ℕ

@@ -3,6 +3,14 @@ use Rattle.std.specs.Prelude.{ℕ, zero, suc, Bool, false, List, [], ◌++◌, �
 use Rattle.std.specs.Ordering.{nat_cmp}
 use Rattle.std.specs.FinSet.{FinSet, empty, insert, retain, contains}
 
+-- a set of places in a table of criteria
+abbrev pub Places : Type 0
+Places = FinSet nat_cmp
+
+-- whether a place is in a set
+abbrev pub has : ℕ → Places → Bool
+has place places = contains places place
+
 -- the places from 0 on, below a number
 unfoldable pub places_below : ℕ → FinSet nat_cmp
 places_below zero = empty
@@ -16,11 +24,3 @@ true_places held = retain (places_below (length held)) (λ p. slice_index_or hel
 unfoldable pub truth_below : ℕ → FinSet nat_cmp → List Bool
 truth_below zero places = []
 truth_below (suc n) places = truth_below n places ++ contains places n ∷ []
-
--- a set of places in a table of criteria
-abbrev pub Places : Type 0
-Places = FinSet nat_cmp
-
--- whether a place is in a set
-abbrev pub has : ℕ → Places → Bool
-has place places = contains places place

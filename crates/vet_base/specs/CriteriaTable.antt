@@ -5,6 +5,7 @@ use Rattle.std.specs.Ordering.{nat_cmp}
 use Rattle.std.specs.FinSet as set
 use Rattle.std.specs.FinMap as map
 use Rattle.vet_base.specs.declared.limits.TheConstants.{MOST_CRITERIA}
+use Rattle.vet_base.specs.CriteriaSet.{Places}
 use Rattle.vet_base.specs.declared.criterion.Criterion.{Criterion}
 use Rattle.vet_base.specs.Names.{IsRising}
 use Rattle.vet_base.specs.Criteria.{Criteria, IsTable, implied_by, place_of, is_in}
@@ -19,30 +20,30 @@ pub record IsKept (names : List (List ℕ)) (criteria : List Criterion) : Type 0
   pub table : IsTable (map.from_sorted (by_name criteria))
 
 -- the places of names are in a set
-abbrev pub AllIn : Criteria → set.FinSet nat_cmp → List (List ℕ) → Type 0
+abbrev pub AllIn : Criteria → Places → List (List ℕ) → Type 0
 AllIn table places names = All (λ n. (p : ℕ) → place_of table n ≡ Some p → set.contains places p ≡ true) names
 
 -- the place of one of the names is not in a set
-abbrev pub OneOut : Criteria → set.FinSet nat_cmp → List (List ℕ) → ℕ → Type 0
+abbrev pub OneOut : Criteria → Places → List (List ℕ) → ℕ → Type 0
 OneOut table places names p = (set.contains places p ≡ false) × ((n : List ℕ) × Contains names n × (place_of table n ≡ Some p))
 
 -- what a name in the set implies is in it
-abbrev pub IsClosed : Criteria → set.FinSet nat_cmp → Type 0
+abbrev pub IsClosed : Criteria → Places → Type 0
 IsClosed table places =
     (m n : List ℕ) (p : ℕ) → is_in table places m ≡ true → set.contains (implied_by table m) n ≡ true → place_of table n ≡ Some p
     → set.contains places p ≡ true
 
 -- a name in the set implies what stands at a place that is not
-abbrev pub LeadsOut : Criteria → set.FinSet nat_cmp → ℕ → Type 0
+abbrev pub LeadsOut : Criteria → Places → ℕ → Type 0
 LeadsOut table places p =
     (set.contains places p ≡ false) × (p < MOST_CRITERIA)
     × ((m n : List ℕ) × (is_in table places m ≡ true) × (set.contains (implied_by table m) n ≡ true) × (place_of table n ≡ Some p))
 
-abbrev pub IsWithin : set.FinSet nat_cmp → set.FinSet nat_cmp → Type 0
+abbrev pub IsWithin : Places → Places → Type 0
 IsWithin a b = (p : ℕ) → set.contains a p ≡ true → set.contains b p ≡ true
 
 -- the least closed set that holds another
-pub record IsLeastClosed (table : Criteria) (start places : set.FinSet nat_cmp) : Type 0 where
+pub record IsLeastClosed (table : Criteria) (start places : Places) : Type 0 where
   pub holds : IsWithin start places
   pub closed : IsClosed table places
-  pub least : (t : set.FinSet nat_cmp) → IsClosed table t → IsWithin start t → IsWithin places t
+  pub least : (t : Places) → IsClosed table t → IsWithin start t → IsWithin places t

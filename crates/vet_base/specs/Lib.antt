@@ -1,4 +1,5 @@
 pub mod Criteria
+pub mod CriteriaChanges
 pub mod CriteriaSet
 pub mod CriteriaTable
 pub mod Gives

@@ -4,16 +4,16 @@ use Rattle.std.specs.List.{list_all}
 use Rattle.std.specs.Char.{is_ascii_alphanumeric, is_ascii_graphic}
 use Rattle.vet_base.specs.declared.limits.TheConstants.{MOST_NAME_BYTES}
 
--- 1 to 64 bytes, each with this property
-abbrev pub is_short : (ℕ → Bool) → List ℕ → Bool
-is_short p text = nat_le 1 (length text) && nat_le (length text) MOST_NAME_BYTES && list_all p text
+-- from 1 byte to so many, each with this property
+abbrev pub is_short : ℕ → (ℕ → Bool) → List ℕ → Bool
+is_short most p text = nat_le 1 (length text) && nat_le (length text) most && list_all p text
 
 -- the bytes of a package's name: ASCII letters, digits, `-` and `_`
 abbrev pub is_package_byte : ℕ → Bool
 is_package_byte b = is_ascii_alphanumeric b || (b == 45) || (b == 95)
 
 abbrev pub is_package_name : List ℕ → Bool
-is_package_name = is_short is_package_byte
+is_package_name = is_short MOST_NAME_BYTES is_package_byte
 
 -- the name that a text is, if it is one
 abbrev pub read_package_name : List ℕ → Option (List ℕ)
@@ -21,7 +21,7 @@ read_package_name text = if is_package_name text then Some text else None
 
 -- the bytes of other names are the ASCII characters from `!` to `~`
 abbrev pub is_name : List ℕ → Bool
-is_name = is_short is_ascii_graphic
+is_name = is_short MOST_NAME_BYTES is_ascii_graphic
 
 abbrev pub read_name : List ℕ → Option (List ℕ)
 read_name text = if is_name text then Some text else None

@@ -54,13 +54,12 @@ impl CriteriaSet {
     }
 
     /// The set with one more place.
-    pub fn with(self, place: usize) -> CriteriaSet
+    pub fn with(mut self, place: usize) -> CriteriaSet
         requires { place < MOST_CRITERIA }
         ensures { result ≡ set.insert self place }
     {
-        let mut held = self.held;
-        held[place] = true;
-        CriteriaSet { held }
+        self.held[place] = true;
+        self
     }
 
     /// What is in either set.

@@ -1,13 +1,14 @@
 //! The table of criteria, and the closure of a set of them.
 //!
 //! **The closure of some names is the least set that holds them and, with each name, what it implies.**
-ghost use Rattle.std.specs.Prelude.{◌≡◌, ◌↔◌, ◌⊎◌, ◌&&◌, ◌<◌, ℕ, List, true, ◌≤◌, IfOk, IfErr, OnOk, OnErr, IfSome, IfNone, vec_len, insert};
+ghost use Rattle.std.specs.Prelude.{◌≡◌, ◌↔◌, ◌⊎◌, ◌&&◌, ◌<◌, ℕ, List, true, ◌≤◌, IfOk, IfErr, OnOk, OnErr, IfSome, IfNone, vec_len, insert, slice_get};
 ghost use Rattle.std.specs.Option.{option_copied};
 ghost use Rattle.std.specs.FinSet as set;
 ghost use Rattle.std.specs.FinMap as map;
 ghost use Rattle.vet_base.specs.Name.{is_name};
 ghost use Rattle.vet_base.specs.Names.{NameSet};
-ghost use Rattle.vet_base.specs.Criteria.{Criteria, InClosure, IsTable, built_in_criteria, closure_of, is_in, least_unknown, place_of, placed};
+ghost use Rattle.vet_base.specs.Criteria.{Criteria, IsTable, built_in_criteria, closure_of, is_in, least_unknown, place_of, placed, ClosureIsLeast, PlacedNamesAreIn, PlacesAreOfNames};
+ghost use Rattle.vet_base.specs.CriteriaChanges.{Answers, Refuses, is_built_in, is_in_use, remove_verdict, set_verdict};
 ghost use Rattle.vet_base.specs.CriteriaTable.{AllIn, IsClosed, IsLeastClosed, LeadsOut, OneOut};
 
 use crate::criteria_set::CriteriaSet;
@@ -50,54 +51,18 @@ impl Model for CriteriaTable {
 
 /// The closure of some names holds a name just where it is one of them, or a name of the closure implies it.
 pub fn closure_is_least()
-    ensures { (table : Criteria) (names : NameSet) (n : List ℕ)
-        → (set.contains (closure_of table names) n ≡ true) ↔ InClosure table names n }
+    ensures { ClosureIsLeast }
 {}
 
 /// A name is among the places of a set where the table holds it and it is in the set.
 pub fn placed_names_are_in()
-    ensures { (table : Criteria) (names : NameSet) (n : List ℕ)
-        → is_in table (placed table names) n ≡ (map.contains_key table n && set.contains names n) }
+    ensures { PlacedNamesAreIn }
 {}
 
-// Puts a criterion and its name at a place of their lists, or at none.
-fn put(
-    names: &mut Vec<Name>,
-    criteria: &mut Vec<Criterion>,
-    place: usize,
-    name: Name,
-    criterion: Criterion,
-) -> Result<(), Refusal>
-    requires names { place ≤ vec_len names.old }
-    requires criteria { place ≤ vec_len criteria.old }
-    ensures names { OnOk result (names.new.items ≡ insert names.old.items place name) }
-    ensures criteria { OnOk result (criteria.new.items ≡ insert criteria.old.items place criterion) }
-    ensures memory { IfErr result (λ e. e ≡ Refusal.NoMemory) }
-    ensures names_stay { OnErr result (names.new.items ≡ names.old.items) }
-    ensures criteria_stay { OnErr result (criteria.new.items ≡ criteria.old.items) }
-{
-    criteria.insert(place, criterion)?;
-    if names.insert(place, name).is_err() {
-        let _ = criteria.remove(place);
-        return Err(Refusal::NoMemory);
-    }
-    Ok(())
-}
-
-// A criterion of no more than a name and what it implies.
-fn built_in(alloc: Global, name: &str, implies: Names) -> Result<Criterion, Refusal>
-    requires { is_name name.now ≡ true }
-    ensures ok { IfOk result (λ c.
-        c ≡ record { name = name.now; description = None; url = None; implies = implies }) }
-    ensures memory { IfErr result (λ e. e ≡ Refusal.NoMemory) }
-{
-    Ok(Criterion {
-        name: Name::parse(alloc, name)?,
-        description: None,
-        url: None,
-        implies,
-    })
-}
+/// The place of a name is where it stands among the table's names.
+pub fn places_are_of_names()
+    ensures { PlacesAreOfNames }
+{}
 
 impl CriteriaTable {
     /// The table of the built-in criteria. Refused: `NoMemory`.
@@ -161,6 +126,102 @@ impl CriteriaTable {
             return Err(Refusal::UnknownCriterion(name.clone()?));
         }
         Ok(self.close(self.places(names.as_slice())))
+    }
+
+    /// Adds a criterion, or puts it in place of the one of its name. Refused: `TooManyCriteria` for a new
+    /// name in a full table, `UnknownCriterion` of the least name that it implies and that is neither in the
+    /// table nor its own, `BuiltInCriterion`, and `NoMemory`. After a refusal the table is as it was.
+    pub fn set(&mut self, criterion: Criterion) -> Result<(), Refusal>
+        ensures refused { IfSome (set_verdict self.old criterion) (λ e. Refuses e result) }
+        ensures memory { set_verdict self.old criterion ≡ None → IfErr result (λ e. e ≡ Refusal.NoMemory) }
+        ensures ok { OnOk result (self.new ≡ map.insert self.old criterion.name criterion) }
+        ensures err { OnErr result (self.new ≡ self.old) }
+    {
+        self.check_set(&criterion)?;
+        match self.names.binary_search(&criterion.name) {
+            Ok(place) => {
+                self.criteria[place] = criterion;
+                Ok(())
+            }
+            Err(place) => {
+                let name = criterion.name.clone()?;
+                put(&mut self.names, &mut self.criteria, place, name, criterion)
+            }
+        }
+    }
+
+    /// Removes the criterion of a name. Refused: `UnknownCriterion` where the table lacks the name,
+    /// `BuiltInCriterion`, `CriterionInUse` where another criterion implies it, and `NoMemory` in place of the
+    /// first. After a refusal the table is as it was.
+    pub fn remove(&mut self, name: &Name) -> Result<(), Refusal>
+        ensures refused { IfSome (remove_verdict self.old name.now) (λ e. Refuses e result) }
+        ensures done { remove_verdict self.old name.now ≡ None → result ≡ Ok tt }
+        ensures ok { OnOk result (self.new ≡ map.remove self.old name.now) }
+        ensures err { OnErr result (self.new ≡ self.old) }
+    {
+        self.check_remove(name)?;
+        if let Ok(place) = self.names.binary_search(name) {
+            let _ = self.names.remove(place);
+            let _ = self.criteria.remove(place);
+        }
+        Ok(())
+    }
+
+    // Whether a criterion may be set.
+    fn check_set(&self, criterion: &Criterion) -> Result<(), Refusal>
+        ensures { Answers (set_verdict self.now criterion.now) result }
+    {
+        if !self.has(&criterion.name) && self.names().len() >= MOST_CRITERIA {
+            return Err(Refusal::TooManyCriteria);
+        }
+        if let Some(name) = self.unknown_beside(criterion) {
+            return Err(Refusal::UnknownCriterion(name.clone()?));
+        }
+        if is_built_in(&criterion.name) {
+            return Err(Refusal::BuiltInCriterion);
+        }
+        Ok(())
+    }
+
+    // The least name that a criterion implies and that is neither in the table nor its own.
+    fn unknown_beside<'a>(&self, criterion: &'a Criterion) -> Option<&'a Name>
+        ensures { option_copied result ≡
+            least_unknown (map.insert self.now criterion.now.name criterion.now) criterion.now.implies }
+    {
+        for name in criterion.implies.as_slice() {
+            if *name != criterion.name && !self.has(name) {
+                return Some(name);
+            }
+        }
+        None
+    }
+
+    // Whether a name may be removed.
+    fn check_remove(&self, name: &Name) -> Result<(), Refusal>
+        ensures { Answers (remove_verdict self.now name.now) result }
+    {
+        if !self.has(name) {
+            return Err(Refusal::UnknownCriterion(name.clone()?));
+        }
+        if is_built_in(name) {
+            return Err(Refusal::BuiltInCriterion);
+        }
+        if self.is_in_use(name) {
+            return Err(Refusal::CriterionInUse);
+        }
+        Ok(())
+    }
+
+    // Whether another criterion implies a name.
+    fn is_in_use(&self, name: &Name) -> bool
+        ensures { result ≡ is_in_use self.now name.now }
+    {
+        for criterion in &self.criteria {
+            if criterion.name != *name && criterion.implies.contains(name) {
+                return true;
+            }
+        }
+        false
     }
 
     /// The least of some names that the table lacks.
@@ -243,3 +304,52 @@ impl CriteriaSet {
         }
     }
 }
+
+// A criterion of no more than a name and what it implies.
+fn built_in(alloc: Global, name: &str, implies: Names) -> Result<Criterion, Refusal>
+    requires { is_name name.now ≡ true }
+    ensures ok { IfOk result (λ c.
+        c ≡ record { name = name.now; description = None; url = None; implies = implies }) }
+    ensures memory { IfErr result (λ e. e ≡ Refusal.NoMemory) }
+{
+    Ok(Criterion {
+        name: Name::parse(alloc, name)?,
+        description: None,
+        url: None,
+        implies,
+    })
+}
+
+// Whether a name is that of a built-in criterion.
+fn is_built_in(name: &Name) -> bool
+    ensures { result ≡ is_built_in name.now }
+{
+    name.as_str() == SAFE_TO_RUN || name.as_str() == SAFE_TO_DEPLOY
+}
+
+// Puts a criterion and its name at a place of their lists, or at none.
+fn put(
+    names: &mut Vec<Name>,
+    criteria: &mut Vec<Criterion>,
+    place: usize,
+    name: Name,
+    criterion: Criterion,
+) -> Result<(), Refusal>
+    requires names { place ≤ vec_len names.old }
+    requires criteria { place ≤ vec_len criteria.old }
+    ensures names { OnOk result (names.new.items ≡ insert names.old.items place name) }
+    ensures criteria { OnOk result (criteria.new.items ≡ insert criteria.old.items place criterion) }
+    ensures memory { IfErr result (λ e. e ≡ Refusal.NoMemory) }
+    ensures names_stay { OnErr result (names.new.items ≡ names.old.items) }
+    ensures criteria_stay { OnErr result (criteria.new.items ≡ criteria.old.items) }
+{
+    criteria.insert(place, criterion)?;
+    if names.insert(place, name).is_err() {
+        let _ = criteria.remove(place);
+        return Err(Refusal::NoMemory);
+    }
+    Ok(())
+}
+
+#[cfg(test)]
+mod tests;

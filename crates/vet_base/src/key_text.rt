@@ -1,5 +1,5 @@
 //! Paths and keys as a refusal tells them.
-ghost use Rattle.std.specs.Prelude.{◌≡◌, IfOk};
+ghost use Rattle.std.specs.Prelude.{◌≡◌, IfOk, true};
 ghost use Rattle.vet_base.specs.KeyText.{is_visible, told_key};
 
 use crate::limits::MOST_KEY_BYTES;
@@ -29,12 +29,6 @@ impl Model for KeyText {
     ghost inverse = { λ t. record { text = t } };
 }
 
-fn is_visible(text: &str) -> bool
-    ensures { result ≡ is_visible text.now }
-{
-    1 <= text.len() && text.len() <= MOST_KEY_BYTES && are_visible(text.as_bytes())
-}
-
 impl KeyText {
     /// The key or the path as it is told.
     pub fn told(alloc: Global, key: &str) -> Result<KeyText, AllocError>
@@ -48,7 +42,8 @@ impl KeyText {
 
     /// The text that is told.
     pub fn as_str(&self) -> &str
-        ensures { result.now ≡ self.now }
+        ensures value { result.now ≡ self.now }
+        ensures visible { is_visible self.now ≡ true }
     {
         self.text.as_str()
     }
@@ -62,4 +57,10 @@ impl fmt::Display for KeyText {
     fn fmt<W: fmt::Write>(&self, f: &mut fmt::Formatter<W>) -> fmt::Result {
         f.write_str(self.text.as_str())
     }
+}
+
+fn is_visible(text: &str) -> bool
+    ensures { result ≡ is_visible text.now }
+{
+    1 <= text.len() && text.len() <= MOST_KEY_BYTES && are_visible(text.as_bytes())
 }

@@ -23,3 +23,39 @@ pub const MOST_READS: u32 = 10_000_000;
 
 /// The most criteria of a table, the built-in ones among them.
 pub const MOST_CRITERIA: usize = 64;
+
+/// The most further criteria in the file of a peer.
+pub const MOST_PEER_CRITERIA: usize = 62;
+
+/// The most peers.
+pub const MOST_PEERS: usize = 64;
+
+/// The most entries.
+pub const MOST_ENTRIES: usize = 100_000;
+
+/// The most publisher records.
+pub const MOST_PUBLISHERS: usize = 100_000;
+
+/// The most policies.
+pub const MOST_POLICIES: usize = 10_000;
+
+/// The most projects.
+pub const MOST_PROJECTS: usize = 64;
+
+/// The most nodes of a project.
+pub const MOST_NODES: usize = 10_000;
+
+/// The most edges of a project.
+pub const MOST_EDGES: usize = 100_000;
+
+/// The most members.
+pub const MOST_MEMBERS: usize = 1_000;
+
+/// The most reviews.
+pub const MOST_REVIEWS: usize = 100_000;
+
+/// The last step of the register.
+pub const LAST_STEP: u64 = 9_223_372_036_854_775_807;
+
+/// The last number of an entry or of a review.
+pub const LAST_NUMBER: u64 = 9_223_372_036_854_775_806;

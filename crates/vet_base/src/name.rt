@@ -32,24 +32,6 @@ impl Model for PackageName {
     ghost inverse = { λ t. record { text = t } };
 }
 
-fn is_package_byte(byte: u8) -> bool
-    ensures { result ≡ is_package_byte byte }
-{
-    byte.is_ascii_alphanumeric() || byte == b'-' || byte == b'_'
-}
-
-fn are_package_bytes(text: &[u8]) -> bool
-    ensures { result ≡ list_all is_package_byte text.now }
-{
-    text.iter().all(|byte| is_package_byte(*byte))
-}
-
-fn is_package_name(text: &str) -> bool
-    ensures { result ≡ is_package_name text.now }
-{
-    1 <= text.len() && text.len() <= MOST_NAME_BYTES && are_package_bytes(text.as_bytes())
-}
-
 impl PackageName {
     /// The name that a text is, if it is one.
     pub fn read(alloc: Global, text: &str) -> Result<Option<PackageName>, AllocError>
@@ -111,18 +93,6 @@ impl Model for Name {
     ghost inverse = { λ t. record { text = t } };
 }
 
-pub(crate) fn are_visible(text: &[u8]) -> bool
-    ensures { result ≡ list_all is_ascii_graphic text.now }
-{
-    text.iter().all(|byte| byte.is_ascii_graphic())
-}
-
-fn is_name(text: &str) -> bool
-    ensures { result ≡ is_name text.now }
-{
-    1 <= text.len() && text.len() <= MOST_NAME_BYTES && are_visible(text.as_bytes())
-}
-
 impl Name {
     /// The name that a text is, if it is one.
     pub fn read(alloc: Global, text: &str) -> Result<Option<Name>, AllocError>
@@ -162,4 +132,34 @@ impl fmt::Display for Name {
     fn fmt<W: fmt::Write>(&self, f: &mut fmt::Formatter<W>) -> fmt::Result {
         f.write_str(self.text.as_str())
     }
+}
+
+fn is_package_name(text: &str) -> bool
+    ensures { result ≡ is_package_name text.now }
+{
+    1 <= text.len() && text.len() <= MOST_NAME_BYTES && are_package_bytes(text.as_bytes())
+}
+
+fn are_package_bytes(text: &[u8]) -> bool
+    ensures { result ≡ list_all is_package_byte text.now }
+{
+    text.iter().all(|byte| is_package_byte(*byte))
+}
+
+fn is_package_byte(byte: u8) -> bool
+    ensures { result ≡ is_package_byte byte }
+{
+    byte.is_ascii_alphanumeric() || byte == b'-' || byte == b'_'
+}
+
+fn is_name(text: &str) -> bool
+    ensures { result ≡ is_name text.now }
+{
+    1 <= text.len() && text.len() <= MOST_NAME_BYTES && are_visible(text.as_bytes())
+}
+
+pub(crate) fn are_visible(text: &[u8]) -> bool
+    ensures { result ≡ list_all is_ascii_graphic text.now }
+{
+    text.iter().all(|byte| byte.is_ascii_graphic())
 }

@@ -30,9 +30,9 @@ pub enum Refusal {
     TooManyCriteria,
     /// No own entry has this number.
     UnknownEntry,
-    /// The last day of a window comes before its first, or before the day of the command.
+    /// The last day of a window comes before its first.
     EmptyWindow,
-    /// The last day of a window is too far off.
+    /// The last day of a window comes more than 366 days after the day of the command.
     WindowTooLong,
     /// No peer has this name.
     UnknownPeer,
@@ -42,7 +42,8 @@ pub enum Refusal {
     UnknownProject,
     /// An edge, in this record of a dependency table, names a node that the table lacks.
     UnknownNode(u64),
-    /// A node, in this record of a dependency table, stood before with another party.
+    /// A node, in this record of a dependency table, stood before as first-party and is third-party here, or
+    /// the other way round.
     TwoParties(u64),
     /// Something goes past its limit.
     TooLarge(Limit),
@@ -52,7 +53,8 @@ pub enum Refusal {
     UnknownReview,
     /// The review is finished or withdrawn.
     ReviewClosed,
-    /// Another member holds the review, or none does.
+    /// The review is to be finished by another than the member who holds it, or withdrawn while another
+    /// holds it.
     NotYours,
     /// The entry that would finish the review does not end in its version.
     WrongTarget,
@@ -74,36 +76,36 @@ pub enum Refusal {
     NotARegister,
 }
 
-/// What went past its limit.
+/// What went past its limit, which `limits` gives.
 #[derive(Clone, Copy, Debug, PartialEq, Eq)]
 pub enum Limit {
-    /// A free text of more than 65,536 bytes.
+    /// A free text.
     Text,
-    /// More than 62 further criteria in the file of a peer.
+    /// The further criteria in the file of a peer.
     PeerCriteria,
-    /// More than 10,000 nodes in a project.
+    /// The nodes of a project.
     Nodes,
-    /// More than 100,000 edges in a project.
+    /// The edges of a project.
     Edges,
-    /// More than 64 peers.
+    /// The peers.
     Peers,
-    /// More than 100,000 entries.
+    /// The entries.
     Entries,
-    /// More than 100,000 publisher records.
+    /// The publisher records.
     Publishers,
-    /// More than 10,000 policies.
+    /// The policies.
     Policies,
-    /// More than 64 projects.
+    /// The projects.
     Projects,
-    /// More than 1,000 members.
+    /// The members.
     Members,
-    /// More than 100,000 reviews.
+    /// The reviews.
     Reviews,
-    /// More than 8 MiB of standard input, of a body or of a file.
+    /// A file, standard input or a body.
     Input,
-    /// No step is left for another command.
+    /// The step of the register.
     Step,
-    /// No number is left for another entry or review.
+    /// The number of an entry or of a review.
     Number,
 }
 

@@ -39,8 +39,10 @@ impl Text {
     /// The text, where it has at most 65,536 bytes. Refused: `TooLarge` of `text`, and `NoMemory`.
     pub fn parse(alloc: Global, text: &str) -> Result<Text, Refusal>
         ensures ok { IfOk result (λ t. t ≡ text.now) }
-        ensures refused { (result ≡ Err (Refusal.TooLarge Limit.Text)) ↔ (MOST_TEXT_BYTES < length text.now) }
-        ensures memory { length text.now ≤ MOST_TEXT_BYTES → IfErr result (λ e. e ≡ Refusal.NoMemory) }
+        ensures refused { (result ≡ Err (Refusal.TooLarge Limit.Text))
+            ↔ (MOST_TEXT_BYTES < length text.now) }
+        ensures memory { length text.now ≤ MOST_TEXT_BYTES
+            → IfErr result (λ e. e ≡ Refusal.NoMemory) }
     {
         if text.len() > MOST_TEXT_BYTES {
             return Err(Refusal::TooLarge(Limit::Text));
@@ -50,7 +52,8 @@ impl Text {
 
     /// The text.
     pub fn as_str(&self) -> &str
-        ensures { result.now ≡ self.now }
+        ensures value { result.now ≡ self.now }
+        ensures short { length self.now ≤ MOST_TEXT_BYTES }
     {
         self.text.as_str()
     }

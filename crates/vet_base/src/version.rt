@@ -34,111 +34,13 @@ pub struct VetVersion {
 }
 
 impl Model for VetVersion {
-    ghost use Rattle.std.specs.Prelude.{option_map, string_bytes};
-    ghost use Rattle.semver.specs.Identifiers.{parts_of};
-    ghost use Rattle.vet_base.specs.Version.{VersionValue};
+    ghost use Rattle.vet_base.specs.Version.{IsVersion, VersionValue, value_of};
 
     ghost Value = { VersionValue };
 
-    ghost view = { λ v. record { parts = parts_of v.version; revision = option_map string_bytes v.revision } };
+    ghost view = { λ v. value_of (v.version, v.revision) };
 
-    ghost use Rattle.vet_base.specs.Version.{IsVersion};
-
-    ghost invariant = { λ v. IsVersion (record { parts = parts_of v.version; revision = option_map string_bytes v.revision }) };
-}
-
-fn are_hex_bytes(text: &[u8]) -> bool
-    ensures { result ≡ list_all is_ascii_hexdigit text.now }
-{
-    text.iter().all(|byte| byte.is_ascii_hexdigit())
-}
-
-fn is_revision(text: &str) -> bool
-    ensures { result ≡ is_revision text.now }
-{
-    text.len() == REVISION_DIGITS && are_hex_bytes(text.as_bytes())
-}
-
-// Whether the error is want of memory.
-pub(crate) fn is_memory(error: semver::Error) -> bool
-    ensures { IsTrue result ↔ (error ≡ memory_error) }
-{
-    error == semver::Error::from(AllocError)
-}
-
-// The version that SemVer reads, if it reads one. No text is refused for want of memory.
-#[tactic(auto, using(crate::proofs::SemverErrors::version_no_memory))]
-fn semver_version(alloc: Global, text: &str) -> Result<Option<Version>, AllocError>
-    ensures ok { IfOk result (λ v. option_map parts_of v ≡ result_ok (version_parts text.now)) }
-    ensures no_version { result_ok (version_parts text.now) ≡ None → result ≡ Ok None }
-{
-    match Version::parse(alloc, text) {
-        Ok(version) => Ok(Some(version)),
-        Err(error) => {
-            if is_memory(error) {
-                Err(AllocError)
-            } else {
-                Ok(None)
-            }
-        }
-    }
-}
-
-// V with a revision, which is held as small letters.
-fn at_revision(
-    alloc: Global,
-    text: &str,
-    revision: &str,
-) -> Result<Option<(Version, Option<String>)>, AllocError>
-    ensures ok { IfOk result (λ v. option_map value_of v ≡ version_at text.now revision.now) }
-    ensures no_version { version_at text.now revision.now ≡ None → result ≡ Ok None }
-{
-    let Some(version) = semver_version(alloc, text)? else {
-        return Ok(None);
-    };
-    let mut small = String::from_str(alloc, revision)?;
-    small.make_ascii_lowercase();
-    Ok(Some((version, Some(small))))
-}
-
-fn revised(
-    alloc: Global,
-    text: &str,
-    rest: &str,
-) -> Result<Option<(Version, Option<String>)>, AllocError>
-    ensures ok { IfOk result (λ v. option_map value_of v ≡ revised_version text.now rest.now) }
-    ensures no_version { revised_version text.now rest.now ≡ None → result ≡ Ok None }
-{
-    let Some(revision) = rest.strip_prefix("git:") else {
-        return Ok(None);
-    };
-    if !is_revision(revision) {
-        return Ok(None);
-    }
-    at_revision(alloc, text, revision)
-}
-
-fn plain(alloc: Global, text: &str) -> Result<Option<(Version, Option<String>)>, AllocError>
-    ensures ok { IfOk result (λ v. option_map value_of v ≡ plain_version text.now) }
-    ensures no_version { plain_version text.now ≡ None → result ≡ Ok None }
-{
-    let Some(version) = semver_version(alloc, text)? else {
-        return Ok(None);
-    };
-    Ok(Some((version, None)))
-}
-
-fn parts(alloc: Global, text: &str) -> Result<Option<(Version, Option<String>)>, AllocError>
-    ensures ok { IfOk result (λ v. option_map value_of v ≡ read_version text.now) }
-    ensures no_version { read_version text.now ≡ None → result ≡ Ok None }
-{
-    if text.len() > MOST_VERSION_BYTES {
-        return Ok(None);
-    }
-    match text.split_once('@') {
-        None => plain(alloc, text),
-        Some((version, rest)) => revised(alloc, version, rest),
-    }
+    ghost invariant = { λ v. IsVersion (value_of (v.version, v.revision)) };
 }
 
 impl VetVersion {
@@ -238,4 +140,98 @@ fn revision_cmp(a: &Option<String>, b: &Option<String>) -> Ordering
         (Some(_), None) => Ordering::Greater,
         (Some(a), Some(b)) => a.as_str().cmp(b.as_str()),
     }
+}
+
+fn parts(alloc: Global, text: &str) -> Result<Option<(Version, Option<String>)>, AllocError>
+    ensures ok { IfOk result (λ v. option_map value_of v ≡ read_version text.now) }
+    ensures no_version { read_version text.now ≡ None → result ≡ Ok None }
+{
+    if text.len() > MOST_VERSION_BYTES {
+        return Ok(None);
+    }
+    match text.split_once('@') {
+        None => plain(alloc, text),
+        Some((version, rest)) => revised(alloc, version, rest),
+    }
+}
+
+fn plain(alloc: Global, text: &str) -> Result<Option<(Version, Option<String>)>, AllocError>
+    ensures ok { IfOk result (λ v. option_map value_of v ≡ plain_version text.now) }
+    ensures no_version { plain_version text.now ≡ None → result ≡ Ok None }
+{
+    let Some(version) = semver_version(alloc, text)? else {
+        return Ok(None);
+    };
+    Ok(Some((version, None)))
+}
+
+fn revised(
+    alloc: Global,
+    text: &str,
+    rest: &str,
+) -> Result<Option<(Version, Option<String>)>, AllocError>
+    ensures ok { IfOk result (λ v. option_map value_of v ≡ revised_version text.now rest.now) }
+    ensures no_version { revised_version text.now rest.now ≡ None → result ≡ Ok None }
+{
+    let Some(revision) = rest.strip_prefix("git:") else {
+        return Ok(None);
+    };
+    if !is_revision(revision) {
+        return Ok(None);
+    }
+    at_revision(alloc, text, revision)
+}
+
+fn is_revision(text: &str) -> bool
+    ensures { result ≡ is_revision text.now }
+{
+    text.len() == REVISION_DIGITS && are_hex_bytes(text.as_bytes())
+}
+
+fn are_hex_bytes(text: &[u8]) -> bool
+    ensures { result ≡ list_all is_ascii_hexdigit text.now }
+{
+    text.iter().all(|byte| byte.is_ascii_hexdigit())
+}
+
+// V with a revision, which is held as small letters.
+fn at_revision(
+    alloc: Global,
+    text: &str,
+    revision: &str,
+) -> Result<Option<(Version, Option<String>)>, AllocError>
+    ensures ok { IfOk result (λ v. option_map value_of v ≡ version_at text.now revision.now) }
+    ensures no_version { version_at text.now revision.now ≡ None → result ≡ Ok None }
+{
+    let Some(version) = semver_version(alloc, text)? else {
+        return Ok(None);
+    };
+    let mut small = String::from_str(alloc, revision)?;
+    small.make_ascii_lowercase();
+    Ok(Some((version, Some(small))))
+}
+
+// The version that SemVer reads, if it reads one. No text is refused for want of memory.
+#[tactic(auto, using(crate::proofs::SemverErrors::version_no_memory))]
+fn semver_version(alloc: Global, text: &str) -> Result<Option<Version>, AllocError>
+    ensures ok { IfOk result (λ v. option_map parts_of v ≡ result_ok (version_parts text.now)) }
+    ensures no_version { result_ok (version_parts text.now) ≡ None → result ≡ Ok None }
+{
+    match Version::parse(alloc, text) {
+        Ok(version) => Ok(Some(version)),
+        Err(error) => {
+            if is_memory(error) {
+                Err(AllocError)
+            } else {
+                Ok(None)
+            }
+        }
+    }
+}
+
+// Whether the error is want of memory.
+fn is_memory(error: semver::Error) -> bool
+    ensures { IsTrue result ↔ (error ≡ memory_error) }
+{
+    error == semver::Error::from(AllocError)
 }

@@ -1,7 +1,7 @@
 //! Steps of trust, and those that entries give.
 ghost use Rattle.std.specs.Prelude.{◌≡◌, ◌++◌, ◌∷◌, [], IfOk, IfErr, OnOk, None};
 ghost use Rattle.std.specs.List.{All};
-ghost use Rattle.vet_entries.specs.Step.{HasKnownCriteria, is_of, local_criteria, step_of, steps_of};
+ghost use Rattle.vet_entries.specs.Step.{HasKnownCriteria, steps_of};
 
 use crate::entry::{Entry, Kind};
 use crate::facts::EntryFacts;
@@ -33,46 +33,40 @@ pub fn steps_of(
     facts: &EntryFacts,
 ) -> Result<Vec<Step>, Refusal>
     requires { All (HasKnownCriteria facts.now.criteria) facts.now.entries.items }
-    ensures ok { IfOk result (λ steps. steps.items ≡ steps_of facts.now.criteria facts.now.entries.items «package».now) }
+    ensures ok { IfOk result (λ steps. steps.items
+        ≡ steps_of facts.now.criteria facts.now.entries.items «package».now) }
     ensures memory { IfErr result (λ e. e ≡ Refusal.NoMemory) }
 {
     let mut steps = Vec::new(alloc);
     for entry in &facts.entries {
-        add_step(&mut steps, package, entry, &facts.criteria)?;
+        add_steps(&mut steps, package, entry, &facts.criteria)?;
     }
     Ok(steps)
 }
 
-// Adds the step that an entry gives, where it is of the package.
-fn add_step(
+// Adds the steps that an entry gives, where it is of the package.
+fn add_steps(
     steps: &mut Vec<Step>,
     package: &PackageName,
     entry: &Entry,
     criteria: &CriteriaTable,
 ) -> Result<(), Refusal>
     requires { HasKnownCriteria criteria.now entry.now }
-    ensures ok { OnOk result (steps.new.items ≡ steps.old.items ++ steps_of criteria.now (entry.now ∷ []) «package».now) }
+    ensures ok { OnOk result (steps.new.items
+        ≡ steps.old.items ++ steps_of criteria.now (entry.now ∷ []) «package».now) }
     ensures memory { IfErr result (λ e. e ≡ Refusal.NoMemory) }
 {
-    if entry.package == *package {
-        steps.push(step_of(entry, criteria)?)?;
+    if entry.package != *package {
+        return Ok(());
     }
-    Ok(())
-}
-
-// The step that an entry gives.
-fn step_of(entry: &Entry, criteria: &CriteriaTable) -> Result<Step, Refusal>
-    requires { HasKnownCriteria criteria.now entry.now }
-    ensures ok { IfOk result (λ step. step ≡ step_of criteria.now entry.now) }
-    ensures memory { IfErr result (λ e. e ≡ Refusal.NoMemory) }
-{
     let closed = criteria.closure(&entry.criteria)?;
     match &entry.kind {
-        Kind::Full(version) => Ok(Step {
+        Kind::Full(version) => steps.push(Step {
             origin: None,
             target: version.clone()?,
             criteria: closed,
             exempt: false,
-        }),
+        })?,
     }
+    Ok(())
 }

@@ -15,7 +15,7 @@ use Rattle.vet_graph.specs.declared.class.Class.{Class}
 use Rattle.vet_graph.specs.declared.class.Class.TheVariants.{Conflicting, Full, Partial, Exempted, Unvetted}
 use Rattle.vet_graph.specs.Chain.{Condemned, EndsReviewed, HasCleanChain, HasNoExempt, IsAny, IsChain, IsClean, Leads}
 use Rattle.vet_graph.specs.Class.{IsClass, IsConflicting, IsExempted, IsFull, IsPartial}
-use Rattle.vet_graph.specs.Decisions.{AllPairs-map, All-lists_up_to, Answer, Contains-lists_up_to, Contains-map, both, both3, each, each_pair, is_true, lists_up_to, opposite, same_answer, some}
+use Rattle.vet_graph.specs.Decisions.{AllPairs-map, All-lists_up_to, Answer, Contains-lists_up_to, Contains-map, both, all_three, each, each_pair, is_true, lists_up_to, opposite, same_answer, some}
 
 pub same_place : (a b : Option VersionValue) → Answer (a ≡ b)
 same_place None None = inl refl
@@ -48,7 +48,7 @@ some_chain steps c v P a =
     (λ h. (h.0, record { of_package = All-contains (All (Contains steps)) (lists_up_to (length steps) steps) h.0 (All-lists_up_to (length steps) steps) h.1; for_criterion = h.2.0.0; leads = h.2.0.1; once = h.2.0.2 }, h.2.1))
     (λ h. (h.0, Contains-lists_up_to (length steps) steps h.0 (length-le_from_chain steps c v h.0 h.1) h.1.of_package, ((h.1.for_criterion, h.1.leads, h.1.once), h.2)))
     (some (λ chain. IsChainTest c v chain × P chain)
-    (λ chain. both (both3 (each (λ s. has c s.criteria ≡ true) (λ s. is_true (has c s.criteria) true) chain) (leads None chain v) (each_pair (λ s t. s.target ≢ t.target) (λ s t. opposite (same_or_other s.target t.target)) chain)) (a chain))
+    (λ chain. both (all_three (each (λ s. has c s.criteria ≡ true) (λ s. is_true (has c s.criteria) true) chain) (leads None chain v) (each_pair (λ s t. s.target ≢ t.target) (λ s t. opposite (same_or_other s.target t.target)) chain)) (a chain))
     (lists_up_to (length steps) steps))
 
 pub conflicting : (steps : List Step) (condemned : Condemned) (c : ℕ) (v : VersionValue) → Answer (IsConflicting steps condemned c v)
@@ -137,3 +137,12 @@ first_unique steps condemned c v (inr a) (inr b) (inr d) (inr e) Unvetted h = re
 pub class_at-unique : (steps : List Step) (condemned : Condemned) (c : ℕ) (v : VersionValue) (k : Class) → IsClass steps condemned c v k → k ≡ class_at steps condemned c v
 unfolding class_at
 class_at-unique steps condemned c v k h = first_unique steps condemned c v _ _ _ _ k h
+
+-- the class of a version holds, and those before it don't
+abbrev pub ClassHolds : Type 0
+ClassHolds = (steps : List Step) (condemned : Condemned) (c : ℕ) (v : VersionValue) → IsClass steps condemned c v (class_at steps condemned c v)
+
+-- no other class does so
+abbrev pub ClassIsOnly : Type 0
+ClassIsOnly = (steps : List Step) (condemned : Condemned) (c : ℕ) (v : VersionValue) (k : Class)
+    → IsClass steps condemned c v k → k ≡ class_at steps condemned c v

@@ -20,8 +20,8 @@ both (inl p) (inl q) = inl (p, q)
 both (inl p) (inr n) = inr (λ h. n h.1)
 both (inr n) a = inr (λ h. n h.0)
 
-pub both3 : {P Q R : Type 0} → Answer P → Answer Q → Answer R → Answer (P × Q × R)
-both3 a b c = same_answer (λ h. (h.0, h.1.0, h.1.1)) (λ h. (h.0, (h.1, h.2))) (both a (both b c))
+pub all_three : {P Q R : Type 0} → Answer P → Answer Q → Answer R → Answer (P × Q × R)
+all_three a b c = same_answer (λ h. (h.0, h.1.0, h.1.1)) (λ h. (h.0, (h.1, h.2))) (both a (both b c))
 
 pub opposite : {P : Type 0} → Answer P → Answer (P → ⊥)
 opposite (inl p) = inr (λ n. n p)

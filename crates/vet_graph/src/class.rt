@@ -6,7 +6,7 @@ ghost use Rattle.vet_entries.specs.declared.step.Step.{Step};
 ghost use Rattle.vet_graph.specs.declared.class.Class.{Class};
 ghost use Rattle.vet_graph.specs.Chain.{Condemned, IsReviewFromNothing, none_condemned, vouches};
 ghost use Rattle.vet_graph.specs.Class.{IsClass, class_word};
-ghost use Rattle.vet_graph.specs.ClassAt.{class_at};
+ghost use Rattle.vet_graph.specs.ClassAt.{ClassHolds, ClassIsOnly, class_at};
 
 use vet_base::version::VetVersion;
 use vet_entries::step::Step;
@@ -62,10 +62,8 @@ fn has_review(steps: &[Step], place: usize, version: &VetVersion) -> bool
         .any(|step| step.criteria.has(place) && step.target == *version)
 }
 
-/// The class that the definition by chains gives is the first that holds.
+/// The class that the definition gives is the first that holds, and no other one is.
 pub fn class_is_first_that_holds()
-    ensures first { (steps : List Step) (condemned : Condemned) (c : ℕ) (v : VersionValue)
-        → IsClass steps condemned c v (class_at steps condemned c v) }
-    ensures only { (steps : List Step) (condemned : Condemned) (c : ℕ) (v : VersionValue) (class : Class)
-        → IsClass steps condemned c v class → class ≡ class_at steps condemned c v }
+    ensures first { ClassHolds }
+    ensures only { ClassIsOnly }
 {}

@@ -30,7 +30,8 @@ pub fn class_of_file(
     version: &str,
     criterion: &str,
 ) -> Result<Class, Refusal>
-    ensures { Gives (λ class. class) (class_told file.now «package».now version.now criterion.now) result }
+    ensures { Gives (λ class. class)
+        (class_told file.now «package».now version.now criterion.now) result }
 {
     let package = PackageName::parse(alloc, package)?;
     let version = VetVersion::parse(alloc, version)?;
@@ -60,7 +61,8 @@ fn class_in(
     version: &VetVersion,
     criterion: &Name,
 ) -> Result<Class, Refusal>
-    ensures { Gives (λ class. class) (class_in facts.now.criteria facts.now.entries.items «package».now version.now criterion.now) result }
+    ensures { Gives (λ class. class) (class_in facts.now.criteria facts.now.entries.items
+        «package».now version.now criterion.now) result }
 {
     if let Some(unknown) = unknown_name(&facts.criteria, criterion, &facts.entries) {
         return Err(Refusal::UnknownCriterion(unknown.clone()?));

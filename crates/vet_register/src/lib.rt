@@ -4,7 +4,7 @@
 //!
 //! Scope of this crate: today the class of one pair from an audits file. The machine that keeps entries,
 //! with its commands, comes here; until the crate of cargo-vet's files is founded, their reader stands here
-//! too.
+//! too. It gives on the names of the lower crates that its callers need.
 #![tactic(auto)]
 
 pub mod audits_file;
@@ -13,6 +13,6 @@ mod fields;
 #[cfg(test)]
 mod tests;
 
-pub use vet_base::refusal;
-pub use vet_entries::{entry, step};
+pub use vet_base::{limits, refusal};
+pub use vet_entries::{entry, facts, step};
 pub use vet_graph::class;

@@ -10,30 +10,70 @@ const DEPLOY: &str = "[[audits.serde]]\ncriteria = \"safe-to-deploy\"\nversion =
 
 const RUN: &str = "[[audits.serde]]\ncriteria = \"safe-to-run\"\nversion = \"1.0.0\"\n";
 
+// name, package, version, criterion, file, and the class's word, or the number of the refusal.
+const EXAMPLES: [(&str, [&str; 3], &str, Result<&str, u8>); 10] = [
+    (
+        "unvetted_without_entries",
+        ["serde", "1.0.0", "safe-to-deploy"],
+        "",
+        Ok("unvetted"),
+    ),
+    (
+        "deploy_entry_serves_deploy",
+        ["serde", "1.0.0", "safe-to-deploy"],
+        DEPLOY,
+        Ok("full"),
+    ),
+    (
+        "deploy_entry_serves_run",
+        ["serde", "1.0.0", "safe-to-run"],
+        DEPLOY,
+        Ok("full"),
+    ),
+    (
+        "run_entry_serves_run",
+        ["serde", "1.0.0", "safe-to-run"],
+        RUN,
+        Ok("full"),
+    ),
+    (
+        "run_entry_does_not_serve_deploy",
+        ["serde", "1.0.0", "safe-to-deploy"],
+        RUN,
+        Ok("unvetted"),
+    ),
+    (
+        "bad_package_name_first",
+        ["ser de", "1.0", "nope"],
+        "",
+        Err(1),
+    ),
+    ("then_bad_version", ["serde", "1.0", "nope"], "", Err(2)),
+    (
+        "then_bad_criterion_name",
+        ["serde", "1.0.0", "no pe"],
+        "x =",
+        Err(1),
+    ),
+    ("then_the_file", ["serde", "1.0.0", "nope"], "x =", Err(26)),
+    (
+        "then_the_unknown_criterion",
+        ["serde", "1.0.0", "nope"],
+        "",
+        Err(6),
+    ),
+];
+
 #[test]
-fn classes_of_worked_examples(rt: HostRuntime) -> Result<(), Fail> {
-    let examples = [
-        ("empty file, deploy", "", "safe-to-deploy", "unvetted"),
-        (
-            "deploy entry serves deploy",
-            DEPLOY,
-            "safe-to-deploy",
-            "full",
-        ),
-        ("deploy entry serves run", DEPLOY, "safe-to-run", "full"),
-        ("run entry serves run", RUN, "safe-to-run", "full"),
-        (
-            "run entry does not serve deploy",
-            RUN,
-            "safe-to-deploy",
-            "unvetted",
-        ),
-    ];
-    for (name, file, criterion, word) in examples {
-        let class = class_of_file(rt.alloc(), file.as_bytes(), "serde", "1.0.0", criterion)?;
-        assert_eq!(rt; class.word(), word, "{name}");
+fn worked_examples(rt: HostRuntime) {
+    for (name, [package, version, criterion], file, expected) in EXAMPLES {
+        let answer = class_of_file(rt.alloc(), file.as_bytes(), package, version, criterion);
+        match (answer, expected) {
+            (Ok(class), Ok(word)) => assert_eq!(rt; class.word(), word, "{name}"),
+            (Err(refusal), Err(number)) => assert_eq!(rt; refusal.number(), number, "{name}"),
+            _ => panic!(rt; "{name}"),
+        }
     }
-    Ok(())
 }
 
 #[test]
@@ -60,23 +100,6 @@ fn entries_of_other_packages_and_versions_count_for_nothing(rt: HostRuntime) -> 
 }
 
 #[test]
-fn words_then_file_then_criteria(rt: HostRuntime) -> Result<(), Fail> {
-    let nope = Refusal::UnknownCriterion(Name::parse(rt.alloc(), "nope")?);
-    let examples = [
-        ("ser de", "1.0", "nope", "", Refusal::BadName),
-        ("serde", "1.0", "nope", "", Refusal::BadVersion),
-        ("serde", "1.0.0", "no pe", "x =", Refusal::BadName),
-        ("serde", "1.0.0", "nope", "x =", Refusal::TomlRefused),
-        ("serde", "1.0.0", "nope", "", nope),
-    ];
-    for (package, version, criterion, file, refusal) in examples {
-        let answer = class_of_file(rt.alloc(), file.as_bytes(), package, version, criterion);
-        assert!(rt; answer == Err(refusal), "{package} {version} {criterion}");
-    }
-    Ok(())
-}
-
-#[test]
 fn the_least_unknown_criterion_is_told(rt: HostRuntime) -> Result<(), Fail> {
     let file =
         b"[[audits.log]]\ncriteria = [\"safe-to-run\", \"d\"]\nversion = \"1.0.0\"\n[[audits.serde]]\ncriteria = [\"c\", \"b\"]\nversion = \"1.0.0\"\n[[audits.zed]]\ncriteria = \"a\"\n";
@@ -88,56 +111,57 @@ fn the_least_unknown_criterion_is_told(rt: HostRuntime) -> Result<(), Fail> {
     Ok(())
 }
 
-// Each file has faults of several kinds; the first of the walk is told.
+// A file, and the table and the key that are told. Each file has faults of several kinds.
+const FAULTS: [(&str, &str, &str); 12] = [
+    ("zed = 1\naudits = 1\nabc = 1\n", "top", "abc"),
+    ("audits = 1\n", "top", "audits"),
+    ("[audits]\n\"a b\" = 1\nb = 1\n", "audits", "?"),
+    ("[audits]\nb = 1\na = [1]\n", "audits", "a"),
+    (
+        "[audits]\na = [{ criteria = [], version = \"1.0.0\" }, 1]\n",
+        "audits",
+        "a",
+    ),
+    (
+        "[audits]\na = [{ version = 1, x = 1 }]\n",
+        "audits.a[0]",
+        "criteria",
+    ),
+    (
+        "[audits]\na = [{ criteria = [1], version = 1 }]\n",
+        "audits.a[0]",
+        "criteria",
+    ),
+    (
+        "[audits]\na = [{ criteria = [\"a b\"] }]\n",
+        "audits.a[0]",
+        "criteria",
+    ),
+    (
+        "[audits]\na = [{ criteria = [], version = \"1\", x = 1 }]\n",
+        "audits.a[0]",
+        "version",
+    ),
+    (
+        "[audits]\na = [{ criteria = [], version = \"1.0.0\" }, { criteria = [], y = 1, \"\\u0001\" = 1, x = 1 }]\n",
+        "audits.a[1]",
+        "?",
+    ),
+    (
+        "[audits]\na = [{ criteria = [], delta = \"1.0.0 -> 1.0.1\" }]\n",
+        "audits.a[0]",
+        "delta",
+    ),
+    (
+        "[audits]\nb = [{}]\na = [{ criteria = [], violation = \"*\" }]\n",
+        "audits.a[0]",
+        "violation",
+    ),
+];
+
 #[test]
 fn the_first_fault_of_a_file_is_told(rt: HostRuntime) -> Result<(), Fail> {
-    let examples = [
-        ("zed = 1\naudits = 1\nabc = 1\n", "top", "abc"),
-        ("audits = 1\n", "top", "audits"),
-        ("[audits]\n\"a b\" = 1\nb = 1\n", "audits", "?"),
-        ("[audits]\nb = 1\na = [1]\n", "audits", "a"),
-        (
-            "[audits]\na = [{ criteria = [], version = \"1.0.0\" }, 1]\n",
-            "audits",
-            "a",
-        ),
-        (
-            "[audits]\na = [{ version = 1, x = 1 }]\n",
-            "audits.a[0]",
-            "criteria",
-        ),
-        (
-            "[audits]\na = [{ criteria = [1], version = 1 }]\n",
-            "audits.a[0]",
-            "criteria",
-        ),
-        (
-            "[audits]\na = [{ criteria = [\"a b\"] }]\n",
-            "audits.a[0]",
-            "criteria",
-        ),
-        (
-            "[audits]\na = [{ criteria = [], version = \"1\", x = 1 }]\n",
-            "audits.a[0]",
-            "version",
-        ),
-        (
-            "[audits]\na = [{ criteria = [], version = \"1.0.0\" }, { criteria = [], y = 1, \"\\u0001\" = 1, x = 1 }]\n",
-            "audits.a[1]",
-            "?",
-        ),
-        (
-            "[audits]\na = [{ criteria = [], delta = \"1.0.0 -> 1.0.1\" }]\n",
-            "audits.a[0]",
-            "delta",
-        ),
-        (
-            "[audits]\nb = [{}]\na = [{ criteria = [], violation = \"*\" }]\n",
-            "audits.a[0]",
-            "violation",
-        ),
-    ];
-    for (file, table, key) in examples {
+    for (file, table, key) in FAULTS {
         let answer = class_of_file(rt.alloc(), file.as_bytes(), "serde", "1.0.0", "nope");
         let table = KeyText::told(rt.alloc(), table)?;
         let key = KeyText::told(rt.alloc(), key)?;

@@ -58,8 +58,8 @@ words_from rows = option_and_then (λ p. option_and_then (λ v.
     (first_of (codes "CRITERION") rows)) (first_of (codes "VERSION") rows)) (first_of (codes "PACKAGE") rows)
 
 -- the words of the subcommand `class`
-abbrev pub words_of_sub : Option (Text × List Row) → Option AskedWords
-words_of_sub sub = option_and_then (λ s. if bytes_eq s.0 (codes "class") then words_from s.1 else None) sub
+abbrev pub words_of_subcommand : Option (Text × List Row) → Option AskedWords
+words_of_subcommand subcommand = option_and_then (λ s. if bytes_eq s.0 (codes "class") then words_from s.1 else None) subcommand
 
 -- nothing, where there is a fault
 abbrev pub unless_fault : Kinds → Option AskedWords → Option AskedWords
@@ -68,4 +68,4 @@ unless_fault (k ∷ ks) asked = None
 
 -- what clap gives of the words, where it takes them
 unfoldable pub given : List Text → Option AskedWords
-given words = unless_fault (fault_of top_app words) (words_of_sub (subcommand_of top_app words))
+given words = unless_fault (fault_of top_app words) (words_of_subcommand (subcommand_of top_app words))

@@ -79,7 +79,7 @@ pub fn class_run<S: AsStr, R: Read, W: Write, E: Write>(
 }
 
 /// Writes clap's text to the errors.
-fn explain<E: Write>(alloc: Global, error: &Error, errors: &mut E) -> Result<u8, IoFault>
+pub(crate) fn explain<E: Write>(alloc: Global, error: &Error, errors: &mut E) -> Result<u8, IoFault>
     ensures says { IfOk result (λ status. (status ≡ EXPLAINED)
         × (kind_of error.now ≢ ErrorKind.OutOfMemory)
         × ((text : List ℕ) × Appends (E.contents errors.old) (E.contents errors.new) text)) }

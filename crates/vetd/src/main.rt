@@ -10,7 +10,7 @@
 //! Scope of this crate: words, reads and writes. What a class is stands in the crates below.
 #![tactic(auto)]
 
-ghost use Rattle.std.specs.Prelude.{◌≡◌};
+ghost use Rattle.std.specs.Prelude.{◌≡◌, IfOk};
 
 mod class_run;
 mod input;
@@ -19,9 +19,11 @@ mod output;
 mod refusal_text;
 mod words;
 
-use crate::class_run::{EXPLAINED, class_run};
+use crate::class_run::{EXPLAINED, class_run, explain};
 use crate::io_fault::IoFault;
 use crate::words::not_text;
+use std::alloc::Global;
+use std::io::Write;
 use std::process::ExitCode;
 use std::rt::Env;
 use std::{env, io};
@@ -37,17 +39,18 @@ fn words_after_name<R: Env + AllocGlobal>(rt: &R) -> io::Result<Vec<String>> {
 }
 
 /// Tells why the words can't be had: there was no memory, or one of them is no text.
-fn without_words<R: Eprint + AllocGlobal>(rt: &R, kind: io::ErrorKind) -> u8 {
+fn explain_no_words<E: Write>(
+    alloc: Global,
+    kind: io::ErrorKind,
+    errors: &mut E,
+) -> Result<u8, IoFault>
+    ensures { IfOk result (λ status. status ≡ EXPLAINED) }
+{
     if kind == io::ErrorKind::OutOfMemory {
-        return fault_status(rt, IoFault::NoMemory);
+        return Err(IoFault::NoMemory);
     }
-    match not_text(rt.alloc()) {
-        Ok(error) => {
-            let _ = rt.eprint(error);
-            EXPLAINED
-        }
-        Err(error) => fault_status(rt, IoFault::from(error)),
-    }
+    let error = not_text(alloc)?;
+    explain(alloc, &error, errors)
 }
 
 /// Tells a fault. The status stays where even that can't be written.
@@ -59,17 +62,16 @@ fn fault_status<R: Eprint>(rt: &R, fault: IoFault) -> u8
 }
 
 fn main(rt: HostRuntime) -> ExitCode {
-    let words = match words_after_name(&rt) {
-        Ok(words) => words,
-        Err(error) => return ExitCode::from(without_words(&rt, error.kind())),
+    let run = match words_after_name(&rt) {
+        Ok(words) => class_run(
+            rt.alloc(),
+            words.as_slice(),
+            &mut rt.reader(),
+            &mut io::writer(&rt),
+            &mut rt.stderr(),
+        ),
+        Err(error) => explain_no_words(rt.alloc(), error.kind(), &mut rt.stderr()),
     };
-    let run = class_run(
-        rt.alloc(),
-        words.as_slice(),
-        &mut rt.reader(),
-        &mut io::writer(&rt),
-        &mut rt.stderr(),
-    );
     match run {
         Ok(status) => ExitCode::from(status),
         Err(fault) => ExitCode::from(fault_status(&rt, fault)),

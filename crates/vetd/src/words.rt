@@ -3,7 +3,7 @@ ghost use Rattle.std.specs.Prelude.{◌≡◌, ◌≢◌, IfOk, IfErr, map, opti
 ghost use Rattle.clap.specs.Words.{App, Rule, first_of, found_of, kind_of, rows_of, with_rule};
 ghost use Rattle.clap.specs.Words.{subcommand_rows_of};
 ghost use Rattle.vetd.specs.Words.{IsApp, IsRule, asked_of, bare_app, class_app, given, top_app};
-ghost use Rattle.vetd.specs.Words.{word_rule, words_from, words_of_sub};
+ghost use Rattle.vetd.specs.Words.{word_rule, words_from, words_of_subcommand};
 
 use clap::error::ErrorKind;
 use clap::{Arg, ArgMatches, Command, Error};
@@ -26,7 +26,7 @@ pub fn class_words<'a, S: AsStr>(alloc: Global, words: &'a [S]) -> Result<ClassW
         → given (map S.text words.entry.now) ≡ None) }
 {
     let matches = top_command(alloc)?.try_get_matches_from(words)?;
-    match class_sub(&matches) {
+    match class_subcommand(&matches) {
         Some(asked) => Ok(asked),
         None => Err(words_error(
             alloc,
@@ -106,20 +106,24 @@ fn add<'a>(command: Command<'a>, arg: Arg<'a>) -> Result<Command<'a>, AllocError
 }
 
 /// The words of a class command, where it is one.
-fn class_sub<'a>(matches: &ArgMatches<'a>) -> Option<ClassWords<'a>>
-    ensures { option_map asked_of result ≡ words_of_sub (subcommand_rows_of matches.now) }
+fn class_subcommand<'a>(matches: &ArgMatches<'a>) -> Option<ClassWords<'a>>
+    ensures { option_map asked_of result ≡ words_of_subcommand (subcommand_rows_of matches.now) }
 {
-    let (name, sub) = matches.subcommand()?;
-    if name == "class" { words_of(sub) } else { None }
+    let (name, subcommand) = matches.subcommand()?;
+    if name == "class" {
+        words_of(subcommand)
+    } else {
+        None
+    }
 }
 
 /// The three words of a class command.
-fn words_of<'a>(sub: &ArgMatches<'a>) -> Option<ClassWords<'a>>
-    ensures { option_map asked_of result ≡ words_from (rows_of (found_of sub.now)) }
+fn words_of<'a>(subcommand: &ArgMatches<'a>) -> Option<ClassWords<'a>>
+    ensures { option_map asked_of result ≡ words_from (rows_of (found_of subcommand.now)) }
 {
-    let package_name = value(sub, "PACKAGE")?;
-    let version = value(sub, "VERSION")?;
-    let criterion = value(sub, "CRITERION")?;
+    let package_name = value(subcommand, "PACKAGE")?;
+    let version = value(subcommand, "VERSION")?;
+    let criterion = value(subcommand, "CRITERION")?;
     Some(ClassWords {
         package_name,
         version,
@@ -128,8 +132,8 @@ fn words_of<'a>(sub: &ArgMatches<'a>) -> Option<ClassWords<'a>>
 }
 
 /// The value of an argument.
-fn value<'a>(sub: &ArgMatches<'a>, id: &str) -> Option<&'a str>
-    ensures { option_map (λ s. s.now) result ≡ first_of id.now (rows_of (found_of sub.now)) }
+fn value<'a>(subcommand: &ArgMatches<'a>, id: &str) -> Option<&'a str>
+    ensures { option_map (λ s. s.now) result ≡ first_of id.now (rows_of (found_of subcommand.now)) }
 {
-    sub.get_str(id)
+    subcommand.get_str(id)
 }

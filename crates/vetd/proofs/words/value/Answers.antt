@@ -4,4 +4,4 @@ use Rattle.clap.proofs.WalkLemmas.{first_value-rows}
 use Rattle.vetd.proofs.words.value.Goals as goal
 
 pub returns : goal.returns
-returns c = c.get_str.ensures ∙ first_value-rows (found_of c.args.sub.now) c.args.id.now
+returns c = c.get_str.ensures ∙ first_value-rows (found_of c.args.subcommand.now) c.args.id.now

@@ -1,0 +1,109 @@
+-- How a changed table is kept, and what its verdicts say.
+use Rattle.std.proofs.Common.{◌≡◌, ℕ, ◌<◌, Bool, true, false, cond, ◌&&◌, not, nat_le, List, [], length, get_or, set as setn, Option, Some, None, Result, Ok, Err, OnOk, OnErr, Less, refl, sym, ap, subst, ◌∙◌, arith, inl, inr}
+use Rattle.std.specs.List.{insert, remove}
+use Rattle.std.specs.FinMap as map
+use Rattle.std.proofs.lemmas.Bool.{leb-false, cond-true, cond-false, false≢true, not-false}
+use Rattle.std.proofs.lemmas.List.Quantifiers.{all_pairs_remove}
+use Rattle.vet_base.specs.declared.limits.TheConstants.{MOST_CRITERIA}
+use Rattle.vet_base.specs.declared.criterion.Criterion.{Criterion}
+use Rattle.vet_base.specs.declared.refusal.Refusal.{Refusal}
+use Rattle.vet_base.specs.declared.refusal.Refusal.TheVariants.{UnknownCriterion, BuiltInCriterion, CriterionInUse, TooManyCriteria}
+use Rattle.vet_base.specs.Names.{IsRising}
+use Rattle.vet_base.specs.Criteria.{Criteria, IsTable, least_unknown}
+use Rattle.vet_base.specs.CriteriaChanges.{Answers, is_built_in, is_in_use, unknown_then, set_verdict, remove_verdict}
+use Rattle.vet_base.specs.CriteriaTable.{by_name, IsKept}
+use Rattle.vet_base.proofs.Rising.{R, Lacks, IsRising-insert}
+use Rattle.vet_base.proofs.Tables.{length_kept}
+use Rattle.vet_base.proofs.Changes.{names_of, find-set, find-insert, find-remove, names-set, names-insert, names-remove, view_insert, view_remove, table_insert, table_remove, MaySet, no_first}
+
+module _ (names : List (List ℕ)) (cs : List Criterion) (kept : IsKept names cs) (table : Criteria) (is : map.from_sorted {R = R} (by_name cs) ≡ table) where
+  rising : IsRising (names_of cs)
+  rising = rw kept.named kept.rising
+
+  old_table : IsTable table
+  old_table = subst IsTable is kept.table
+
+  module _ (i : ℕ) (c : Criterion) (l : i < length names) (at : get_or names i [] ≡ c.name) (may : MaySet table c) where
+    at_names : get_or (names_of cs) i [] ≡ c.name
+    at_names = ap (λ ns. get_or ns i []) kept.named ∙ at
+
+    same_names : names_of (setn cs i c) ≡ names
+    same_names = names-set cs i c at_names ∙ kept.named
+
+    pub view_after_set : map.from_sorted {R = R} (by_name (setn cs i c)) ≡ map.insert table c.name c
+    view_after_set = view_insert cs (setn cs i c) table is rising (rw same_names kept.rising) c (λ q. find-set cs i c q rising (omega (arith, l, length_kept names cs kept)) at_names)
+
+    pub kept_after_set : IsKept names (setn cs i c)
+    kept_after_set = record { named = same_names; rising = kept.rising; table = subst IsTable (sym view_after_set) (table_insert table c old_table may) }
+
+  module _ (i : ℕ) (c : Criterion) (lacks : Lacks names c.name i) (may : MaySet table c) where
+    more_names : names_of (insert cs i c) ≡ insert names i c.name
+    more_names = names-insert cs i c ∙ ap (λ ns. insert ns i c.name) kept.named
+
+    more_rising : IsRising (insert names i c.name)
+    more_rising = IsRising-insert names i c.name lacks.low lacks.high kept.rising
+
+    pub view_after_insert : map.from_sorted {R = R} (by_name (insert cs i c)) ≡ map.insert table c.name c
+    view_after_insert = view_insert cs (insert cs i c) table is rising (rw more_names more_rising) c (λ q. find-insert cs i c q (rw kept.named lacks.low))
+
+    pub kept_after_insert : IsKept (insert names i c.name) (insert cs i c)
+    kept_after_insert = record { named = more_names; rising = more_rising; table = subst IsTable (sym view_after_insert) (table_insert table c old_table may) }
+
+  module _ (i : ℕ) (n : List ℕ) (l : i < length names) (at : get_or names i [] ≡ n) (built : is_built_in n ≡ false) (free : is_in_use table n ≡ false) where
+    fewer_names : names_of (remove cs i) ≡ remove names i
+    fewer_names = names-remove cs i ∙ ap (λ ns. remove ns i) kept.named
+
+    fewer_rising : IsRising (remove names i)
+    fewer_rising = all_pairs_remove (λ a b. R a b ≡ Less) names i l kept.rising
+
+    pub view_after_remove : map.from_sorted {R = R} (by_name (remove cs i)) ≡ map.remove table n
+    view_after_remove = view_remove cs (remove cs i) table is rising (rw fewer_names fewer_rising) n (λ q. find-remove cs i n q rising (omega (arith, l, length_kept names cs kept)) (ap (λ ns. get_or ns i []) kept.named ∙ at))
+
+    pub kept_after_remove : IsKept (remove names i) (remove cs i)
+    kept_after_remove = record { named = fewer_names; rising = fewer_rising; table = subst IsTable (sym view_after_remove) (table_remove table n old_table built free) }
+
+-- ---- verdicts
+
+-- where nothing refuses, there is no verdict
+pub no_verdict : (v : Option Refusal) → Answers v (Ok tt) → v ≡ None
+no_verdict None h = refl
+no_verdict (Some e) (inl h) = cc h
+no_verdict (Some e) (inr h) = cc h
+
+none_unknown : (o : Option (List ℕ)) (b : Bool) → unknown_then o b ≡ None → (o ≡ None) × (b ≡ false)
+none_unknown (Some n) b h = cc h
+none_unknown None true h = cc h
+none_unknown None false h = (refl, refl)
+
+room_for : (key full : Bool) → (not key && full) ≡ false → key ≡ false → full ≡ false
+room_for true full h e = absurd (false≢true (sym e))
+room_for false full h e = h
+
+pub may_set : (table : Criteria) (c : Criterion) → set_verdict table c ≡ None → MaySet table c
+may_set table c h =
+    let parts = no_first (not (map.contains_key table c.name) && nat_le MOST_CRITERIA (map.len table)) TooManyCriteria (unknown_then (least_unknown (map.insert table c.name c) c.implies) (is_built_in c.name)) h in
+    let rest = none_unknown (least_unknown (map.insert table c.name c) c.implies) (is_built_in c.name) parts.1 in
+    record {
+      room = λ new. leb-false MOST_CRITERIA (map.len table) (room_for (map.contains_key table c.name) (nat_le MOST_CRITERIA (map.len table)) parts.0 new);
+      known = rest.0;
+      own = rest.1;
+    }
+
+pub may_remove : (table : Criteria) (n : List ℕ) → remove_verdict table n ≡ None → (map.contains_key table n ≡ true) × (is_built_in n ≡ false) × (is_in_use table n ≡ false)
+may_remove table n h =
+    let a = no_first (not (map.contains_key table n)) (UnknownCriterion n) (cond (is_built_in n) (Some BuiltInCriterion) (cond (is_in_use table n) (Some CriterionInUse) None)) h in
+    let b = no_first (is_built_in n) BuiltInCriterion (cond (is_in_use table n) (Some CriterionInUse) None) a.1 in
+    let d = no_first (is_in_use table n) CriterionInUse None b.1 in
+    (not-false _ a.0, b.0, d.0)
+
+-- the verdict where there is room, and where there is none
+pub verdict_full : (table : Criteria) (c : Criterion) → (not (map.contains_key table c.name) && nat_le MOST_CRITERIA (map.len table)) ≡ true → set_verdict table c ≡ Some TooManyCriteria
+verdict_full table c h = cond-true (not (map.contains_key table c.name) && nat_le MOST_CRITERIA (map.len table)) (Some TooManyCriteria) (unknown_then (least_unknown (map.insert table c.name c) c.implies) (is_built_in c.name)) h
+
+pub verdict_room : (table : Criteria) (c : Criterion) → (not (map.contains_key table c.name) && nat_le MOST_CRITERIA (map.len table)) ≡ false → set_verdict table c ≡ unknown_then (least_unknown (map.insert table c.name c) c.implies) (is_built_in c.name)
+verdict_room table c h = cond-false (not (map.contains_key table c.name) && nat_le MOST_CRITERIA (map.len table)) (Some TooManyCriteria) (unknown_then (least_unknown (map.insert table c.name c) c.implies) (is_built_in c.name)) h
+
+-- what follows from either end of a call
+pub either_end : (r : Result (Unit {0}) Refusal) {A B C D P : Type 0} → OnOk r A → OnOk r B → OnErr r C → OnErr r D → (A → B → P) → (C → D → P) → P
+either_end (Ok u) a b c d f g = f a b
+either_end (Err e) a b c d f g = g c d

@@ -1,0 +1,106 @@
+//! Closures, limits and the order of names.
+use super::*;
+use std::test::Fail;
+
+fn names(alloc: Global, texts: &[&str]) -> Result<Names, Refusal> {
+    let mut names = Names::new(alloc);
+    for text in texts {
+        names.insert(Name::parse(alloc, text)?)?;
+    }
+    Ok(names)
+}
+
+fn criterion(alloc: Global, name: &str, implied: &[&str]) -> Result<Criterion, Refusal> {
+    Ok(Criterion {
+        name: Name::parse(alloc, name)?,
+        description: None,
+        url: None,
+        implies: names(alloc, implied)?,
+    })
+}
+
+#[test]
+fn chains_and_cycles_close(rt: HostRuntime) -> Result<(), Fail> {
+    let alloc = rt.alloc();
+    let mut table = CriteriaTable::new(alloc)?;
+    table.set(criterion(alloc, "a", &[])?)?;
+    table.set(criterion(alloc, "b", &["a", "safe-to-deploy"])?)?;
+    table.set(criterion(alloc, "c", &["b", "c"])?)?;
+    table.set(criterion(alloc, "a", &["b"])?)?;
+    let rows = [
+        ("a", "a", true),
+        ("a", "b", true),
+        ("a", "c", false),
+        ("b", "a", true),
+        ("c", "c", true),
+        ("c", "safe-to-run", true),
+        ("safe-to-deploy", "safe-to-run", true),
+        ("safe-to-run", "safe-to-deploy", false),
+    ];
+    for (of, name, expected) in rows {
+        let closure = table.closure(&names(alloc, &[of])?)?;
+        let is_in = closure.contains(&Name::parse(alloc, name)?, &table);
+        assert_eq!(rt; is_in, expected, "{name} in the closure of {of}");
+    }
+    Ok(())
+}
+
+#[test]
+fn the_least_unknown_name_is_told(rt: HostRuntime) -> Result<(), Fail> {
+    let alloc = rt.alloc();
+    let table = CriteriaTable::new(alloc)?;
+    let refusal = table
+        .closure(&names(alloc, &["z", "safe-to-run", "m"])?)
+        .err();
+    let least = Refusal::UnknownCriterion(Name::parse(alloc, "m")?);
+    assert!(rt; refusal == Some(least));
+    Ok(())
+}
+
+#[test]
+fn sixty_two_further_criteria_fit(rt: HostRuntime) -> Result<(), Fail> {
+    let alloc = rt.alloc();
+    let mut table = CriteriaTable::new(alloc)?;
+    for number in 0..62 {
+        let name = format!(in alloc; "further-{number}")?;
+        table.set(criterion(alloc, name.as_str(), &["safe-to-run"])?)?;
+    }
+    assert_eq!(rt; table.names().len(), 64);
+    let more = table.set(criterion(alloc, "one-more", &["unknown"])?);
+    assert!(rt; more == Err(Refusal::TooManyCriteria));
+    table.set(criterion(alloc, "further-7", &["further-8"])?)?;
+    assert_eq!(rt; table.names().len(), 64);
+    Ok(())
+}
+
+#[test]
+fn what_is_implied_stays(rt: HostRuntime) -> Result<(), Fail> {
+    let alloc = rt.alloc();
+    let mut table = CriteriaTable::new(alloc)?;
+    table.set(criterion(alloc, "a", &["a"])?)?;
+    table.set(criterion(alloc, "b", &["a"])?)?;
+    let a = Name::parse(alloc, "a")?;
+    assert!(rt; table.remove(&a) == Err(Refusal::CriterionInUse));
+    table.remove(&Name::parse(alloc, "b")?)?;
+    table.remove(&a)?;
+    let built_in = table.remove(&Name::parse(alloc, SAFE_TO_RUN)?);
+    assert!(rt; built_in == Err(Refusal::BuiltInCriterion));
+    let set = table.set(criterion(alloc, SAFE_TO_RUN, &["safe-to-deploy"])?);
+    assert!(rt; set == Err(Refusal::BuiltInCriterion));
+    assert_eq!(rt; table.names().len(), 2);
+    Ok(())
+}
+
+#[test]
+fn names_stand_in_order(rt: HostRuntime) -> Result<(), Fail> {
+    let alloc = rt.alloc();
+    let mut table = CriteriaTable::new(alloc)?;
+    table.set(criterion(alloc, "z", &[])?)?;
+    table.set(criterion(alloc, "A", &[])?)?;
+    let expected = ["A", "safe-to-deploy", "safe-to-run", "z"];
+    assert_eq!(rt; table.names().len(), expected.len());
+    for (name, text) in table.names().iter().zip(expected.iter()) {
+        assert_eq!(rt; name.as_str(), *text);
+    }
+    Ok(())
+}
