@@ -1,6 +1,7 @@
 pub mod BuiltIn
 pub mod Changes
 pub mod Closing
+pub mod DayLemmas
 pub mod Held
 pub mod Kept
 pub mod Missing

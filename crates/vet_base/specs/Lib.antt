@@ -2,6 +2,7 @@ pub mod Criteria
 pub mod CriteriaChanges
 pub mod CriteriaSet
 pub mod CriteriaTable
+pub mod Day
 pub mod Gives
 pub mod KeyText
 pub mod Name

@@ -1,4 +1,4 @@
-//! The values of the register: names, versions, texts and criteria, the limits that they keep, and the
+//! The values of the register: names, versions, days, texts and criteria, the limits that they keep, and the
 //! refusals that every call answers with.
 //!
 //! **A parser takes exactly the texts of its definition, and what `Display` prints is read again as the
@@ -10,6 +10,7 @@
 pub mod criteria_set;
 pub mod criteria_table;
 pub mod criterion;
+pub mod day;
 pub mod key_text;
 pub mod limits;
 pub mod name;

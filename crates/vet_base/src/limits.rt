@@ -59,3 +59,12 @@ pub const LAST_STEP: u64 = 9_223_372_036_854_775_807;
 
 /// The last number of an entry or of a review.
 pub const LAST_NUMBER: u64 = 9_223_372_036_854_775_806;
+
+/// The last year of a day.
+pub const LAST_YEAR: u16 = 9_999;
+
+/// The number of 0000-01-01, where 1970-01-01 is 0.
+pub const FIRST_DAY_NUMBER: i32 = -719_528;
+
+/// The number of 9999-12-31.
+pub const LAST_DAY_NUMBER: i32 = 2_932_896;

@@ -1,4 +1,5 @@
 //! What no clause says: texts from the standards and from the register's worked examples.
+use crate::day::Day;
 use crate::key_text::KeyText;
 use crate::name::{Name, PackageName};
 use crate::refusal::{Limit, Refusal};
@@ -118,6 +119,122 @@ fn texts_and_keys_have_their_limits(rt: HostRuntime) -> Result<(), Fail> {
         ("é", "?"),
     ] {
         assert_eq!(rt; KeyText::told(rt.alloc(), key)?.as_str(), told);
+    }
+    Ok(())
+}
+
+#[test]
+fn days_are_printed_as_they_are_read(rt: HostRuntime) -> Result<(), Fail> {
+    let texts = [
+        "0000-01-01",
+        "0000-02-29",
+        "0999-12-31",
+        "1970-01-01",
+        "2000-02-29",
+        "2024-02-29",
+        "9999-12-31",
+    ];
+    for text in texts {
+        assert_eq!(rt; Day::parse(text)?.to_string(rt.alloc())?.as_str(), text);
+    }
+    Ok(())
+}
+
+// The last two write full-width digits, the second of them in ten bytes with each `-` in its place.
+#[test]
+fn days_are_refused(rt: HostRuntime) {
+    let texts = [
+        "2023-02-29",
+        "1900-02-29",
+        "2024-02-30",
+        "2024-04-31",
+        "2024-13-01",
+        "2024-00-01",
+        "2024-01-00",
+        "2024-1-01",
+        "2024-01-01 ",
+        "2024-01-01T",
+        "2024/01/01",
+        "24-01-01",
+        "02024-01-01",
+        "+024-01-01",
+        "-001-01-01",
+        "202a-01-01",
+        "",
+        "２０２４-０１-０１",
+        "2４-01-01",
+    ];
+    for text in texts {
+        assert!(rt; Day::read(text) == None, "{text}");
+        assert!(rt; Day::parse(text) == Err(Refusal::BadDay), "{text}");
+    }
+}
+
+#[test]
+fn days_have_parts(rt: HostRuntime) -> Result<(), Fail> {
+    for (year, month, day, text) in [
+        (2024, 2, 29, "2024-02-29"),
+        (0, 1, 1, "0000-01-01"),
+        (9999, 12, 31, "9999-12-31"),
+    ] {
+        assert_eq!(rt;
+            Day::from_parts(year, month, day),
+            Some(Day::parse(text)?),
+            "{text}"
+        );
+    }
+    for (year, month, day) in [(2023, 2, 29), (10000, 1, 1), (2024, 13, 1), (2024, 1, 0)] {
+        assert_eq!(rt;
+            Day::from_parts(year, month, day),
+            None,
+            "{year} {month} {day}"
+        );
+    }
+    Ok(())
+}
+
+#[test]
+fn days_have_numbers(rt: HostRuntime) -> Result<(), Fail> {
+    let numbers = [
+        ("0000-01-01", -719_528),
+        ("1969-12-31", -1),
+        ("1970-01-01", 0),
+        ("2000-03-01", 11_017),
+        ("9999-12-31", 2_932_896),
+    ];
+    for (i, (text, number)) in numbers.iter().enumerate() {
+        let day = Day::parse(text)?;
+        assert_eq!(rt; day.number(), *number, "{text}");
+        for (j, (other, _)) in numbers.iter().enumerate() {
+            let other = Day::parse(other)?;
+            assert!(rt; day.cmp(&other) == i.cmp(&j), "{i} {j}");
+            assert!(rt; (day == other) == (i == j), "{i} {j}");
+        }
+    }
+    Ok(())
+}
+
+#[test]
+fn days_are_counted_on(rt: HostRuntime) -> Result<(), Fail> {
+    for (from, days, to) in [
+        ("2023-01-01", 366, "2024-01-02"),
+        ("2024-02-28", 1, "2024-02-29"),
+        ("2023-02-28", 1, "2023-03-01"),
+        ("9999-12-31", 0, "9999-12-31"),
+        ("0000-01-01", 3_652_424, "9999-12-31"),
+    ] {
+        assert_eq!(rt;
+            Day::parse(from)?.plus(days),
+            Some(Day::parse(to)?),
+            "{from}"
+        );
+    }
+    for (from, days) in [
+        ("9999-12-31", 1),
+        ("0000-01-01", 3_652_425),
+        ("2024-01-01", u32::MAX),
+    ] {
+        assert_eq!(rt; Day::parse(from)?.plus(days), None, "{from}");
     }
     Ok(())
 }
