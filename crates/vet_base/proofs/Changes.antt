@@ -17,7 +17,7 @@ use Rattle.vet_base.specs.declared.limits.TheConstants.{MOST_CRITERIA}
 use Rattle.vet_base.specs.declared.criterion.Criterion.{Criterion}
 use Rattle.vet_base.specs.Names.{IsRising, members}
 use Rattle.vet_base.specs.Criteria.{Criteria, IsTable, implied_by, least_unknown, safe_to_run, safe_to_deploy}
-use Rattle.vet_base.specs.CriteriaChanges.{is_built_in, is_user, is_in_use}
+use Rattle.vet_base.specs.CriteriaChanges.{is_built_in, is_user, is_implied}
 use Rattle.vet_base.specs.CriteriaTable.{by_name}
 use Rattle.vet_base.proofs.Rising.{R, only_equal, equal-from_eq, IsRising-head, IsRising-tail, sorted_entries}
 use Rattle.vet_base.proofs.Closing.{found_entry}
@@ -170,7 +170,7 @@ table_insert table c h may =
     known_by m n false e h' = key-insert table c n ∙ or_right (eq_by_cmp R n c.name) (map.contains_key table n) (h.known m n h')
 
 -- a criterion may be removed where it is not built in and no other implies it
-pub table_remove : (table : Criteria) (n : List ℕ) → IsTable table → is_built_in n ≡ false → is_in_use table n ≡ false → IsTable (map.remove table n)
+pub table_remove : (table : Criteria) (n : List ℕ) → IsTable table → is_built_in n ≡ false → is_implied table n ≡ false → IsTable (map.remove table n)
 table_remove table n h built free =
     let own = or_parts (pointwise nat_eq n safe_to_run) (pointwise nat_eq n safe_to_deploy) built in
     let get = map.get-remove nat_list_cmp_total table n in

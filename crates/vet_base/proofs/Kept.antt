@@ -1,5 +1,5 @@
 -- How a changed table is kept, and what its verdicts say.
-use Rattle.std.proofs.Common.{◌≡◌, ℕ, ◌<◌, Bool, true, false, cond, ◌&&◌, not, nat_le, List, [], length, get_or, set as setn, Option, Some, None, Result, Ok, Err, OnOk, OnErr, Less, refl, sym, ap, subst, ◌∙◌, arith, inl, inr}
+use Rattle.std.proofs.Common.{◌≡◌, ℕ, ◌<◌, Bool, true, false, cond, ◌&&◌, not, nat_le, List, [], length, get_or, set as setn, Option, Some, None, IfSome, Result, Ok, Err, OnOk, OnErr, Less, refl, sym, ap, subst, ◌∙◌, arith, inl, inr}
 use Rattle.std.specs.List.{insert, remove}
 use Rattle.std.specs.FinMap as map
 use Rattle.std.proofs.lemmas.Bool.{leb-false, cond-true, cond-false, false≢true, not-false}
@@ -9,8 +9,8 @@ use Rattle.vet_base.specs.declared.criterion.Criterion.{Criterion}
 use Rattle.vet_base.specs.declared.refusal.Refusal.{Refusal}
 use Rattle.vet_base.specs.declared.refusal.Refusal.TheVariants.{UnknownCriterion, BuiltInCriterion, CriterionInUse, TooManyCriteria}
 use Rattle.vet_base.specs.Names.{IsRising}
-use Rattle.vet_base.specs.Criteria.{Criteria, IsTable, least_unknown}
-use Rattle.vet_base.specs.CriteriaChanges.{Answers, is_built_in, is_in_use, unknown_then, set_verdict, remove_verdict}
+use Rattle.vet_base.specs.Criteria.{Criteria, IsTable}
+use Rattle.vet_base.specs.CriteriaChanges.{Answers, Refuses, is_built_in, is_full_for, is_implied, unknown_beside, unknown_then, set_verdict, remove_verdict}
 use Rattle.vet_base.specs.CriteriaTable.{by_name, IsKept}
 use Rattle.vet_base.proofs.Rising.{R, Lacks, IsRising-insert}
 use Rattle.vet_base.proofs.Tables.{length_kept}
@@ -49,7 +49,7 @@ module _ (names : List (List ℕ)) (cs : List Criterion) (kept : IsKept names cs
     pub kept_after_insert : IsKept (insert names i c.name) (insert cs i c)
     kept_after_insert = record { named = more_names; rising = more_rising; table = subst IsTable (sym view_after_insert) (table_insert table c old_table may) }
 
-  module _ (i : ℕ) (n : List ℕ) (l : i < length names) (at : get_or names i [] ≡ n) (built : is_built_in n ≡ false) (free : is_in_use table n ≡ false) where
+  module _ (i : ℕ) (n : List ℕ) (l : i < length names) (at : get_or names i [] ≡ n) (built : is_built_in n ≡ false) (free : is_implied table n ≡ false) where
     fewer_names : names_of (remove cs i) ≡ remove names i
     fewer_names = names-remove cs i ∙ ap (λ ns. remove ns i) kept.named
 
@@ -64,11 +64,21 @@ module _ (names : List (List ℕ)) (cs : List Criterion) (kept : IsKept names cs
 
 -- ---- verdicts
 
+-- a refusal is no answer of a call that is done
+refuses_no_done : (e : Refusal) → Refuses e (Ok tt) → ⊥
+refuses_no_done (UnknownCriterion n) (inl h) = cc h
+refuses_no_done (UnknownCriterion n) (inr h) = cc h
+refuses_no_done e h = cc h
+
 -- where nothing refuses, there is no verdict
 pub no_verdict : (v : Option Refusal) → Answers v (Ok tt) → v ≡ None
 no_verdict None h = refl
-no_verdict (Some e) (inl h) = cc h
-no_verdict (Some e) (inr h) = cc h
+no_verdict (Some e) h = absurd (refuses_no_done e h)
+
+-- an answer tells the verdict
+pub told_verdict : (v : Option Refusal) (r : Result (Unit {0}) Refusal) → Answers v r → IfSome v (λ e. Refuses e r)
+told_verdict None r h = tt
+told_verdict (Some e) r h = h
 
 none_unknown : (o : Option (List ℕ)) (b : Bool) → unknown_then o b ≡ None → (o ≡ None) × (b ≡ false)
 none_unknown (Some n) b h = cc h
@@ -81,27 +91,27 @@ room_for false full h e = h
 
 pub may_set : (table : Criteria) (c : Criterion) → set_verdict table c ≡ None → MaySet table c
 may_set table c h =
-    let parts = no_first (not (map.contains_key table c.name) && nat_le MOST_CRITERIA (map.len table)) TooManyCriteria (unknown_then (least_unknown (map.insert table c.name c) c.implies) (is_built_in c.name)) h in
-    let rest = none_unknown (least_unknown (map.insert table c.name c) c.implies) (is_built_in c.name) parts.1 in
+    let parts = no_first (is_full_for table c.name) TooManyCriteria (unknown_then (unknown_beside table c) (is_built_in c.name)) h in
+    let rest = none_unknown (unknown_beside table c) (is_built_in c.name) parts.1 in
     record {
       room = λ new. leb-false MOST_CRITERIA (map.len table) (room_for (map.contains_key table c.name) (nat_le MOST_CRITERIA (map.len table)) parts.0 new);
       known = rest.0;
       own = rest.1;
     }
 
-pub may_remove : (table : Criteria) (n : List ℕ) → remove_verdict table n ≡ None → (map.contains_key table n ≡ true) × (is_built_in n ≡ false) × (is_in_use table n ≡ false)
+pub may_remove : (table : Criteria) (n : List ℕ) → remove_verdict table n ≡ None → (map.contains_key table n ≡ true) × (is_built_in n ≡ false) × (is_implied table n ≡ false)
 may_remove table n h =
-    let a = no_first (not (map.contains_key table n)) (UnknownCriterion n) (cond (is_built_in n) (Some BuiltInCriterion) (cond (is_in_use table n) (Some CriterionInUse) None)) h in
-    let b = no_first (is_built_in n) BuiltInCriterion (cond (is_in_use table n) (Some CriterionInUse) None) a.1 in
-    let d = no_first (is_in_use table n) CriterionInUse None b.1 in
+    let a = no_first (not (map.contains_key table n)) (UnknownCriterion n) (cond (is_built_in n) (Some BuiltInCriterion) (cond (is_implied table n) (Some CriterionInUse) None)) h in
+    let b = no_first (is_built_in n) BuiltInCriterion (cond (is_implied table n) (Some CriterionInUse) None) a.1 in
+    let d = no_first (is_implied table n) CriterionInUse None b.1 in
     (not-false _ a.0, b.0, d.0)
 
 -- the verdict where there is room, and where there is none
-pub verdict_full : (table : Criteria) (c : Criterion) → (not (map.contains_key table c.name) && nat_le MOST_CRITERIA (map.len table)) ≡ true → set_verdict table c ≡ Some TooManyCriteria
-verdict_full table c h = cond-true (not (map.contains_key table c.name) && nat_le MOST_CRITERIA (map.len table)) (Some TooManyCriteria) (unknown_then (least_unknown (map.insert table c.name c) c.implies) (is_built_in c.name)) h
+pub verdict_full : (table : Criteria) (c : Criterion) → is_full_for table c.name ≡ true → set_verdict table c ≡ Some TooManyCriteria
+verdict_full table c h = cond-true (is_full_for table c.name) (Some TooManyCriteria) (unknown_then (unknown_beside table c) (is_built_in c.name)) h
 
-pub verdict_room : (table : Criteria) (c : Criterion) → (not (map.contains_key table c.name) && nat_le MOST_CRITERIA (map.len table)) ≡ false → set_verdict table c ≡ unknown_then (least_unknown (map.insert table c.name c) c.implies) (is_built_in c.name)
-verdict_room table c h = cond-false (not (map.contains_key table c.name) && nat_le MOST_CRITERIA (map.len table)) (Some TooManyCriteria) (unknown_then (least_unknown (map.insert table c.name c) c.implies) (is_built_in c.name)) h
+pub verdict_room : (table : Criteria) (c : Criterion) → is_full_for table c.name ≡ false → set_verdict table c ≡ unknown_then (unknown_beside table c) (is_built_in c.name)
+verdict_room table c h = cond-false (is_full_for table c.name) (Some TooManyCriteria) (unknown_then (unknown_beside table c) (is_built_in c.name)) h
 
 -- what follows from either end of a call
 pub either_end : (r : Result (Unit {0}) Refusal) {A B C D P : Type 0} → OnOk r A → OnOk r B → OnErr r C → OnErr r D → (A → B → P) → (C → D → P) → P

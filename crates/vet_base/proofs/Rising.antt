@@ -15,6 +15,7 @@ use Rattle.std.proofs.lemmas.List.Kept.{AllPairs-cons}
 use Rattle.std.proofs.lemmas.List.Sorted.{searchable_from_sorted}
 use Rattle.std.proofs.lemmas.List.Folds.{list_any_at, list_any_none}
 use Rattle.vet_base.specs.Names.{NameSet, IsRising, bare, members, same_names}
+use Rattle.vet_base.specs.NameLaws.{find-bare}
 
 abbrev pub R : List ℕ → List ℕ → Ordering
 R = slice_cmp nat_cmp
@@ -131,13 +132,6 @@ sorted_entries {X = X} (e ∷ es) h = both_T _ _ (under es (IsRising-head e.0 (m
 keys-bare : (xs : List (List ℕ)) → map (λ e. e.0) (bare xs) ≡ xs
 keys-bare [] = refl
 keys-bare (x ∷ xs) = ap (λ t. x ∷ t) (keys-bare xs)
-
-pub find-bare : (q : List ℕ) (xs : List (List ℕ)) → map.find R q (bare xs) ≡ cond (list_any (eq_by_cmp R q) xs) (Some tt) None
-find-bare q [] = refl
-find-bare q (x ∷ xs) = elim (eq_by_cmp R q x) as (λ b. cond b (Some tt) (map.find R q (bare xs)) ≡ cond (b || list_any (eq_by_cmp R q) xs) (Some tt) None) [
-  | true ↦ refl
-  | false ↦ find-bare q xs
-]
 
 -- the members of the set of a list in order
 pub members-from_list : (xs : List (List ℕ)) → IsRising xs → members (set.from_list xs) ≡ xs

@@ -1,25 +1,25 @@
 -- What the walks over a table have found.
-use Rattle.std.proofs.Common.{◌≡◌, ℕ, ◌<◌, Bool, true, false, cond, ◌||◌, ◌==◌, List, [], length, get_or, nat_lt, Option, Some, None, is_some, refl, sym, ap, ◌∙◌, arith, inl, inr, eqb-true, ltb-true}
-use Rattle.std.specs.List.{Contains, list_any, find, position_or_len}
+use Rattle.std.proofs.Common.{◌≡◌, ℕ, ◌<◌, Bool, true, false, ◌||◌, ◌==◌, List, [], length, get_or, nat_lt, Option, Some, None, is_some, refl, sym, ap, ◌∙◌, arith, inl, inr, eqb-true, ltb-true}
+use Rattle.std.specs.List.{Contains, find, position_or_len}
 use Rattle.std.specs.Option.{option_map_or}
 use Rattle.std.specs.Ordering.{nat_cmp, eq_by_cmp}
 use Rattle.std.specs.Cmp.{nat_cmp_total, unsigned_tied, both_ways}
 use Rattle.std.specs.FinSet as set
 use Rattle.std.specs.FinSet.{FinSet}
 use Rattle.std.specs.FinMap as map
-use Rattle.std.proofs.lemmas.Cmp.{nat_list_cmp_total}
 use Rattle.std.proofs.lemmas.List.{get_or_default}
 use Rattle.std.proofs.lemmas.List.Folds.{list_any_at, Any-from_list_any, find_at}
 use Rattle.std.proofs.lemmas.List.Sums.{position_or_len_is}
 use Rattle.std.proofs.lemmas.Option.{slice_get-get_or, slice_get_past}
 use Rattle.std.proofs.lemmas.Bool.{false≢true, or_cases, or_right, and_parts, and_from}
 use Rattle.vet_base.specs.declared.criterion.Criterion.{Criterion}
-use Rattle.vet_base.specs.Names.{NameSet, bare, members}
+use Rattle.vet_base.specs.Names.{NameSet, members}
+use Rattle.vet_base.specs.NameLaws.{any-members}
 use Rattle.vet_base.specs.Criteria.{Criteria, InClosure, implied_by, place_of, placed, is_in, closure_of}
 use Rattle.vet_base.specs.Criteria.InClosure.{named, implied}
 use Rattle.vet_base.specs.CriteriaTable.{IsClosed, IsWithin, LeadsOut, IsLeastClosed}
 use Rattle.vet_base.specs.PlaceLaws.{same_places}
-use Rattle.vet_base.proofs.Rising.{R, eq-itself, equal-from_eq, find-bare}
+use Rattle.vet_base.proofs.Rising.{R, eq-itself, equal-from_eq}
 use Rattle.vet_base.proofs.Closing.{closure-law}
 use Rattle.vet_base.proofs.Tables.{len-keys, place_at, missing_place, contains-placed, contains-placed_at, is_in-placed}
 
@@ -36,16 +36,6 @@ find_none p xs none =
     find_at p xs ∙ rw is (slice_get_past xs (length xs) (omega arith))
 
 -- ---- the members of a set
-
-some_marked : (b : Bool) → is_some (let o : Option (Unit {0}) = cond b (Some tt) None in o) ≡ b
-some_marked true = refl
-some_marked false = refl
-
-any-members : (s : NameSet) (n : List ℕ) → list_any (eq_by_cmp R n) (members s) ≡ set.contains s n
-any-members s n =
-    let m = map.from_entries {R = R} (bare (set.items s)) in
-    sym (map.contains_key-keys m n) ∙ ap is_some (map.get-from_entries nat_list_cmp_total (bare (set.items s)) n ∙ find-bare n (set.items s))
-    ∙ some_marked (list_any (eq_by_cmp R n) (set.items s)) ∙ sym (set.contains-items s n)
 
 pub among_members : (s : NameSet) (n : List ℕ) → set.contains s n ≡ true → Contains (members s) n
 among_members s n h =

@@ -10,6 +10,15 @@ use Rattle.vet_base.specs.declared.refusal.Refusal.{Refusal}
 use Rattle.vet_base.specs.declared.refusal.Refusal.TheVariants.{UnknownCriterion, BuiltInCriterion, CriterionInUse, TooManyCriteria, NoMemory}
 use Rattle.vet_base.specs.Criteria.{Criteria, least_unknown, safe_to_run, safe_to_deploy}
 
+-- whether a name is new to a full table
+abbrev pub is_full_for : Criteria → List ℕ → Bool
+is_full_for table name = not (map.contains_key table name) && nat_le MOST_CRITERIA (map.len table)
+
+-- the least name that a criterion implies and that is neither in the table nor its own
+abbrev pub unknown_beside : Criteria → Criterion → Option (List ℕ)
+unknown_beside table c = least_unknown (map.insert table c.name c) c.implies
+
+-- whether a name is that of a built-in criterion
 abbrev pub is_built_in : List ℕ → Bool
 is_built_in name = pointwise nat_eq name safe_to_run || pointwise nat_eq name safe_to_deploy
 
@@ -22,27 +31,28 @@ unknown_then None false = None
 -- what refuses a criterion: one too many, then what it implies beside itself, then that it is built in
 abbrev pub set_verdict : Criteria → Criterion → Option Refusal
 set_verdict table c =
-    if not (map.contains_key table c.name) && nat_le MOST_CRITERIA (map.len table) then Some TooManyCriteria
-    else unknown_then (least_unknown (map.insert table c.name c) c.implies) (is_built_in c.name)
+    if is_full_for table c.name then Some TooManyCriteria
+    else unknown_then (unknown_beside table c) (is_built_in c.name)
 
 -- whether a criterion is another one, and implies a name
 abbrev pub is_user : List ℕ → Criterion → Bool
 is_user name c = not (pointwise nat_eq c.name name) && set.contains c.implies name
 
 -- whether another criterion implies a name
-abbrev pub is_in_use : Criteria → List ℕ → Bool
-is_in_use table name = list_any (is_user name) (map.values table)
+abbrev pub is_implied : Criteria → List ℕ → Bool
+is_implied table name = list_any (is_user name) (map.values table)
 
--- what refuses to remove a name: that it is unknown, then that it is built in, then that it is in use
+-- what refuses to remove a name: that it is unknown, then that it is built in, then that it is implied
 abbrev pub remove_verdict : Criteria → List ℕ → Option Refusal
 remove_verdict table name =
     if not (map.contains_key table name) then Some (UnknownCriterion name)
     else if is_built_in name then Some BuiltInCriterion
-    else if is_in_use table name then Some CriterionInUse else None
+    else if is_implied table name then Some CriterionInUse else None
 
--- the refusal is told, but for want of memory
+-- the refusal is told; an unknown name is copied for it, so there memory may be wanting
 abbrev pub Refuses : Refusal → Result (Unit {0}) Refusal → Type 0
-Refuses e result = (result ≡ Err e) ⊎ (result ≡ Err NoMemory)
+Refuses (UnknownCriterion n) result = (result ≡ Err (UnknownCriterion n)) ⊎ (result ≡ Err NoMemory)
+Refuses e result = result ≡ Err e
 
 -- an answer is a refusal where there is one
 abbrev pub Answers : Option Refusal → Result (Unit {0}) Refusal → Type 0

@@ -2,10 +2,12 @@ pub mod Criteria
 pub mod CriteriaChanges
 pub mod CriteriaSet
 pub mod CriteriaTable
+pub mod Criterion
 pub mod Day
 pub mod Gives
 pub mod KeyText
 pub mod Name
+pub mod NameLaws
 pub mod Names
 pub mod PlaceLaws
 pub mod Refusal

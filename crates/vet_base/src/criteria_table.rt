@@ -1,14 +1,13 @@
 //! The table of criteria, and the closure of a set of them.
 //!
 //! **The closure of some names is the least set that holds them and, with each name, what it implies.**
-ghost use Rattle.std.specs.Prelude.{◌≡◌, ◌↔◌, ◌⊎◌, ◌&&◌, ◌<◌, ℕ, List, true, ◌≤◌, IfOk, IfErr, OnOk, OnErr, IfSome, IfNone, vec_len, insert, slice_get};
+ghost use Rattle.std.specs.Prelude.{◌≡◌, ◌⊎◌, ◌&&◌, ◌<◌, true, ◌≤◌, IfOk, IfErr, OnOk, OnErr, IfSome, IfNone, vec_len, insert};
 ghost use Rattle.std.specs.Option.{option_copied};
 ghost use Rattle.std.specs.FinSet as set;
 ghost use Rattle.std.specs.FinMap as map;
 ghost use Rattle.vet_base.specs.Name.{is_name};
-ghost use Rattle.vet_base.specs.Names.{NameSet};
 ghost use Rattle.vet_base.specs.Criteria.{Criteria, IsTable, built_in_criteria, closure_of, is_in, least_unknown, place_of, placed, ClosureIsLeast, PlacedNamesAreIn, PlacesAreOfNames};
-ghost use Rattle.vet_base.specs.CriteriaChanges.{Answers, Refuses, is_built_in, is_in_use, remove_verdict, set_verdict};
+ghost use Rattle.vet_base.specs.CriteriaChanges.{Answers, Refuses, is_built_in, is_full_for, is_implied, remove_verdict, set_verdict, unknown_beside};
 ghost use Rattle.vet_base.specs.CriteriaTable.{AllIn, IsClosed, IsLeastClosed, LeadsOut, OneOut};
 
 use crate::criteria_set::CriteriaSet;
@@ -17,7 +16,7 @@ use crate::limits::MOST_CRITERIA;
 use crate::name::Name;
 use crate::names::Names;
 use crate::refusal::Refusal;
-use std::alloc::Global;
+use std::alloc::{AllocError, Global};
 use std::marker::Model;
 
 /// The name of the built-in criterion that implies nothing.
@@ -49,25 +48,11 @@ impl Model for CriteriaTable {
     ghost invariant = { λ t. IsKept t.names.items t.criteria.items };
 }
 
-/// The closure of some names holds a name just where it is one of them, or a name of the closure implies it.
-pub fn closure_is_least()
-    ensures { ClosureIsLeast }
-{}
-
-/// A name is among the places of a set where the table holds it and it is in the set.
-pub fn placed_names_are_in()
-    ensures { PlacedNamesAreIn }
-{}
-
-/// The place of a name is where it stands among the table's names.
-pub fn places_are_of_names()
-    ensures { PlacesAreOfNames }
-{}
-
 impl CriteriaTable {
     /// The table of the built-in criteria. Refused: `NoMemory`.
     pub fn new(alloc: Global) -> Result<CriteriaTable, Refusal>
         ensures ok { IfOk result (λ t. t ≡ built_in_criteria) }
+        ensures table { IfOk result IsTable }
         ensures memory { IfErr result (λ e. e ≡ Refusal.NoMemory) }
     {
         let mut implied = Names::new(alloc);
@@ -114,6 +99,18 @@ impl CriteriaTable {
         self.names.binary_search(name).ok()
     }
 
+    /// The least of some names that the table lacks.
+    pub fn least_unknown<'a>(&self, names: &'a Names) -> Option<&'a Name>
+        ensures { option_copied result ≡ least_unknown self.now names.now }
+    {
+        for name in names.as_slice() {
+            if !self.has(name) {
+                return Some(name);
+            }
+        }
+        None
+    }
+
     /// What some names imply in the end, and they themselves. Refused: `UnknownCriterion` of the least name
     /// that the table lacks, and then `NoMemory`.
     pub fn closure(&self, names: &Names) -> Result<CriteriaSet, Refusal>
@@ -128,14 +125,35 @@ impl CriteriaTable {
         Ok(self.close(self.places(names.as_slice())))
     }
 
+    /// Whether a name is new and the table is full.
+    pub fn is_full_for(&self, name: &Name) -> bool
+        ensures { result ≡ is_full_for self.now name.now }
+    {
+        !self.has(name) && self.names().len() >= MOST_CRITERIA
+    }
+
+    /// The least name that a criterion implies and that is neither in the table nor its own.
+    pub fn unknown_beside<'a>(&self, criterion: &'a Criterion) -> Option<&'a Name>
+        ensures { option_copied result ≡ unknown_beside self.now criterion.now }
+    {
+        for name in criterion.implies.as_slice() {
+            if *name != criterion.name && !self.has(name) {
+                return Some(name);
+            }
+        }
+        None
+    }
+
     /// Adds a criterion, or puts it in place of the one of its name. Refused: `TooManyCriteria` for a new
     /// name in a full table, `UnknownCriterion` of the least name that it implies and that is neither in the
-    /// table nor its own, `BuiltInCriterion`, and `NoMemory`. After a refusal the table is as it was.
+    /// table nor its own, `BuiltInCriterion`, and `NoMemory`, which stands in place of no other refusal than
+    /// `UnknownCriterion`. After a refusal the table is as it was.
     pub fn set(&mut self, criterion: Criterion) -> Result<(), Refusal>
         ensures refused { IfSome (set_verdict self.old criterion) (λ e. Refuses e result) }
         ensures memory { set_verdict self.old criterion ≡ None → IfErr result (λ e. e ≡ Refusal.NoMemory) }
         ensures ok { OnOk result (self.new ≡ map.insert self.old criterion.name criterion) }
         ensures err { OnErr result (self.new ≡ self.old) }
+        ensures table { IsTable self.new }
     {
         self.check_set(&criterion)?;
         match self.names.binary_search(&criterion.name) {
@@ -150,71 +168,9 @@ impl CriteriaTable {
         }
     }
 
-    /// Removes the criterion of a name. Refused: `UnknownCriterion` where the table lacks the name,
-    /// `BuiltInCriterion`, `CriterionInUse` where another criterion implies it, and `NoMemory` in place of the
-    /// first. After a refusal the table is as it was.
-    pub fn remove(&mut self, name: &Name) -> Result<(), Refusal>
-        ensures refused { IfSome (remove_verdict self.old name.now) (λ e. Refuses e result) }
-        ensures done { remove_verdict self.old name.now ≡ None → result ≡ Ok tt }
-        ensures ok { OnOk result (self.new ≡ map.remove self.old name.now) }
-        ensures err { OnErr result (self.new ≡ self.old) }
-    {
-        self.check_remove(name)?;
-        if let Ok(place) = self.names.binary_search(name) {
-            let _ = self.names.remove(place);
-            let _ = self.criteria.remove(place);
-        }
-        Ok(())
-    }
-
-    // Whether a criterion may be set.
-    fn check_set(&self, criterion: &Criterion) -> Result<(), Refusal>
-        ensures { Answers (set_verdict self.now criterion.now) result }
-    {
-        if !self.has(&criterion.name) && self.names().len() >= MOST_CRITERIA {
-            return Err(Refusal::TooManyCriteria);
-        }
-        if let Some(name) = self.unknown_beside(criterion) {
-            return Err(Refusal::UnknownCriterion(name.clone()?));
-        }
-        if is_built_in(&criterion.name) {
-            return Err(Refusal::BuiltInCriterion);
-        }
-        Ok(())
-    }
-
-    // The least name that a criterion implies and that is neither in the table nor its own.
-    fn unknown_beside<'a>(&self, criterion: &'a Criterion) -> Option<&'a Name>
-        ensures { option_copied result ≡
-            least_unknown (map.insert self.now criterion.now.name criterion.now) criterion.now.implies }
-    {
-        for name in criterion.implies.as_slice() {
-            if *name != criterion.name && !self.has(name) {
-                return Some(name);
-            }
-        }
-        None
-    }
-
-    // Whether a name may be removed.
-    fn check_remove(&self, name: &Name) -> Result<(), Refusal>
-        ensures { Answers (remove_verdict self.now name.now) result }
-    {
-        if !self.has(name) {
-            return Err(Refusal::UnknownCriterion(name.clone()?));
-        }
-        if is_built_in(name) {
-            return Err(Refusal::BuiltInCriterion);
-        }
-        if self.is_in_use(name) {
-            return Err(Refusal::CriterionInUse);
-        }
-        Ok(())
-    }
-
-    // Whether another criterion implies a name.
-    fn is_in_use(&self, name: &Name) -> bool
-        ensures { result ≡ is_in_use self.now name.now }
+    /// Whether a criterion of another name implies a name.
+    pub fn is_implied(&self, name: &Name) -> bool
+        ensures { result ≡ is_implied self.now name.now }
     {
         for criterion in &self.criteria {
             if criterion.name != *name && criterion.implies.contains(name) {
@@ -224,18 +180,86 @@ impl CriteriaTable {
         false
     }
 
-    /// The least of some names that the table lacks.
-    pub fn least_unknown<'a>(&self, names: &'a Names) -> Option<&'a Name>
-        ensures { option_copied result ≡ least_unknown self.now names.now }
+    /// Removes the criterion of a name. Refused: `UnknownCriterion` where the table lacks the name,
+    /// `BuiltInCriterion`, `CriterionInUse` where another criterion implies it, and `NoMemory` in place of the
+    /// first. After a refusal the table is as it was.
+    pub fn remove(&mut self, name: &Name) -> Result<(), Refusal>
+        ensures refused { IfSome (remove_verdict self.old name.now) (λ e. Refuses e result) }
+        ensures done { remove_verdict self.old name.now ≡ None → result ≡ Ok tt }
+        ensures ok { OnOk result (self.new ≡ map.remove self.old name.now) }
+        ensures err { OnErr result (self.new ≡ self.old) }
+        ensures table { IsTable self.new }
     {
-        for name in names.as_slice() {
-            if !self.has(name) {
-                return Some(name);
-            }
+        self.check_remove(name)?;
+        if let Ok(place) = self.names.binary_search(name) {
+            let _ = self.names.remove(place);
+            let _ = self.criteria.remove(place);
         }
-        None
+        Ok(())
     }
+}
 
+impl Clone for CriteriaTable {
+    ghost is_clone = { λ a b. b ≡ a };
+
+    fn clone(&self) -> Result<CriteriaTable, AllocError> {
+        Ok(CriteriaTable {
+            names: self.names.clone()?,
+            criteria: self.criteria.clone()?,
+        })
+    }
+}
+
+impl CriteriaSet {
+    /// Whether the criterion of a name of the table is in the set.
+    pub fn contains(&self, name: &Name, table: &CriteriaTable) -> bool
+        ensures { result ≡ is_in table.now self.now name.now }
+    {
+        match table.place(name) {
+            Some(place) => self.has(place),
+            None => false,
+        }
+    }
+}
+
+/// Whether a name is that of a built-in criterion.
+pub fn is_built_in(name: &Name) -> bool
+    ensures { result ≡ is_built_in name.now }
+{
+    name.as_str() == SAFE_TO_RUN || name.as_str() == SAFE_TO_DEPLOY
+}
+
+/// The closure of some names holds a name just where it is one of them, or a name of the closure implies it.
+pub fn closure_is_least()
+    ensures { ClosureIsLeast }
+{}
+
+/// A name is among the places of a set where the table holds it and it is in the set.
+pub fn placed_names_are_in()
+    ensures { PlacedNamesAreIn }
+{}
+
+/// The place of a name is where it stands among the table's names.
+pub fn places_are_of_names()
+    ensures { PlacesAreOfNames }
+{}
+
+// A criterion of no more than a name and what it implies.
+fn built_in(alloc: Global, name: &str, implies: Names) -> Result<Criterion, Refusal>
+    requires { is_name name.now ≡ true }
+    ensures ok { IfOk result (λ c.
+        c ≡ record { name = name.now; description = None; url = None; implies = implies }) }
+    ensures memory { IfErr result (λ e. e ≡ Refusal.NoMemory) }
+{
+    Ok(Criterion {
+        name: Name::parse(alloc, name)?,
+        description: None,
+        url: None,
+        implies,
+    })
+}
+
+impl CriteriaTable {
     // The places of the names that the table holds.
     fn places(&self, names: &[Name]) -> CriteriaSet
         ensures { result ≡ placed self.now (set.from_list names.now) }
@@ -291,40 +315,38 @@ impl CriteriaTable {
         }
         None
     }
-}
 
-impl CriteriaSet {
-    /// Whether the criterion of a name of the table is in the set.
-    pub fn contains(&self, name: &Name, table: &CriteriaTable) -> bool
-        ensures { result ≡ is_in table.now self.now name.now }
+    // Whether a criterion may be set.
+    fn check_set(&self, criterion: &Criterion) -> Result<(), Refusal>
+        ensures { Answers (set_verdict self.now criterion.now) result }
     {
-        match table.place(name) {
-            Some(place) => self.has(place),
-            None => false,
+        if self.is_full_for(&criterion.name) {
+            return Err(Refusal::TooManyCriteria);
         }
+        if let Some(name) = self.unknown_beside(criterion) {
+            return Err(Refusal::UnknownCriterion(name.clone()?));
+        }
+        if is_built_in(&criterion.name) {
+            return Err(Refusal::BuiltInCriterion);
+        }
+        Ok(())
     }
-}
 
-// A criterion of no more than a name and what it implies.
-fn built_in(alloc: Global, name: &str, implies: Names) -> Result<Criterion, Refusal>
-    requires { is_name name.now ≡ true }
-    ensures ok { IfOk result (λ c.
-        c ≡ record { name = name.now; description = None; url = None; implies = implies }) }
-    ensures memory { IfErr result (λ e. e ≡ Refusal.NoMemory) }
-{
-    Ok(Criterion {
-        name: Name::parse(alloc, name)?,
-        description: None,
-        url: None,
-        implies,
-    })
-}
-
-// Whether a name is that of a built-in criterion.
-fn is_built_in(name: &Name) -> bool
-    ensures { result ≡ is_built_in name.now }
-{
-    name.as_str() == SAFE_TO_RUN || name.as_str() == SAFE_TO_DEPLOY
+    // Whether a name may be removed.
+    fn check_remove(&self, name: &Name) -> Result<(), Refusal>
+        ensures { Answers (remove_verdict self.now name.now) result }
+    {
+        if !self.has(name) {
+            return Err(Refusal::UnknownCriterion(name.clone()?));
+        }
+        if is_built_in(name) {
+            return Err(Refusal::BuiltInCriterion);
+        }
+        if self.is_implied(name) {
+            return Err(Refusal::CriterionInUse);
+        }
+        Ok(())
+    }
 }
 
 // Puts a criterion and its name at a place of their lists, or at none.

@@ -1,8 +1,12 @@
 //! What is held of a criterion.
+ghost use Rattle.std.specs.Prelude.{◌≡◌, ◌↔◌, IsTrue};
+ghost use Rattle.std.specs.Cmp.{partial_equiv_from_equiv};
+ghost use Rattle.vet_base.specs.Criterion.{criterion_eq, criterion_eq_equiv};
 
 use crate::name::Name;
 use crate::names::Names;
 use crate::text::Text;
+use std::alloc::AllocError;
 
 /// A criterion: what an audit can say of a package.
 #[derive(Debug, Drop)]
@@ -15,4 +19,38 @@ pub struct Criterion {
     pub url: Option<Text>,
     /// The criteria that it implies.
     pub implies: Names,
+}
+
+impl Clone for Criterion {
+    ghost is_clone = { λ a b. b ≡ a };
+
+    fn clone(&self) -> Result<Criterion, AllocError> {
+        Ok(Criterion {
+            name: self.name.clone()?,
+            description: self.description.clone()?,
+            url: self.url.clone()?,
+            implies: self.implies.clone()?,
+        })
+    }
+}
+
+impl PartialEq for Criterion {
+    ghost eq = { criterion_eq };
+
+    ghost laws = { partial_equiv_from_equiv criterion_eq_equiv };
+
+    // Only a criterion itself is equal to it.
+    fn eq(&self, other: &Criterion) -> bool
+        ensures value { result ≡ criterion_eq self.now other.now }
+        ensures same { IsTrue result ↔ (self.now ≡ other.now) }
+    {
+        self.name == other.name
+            && self.description == other.description
+            && self.url == other.url
+            && self.implies == other.implies
+    }
+}
+
+impl Eq for Criterion {
+    ghost laws = { criterion_eq_equiv };
 }

@@ -19,4 +19,5 @@ pub mod refusal;
 #[cfg(test)]
 mod tests;
 pub mod text;
+pub mod texts;
 pub mod version;

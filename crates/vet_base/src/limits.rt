@@ -54,6 +54,9 @@ pub const MOST_MEMBERS: usize = 1_000;
 /// The most reviews.
 pub const MOST_REVIEWS: usize = 100_000;
 
+/// The most moves that a register may be made to record.
+pub const MOST_MOVES: usize = 1_000_000;
+
 /// The last step of the register.
 pub const LAST_STEP: u64 = 9_223_372_036_854_775_807;
 

@@ -1,20 +1,210 @@
 //! Entries: what somebody vouches for.
+ghost use Rattle.std.specs.Prelude.{◌≡◌, ◌↔◌, IfOk, IsTrue};
+ghost use Rattle.vet_entries.specs.Entry.{entry_eq, no_flags, own, says_same};
 
-use vet_base::name::PackageName;
+use std::alloc::AllocError;
+use vet_base::name::{Name, PackageName};
 use vet_base::names::Names;
+use vet_base::text::Text;
+use vet_base::texts::Texts;
 use vet_base::version::VetVersion;
 
-/// What an entry says of its package (The Cargo Vet Book, audit entries).
+/// Whose an entry is.
+#[derive(Clone, Debug, Drop)]
+pub enum Source {
+    /// The organisation's own.
+    Own,
+    /// That of a peer, from whom it was imported.
+    Peer(Name),
+}
+
+impl PartialEq for Source {
+    ghost use Rattle.std.specs.Cmp.{decided, partial_equiv_from_equiv};
+    ghost use Rattle.vet_entries.specs.Entry.{source_eq, source_eq-Decides};
+
+    ghost eq = { source_eq };
+
+    ghost laws = { partial_equiv_from_equiv (decided source_eq source_eq-Decides) };
+
+    fn eq(&self, other: &Source) -> bool {
+        match (self, other) {
+            (Source::Own, Source::Own) => true,
+            (Source::Peer(name), Source::Peer(other)) => name == other,
+            _ => false,
+        }
+    }
+}
+
+impl Eq for Source {
+    ghost use Rattle.std.specs.Cmp.{decided};
+    ghost use Rattle.vet_entries.specs.Entry.{source_eq, source_eq-Decides};
+
+    ghost laws = { decided source_eq source_eq-Decides };
+}
+
+/// What an entry says of its package (The Cargo Vet Book, audit entries and exemptions).
 #[derive(Debug, Drop)]
 pub enum Kind {
     /// This version was reviewed in full.
     Full(VetVersion),
+    /// This version is vouched for without a review.
+    Exemption(VetVersion),
+}
+
+impl Clone for Kind {
+    ghost use Rattle.std.specs.Prelude.{◌≡◌};
+
+    ghost is_clone = { λ a b. b ≡ a };
+
+    fn clone(&self) -> Result<Kind, AllocError> {
+        match self {
+            Kind::Full(version) => Ok(Kind::Full(version.clone()?)),
+            Kind::Exemption(version) => Ok(Kind::Exemption(version.clone()?)),
+        }
+    }
+}
+
+impl PartialEq for Kind {
+    ghost use Rattle.std.specs.Cmp.{decided, partial_equiv_from_equiv};
+    ghost use Rattle.vet_entries.specs.Entry.{kind_eq, kind_eq-Decides};
+
+    ghost eq = { kind_eq };
+
+    ghost laws = { partial_equiv_from_equiv (decided kind_eq kind_eq-Decides) };
+
+    fn eq(&self, other: &Kind) -> bool {
+        match (self, other) {
+            (Kind::Full(version), Kind::Full(other)) => version == other,
+            (Kind::Exemption(version), Kind::Exemption(other)) => version == other,
+            _ => false,
+        }
+    }
+}
+
+impl Eq for Kind {
+    ghost use Rattle.std.specs.Cmp.{decided};
+    ghost use Rattle.vet_entries.specs.Entry.{kind_eq, kind_eq-Decides};
+
+    ghost laws = { decided kind_eq kind_eq-Decides };
+}
+
+/// What an entry says to tools, where it says it.
+#[derive(Clone, Copy, Debug, PartialEq, Eq)]
+pub struct Flags {
+    /// Whether to suggest a review in place of an exemption.
+    pub suggest: Option<bool>,
+    /// Whether a window is to be renewed.
+    pub renew: Option<bool>,
+    /// Whether others may import the entry.
+    pub importable: Option<bool>,
+}
+
+impl Flags {
+    /// Nothing is said.
+    pub fn none() -> Flags
+        ensures { result ≡ no_flags }
+    {
+        Flags {
+            suggest: None,
+            renew: None,
+            importable: None,
+        }
+    }
 }
 
 /// An entry: a package, what is said of it, and for which criteria.
 #[derive(Debug, Drop)]
 pub struct Entry {
+    pub source: Source,
     pub package: PackageName,
     pub kind: Kind,
     pub criteria: Names,
+    /// Who reviewed, in the order of their bytes, each once.
+    pub who: Texts,
+    pub notes: Option<Text>,
+    pub flags: Flags,
+}
+
+impl Entry {
+    /// A copy as one of one's own.
+    pub fn to_own(&self) -> Result<Entry, AllocError>
+        ensures { IfOk result (λ e. e ≡ own self.now) }
+    {
+        Ok(Entry {
+            source: Source::Own,
+            package: self.package.clone()?,
+            kind: self.kind.clone()?,
+            criteria: self.criteria.clone()?,
+            who: self.who.clone()?,
+            notes: notes_copied(&self.notes)?,
+            flags: self.flags,
+        })
+    }
+
+    /// Whether this is the same entry as another would be as one of one's own.
+    pub(crate) fn is_as_own(&self, other: &Entry) -> bool
+        ensures { result ≡ entry_eq self.now (own other.now) }
+    {
+        self.source == Source::Own && self.says_same(other)
+    }
+
+    // Whether another entry says the same, whosever the two are.
+    fn says_same(&self, other: &Entry) -> bool
+        ensures { result ≡ says_same self.now other.now }
+    {
+        self.package == other.package
+            && self.kind == other.kind
+            && self.criteria == other.criteria
+            && self.who == other.who
+            && self.notes == other.notes
+            && self.flags == other.flags
+    }
+}
+
+impl Clone for Entry {
+    ghost use Rattle.std.specs.Prelude.{◌≡◌};
+
+    ghost is_clone = { λ a b. b ≡ a };
+
+    fn clone(&self) -> Result<Entry, AllocError> {
+        let own = self.to_own()?;
+        Ok(Entry {
+            source: self.source.clone()?,
+            ..own
+        })
+    }
+}
+
+impl PartialEq for Entry {
+    ghost use Rattle.std.specs.Cmp.{decided, partial_equiv_from_equiv};
+    ghost use Rattle.std.specs.Prelude.{IsTrue, ◌↔◌, ◌≡◌};
+    ghost use Rattle.vet_entries.specs.Entry.{entry_eq, entry_eq-Decides};
+
+    ghost eq = { entry_eq };
+
+    ghost laws = { partial_equiv_from_equiv (decided entry_eq entry_eq-Decides) };
+
+    fn eq(&self, other: &Entry) -> bool
+        ensures value { result ≡ entry_eq self.now other.now }
+        ensures same { IsTrue result ↔ (self.now ≡ other.now) }
+    {
+        self.source == other.source && self.says_same(other)
+    }
+}
+
+impl Eq for Entry {
+    ghost use Rattle.std.specs.Cmp.{decided};
+    ghost use Rattle.vet_entries.specs.Entry.{entry_eq, entry_eq-Decides};
+
+    ghost laws = { decided entry_eq entry_eq-Decides };
+}
+
+// A copy of some notes, if there are any.
+fn notes_copied(notes: &Option<Text>) -> Result<Option<Text>, AllocError>
+    ensures { IfOk result (λ copy. copy ≡ notes.now) }
+{
+    match notes {
+        Some(notes) => Ok(Some(notes.clone()?)),
+        None => Ok(None),
+    }
 }

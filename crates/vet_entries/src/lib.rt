@@ -1,6 +1,7 @@
-//! Entries, and the steps of trust that they give a package.
+//! Entries, what is held of them, and the steps of trust that they give a package.
 //!
-//! **`steps_of` gives the steps of the definition, list for list.**
+//! **`steps_of` gives the steps of the definition, list for list, and what `EntryFacts::apply` changes, the
+//! edit that it answers changes back.**
 //!
 //! Scope of this crate: what is vouched for, and for which criteria. Where chains of steps lead stands in
 //! `vet_graph`; what projects ask for, in `vet_demand`.
@@ -9,3 +10,5 @@
 pub mod entry;
 pub mod facts;
 pub mod step;
+#[cfg(test)]
+mod tests;

@@ -1,11 +1,11 @@
 //! Steps of trust, and those that entries give.
 ghost use Rattle.std.specs.Prelude.{◌≡◌, ◌++◌, ◌∷◌, [], IfOk, IfErr, OnOk, None};
 ghost use Rattle.std.specs.List.{All};
-ghost use Rattle.vet_entries.specs.Step.{HasKnownCriteria, steps_of};
+ghost use Rattle.vet_entries.specs.Step.{HasKnownCriteria, first_step, kind_steps, steps_of};
 
-use crate::entry::{Entry, Kind};
-use crate::facts::EntryFacts;
-use std::alloc::Global;
+use crate::entry::Kind;
+use crate::facts::{EntryFacts, HeldEntry};
+use std::alloc::{AllocError, Global};
 use vet_base::criteria_set::CriteriaSet;
 use vet_base::criteria_table::CriteriaTable;
 use vet_base::name::PackageName;
@@ -32,14 +32,14 @@ pub fn steps_of(
     package: &PackageName,
     facts: &EntryFacts,
 ) -> Result<Vec<Step>, Refusal>
-    requires { All (HasKnownCriteria facts.now.criteria) facts.now.entries.items }
-    ensures ok { IfOk result (λ steps. steps.items
-        ≡ steps_of facts.now.criteria facts.now.entries.items «package».now) }
+    requires { All (HasKnownCriteria facts.now.content.criteria) facts.now.content.entries }
+    ensures ok { IfOk result (λ steps. steps.items ≡ steps_of facts.now.content «package».now) }
     ensures memory { IfErr result (λ e. e ≡ Refusal.NoMemory) }
 {
     let mut steps = Vec::new(alloc);
-    for entry in &facts.entries {
-        add_steps(&mut steps, package, entry, &facts.criteria)?;
+    let criteria = facts.criteria();
+    for held in facts.entries() {
+        add_steps(&mut steps, package, held, criteria)?;
     }
     Ok(steps)
 }
@@ -48,25 +48,40 @@ pub fn steps_of(
 fn add_steps(
     steps: &mut Vec<Step>,
     package: &PackageName,
-    entry: &Entry,
+    held: &HeldEntry,
     criteria: &CriteriaTable,
 ) -> Result<(), Refusal>
-    requires { HasKnownCriteria criteria.now entry.now }
-    ensures ok { OnOk result (steps.new.items
-        ≡ steps.old.items ++ steps_of criteria.now (entry.now ∷ []) «package».now) }
+    requires { HasKnownCriteria criteria.now held.now }
+    ensures ok { OnOk result (steps.new.items ≡ steps.old.items
+        ++ steps_of (record { criteria = criteria.now; entries = held.now ∷ [] }) «package».now) }
     ensures memory { IfErr result (λ e. e ≡ Refusal.NoMemory) }
 {
-    if entry.package != *package {
+    if held.entry.package != *package {
         return Ok(());
     }
-    let closed = criteria.closure(&entry.criteria)?;
-    match &entry.kind {
-        Kind::Full(version) => steps.push(Step {
-            origin: None,
-            target: version.clone()?,
-            criteria: closed,
-            exempt: false,
-        })?,
-    }
+    let closed = criteria.closure(&held.entry.criteria)?;
+    steps.push(kind_step(&held.entry.kind, closed)?)?;
     Ok(())
+}
+
+// The step that a kind gives.
+fn kind_step(kind: &Kind, criteria: CriteriaSet) -> Result<Step, AllocError>
+    ensures { IfOk result (λ step. step ∷ [] ≡ kind_steps criteria kind.now) }
+{
+    match kind {
+        Kind::Full(version) => first_step(version, criteria, false),
+        Kind::Exemption(version) => first_step(version, criteria, true),
+    }
+}
+
+// A step from nothing to a version.
+fn first_step(version: &VetVersion, criteria: CriteriaSet, exempt: bool) -> Result<Step, AllocError>
+    ensures { IfOk result (λ step. step ≡ first_step criteria exempt version.now) }
+{
+    Ok(Step {
+        origin: None,
+        target: version.clone()?,
+        criteria,
+        exempt,
+    })
 }

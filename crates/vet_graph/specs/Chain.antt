@@ -1,5 +1,5 @@
 -- Chains of steps to a version (ours; in outline The Cargo Vet Book, on audit entries).
-use Rattle.std.specs.Prelude.{◌≡◌, ◌≢◌, ℕ, Bool, true, false, ◌&&◌, List, [], ◌∷◌, ◌++◌, Option, Some, None}
+use Rattle.std.specs.Prelude.{◌≡◌, ◌≢◌, ℕ, Bool, true, false, not, ◌&&◌, List, [], ◌∷◌, ◌++◌, Option, Some, None}
 use Rattle.std.specs.List.{All, AllPairs, Contains}
 use Rattle.vet_base.specs.CriteriaSet.{has}
 use Rattle.vet_base.specs.Version.{VersionValue}
@@ -46,9 +46,9 @@ HasChain steps c v = (chain : List Step) × IsChain steps c v chain
 abbrev pub HasCleanChain : List Step → Condemned → ℕ → VersionValue → (List Step → Type 0) → Type 0
 HasCleanChain steps condemned c v P = (chain : List Step) × IsChain steps c v chain × IsClean condemned c chain × P chain
 
--- a step from nothing that isn't exempt
-abbrev pub IsReviewFromNothing : Step → Type 0
-IsReviewFromNothing s = (s.origin ≡ None) × (s.exempt ≡ false)
+-- a step from nothing
+abbrev pub IsFromNothing : Step → Type 0
+IsFromNothing s = s.origin ≡ None
 
 -- no version is condemned for anything
 abbrev pub none_condemned : Condemned
@@ -57,3 +57,7 @@ none_condemned c v = false
 -- a step for c leads to v
 abbrev pub vouches : ℕ → VersionValue → Step → Bool
 vouches c v s = has c s.criteria && version_eq s.target v
+
+-- a step for c that isn't exempt leads to v
+abbrev pub reviews : ℕ → VersionValue → Step → Bool
+reviews c v s = vouches c v s && not s.exempt

@@ -69,7 +69,8 @@ not_nil : (front : List Step) (s : Step) → [] ≡ front ++ s ∷ [] → ⊥
 not_nil [] s e = cc e
 not_nil (t ∷ front) s e = cc e
 
-one_last : (s : Step) (front : List Step) (t : Step) → s ∷ [] ≡ front ++ t ∷ [] → t.exempt ≡ false → s.exempt ≡ false
+-- the last of one step is that step
+pub one_last : (s : Step) (front : List Step) (t : Step) → s ∷ [] ≡ front ++ t ∷ [] → t.exempt ≡ false → s.exempt ≡ false
 one_last s [] t e h = rw (cons_injective _ _ _ _ e).0 h
 one_last s (u ∷ front) t e h = absurd (not_nil front t (cons_injective _ _ _ _ e).1)
 

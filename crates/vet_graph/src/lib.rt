@@ -2,8 +2,11 @@
 //!
 //! **The class of a version for a criterion is the first of five that chains give it, and the only one.**
 //!
-//! Scope of this crate: where steps lead. Which steps entries give stands in `vet_entries`; the standing of
-//! all demanded pairs, and what moves it, will stand here.
+//! Scope of this crate: where steps lead, the standing of demanded pairs, and the moves from one standing to
+//! another. Which steps entries give stands in `vet_entries`, and what is demanded in `vet_demand`.
 #![tactic(auto)]
 
 pub mod class;
+pub mod moves;
+pub mod plain;
+pub mod standing;

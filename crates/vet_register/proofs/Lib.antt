@@ -1,2 +1,6 @@
+pub mod Beginnings
 pub mod ClassOfFileLemmas
+pub mod Drops
+pub mod Lists
+pub mod Soundness
 pub mod Walks

@@ -17,6 +17,8 @@ use Rattle.vet_register.specs.declared.fields.TableKind.{TableKind}
 use Rattle.vet_register.specs.declared.fields.TableKind.TheVariants as kind
 use Rattle.vet_entries.specs.declared.entry.Entry.{Entry}
 use Rattle.vet_entries.specs.declared.entry.Kind.TheVariants.{Full}
+use Rattle.vet_entries.specs.declared.entry.Source.TheVariants.{Own}
+use Rattle.vet_entries.specs.Entry.{no_flags}
 
 -- what stands at a key of a table is at fault
 abbrev pub fault : List ℕ → List ℕ → Refusal
@@ -84,8 +86,10 @@ version_told path ms = version_at_key path (get_member (codes "version") ms)
 abbrev pub entry_path : List ℕ → ℕ → List ℕ
 entry_path name place = codes "audits." ++ (name ++ (codes "[" ++ (decimal place ++ codes "]")))
 
+-- an own full entry of which nothing more is said
 abbrev pub review : List ℕ → NameSet → VersionValue → List Entry
-review name criteria version = (record { «package» = name; kind = Full version; criteria = criteria }) ∷ []
+review name criteria version =
+    (record { source = Own; «package» = name; kind = Full version; criteria = criteria; who = set.empty; notes = None; flags = no_flags }) ∷ []
 
 -- the entry that these fields make; one without a version is skipped
 abbrev pub reviews_of : List ℕ → NameSet → Option VersionValue → List Entry

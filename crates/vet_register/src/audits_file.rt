@@ -12,7 +12,8 @@ use toml::value::Array;
 use toml::{Table, Value};
 use vet_base::name::PackageName;
 use vet_base::refusal::Refusal;
-use vet_entries::entry::{Entry, Kind};
+use vet_base::texts::Texts;
+use vet_entries::entry::{Entry, Flags, Kind, Source};
 
 /// The entries of an audits file, in the order of their packages' names and, in one package, of the file.
 ///
@@ -134,8 +135,12 @@ fn read_fields(
         return Ok(None);
     };
     Ok(Some(Entry {
+        source: Source::Own,
         package: name.clone()?,
         kind: Kind::Full(version),
         criteria,
+        who: Texts::new(alloc),
+        notes: None,
+        flags: Flags::none(),
     }))
 }

@@ -1,9 +1,8 @@
 //! The class of one pair, from an audits file.
-ghost use Rattle.std.specs.Prelude.{◌≡◌, None};
-ghost use Rattle.std.specs.List.{All};
+ghost use Rattle.std.specs.Prelude.{◌≡◌};
 ghost use Rattle.std.specs.Option.{option_copied};
 ghost use Rattle.vet_base.specs.Gives.{Gives};
-ghost use Rattle.vet_register.specs.ClassOfFile.{class_in, class_told, entries_told, lesser, unknown_name, unknown_word};
+ghost use Rattle.vet_register.specs.ClassOfFile.{class_in, class_told, entries_told, lesser, pair_told, unknown_name, unknown_word};
 
 use crate::audits_file::read_audits;
 use std::alloc::Global;
@@ -12,10 +11,11 @@ use vet_base::limits::MOST_INPUT_BYTES;
 use vet_base::name::{Name, PackageName};
 use vet_base::refusal::{Limit, Refusal};
 use vet_base::version::VetVersion;
+use vet_demand::pair::Pair;
 use vet_entries::entry::Entry;
-use vet_entries::facts::EntryFacts;
-use vet_entries::step::steps_of;
-use vet_graph::class::{Class, class_of_reviews};
+use vet_entries::facts::{EntryFacts, HeldEntry};
+use vet_graph::class::Class;
+use vet_graph::plain::class_of_pair;
 
 /// The class of a version of a package for a criterion, where this audits file is all that is held and this
 /// pair alone is demanded.
@@ -33,14 +33,21 @@ pub fn class_of_file(
     ensures { Gives (λ class. class)
         (class_told file.now «package».now version.now criterion.now) result }
 {
-    let package = PackageName::parse(alloc, package)?;
-    let version = VetVersion::parse(alloc, version)?;
-    let criterion = Name::parse(alloc, criterion)?;
-    let facts = EntryFacts {
-        entries: read_entries(alloc, file)?,
-        criteria: CriteriaTable::new(alloc)?,
-    };
-    class_in(alloc, &facts, &package, &version, &criterion)
+    let pair = read_pair(alloc, package, version, criterion)?;
+    let entries = read_entries(alloc, file)?;
+    let facts = EntryFacts::of(alloc, CriteriaTable::new(alloc)?, entries)?;
+    class_in(alloc, &facts, &pair)
+}
+
+// The pair that three words name.
+fn read_pair(alloc: Global, package: &str, version: &str, criterion: &str) -> Result<Pair, Refusal>
+    ensures { Gives (λ pair. pair) (pair_told «package».now version.now criterion.now) result }
+{
+    Ok(Pair {
+        package: PackageName::parse(alloc, package)?,
+        version: VetVersion::parse(alloc, version)?,
+        criterion: Name::parse(alloc, criterion)?,
+    })
 }
 
 // The entries of a file that isn't too long.
@@ -54,33 +61,26 @@ fn read_entries(alloc: Global, file: &[u8]) -> Result<Vec<Entry>, Refusal>
 }
 
 // The class by what is held, where each criterion that is named is known.
-fn class_in(
-    alloc: Global,
-    facts: &EntryFacts,
-    package: &PackageName,
-    version: &VetVersion,
-    criterion: &Name,
-) -> Result<Class, Refusal>
-    ensures { Gives (λ class. class) (class_in facts.now.criteria facts.now.entries.items
-        «package».now version.now criterion.now) result }
+fn class_in(alloc: Global, facts: &EntryFacts, pair: &Pair) -> Result<Class, Refusal>
+    ensures { Gives (λ class. class) (class_in facts.now.content pair.now) result }
 {
-    if let Some(unknown) = unknown_name(&facts.criteria, criterion, &facts.entries) {
+    if let Some(unknown) = unknown_name(facts.criteria(), &pair.criterion, facts.entries()) {
         return Err(Refusal::UnknownCriterion(unknown.clone()?));
     }
-    let Some(place) = facts.criteria.place(criterion) else {
-        return Err(Refusal::UnknownCriterion(criterion.clone()?));
-    };
-    let steps = steps_of(alloc, package, facts)?;
-    Ok(class_of_reviews(steps.as_slice(), place, version))
+    class_of_pair(alloc, facts, pair)
 }
 
 // The least name that the table lacks, of a word and of the criteria of some entries.
-fn unknown_name<'a>(table: &CriteriaTable, word: &'a Name, entries: &'a [Entry]) -> Option<&'a Name>
+fn unknown_name<'a>(
+    table: &CriteriaTable,
+    word: &'a Name,
+    entries: &'a [HeldEntry],
+) -> Option<&'a Name>
     ensures { option_copied result ≡ unknown_name table.now word.now entries.now }
 {
     let mut least = unknown_word(table, word);
-    for entry in entries {
-        least = lesser(least, table.least_unknown(&entry.criteria));
+    for held in entries {
+        least = lesser(least, table.least_unknown(&held.entry.criteria));
     }
     least
 }

@@ -1,18 +1,26 @@
 //! The register of audits.
 //!
-//! **The class of a pair is the one that chains of entries give it.**
+//! **After every list of commands the register's state is that of the machine which keeps the accepted
+//! ones alone, and each demanded pair stands in the class that chains of entries give it.**
 //!
-//! Scope of this crate: today the class of one pair from an audits file. The machine that keeps entries,
-//! with its commands, comes here; until the crate of cargo-vet's files is founded, their reader stands here
-//! too. It gives on the names of the lower crates that its callers need.
+//! Scope of this crate: the machine with its commands, and the class of one pair from an audits file. Until
+//! the crate of cargo-vet's files is founded, their reader stands here too. It gives on the names of the
+//! lower crates that its callers need.
 #![tactic(auto)]
 
 pub mod audits_file;
+pub mod change;
 pub mod class_of_file;
+pub mod command;
 mod fields;
+pub mod moves;
+pub mod register;
 #[cfg(test)]
 mod tests;
 
-pub use vet_base::{limits, refusal};
+pub use vet_base::{
+    criteria_table, criterion, day, limits, name, names, refusal, text, texts, version,
+};
+pub use vet_demand::pair;
 pub use vet_entries::{entry, facts, step};
-pub use vet_graph::class;
+pub use vet_graph::{class, standing};

@@ -1,5 +1,6 @@
 //! Closures, limits and the order of names.
 use super::*;
+use crate::text::Text;
 use std::test::Fail;
 
 fn names(alloc: Global, texts: &[&str]) -> Result<Names, Refusal> {
@@ -66,6 +67,8 @@ fn sixty_two_further_criteria_fit(rt: HostRuntime) -> Result<(), Fail> {
         table.set(criterion(alloc, name.as_str(), &["safe-to-run"])?)?;
     }
     assert_eq!(rt; table.names().len(), 64);
+    assert!(rt; table.is_full_for(&Name::parse(alloc, "one-more")?));
+    assert!(rt; !table.is_full_for(&Name::parse(alloc, "further-7")?));
     let more = table.set(criterion(alloc, "one-more", &["unknown"])?);
     assert!(rt; more == Err(Refusal::TooManyCriteria));
     table.set(criterion(alloc, "further-7", &["further-8"])?)?;
@@ -80,8 +83,10 @@ fn what_is_implied_stays(rt: HostRuntime) -> Result<(), Fail> {
     table.set(criterion(alloc, "a", &["a"])?)?;
     table.set(criterion(alloc, "b", &["a"])?)?;
     let a = Name::parse(alloc, "a")?;
+    assert!(rt; table.is_implied(&a));
     assert!(rt; table.remove(&a) == Err(Refusal::CriterionInUse));
     table.remove(&Name::parse(alloc, "b")?)?;
+    assert!(rt; !table.is_implied(&a));
     table.remove(&a)?;
     let built_in = table.remove(&Name::parse(alloc, SAFE_TO_RUN)?);
     assert!(rt; built_in == Err(Refusal::BuiltInCriterion));
@@ -102,5 +107,34 @@ fn names_stand_in_order(rt: HostRuntime) -> Result<(), Fail> {
     for (name, text) in table.names().iter().zip(expected.iter()) {
         assert_eq!(rt; name.as_str(), *text);
     }
+    Ok(())
+}
+
+#[test]
+fn a_criterion_may_imply_itself_and_what_is_known(rt: HostRuntime) -> Result<(), Fail> {
+    let alloc = rt.alloc();
+    let table = CriteriaTable::new(alloc)?;
+    let known = criterion(alloc, "a", &["a", "safe-to-run"])?;
+    assert!(rt; table.unknown_beside(&known).is_none());
+    let unknown = criterion(alloc, "a", &["z", "a", "m"])?;
+    assert!(rt; table.unknown_beside(&unknown) == Some(&Name::parse(alloc, "m")?));
+    Ok(())
+}
+
+#[test]
+fn a_copy_is_the_same(rt: HostRuntime) -> Result<(), Fail> {
+    let alloc = rt.alloc();
+    let mut table = CriteriaTable::new(alloc)?;
+    let first = criterion(alloc, "a", &["safe-to-run"])?;
+    let mut second = first.clone()?;
+    assert!(rt; first == second);
+    second.url = Some(Text::parse(alloc, "https://example.org/a")?);
+    assert!(rt; first != second);
+    table.set(first)?;
+    let mut copy = table.clone()?;
+    copy.set(second)?;
+    let a = Name::parse(alloc, "a")?;
+    assert!(rt; table.get(&a) != copy.get(&a));
+    assert!(rt; table.clone()?.get(&a) == table.get(&a));
     Ok(())
 }

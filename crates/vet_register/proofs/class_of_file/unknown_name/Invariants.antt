@@ -4,5 +4,5 @@ use Rattle.std.specs.Option.{option_copied}
 use Rattle.vet_register.specs.ClassOfFile.{unknown_name}
 use Rattle.vet_register.proofs.class_of_file.unknown_name.Given as goal
 
-abbrev pub invariant-loop-entry : goal.invariant-loop-entry
-invariant-loop-entry l = option_copied l.least ≡ unknown_name l.table l.word (take l.entry-index l.entries)
+abbrev pub invariant-loop-held : goal.invariant-loop-held
+invariant-loop-held l = option_copied l.least ≡ unknown_name l.table l.word (take l.held-index l.entries)

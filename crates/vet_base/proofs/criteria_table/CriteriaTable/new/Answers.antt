@@ -30,3 +30,6 @@ invariant_of-result c = rw (names_are c, criteria_are c) built_in_is_kept
 
 pub returns-clause-ok : goal.returns-clause-ok
 returns-clause-ok c = ap (λ cs. map.from_sorted {R = R} (by_name cs)) (criteria_are c) ∙ is_built_in
+
+pub returns-clause-table : goal.returns-clause-table
+returns-clause-table c = rw (criteria_are c) built_in_is_kept.table

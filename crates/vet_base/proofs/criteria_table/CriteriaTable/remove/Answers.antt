@@ -33,3 +33,17 @@ returns-clause-ok c =
           let lacks = searched_in names c.deref.result.now n (Err w.in_default.field-0) c.deref.ensures.value c.self.invariant.rising e.bound e.position in
           absurd (false≢true (ap is_some (sym (none_is names criteria c.self.invariant table c.self.view_is n w.in_default.field-0 lacks)) ∙ may.0)))
     ]
+
+pub returns-clause-table : goal.returns-clause-table
+returns-clause-table c =
+    let names = c.self.inside.names.items in
+    let criteria = c.self.inside.criteria.items in
+    let table = c.args.self.now in
+    let n = c.args.name.now in
+    let may = may_remove table n (no_verdict _ c.in_ok-check_remove.ensures) in
+    elim c.match-binary_search.branch [
+      | in-Ok w ↦ (let e = w.in-Ok.ensures in
+          let found = searched_in names c.deref.result.now n (Ok w.in-Ok.place) c.deref.ensures.value c.self.invariant.rising e.bound e.position in
+          rw (w.self-is, w.remove-in-Ok.ensures.items) ((kept_after_remove names criteria c.self.invariant table c.self.view_is w.in-Ok.place n found.0 (found.1 []) may.1 may.2).table))
+      | in_default w ↦ rw (w.self-is, ← c.self.view_is) (c.self.invariant.table)
+    ]

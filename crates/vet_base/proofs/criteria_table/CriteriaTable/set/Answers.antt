@@ -1,10 +1,15 @@
 use Rattle.std.proofs.Common.{[], ap, sym, ◌∙◌, Ok, Err}
 use Rattle.std.specs.FinMap as map
-use Rattle.std.proofs.lemmas.Result.{on_ok_weaker}
+use Rattle.std.proofs.lemmas.Result.{err_from_is_err_and, on_ok_weaker}
 use Rattle.vet_base.specs.CriteriaTable.{by_name}
 use Rattle.vet_base.proofs.Rising.{R, searched_in}
-use Rattle.vet_base.proofs.Kept.{no_verdict, may_set, kept_after_set, view_after_set, kept_after_insert, view_after_insert, either_end}
+use Rattle.vet_base.proofs.Kept.{no_verdict, told_verdict, may_set, kept_after_set, view_after_set, kept_after_insert, view_after_insert, either_end}
 use Rattle.vet_base.proofs.criteria_table.CriteriaTable.set.Goals as goal
+
+pub returns-in_err-check_set-clause-refused : goal.returns-in_err-check_set-clause-refused
+returns-in_err-check_set-clause-refused c =
+    let passed = err_from_is_err_and c.from_residual.result c.from_residual.ensures.1 in
+    rw (passed.1, passed.2) (told_verdict _ _ c.in_err-check_set.ensures)
 
 pub invariant_of-self : goal.invariant_of-self
 invariant_of-self c =
@@ -13,6 +18,14 @@ invariant_of-self c =
     let found = searched_in names c.deref.result.now c.args.criterion.name (Ok c.in-Ok.place) c.deref.ensures.value c.self.invariant.rising e.bound e.position in
     let may = may_set c.args.self.now c.args.criterion (no_verdict _ c.in_ok-check_set.ensures) in
     kept_after_set names c.self.inside.criteria.items c.self.invariant c.args.self.now c.self.view_is c.in-Ok.place c.args.criterion found.0 (found.1 []) may
+
+pub returns-in-Ok-clause-table : goal.returns-in-Ok-clause-table
+returns-in-Ok-clause-table c =
+    let names = c.self.inside.names.items in
+    let e = c.in-Ok.ensures in
+    let found = searched_in names c.deref.result.now c.args.criterion.name (Ok c.in-Ok.place) c.deref.ensures.value c.self.invariant.rising e.bound e.position in
+    let may = may_set c.args.self.now c.args.criterion (no_verdict _ c.in_ok-check_set.ensures) in
+    (kept_after_set names c.self.inside.criteria.items c.self.invariant c.args.self.now c.self.view_is c.in-Ok.place c.args.criterion found.0 (found.1 []) may).table
 
 pub returns-in-Ok-clause-ok : goal.returns-in-Ok-clause-ok
 returns-in-Ok-clause-ok c =
@@ -34,6 +47,17 @@ invariant_of-self-in-Err c =
     either_end c.put.result c.put.ensures.names c.put.ensures.criteria c.put.ensures.names_stay c.put.ensures.criteria_stay
     (λ a b. rw (a, b, copy) new)
     (λ a b. rw (a, b) c.self.invariant)
+
+pub returns-in_ok-name-in-Err-clause-table : goal.returns-in_ok-name-in-Err-clause-table
+returns-in_ok-name-in-Err-clause-table c =
+    let names = c.self.inside.names.items in
+    let e = c.in-Err.ensures in
+    let lacks = searched_in names c.deref.result.now c.args.criterion.name (Err c.in-Err.place) c.deref.ensures.value c.self.invariant.rising e.bound e.position in
+    let may = may_set c.args.self.now c.args.criterion (no_verdict _ c.in_ok-check_set.ensures) in
+    let new = kept_after_insert names c.self.inside.criteria.items c.self.invariant c.args.self.now c.self.view_is c.in-Err.place c.args.criterion lacks may in
+    either_end c.put.result c.put.ensures.criteria c.put.ensures.criteria c.put.ensures.criteria_stay c.put.ensures.criteria_stay
+    (λ a _. rw a (new.table))
+    (λ a _. rw a (c.self.invariant.table))
 
 pub returns-in_ok-name-in-Err-clause-ok : goal.returns-in_ok-name-in-Err-clause-ok
 returns-in_ok-name-in-Err-clause-ok c =

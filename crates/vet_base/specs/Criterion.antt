@@ -1,0 +1,53 @@
+-- When criteria are the same.
+use Rattle.std.specs.Prelude.{ℕ, ◌≡◌, ◌&&◌, Bool, List, Option, Some, None, nat_eq}
+use Rattle.std.specs.Bool.{Decides}
+use Rattle.std.specs.Option.{option_eq}
+use Rattle.std.specs.Cmp.{IsEquivalence, and_equiv, on_equiv}
+use Rattle.std.specs.Cmp.Lexicographic.{pointwise, bytes_decides, nat_list_eq_equiv, options_equiv}
+use Rattle.std.proofs.Common.{refl, ap}
+use Rattle.std.proofs.lemmas.Bool.Decides.{Decides-and, Decides-like}
+use Rattle.std.proofs.lemmas.Option.{same_Some}
+use Rattle.vet_base.specs.declared.criterion.Criterion.{Criterion}
+use Rattle.vet_base.specs.Names.{same_names, same_names_equiv}
+use Rattle.vet_base.specs.NameLaws.{same_names-Decides}
+
+-- two texts are the same, or both are missing
+abbrev pub same_text : Option (List ℕ) → Option (List ℕ) → Bool
+same_text = option_eq (pointwise nat_eq)
+
+-- the name, the description, the url and the implied names are the same
+abbrev pub criterion_eq : Criterion → Criterion → Bool
+criterion_eq a b =
+    pointwise nat_eq a.name b.name && same_text a.description b.description && same_text a.url b.url && same_names a.implies b.implies
+
+-- this is an equivalence
+pub criterion_eq_equiv : IsEquivalence criterion_eq
+criterion_eq_equiv =
+    and_equiv (and_equiv (and_equiv
+    (on_equiv (λ (c : Criterion). c.name) nat_list_eq_equiv)
+    (on_equiv (λ (c : Criterion). c.description) (options_equiv nat_list_eq_equiv)))
+    (on_equiv (λ (c : Criterion). c.url) (options_equiv nat_list_eq_equiv)))
+    (on_equiv (λ (c : Criterion). c.implies) same_names_equiv)
+
+-- only a text itself is the same
+same_text-Decides : (a b : Option (List ℕ)) → Decides (same_text a b) (a ≡ b)
+same_text-Decides None None = (λ _. refl, λ _. refl)
+same_text-Decides None (Some y) = (λ h. cc h, λ e. cc e)
+same_text-Decides (Some x) None = (λ h. cc h, λ e. cc e)
+same_text-Decides (Some x) (Some y) = (λ h. ap (λ (t : List ℕ). Some t) ((bytes_decides x y).0 h), λ e. (bytes_decides x y).1 (same_Some x y e))
+
+-- only a criterion itself is equal to it
+pub criterion_eq-Decides : (a b : Criterion) → Decides (criterion_eq a b) (a ≡ b)
+criterion_eq-Decides a b =
+    Decides-like (criterion_eq a b)
+    (λ h. (let n : a.name ≡ b.name = h.0.0.0 in
+    let d : a.description ≡ b.description = h.0.0.1 in
+    let u : a.url ≡ b.url = h.0.1 in
+    let m : a.implies ≡ b.implies = h.1 in
+    λ i. record { name = n i; description = d i; url = u i; implies = m i }))
+    (λ e. (((ap (λ (c : Criterion). c.name) e, ap (λ (c : Criterion). c.description) e), ap (λ (c : Criterion). c.url) e), ap (λ (c : Criterion). c.implies) e))
+    (Decides-and _ _ (Decides-and _ _ (Decides-and _ _
+    (bytes_decides a.name b.name)
+    (same_text-Decides a.description b.description))
+    (same_text-Decides a.url b.url))
+    (same_names-Decides a.implies b.implies))

@@ -1,0 +1,111 @@
+//! Sets of free texts.
+ghost use Rattle.std.specs.Prelude.{◌≡◌, ◌==◌, ◌↔◌, IsTrue, OnOk, OnErr, IfOk};
+ghost use Rattle.std.specs.FinSet as set;
+ghost use Rattle.vet_base.specs.Names.{IsRising, members};
+
+use crate::text::Text;
+use std::alloc::{AllocError, Global};
+use std::marker::Model;
+
+/// A set of texts, in the order of their bytes, each once.
+#[derive(Debug, Drop)]
+pub struct Texts {
+    texts: Vec<Text>,
+}
+
+impl Model for Texts {
+    ghost use Rattle.std.specs.Coded.{coded_list, coded_ℕ};
+    ghost use Rattle.std.specs.FinSet as set;
+    ghost use Rattle.vet_base.specs.Names.{NameSet, IsRising};
+
+    ghost Value = { NameSet };
+
+    ghost coded = { set.code (coded_list coded_ℕ) };
+
+    ghost view = { λ t. set.from_list t.texts.items };
+
+    ghost invariant = { λ t. IsRising t.texts.items };
+}
+
+impl Texts {
+    /// No texts.
+    pub fn new(alloc: Global) -> Texts
+        ensures { result ≡ set.empty }
+    {
+        Texts {
+            texts: Vec::new(alloc),
+        }
+    }
+
+    /// Adds a text. Where there is no memory, the set stays.
+    pub fn insert(&mut self, text: Text) -> Result<(), AllocError>
+        ensures ok { OnOk result (self.new ≡ set.insert self.old text) }
+        ensures err { OnErr result (self.new ≡ self.old) }
+    {
+        if let Err(place) = self.texts.binary_search(&text) {
+            self.texts.insert(place, text)?;
+        }
+        Ok(())
+    }
+
+    /// The texts in the order of their bytes, each once.
+    pub fn as_slice(&self) -> &[Text]
+        ensures members { result.now ≡ members self.now }
+        ensures rising { IsRising result.now }
+        ensures set { self.now ≡ set.from_list result.now }
+    {
+        self.texts.as_slice()
+    }
+
+    /// Whether there are no texts.
+    pub fn is_empty(&self) -> bool
+        ensures { IsTrue result ↔ (self.now ≡ set.empty) }
+    {
+        self.texts.is_empty()
+    }
+
+    /// How many texts there are.
+    pub fn len(&self) -> usize
+        ensures { result ≡ set.len self.now }
+    {
+        self.texts.len()
+    }
+}
+
+impl Clone for Texts {
+    ghost use Rattle.std.specs.Prelude.{◌≡◌};
+
+    ghost is_clone = { λ a b. b ≡ a };
+
+    fn clone(&self) -> Result<Texts, AllocError> {
+        Ok(Texts {
+            texts: self.texts.clone()?,
+        })
+    }
+}
+
+impl PartialEq for Texts {
+    ghost use Rattle.std.specs.Cmp.{partial_equiv_from_equiv};
+    ghost use Rattle.std.specs.Prelude.{IsTrue, ◌↔◌, ◌≡◌};
+    ghost use Rattle.vet_base.specs.Names.{same_names, same_names_equiv};
+
+    ghost eq = { same_names };
+
+    ghost laws = { partial_equiv_from_equiv same_names_equiv };
+
+    fn eq(&self, other: &Texts) -> bool
+        ensures value { result ≡ same_names self.now other.now }
+        ensures same { IsTrue result ↔ (self.now ≡ other.now) }
+    {
+        self.texts == other.texts
+    }
+}
+
+impl Eq for Texts {
+    ghost use Rattle.vet_base.specs.Names.{same_names_equiv};
+
+    ghost laws = { same_names_equiv };
+}
+
+#[cfg(test)]
+mod tests;

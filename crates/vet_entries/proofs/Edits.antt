@@ -1,0 +1,9 @@
+-- What an edit of a list leaves, and what undoes it.
+use Rattle.std.proofs.Common.{◌≡◌, ℕ, zero, suc, ◌≤◌, List, [], ◌∷◌, length, refl, ap, arith}
+use Rattle.std.specs.List.{insert, remove}
+
+-- an element put in and taken out again leaves the list
+pub remove-insert : {X : Type 0} (xs : List X) (i : ℕ) (x : X) → i ≤ length xs → remove (insert xs i x) i ≡ xs
+remove-insert xs zero x within = refl
+remove-insert [] (suc i) x within = absurd (omega arith)
+remove-insert (y ∷ ys) (suc i) x within = ap (λ rest. y ∷ rest) (remove-insert ys i x (omega arith))

@@ -1,0 +1,5 @@
+use Rattle.vet_graph.proofs.Balance.{balanced}
+use Rattle.vet_graph.proofs.moves.moves_balance.Goals as goal
+
+pub returns : goal.returns
+returns c = balanced

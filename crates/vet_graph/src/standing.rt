@@ -1,0 +1,97 @@
+//! The standing: the demanded pairs, and the class of each.
+ghost use Rattle.std.specs.Prelude.{◌≡◌};
+ghost use Rattle.vet_demand.specs.Pair.{pair_cmp};
+ghost use Rattle.vet_graph.specs.Standing.{class_in, count_in, count_of, counts_of, ClassesAddUp, IsStanding};
+
+use crate::class::Class;
+use std::cmp::Ordering;
+use vet_base::name::{Name, PackageName};
+use vet_base::version::VetVersion;
+use vet_demand::pair::Pair;
+
+/// A demanded pair, and the class at which it stands.
+#[derive(Debug, Drop)]
+pub struct Stand {
+    pub pair: Pair,
+    pub class: Class,
+}
+
+/// How many demanded pairs stand in each class.
+#[derive(Clone, Copy, Debug, PartialEq, Eq)]
+pub struct Counts {
+    pub conflicting: u64,
+    pub full: u64,
+    pub partial: u64,
+    pub exempted: u64,
+    pub unvetted: u64,
+}
+
+impl Counts {
+    /// How many stand in a class.
+    pub fn of(self, class: Class) -> u64
+        ensures { result ≡ count_in class self }
+    {
+        match class {
+            Class::Conflicting => self.conflicting,
+            Class::Full => self.full,
+            Class::Partial => self.partial,
+            Class::Exempted => self.exempted,
+            Class::Unvetted => self.unvetted,
+        }
+    }
+}
+
+/// How many pairs of a standing stand in each class. Takes no memory; looks at each pair five times.
+pub fn counts_of(standing: &[Stand]) -> Counts
+    ensures { result ≡ counts_of standing.now }
+{
+    Counts {
+        conflicting: count(standing, Class::Conflicting),
+        full: count(standing, Class::Full),
+        partial: count(standing, Class::Partial),
+        exempted: count(standing, Class::Exempted),
+        unvetted: count(standing, Class::Unvetted),
+    }
+}
+
+// How many pairs stand in a class.
+fn count(standing: &[Stand], class: Class) -> u64
+    ensures { result ≡ count_of class standing.now }
+{
+    let mut count = 0;
+    for stand in standing {
+        if stand.class == class {
+            count += 1;
+        }
+    }
+    count
+}
+
+/// The class at which a pair stands, or none where it isn't demanded. Asks that the standing is in order.
+/// Takes no memory, and searches by halves.
+pub fn class_in(
+    standing: &[Stand],
+    package: &PackageName,
+    version: &VetVersion,
+    criterion: &Name,
+) -> Option<Class>
+    requires { IsStanding standing.now }
+    ensures { result ≡ class_in standing.now
+        (record { «package» = «package».now; version = version.now; criterion = criterion.now }) }
+{
+    let found = standing.binary_search_by(|stand| stand
+        .pair
+        .cmp_parts(package, version, criterion));
+    match found {
+        Ok(place) => Some(standing[place].class),
+        Err(_) => None,
+    }
+}
+
+/// The five counts of a standing add up to the number of its pairs.
+pub fn classes_add_up()
+    ensures { ClassesAddUp }
+{}
+
+#[cfg(test)]
+mod tests;

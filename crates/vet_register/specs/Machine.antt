@@ -1,0 +1,68 @@
+-- One step of the machine: what an accepted command makes of a state (ours).
+use Rattle.std.specs.Prelude.{ℕ, ◌+◌, ◌++◌, not, List, [], ◌∷◌, Option, Some, None, length, filter, map}
+use Rattle.std.specs.FinMap as table
+use Rattle.vet_base.specs.Day.{DayValue}
+use Rattle.vet_entries.specs.Entry.{own}
+use Rattle.vet_entries.specs.Facts.{Facts, has_number}
+use Rattle.vet_graph.specs.declared.moves.Move.{Move}
+use Rattle.vet_graph.specs.Moves.{moves_between}
+use Rattle.vet_graph.specs.StandingOf.{standing_of}
+use Rattle.vet_register.specs.declared.command.Action.{Action}
+use Rattle.vet_register.specs.declared.command.Action.TheVariants.{SetCriterion, RemoveCriterion, AddEntry, DropEntry}
+use Rattle.vet_register.specs.declared.command.Command.{Command}
+use Rattle.vet_register.specs.declared.command.Outcome.{Outcome}
+use Rattle.vet_register.specs.declared.command.Outcome.TheVariants.{Done}
+use Rattle.vet_register.specs.declared.moves.RecordedMove.{RecordedMove}
+use Rattle.vet_register.specs.State.{State, standing}
+
+-- a command and what it asks for, as values
+abbrev pub CommandValue : Type 0
+CommandValue = Command
+
+abbrev pub ActionValue : Type 0
+ActionValue = Action
+
+-- the effect of a command on the facts, where this is the next entry's number
+abbrev pub effect : ℕ → Action → Facts → Facts
+effect number (SetCriterion c) facts = record facts { criteria = table.insert facts.criteria c.name c }
+effect number (RemoveCriterion name) facts = record facts { criteria = table.remove facts.criteria name }
+effect number (AddEntry entry) facts = record facts { entries = facts.entries ++ (record { number = number; entry = own entry }) ∷ [] }
+effect number (DropEntry n) facts = record facts { entries = filter (λ h. not (has_number n h)) facts.entries }
+
+-- the facts after a command
+abbrev pub facts_after : State → Action → Facts
+facts_after s action = effect s.next_entry action s.facts
+
+-- the moves of a command: the pairs whose class differs before and after it
+abbrev pub moves_of : State → Action → List Move
+moves_of s action = moves_between (standing s) (standing_of (facts_after s action) s.demand)
+
+-- the number that a command gives, and the number after it
+abbrev pub number_given : ℕ → Action → Option ℕ
+number_given number (AddEntry entry) = Some number
+number_given number _ = None
+
+abbrev pub number_after : ℕ → Action → ℕ
+number_after number (AddEntry entry) = number + 1
+number_after number _ = number
+
+-- a move as it is recorded
+abbrev pub recorded : ℕ → DayValue → Move → RecordedMove
+recorded step day change = record { step = step; day = day; change = change }
+
+-- the moves that a command records
+abbrev pub records_of : State → Command → List RecordedMove
+records_of s c = map (recorded (s.step + 1) c.day) (moves_of s c.action)
+
+-- the state after an accepted command
+abbrev pub next : State → Command → State
+next s c = record s {
+  facts = facts_after s c.action;
+  step = s.step + 1;
+  next_entry = number_after s.next_entry c.action;
+  moves = s.moves ++ records_of s c;
+}
+
+-- what an accepted command is told: its step, the number that it gave, and how many moves it made
+abbrev pub outcome_of : State → Command → Outcome
+outcome_of s c = Done (s.step + 1) (number_given s.next_entry c.action) (length (moves_of s c.action))

@@ -1,0 +1,73 @@
+-- What holds of each state that the machine reaches (ours).
+use Rattle.std.specs.Prelude.{◌≡◌, ◌≢◌, ◌⊎◌, ℕ, ◌+◌, ◌<◌, ◌≤◌, true, List, length}
+use Rattle.std.specs.List.{All, AllPairs}
+use Rattle.std.specs.declared.cmp.Ordering.TheVariants.{Less}
+use Rattle.vet_base.specs.declared.limits.TheConstants.{MOST_ENTRIES, MOST_MOVES, LAST_STEP, LAST_NUMBER}
+use Rattle.vet_base.specs.Criteria.{IsTable}
+use Rattle.vet_base.specs.CriteriaChanges.{is_built_in}
+use Rattle.vet_demand.specs.Pair.{IsInOrder, pair_cmp}
+use Rattle.vet_entries.specs.declared.entry.Source.TheVariants.{Own}
+use Rattle.vet_entries.specs.declared.facts.HeldEntry.{HeldEntry}
+use Rattle.vet_entries.specs.Facts.{Facts}
+use Rattle.vet_entries.specs.Step.{HasKnownCriteria}
+use Rattle.vet_graph.specs.declared.class.Class.{Class}
+use Rattle.vet_graph.specs.Moves.{arrivals_of, departures_of}
+use Rattle.vet_graph.specs.Standing.{count_in, count_of}
+use Rattle.vet_register.specs.declared.moves.RecordedMove.{RecordedMove}
+use Rattle.vet_register.specs.State.{State, changes_of, standing}
+
+-- a move was recorded before another: in an earlier step, or in the same step and of a lesser pair
+abbrev pub ComesBefore : RecordedMove → RecordedMove → Type 0
+ComesBefore m n = (m.step < n.step) ⊎ ((m.step ≡ n.step) × (pair_cmp m.change.pair n.change.pair ≡ Less))
+
+-- of each class: the count at first and what arrived since is what stands there now and what departed since
+abbrev pub IsBalanced : State → Type 0
+IsBalanced s = (class : Class) → count_in class s.first + arrivals_of class (changes_of s.moves)
+    ≡ count_of class (standing s) + departures_of class (changes_of s.moves)
+
+-- an entry is one's own
+abbrev pub IsOwn : HeldEntry → Type 0
+IsOwn h = h.entry.source ≡ Own
+
+-- two entries are not the same
+abbrev pub Differ : HeldEntry → HeldEntry → Type 0
+Differ g h = g.entry ≢ h.entry
+
+-- an entry's number is lower than another's
+abbrev pub Rise : HeldEntry → HeldEntry → Type 0
+Rise g h = g.number < h.number
+
+-- an entry's number lies below the next one
+abbrev pub IsGiven : ℕ → HeldEntry → Type 0
+IsGiven next h = h.number < next
+
+-- a move was recorded by this step
+abbrev pub IsBy : ℕ → RecordedMove → Type 0
+IsBy step m = m.step ≤ step
+
+-- the criteria are a table, and entries name no others; each entry is one's own, and no two are the same; their numbers rise
+pub record AreSound (facts : Facts) (next : ℕ) : Type 0 where
+  pub criteria : IsTable facts.criteria
+  pub known : All (HasKnownCriteria facts.criteria) facts.entries
+  pub own : All IsOwn facts.entries
+  pub different : AllPairs Differ facts.entries
+  pub numbers_rise : AllPairs Rise facts.entries
+  pub numbers_given : All (IsGiven next) facts.entries
+  pub few : length facts.entries ≤ MOST_ENTRIES
+
+-- moves stand in the order in which they were recorded, none of a later step than the last, and within the limit
+pub record AreInOrder (moves : List RecordedMove) (step limit : ℕ) : Type 0 where
+  pub in_order : AllPairs ComesBefore moves
+  pub steps : All (IsBy step) moves
+  pub few : length moves ≤ limit
+
+-- what is held is sound, as are the moves, within the limits, and the counts are balanced
+pub record IsSound (s : State) : Type 0 where
+  pub facts : AreSound s.facts s.next_entry
+  pub next_number : s.next_entry ≤ LAST_NUMBER + 1
+  pub demanded_once : IsInOrder s.demand
+  pub demanded_known : All (λ p. is_built_in p.criterion ≡ true) s.demand
+  pub last_step : s.step ≤ LAST_STEP
+  pub limit : (0 < s.moves_limit) × (s.moves_limit ≤ MOST_MOVES)
+  pub moves : AreInOrder s.moves s.step s.moves_limit
+  pub balance : IsBalanced s

@@ -1,0 +1,37 @@
+//! Changes that a register prepared.
+ghost use Rattle.std.specs.Prelude.{◌≡◌};
+
+use crate::command::Outcome;
+use crate::moves::RecordedMove;
+use vet_entries::facts::Edit;
+use vet_graph::plain::Update;
+
+/// What an accepted command changes: the register that prepared it installs it.
+#[derive(Debug, Drop)]
+pub struct Change {
+    pub(crate) edit: Edit,
+    pub(crate) update: Update,
+    pub(crate) records: Vec<RecordedMove>,
+    pub(crate) step: u64,
+    pub(crate) next_entry: u64,
+    pub(crate) outcome: Outcome,
+}
+
+impl Change {
+    /// What comes of the command: its step, the number of the entry that it makes, and how many pairs it
+    /// moves. Takes no memory.
+    pub fn outcome(&self) -> Outcome
+        ensures { result ≡ self.now.outcome }
+    {
+        self.outcome
+    }
+}
+
+/// What a register answers to a command that nothing refuses.
+#[derive(Debug, Drop)]
+pub enum Prepared {
+    /// What it sets or adds is held already; an entry, under this number.
+    Already(Option<u64>),
+    /// What it would change.
+    Change(Change),
+}

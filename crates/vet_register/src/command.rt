@@ -1,0 +1,42 @@
+//! Commands, and what they are told.
+
+use vet_base::criterion::Criterion;
+use vet_base::day::Day;
+use vet_base::name::Name;
+use vet_entries::entry::Entry;
+
+/// A command, and the day on which it is given.
+#[derive(Debug, Drop)]
+pub struct Command {
+    pub day: Day,
+    pub action: Action,
+}
+
+/// What a command asks for.
+#[derive(Debug, Drop)]
+pub enum Action {
+    /// Adds a criterion, or puts it in place of the one of its name.
+    SetCriterion(Criterion),
+    /// Removes the criterion of this name.
+    RemoveCriterion(Name),
+    /// Adds an entry as one of the organisation's own, whatever source it names.
+    AddEntry(Entry),
+    /// Drops the own entry of this number.
+    DropEntry(u64),
+}
+
+/// What came of a command that nothing refused.
+#[derive(Clone, Copy, Debug, PartialEq, Eq)]
+pub enum Outcome {
+    /// It is done.
+    Done {
+        /// How many commands were accepted, this one among them.
+        step: u64,
+        /// The number of the entry that it made.
+        number: Option<u64>,
+        /// How many pairs it moved.
+        moves: u64,
+    },
+    /// What it sets or adds is held already; an entry, under this number.
+    Already(Option<u64>),
+}

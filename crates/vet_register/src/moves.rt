@@ -1,0 +1,45 @@
+//! Moves as they are recorded.
+ghost use Rattle.std.specs.Prelude.{◌≡◌, ◌++◌, ◌+◌, ◌≤◌, IfOk, IfErr, length, map, vec_len, vec_capacity};
+ghost use Rattle.vet_register.specs.Machine.{recorded};
+
+use std::alloc::Global;
+use vet_base::day::Day;
+use vet_base::refusal::Refusal;
+pub use vet_graph::moves::Move;
+
+/// A move, with the step and the day of the command that made it.
+#[derive(Debug, Drop)]
+pub struct RecordedMove {
+    pub step: u64,
+    pub day: Day,
+    pub change: Move,
+}
+
+/// Copies of some moves, with a step and a day. Refused: `NoMemory`.
+pub(crate) fn record(
+    alloc: Global,
+    step: u64,
+    day: Day,
+    moves: &[Move],
+) -> Result<Vec<RecordedMove>, Refusal>
+    ensures ok { IfOk result (λ r. r.items ≡ map (recorded step day) moves.now) }
+    ensures memory { IfErr result (λ e. e ≡ Refusal.NoMemory) }
+{
+    let mut records = Vec::new(alloc);
+    for change in moves {
+        records.push(RecordedMove {
+            step,
+            day,
+            change: change.clone()?,
+        })?;
+    }
+    Ok(records)
+}
+
+/// Adds moves to those recorded, for which there is room.
+pub(crate) fn append_reserved(moves: &mut Vec<RecordedMove>, mut more: Vec<RecordedMove>)
+    requires { vec_len moves.old + length more.items ≤ vec_capacity moves.old }
+    ensures { moves.new.items ≡ moves.old.items ++ more.items }
+{
+    let _ = moves.append(&mut more);
+}
