@@ -51,7 +51,7 @@ pub enum Vouched {
     Exemption,
 }
 
-pub static EXAMPLES: [Example; 4] = [
+pub static EXAMPLES: [Example; 5] = [
     Example {
         name: "sixty_two_further_criteria",
         demand: &[],
@@ -80,6 +80,17 @@ pub static EXAMPLES: [Example; 4] = [
         demand: &[["serde", "1.0.0", "safe-to-run"]],
         moves_limit: MovesLimit::Most,
         steps: &NUMBER_NOT_USED_AGAIN,
+    },
+    Example {
+        name: "packages_interleaved",
+        demand: &[
+            ["tokio", "1.0.0", "safe-to-deploy"],
+            ["serde", "2.0.0", "safe-to-deploy"],
+            ["serde", "1.0.0", "safe-to-deploy"],
+            ["anyhow", "1.0.0", "safe-to-deploy"],
+        ],
+        moves_limit: MovesLimit::Most,
+        steps: &PACKAGES_INTERLEAVED,
     },
 ];
 
@@ -247,6 +258,76 @@ const NUMBER_NOT_USED_AGAIN: [Step; 3] = [
             package: "serde",
             version: "1.0.0",
             criteria: &["safe-to-run"],
+        },
+    },
+];
+
+const PACKAGES_INTERLEAVED: [Step; 8] = [
+    Step {
+        day: "2024-05-01",
+        ask: Ask::AddEntry {
+            vouched: Vouched::Full,
+            package: "serde",
+            version: "1.0.0",
+            criteria: &["safe-to-deploy"],
+        },
+    },
+    Step {
+        day: "2024-05-01",
+        ask: Ask::AddEntry {
+            vouched: Vouched::Full,
+            package: "anyhow",
+            version: "1.0.0",
+            criteria: &["safe-to-deploy"],
+        },
+    },
+    Step {
+        day: "2024-05-01",
+        ask: Ask::AddEntry {
+            vouched: Vouched::Exemption,
+            package: "tokio",
+            version: "1.0.0",
+            criteria: &["safe-to-deploy"],
+        },
+    },
+    Step {
+        day: "2024-05-01",
+        ask: Ask::AddEntry {
+            vouched: Vouched::Full,
+            package: "serde",
+            version: "2.0.0",
+            criteria: &["safe-to-deploy"],
+        },
+    },
+    Step {
+        day: "2024-05-02",
+        ask: Ask::DropEntry { number: 1 },
+    },
+    Step {
+        day: "2024-05-01",
+        ask: Ask::AddEntry {
+            vouched: Vouched::Full,
+            package: "anyhow",
+            version: "1.0.0",
+            criteria: &["safe-to-deploy"],
+        },
+    },
+    Step {
+        day: "2024-05-01",
+        ask: Ask::AddEntry {
+            vouched: Vouched::Exemption,
+            package: "tokio",
+            version: "1.0.0",
+            criteria: &["safe-to-deploy"],
+        },
+    },
+    Step {
+        day: "2024-05-01",
+        ask: Ask::AddEntry {
+            vouched: Vouched::Full,
+            package: "serde",
+            version: "2.0.0",
+            criteria: &["safe-to-deploy"],
         },
     },
 ];

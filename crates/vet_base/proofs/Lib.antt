@@ -6,6 +6,7 @@ pub mod Held
 pub mod Kept
 pub mod Missing
 pub mod OrderLemmas
+pub mod ReqLemmas
 pub mod Rising
 pub mod SemverErrors
 pub mod Tables

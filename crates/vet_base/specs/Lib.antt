@@ -11,5 +11,6 @@ pub mod NameLaws
 pub mod Names
 pub mod PlaceLaws
 pub mod Refusal
+pub mod Req
 pub mod Version
 pub mod VersionOrder

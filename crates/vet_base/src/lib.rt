@@ -16,6 +16,7 @@ pub mod limits;
 pub mod name;
 pub mod names;
 pub mod refusal;
+pub mod req;
 #[cfg(test)]
 mod tests;
 pub mod text;

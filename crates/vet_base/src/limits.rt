@@ -6,6 +6,9 @@ pub const MOST_NAME_BYTES: usize = 64;
 /// The most bytes of a version's text.
 pub const MOST_VERSION_BYTES: usize = 256;
 
+/// The most bytes of a requirement's text.
+pub const MOST_REQ_BYTES: usize = 256;
+
 /// The hexadecimal digits of a revision.
 pub const REVISION_DIGITS: usize = 40;
 

@@ -62,6 +62,13 @@ impl VetVersion {
     {
         VetVersion::read(alloc, text)?.ok_or(Refusal::BadVersion)
     }
+
+    // V, as SemVer reads it.
+    pub(crate) fn semver(&self) -> &Version
+        ensures { parts_of result.now ≡ self.now.parts }
+    {
+        &self.version
+    }
 }
 
 impl fmt::Display for VetVersion {
@@ -230,7 +237,7 @@ fn semver_version(alloc: Global, text: &str) -> Result<Option<Version>, AllocErr
 }
 
 // Whether the error is want of memory.
-fn is_memory(error: semver::Error) -> bool
+pub(crate) fn is_memory(error: semver::Error) -> bool
     ensures { IsTrue result ↔ (error ≡ memory_error) }
 {
     error == semver::Error::from(AllocError)

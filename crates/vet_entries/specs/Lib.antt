@@ -1,3 +1,4 @@
+pub mod ByPackage
 pub mod Entry
 pub mod Facts
 pub mod Step

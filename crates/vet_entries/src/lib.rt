@@ -7,6 +7,7 @@
 //! `vet_graph`; what projects ask for, in `vet_demand`.
 #![tactic(auto)]
 
+mod by_package;
 pub mod entry;
 pub mod facts;
 pub mod step;

@@ -1,7 +1,7 @@
 //! Steps of trust, and those that entries give.
 ghost use Rattle.std.specs.Prelude.{◌≡◌, ◌++◌, ◌∷◌, [], IfOk, IfErr, OnOk, None};
 ghost use Rattle.std.specs.List.{All};
-ghost use Rattle.vet_entries.specs.Step.{HasKnownCriteria, first_step, kind_steps, steps_of};
+ghost use Rattle.vet_entries.specs.Step.{HasKnownCriteria, entry_steps, first_step, kind_steps, steps_of};
 
 use crate::entry::Kind;
 use crate::facts::{EntryFacts, HeldEntry};
@@ -26,7 +26,8 @@ pub struct Step {
 }
 
 /// The steps of a package, by the numbers of the entries that give them. Asks that the criteria of each
-/// entry are in the table. Looks at each entry once. Refused: `NoMemory`.
+/// entry are in the table. Costs two binary searches among all entries, and a look at each of the package's,
+/// whose criteria it closes. Refused: `NoMemory`.
 pub fn steps_of(
     alloc: Global,
     package: &PackageName,
@@ -38,27 +39,23 @@ pub fn steps_of(
 {
     let mut steps = Vec::new(alloc);
     let criteria = facts.criteria();
-    for held in facts.entries() {
-        add_steps(&mut steps, package, held, criteria)?;
+    let entries = facts.entries();
+    for place in facts.places_of(package) {
+        add_steps(&mut steps, &entries[*place], criteria)?;
     }
     Ok(steps)
 }
 
-// Adds the steps that an entry gives, where it is of the package.
+// Adds the steps that an entry gives.
 fn add_steps(
     steps: &mut Vec<Step>,
-    package: &PackageName,
     held: &HeldEntry,
     criteria: &CriteriaTable,
 ) -> Result<(), Refusal>
     requires { HasKnownCriteria criteria.now held.now }
-    ensures ok { OnOk result (steps.new.items ≡ steps.old.items
-        ++ steps_of (record { criteria = criteria.now; entries = held.now ∷ [] }) «package».now) }
+    ensures ok { OnOk result (steps.new.items ≡ steps.old.items ++ entry_steps criteria.now held.now) }
     ensures memory { IfErr result (λ e. e ≡ Refusal.NoMemory) }
 {
-    if held.entry.package != *package {
-        return Ok(());
-    }
     let closed = criteria.closure(&held.entry.criteria)?;
     steps.push(kind_step(&held.entry.kind, closed)?)?;
     Ok(())

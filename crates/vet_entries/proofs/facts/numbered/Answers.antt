@@ -1,5 +1,6 @@
-use Rattle.std.proofs.Common.{◌+◌, ◌++◌, ◌∷◌, [], ap, sym, ◌∙◌, arith}
+use Rattle.std.proofs.Common.{◌≡◌, ◌+◌, ◌++◌, ◌∷◌, [], ap, sym, ◌∙◌, arith}
 use Rattle.std.proofs.lemmas.List.{length_push}
+use Rattle.vet_entries.specs.declared.facts.HeldEntry.{HeldEntry}
 use Rattle.vet_entries.proofs.Numbers.{numbered_push}
 use Rattle.vet_entries.proofs.facts.numbered.Goals as goal
 
@@ -10,6 +11,6 @@ loop-entry-preserved c =
     let pushed = numbered_push 1 (c.loop-entry.number + 1) so_far entry (omega arith) in (
       tt,
       tt,
-      c.in_ok-push.ensures.items ∙ ap (λ held. held ++ (record { number = c.loop-entry.number + 1; entry = entry }) ∷ []) c.loop-entry.invariant.2 ∙ sym pushed,
+      c.in_ok-push.ensures ∙ ap (λ held. held ++ (record { number = c.loop-entry.number + 1; entry = entry }) ∷ []) c.loop-entry.invariant.2 ∙ sym pushed,
       omega (arith, length_push so_far entry),
     )

@@ -1,10 +1,9 @@
--- The steps of the entries so far.
+-- The steps of the entries at the places so far.
 use Rattle.std.proofs.Common.{◌≡◌, take}
-use Rattle.vet_entries.specs.Facts.{Facts}
-use Rattle.vet_entries.specs.Step.{steps_of}
+use Rattle.std.specs.List.{flat_map}
+use Rattle.vet_entries.specs.ByPackage.{gathered}
+use Rattle.vet_entries.specs.Step.{entry_steps}
 use Rattle.vet_entries.proofs.step.steps_of.Given as goal
 
-abbrev pub invariant-loop-held : goal.invariant-loop-held
-invariant-loop-held l =
-    let so_far : Facts = record { criteria = l.criteria; entries = take l.held-index l.held-items } in
-    l.steps.items ≡ steps_of so_far l.«package»
+abbrev pub invariant-loop-place : goal.invariant-loop-place
+invariant-loop-place l = l.steps.items ≡ flat_map (entry_steps l.criteria) (gathered l.entries (take l.place-index l.place-items))

@@ -1,0 +1,16 @@
+use Rattle.std.proofs.Common.{◌≤◌, length, arith, ap, ◌∙◌}
+use Rattle.std.specs.List.{insert}
+use Rattle.vet_entries.specs.ByPackage.{IsSlot}
+use Rattle.vet_entries.proofs.ByPackage.{inserted}
+use Rattle.vet_entries.proofs.by_package.ByPackage.insert.Goals as goal
+
+pub invariant_of-self : goal.invariant_of-self
+invariant_of-self c =
+    let entries = c.self.inside.entries.items in
+    let order = c.self.inside.order.items in
+    let slot : IsSlot entries c.args.held.entry.«package» c.args.place order c.slot_of-slot.result = rw (c.as_slice.ensures.value, c.as_slice-2.ensures.value) at c.slot_of-slot.ensures in
+    let within : c.args.place ≤ length entries = omega (arith, c.requires.place, ap (λ b. length b.entries) c.self.view_is) in
+    rw (c.put-2.ensures.items, c.put.ensures.items, c.make_gap.ensures.items) (inserted entries order c.args.held c.args.place c.slot_of-slot.result within c.self.invariant slot)
+
+pub returns-clause-entries : goal.returns-clause-entries
+returns-clause-entries c = c.put-2.ensures.items ∙ ap (λ b. insert b.entries c.args.place c.args.held) c.self.view_is

@@ -1,0 +1,83 @@
+-- The places of entries in the order of packages (ours).
+use Rattle.std.specs.Prelude.{ℕ, zero, suc, ◌≡◌, ◌<◌, ◌≤◌, ◌+◌, ◌-◌, Bool, List, [], ◌∷◌, ◌++◌, length, filter, take, drop}
+use Rattle.std.specs.List.{All, between, filter_map, range_with_len, slice_get}
+use Rattle.std.specs.List.Sorted.{IsNonDecreasingBy}
+use Rattle.std.specs.Coded.{Coded, code_by, coded×, coded_list, coded_ℕ}
+use Rattle.std.specs.Ordering.{is_eq, is_le, nat_cmp, ordering_index}
+use Rattle.std.specs.Cmp.Lexicographic.{slice_cmp}
+use Rattle.std.specs.declared.cmp.Ordering.{Ordering}
+use Rattle.std.specs.declared.cmp.Ordering.TheVariants.{Less, Equal, Greater}
+use Rattle.std.proofs.Common.{refl}
+use Rattle.vet_entries.specs.declared.facts.HeldEntry.{HeldEntry}
+
+-- entries, and for how many more there is room
+pub record EntriesRoom : Type 0 where
+  pub entries : List HeldEntry
+  pub room : ℕ
+
+-- entries and their room are stored as a pair
+abbrev pub entries_room_code : Coded HeldEntry → Coded EntriesRoom
+entries_room_code held_code =
+    code_by (List HeldEntry × ℕ)
+    (coded× (coded_list held_code) coded_ℕ)
+    (λ f. (f.entries, f.room))
+    (λ p. record { entries = p.0; room = p.1 })
+    (λ _. refl)
+
+-- the lesser of two numbers
+abbrev pub lesser : ℕ → ℕ → ℕ
+lesser a b = a - (a - b)
+
+-- how the package of the entry at a place stands to a name; where there is no entry, as one behind all
+abbrev pub stand : List HeldEntry → List ℕ → ℕ → Ordering
+stand [] name place = Greater
+stand (held ∷ entries) name zero = slice_cmp nat_cmp held.entry.«package» name
+stand (held ∷ entries) name (suc place) = stand entries name place
+
+-- the entry at a place is of a package
+abbrev pub is_at : List HeldEntry → List ℕ → ℕ → Bool
+is_at entries name place = is_eq (stand entries name place)
+
+-- the places of a package's entries, in rising order
+abbrev pub places_of : List HeldEntry → List ℕ → List ℕ
+places_of entries name = filter (is_at entries name) (range_with_len 0 (length entries))
+
+-- the entries at some places
+abbrev pub gathered : List HeldEntry → List ℕ → List HeldEntry
+gathered entries places = filter_map (slice_get entries) places
+
+-- each place of the entries once, in the order of packages and, within a package, in rising order
+pub record IsByPackage (entries : List HeldEntry) (order : List ℕ) : Type 0 where
+  pub rising : (name : List ℕ) → IsNonDecreasingBy (λ place. ordering_index (stand entries name place)) order
+  pub same : (name : List ℕ) → filter (is_at entries name) order ≡ places_of entries name
+  pub within : All (λ place. place < length entries) order
+  pub long : length order ≡ length entries
+
+-- the places of a package stand from low up to high
+pub record IsRange (entries : List HeldEntry) (name : List ℕ) (order : List ℕ) (low high : ℕ) : Type 0 where
+  pub ordered : low ≤ high
+  pub inside : high ≤ length order
+  pub lower : All (λ place. stand entries name place ≡ Less) (take low order)
+  pub here : All (λ place. stand entries name place ≡ Equal) (between low high order)
+  pub upper : All (λ place. stand entries name place ≡ Greater) (drop high order)
+
+-- a place of a package's entry belongs at a slot of the order
+pub record IsSlot (entries : List HeldEntry) (name : List ℕ) (place : ℕ) (order : List ℕ) (slot : ℕ) : Type 0 where
+  pub inside : slot ≤ length order
+  pub front : All (λ other. ordering_index (stand entries name other) ≤ 1) (take slot order)
+  pub back : All (λ other. 1 ≤ ordering_index (stand entries name other)) (drop slot order)
+  pub below : All (λ other. other < place) (filter (is_at entries name) (take slot order))
+  pub above : All (λ other. place ≤ other) (filter (is_at entries name) (drop slot order))
+
+-- a place after an entry was put in
+abbrev pub up : ℕ → ℕ → ℕ
+up zero place = suc place
+up (suc at) zero = zero
+up (suc at) (suc place) = suc (up at place)
+
+-- a place after the entry at another was taken out
+abbrev pub down : ℕ → ℕ → ℕ
+down zero zero = zero
+down zero (suc place) = place
+down (suc at) zero = zero
+down (suc at) (suc place) = suc (down at place)

@@ -1,0 +1,228 @@
+//! Entries that are found by their packages.
+ghost use Rattle.std.specs.Prelude.{◌≡◌, ◌<◌, ◌≤◌, ◌+◌, ◌-◌, ◌++◌, ◌∷◌, [], IsOk, OnOk, OnErr, filter, insert, length, map, remove, slice_index_or, true, false, vec_capacity, vec_len};
+ghost use Rattle.std.specs.List.{All};
+ghost use Rattle.std.specs.List.Sorted.{IsNonDecreasingBy, IsPartitionPoint};
+ghost use Rattle.std.specs.Ordering.{is_le, is_lt, ordering_index};
+ghost use Rattle.vet_entries.specs.ByPackage.{IsByPackage, IsRange, IsSlot, down, gathered, places_of, stand, up};
+ghost use Rattle.vet_entries.specs.Step.{is_of};
+
+use crate::facts::HeldEntry;
+use std::alloc::{AllocError, Global};
+use std::cmp::Ordering;
+use std::marker::Model;
+use vet_base::name::PackageName;
+
+/// Entries, and beside them their places in the order of packages, in which a package's stand together.
+#[derive(Debug, Drop)]
+pub(crate) struct ByPackage {
+    entries: Vec<HeldEntry>,
+    order: Vec<usize>,
+}
+
+impl Model for ByPackage {
+    ghost use Rattle.std.specs.Prelude.{◌-◌, vec_len, vec_capacity};
+    ghost use Rattle.vet_entries.specs.ByPackage.{EntriesRoom, IsByPackage, entries_room_code, lesser};
+    ghost use Rattle.vet_entries.specs.contracts.facts.HeldEntry as held;
+
+    ghost Value = { EntriesRoom };
+
+    ghost coded = { entries_room_code held.the_row.coded };
+
+    ghost view = { λ b. record {
+      entries = b.entries.items;
+      room = lesser (vec_capacity b.entries - vec_len b.entries) (vec_capacity b.order - vec_len b.order);
+    } };
+
+    ghost invariant = { λ b. IsByPackage b.entries.items b.order.items };
+}
+
+impl ByPackage {
+    /// No entries.
+    pub(crate) fn new(alloc: Global) -> ByPackage
+        ensures { result.entries ≡ [] }
+    {
+        ByPackage {
+            entries: Vec::new(alloc),
+            order: Vec::new(alloc),
+        }
+    }
+
+    /// The entries, one after another. Costs nothing.
+    pub(crate) fn entries(&self) -> &[HeldEntry]
+        ensures { result.now ≡ self.now.entries }
+    {
+        self.entries.as_slice()
+    }
+
+    /// The places of a package's entries, in rising order. Costs two binary searches.
+    pub(crate) fn places_of(&self, package: &PackageName) -> &[usize]
+        ensures places { result.now ≡ places_of self.now.entries «package».now }
+        ensures within { All (λ place. place < length self.now.entries) result.now }
+        ensures entries { gathered self.now.entries result.now ≡ filter (is_of «package».now) self.now.entries }
+    {
+        let (low, high) = range_of(self.entries.as_slice(), self.order.as_slice(), package);
+        &self.order.as_slice()[low..high]
+    }
+
+    /// Makes room for one more entry. Where there is no memory, the room stays.
+    pub(crate) fn reserve(&mut self) -> Result<(), AllocError>
+        ensures entries { self.new.entries ≡ self.old.entries }
+        ensures ok { OnOk result (0 < self.new.room) }
+        ensures kept { self.old.room ≤ self.new.room }
+        ensures err { OnErr result (self.new.room ≡ self.old.room) }
+        ensures succeeds { 0 < self.old.room → IsOk result }
+    {
+        self.entries.reserve(1)?;
+        self.order.reserve(1)?;
+        Ok(())
+    }
+
+    /// Puts an entry at a place. Costs three binary searches and a move of the places behind its own in the
+    /// order of packages; in front of other entries, also a pass over all places, and a move of those entries.
+    pub(crate) fn insert(&mut self, place: usize, held: HeldEntry)
+        requires place { place ≤ length self.old.entries }
+        requires room { 0 < self.old.room }
+        ensures entries { self.new.entries ≡ insert self.old.entries place held }
+        ensures room { self.new.room ≡ self.old.room - 1 }
+    {
+        let slot = slot_of(
+            self.entries.as_slice(),
+            self.order.as_slice(),
+            &held.entry.package,
+            place,
+        );
+        make_gap(&mut self.order, self.entries.len(), place);
+        put(&mut self.order, slot, place);
+        put(&mut self.entries, place, held);
+    }
+
+    /// Puts an entry behind all others. Costs what `insert` costs there, and at times a move of all entries and
+    /// places to more room.
+    pub(crate) fn push(&mut self, held: HeldEntry) -> Result<(), AllocError>
+        ensures { OnOk result (self.new.entries ≡ self.old.entries ++ held ∷ []) }
+    {
+        self.reserve()?;
+        let place = self.entries.len();
+        self.insert(place, held);
+        Ok(())
+    }
+
+    /// Takes out the entry at a place. Costs two passes over all places, and a move of the entries behind it.
+    pub(crate) fn remove(&mut self, place: usize) -> HeldEntry
+        requires { place < length self.old.entries }
+        ensures value { result ≡ slice_index_or self.old.entries place result }
+        ensures entries { self.new.entries ≡ remove self.old.entries place }
+        ensures room { self.new.room ≡ self.old.room + 1 }
+    {
+        self.order.retain(|other| *other != place);
+        close_gap(&mut self.order, place);
+        self.entries.remove(place)
+    }
+}
+
+// How the package of the entry at a place stands to a name.
+fn stand(entries: &[HeldEntry], name: &PackageName, place: usize) -> Ordering
+    ensures { result ≡ stand entries.now name.now place }
+{
+    match entries.get(place) {
+        Some(held) => held.entry.package.cmp(name),
+        None => Ordering::Greater,
+    }
+}
+
+// How many places stand in front of a package's.
+fn lower(entries: &[HeldEntry], order: &[usize], name: &PackageName) -> usize
+    requires { IsNonDecreasingBy (λ place. ordering_index (stand entries.now name.now place)) order.now }
+    ensures bound { result ≤ length order.now }
+    ensures point { IsPartitionPoint (λ place. is_lt (stand entries.now name.now place) ≡ true)
+        (λ place. is_lt (stand entries.now name.now place) ≡ false) order.now result }
+{
+    order.partition_point(|place| stand(entries, name, *place).is_lt())
+}
+
+// How many places stand in front of those behind a package's.
+fn upper(entries: &[HeldEntry], order: &[usize], name: &PackageName) -> usize
+    requires { IsNonDecreasingBy (λ place. ordering_index (stand entries.now name.now place)) order.now }
+    ensures bound { result ≤ length order.now }
+    ensures point { IsPartitionPoint (λ place. is_le (stand entries.now name.now place) ≡ true)
+        (λ place. is_le (stand entries.now name.now place) ≡ false) order.now result }
+{
+    order.partition_point(|place| stand(entries, name, *place).is_le())
+}
+
+// From where to where the places of a package stand.
+fn range_of(entries: &[HeldEntry], order: &[usize], name: &PackageName) -> (usize, usize)
+    requires by_package { IsByPackage entries.now order.now }
+    ensures { IsRange entries.now name.now order.now result.0 result.1 }
+{
+    (lower(entries, order, name), upper(entries, order, name))
+}
+
+// Where in the order the place of a package's entry belongs.
+fn slot_of(entries: &[HeldEntry], order: &[usize], name: &PackageName, place: usize) -> usize
+    requires by_package { IsByPackage entries.now order.now }
+    ensures { IsSlot entries.now name.now place order.now result }
+{
+    let (low, high) = range_of(entries, order, name);
+    low + order[low..high].partition_point(|other| *other < place)
+}
+
+// Moves the places from one on up by one, of some below a length.
+fn make_gap(order: &mut Vec<usize>, len: usize, place: usize)
+    requires { All (λ other. other < len) order.old.items }
+    ensures items { order.new.items ≡ map (up place) order.old.items }
+    ensures len { vec_len order.new ≡ vec_len order.old }
+    ensures capacity { vec_capacity order.new ≡ vec_capacity order.old }
+{
+    if place < len {
+        move_up(order, len, place);
+    }
+}
+
+fn move_up(order: &mut Vec<usize>, len: usize, place: usize)
+    requires { All (λ other. other < len) order.old.items }
+    ensures items { order.new.items ≡ map (up place) order.old.items }
+    ensures len { vec_len order.new ≡ vec_len order.old }
+    ensures capacity { vec_capacity order.new ≡ vec_capacity order.old }
+{
+    for i in 0..order.len() {
+        order[i] = up(place, order[i], len);
+    }
+}
+
+// Moves the places behind one down by one.
+fn close_gap(order: &mut Vec<usize>, place: usize)
+    ensures items { order.new.items ≡ map (down place) order.old.items }
+    ensures len { vec_len order.new ≡ vec_len order.old }
+    ensures capacity { vec_capacity order.new ≡ vec_capacity order.old }
+{
+    for i in 0..order.len() {
+        order[i] = down(place, order[i]);
+    }
+}
+
+// Where a place below a length moves when an entry is put in.
+fn up(at: usize, place: usize, len: usize) -> usize
+    requires { place < len }
+    ensures { result ≡ up at place }
+{
+    if at <= place { place + 1 } else { place }
+}
+
+// Where a place moves when the entry at another is taken out.
+fn down(at: usize, place: usize) -> usize
+    ensures { result ≡ down at place }
+{
+    if at < place { place - 1 } else { place }
+}
+
+// Puts an item at a place where there is room, which takes no memory.
+fn put<T: Drop>(items: &mut Vec<T>, place: usize, item: T)
+    requires place { place ≤ vec_len items.old }
+    requires room { vec_len items.old < vec_capacity items.old }
+    ensures items { items.new.items ≡ insert items.old.items place item }
+    ensures len { vec_len items.new ≡ vec_len items.old + 1 }
+    ensures capacity { vec_capacity items.new ≡ vec_capacity items.old }
+{
+    let _ = items.insert(place, item);
+}
