@@ -8,5 +8,3 @@
 
 pub mod demand;
 pub mod pair;
-#[cfg(test)]
-mod tests;

@@ -11,5 +11,3 @@ mod by_package;
 pub mod entry;
 pub mod facts;
 pub mod step;
-#[cfg(test)]
-mod tests;

@@ -142,6 +142,3 @@ pub fn runs_of_moves_add()
     ensures arrivals { ArrivalsAdd }
     ensures departures { DeparturesAdd }
 {}
-
-#[cfg(test)]
-mod tests;

@@ -92,6 +92,3 @@ pub fn class_in(
 pub fn classes_add_up()
     ensures { ClassesAddUp }
 {}
-
-#[cfg(test)]
-mod tests;

@@ -15,8 +15,6 @@ pub mod command;
 mod fields;
 pub mod moves;
 pub mod register;
-#[cfg(test)]
-mod tests;
 
 pub use vet_base::{
     criteria_table, criterion, day, limits, name, names, refusal, text, texts, version,
