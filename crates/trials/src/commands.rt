@@ -1,47 +1,56 @@
-//! The registers and the commands of the examples.
-ghost use Rattle.std.specs.Prelude.{◌≡◌, ◌<◌, ◌≤◌, true, IfOk, OnErr};
-ghost use Rattle.std.specs.List.{All};
-ghost use Rattle.vet_base.specs.CriteriaChanges.{is_built_in};
-ghost use Rattle.vet_base.specs.declared.limits.TheConstants.{MOST_MOVES};
+//! Lines that give a command.
+//!
+//! - `DAY set-criterion NAME [IMPLIED ..]` sets a criterion without description and url;
+//! - `DAY remove-criterion NAME` removes one;
+//! - `DAY add-entry KIND PACKAGE PARTS [CRITERION ..]` adds an entry that names nobody, has no notes and
+//!   says nothing to tools. PARTS are, by KIND: of `full` and `exemption` a version, of `delta` two, of
+//!   `violation` a requirement, of `wildcard` and `trusted` a user, a first and a last day;
+//! - `DAY drop-entry NUMBER` drops one;
+//! - `DAY set-publishers PACKAGE [VERSION,USER,DAY ..]` sets the publisher records of a package, without
+//!   logins and names.
+ghost use Rattle.std.specs.Prelude.{◌≡◌, OnErr};
 
-use crate::examples::{Ask, Example, MovesLimit, Step, Vouched};
+use crate::fault::Fault;
+use crate::line::{one, words_of};
 use std::alloc::Global;
-use vet_base::criteria_table::is_built_in;
 use vet_base::criterion::Criterion;
 use vet_base::day::Day;
-use vet_base::limits::MOST_MOVES;
+use vet_base::delta::Delta;
 use vet_base::name::{Name, PackageName};
 use vet_base::names::Names;
 use vet_base::refusal::Refusal;
+use vet_base::req::Req;
 use vet_base::texts::Texts;
 use vet_base::version::VetVersion;
-use vet_demand::pair::Pair;
-use vet_entries::entry::{Entry, Flags, Kind, Source};
+use vet_entries::entry::{Entry, Source};
+use vet_entries::kind::{Audit, Grant, Kind, Window};
+use vet_entries::publisher::Publisher;
+use vet_entries::publishers::Publishers;
+use vet_entries::user::User;
+use vet_graph::keeper::Keeper;
 use vet_register::change::Prepared;
 use vet_register::command::{Action, Command, Outcome};
 use vet_register::register::Register;
 
-/// The register with which an example begins. Refused: what its texts are refused for,
-/// `UnknownCriterion` of a demanded criterion that is not built in, and `NoMemory`.
-pub fn register_of(alloc: Global, example: &Example) -> Result<Register, Refusal> {
-    let demand = demand_of(alloc, example.demand)?;
-    Register::new(alloc, limit(example.moves_limit), demand)
-}
-
-/// What the register tells a step's command, and makes of it. Refused: what the step's texts are refused for,
-/// what the register refuses, and `NoMemory`; the register is then as it was.
-pub fn answer(alloc: Global, register: &mut Register, step: &Step) -> Result<Outcome, Refusal>
+/// What the register tells the command of a line, and makes of it. Refused: what the line's texts are
+/// refused for, what the register refuses, and `NoMemory`; the register is then as it was.
+pub fn answer<K: Keeper>(
+    alloc: Global,
+    register: &mut Register<K>,
+    line: &str,
+) -> Result<Outcome, Fault>
     ensures { OnErr result (register.new.state ≡ register.old.state) }
 {
-    let command = Command {
-        day: Day::parse(step.day)?,
-        action: action(alloc, &step.ask)?,
-    };
-    apply(alloc, register, &command)
+    let command = command(alloc, line)?;
+    Ok(apply(alloc, register, &command)?)
 }
 
 // Prepares a command and installs what it changes.
-fn apply(alloc: Global, register: &mut Register, command: &Command) -> Result<Outcome, Refusal>
+fn apply<K: Keeper>(
+    alloc: Global,
+    register: &mut Register<K>,
+    command: &Command,
+) -> Result<Outcome, Refusal>
     ensures { OnErr result (register.new.state ≡ register.old.state) }
 {
     match register.prepare(alloc, command)? {
@@ -54,79 +63,184 @@ fn apply(alloc: Global, register: &mut Register, command: &Command) -> Result<Ou
     }
 }
 
-fn limit(limit: MovesLimit) -> usize
-    ensures { (0 < result) × (result ≤ MOST_MOVES) }
-{
-    match limit {
-        MovesLimit::One => 1,
-        MovesLimit::Most => MOST_MOVES,
-    }
-}
-
-fn demand_of(alloc: Global, table: &[[&str; 3]]) -> Result<Vec<Pair>, Refusal>
-    ensures { IfOk result (λ pairs. All (λ p. is_built_in p.criterion ≡ true) pairs.items) }
-{
-    let mut pairs = Vec::new(alloc);
-    for texts in table {
-        pairs.push(pair_of(alloc, texts)?)?;
-    }
-    Ok(pairs)
-}
-
-fn pair_of(alloc: Global, texts: &[&str; 3]) -> Result<Pair, Refusal>
-    ensures { IfOk result (λ pair. is_built_in pair.criterion ≡ true) }
-{
-    let package = PackageName::parse(alloc, texts[0])?;
-    let version = VetVersion::parse(alloc, texts[1])?;
-    let criterion = Name::parse(alloc, texts[2])?;
-    if !is_built_in(&criterion) {
-        return Err(Refusal::UnknownCriterion(criterion));
-    }
-    Ok(Pair {
-        package,
-        version,
-        criterion,
+fn command(alloc: Global, line: &str) -> Result<Command, Fault> {
+    let words = words_of(alloc, line)?;
+    let [day, word, texts @ ..] = words.as_slice() else {
+        return Err(Fault::NotUnderstood);
+    };
+    Ok(Command {
+        day: Day::parse(day.as_str())?,
+        action: action(alloc, word.as_str(), texts)?,
     })
 }
 
-fn action(alloc: Global, ask: &Ask) -> Result<Action, Refusal> {
-    match ask {
-        Ask::SetCriterion { name, implies } => Ok(Action::SetCriterion(Criterion {
-            name: Name::parse(alloc, name)?,
-            description: None,
-            url: None,
-            implies: names(alloc, implies)?,
-        })),
-        Ask::RemoveCriterion { name } => Ok(Action::RemoveCriterion(Name::parse(alloc, name)?)),
-        Ask::AddEntry {
-            vouched,
-            package,
-            version,
-            criteria,
-        } => Ok(Action::AddEntry(Entry {
-            source: Source::Own,
-            package: PackageName::parse(alloc, package)?,
-            kind: kind(*vouched, VetVersion::parse(alloc, version)?),
-            criteria: names(alloc, criteria)?,
-            who: Texts::new(alloc),
-            notes: None,
-            flags: Flags::none(),
-        })),
-        Ask::DropEntry { number } => Ok(Action::DropEntry(*number)),
+fn action(alloc: Global, word: &str, texts: &[String]) -> Result<Action, Fault> {
+    match word {
+        "set-criterion" => set_criterion(alloc, texts),
+        "remove-criterion" => remove_criterion(alloc, texts),
+        "add-entry" => add_entry(alloc, texts),
+        "drop-entry" => drop_entry(texts),
+        "set-publishers" => set_publishers(alloc, texts),
+        _ => Err(Fault::NotUnderstood),
     }
 }
 
-fn kind(vouched: Vouched, version: VetVersion) -> Kind {
-    match vouched {
-        Vouched::Full => Kind::Full(version),
-        Vouched::Exemption => Kind::Exemption(version),
+fn set_criterion(alloc: Global, texts: &[String]) -> Result<Action, Fault> {
+    let [name, implied @ ..] = texts else {
+        return Err(Fault::NotUnderstood);
+    };
+    Ok(Action::SetCriterion(Criterion {
+        name: Name::parse(alloc, name.as_str())?,
+        description: None,
+        url: None,
+        implies: names(alloc, implied)?,
+    }))
+}
+
+fn remove_criterion(alloc: Global, texts: &[String]) -> Result<Action, Fault> {
+    Ok(Action::RemoveCriterion(Name::parse(alloc, one(texts)?)?))
+}
+
+fn drop_entry(texts: &[String]) -> Result<Action, Fault> {
+    match one(texts)?.parse::<u64>() {
+        Ok(number) => Ok(Action::DropEntry(number)),
+        Err(_) => Err(Fault::NotUnderstood),
     }
 }
 
-fn names(alloc: Global, texts: &[&str]) -> Result<Names, Refusal> {
+fn add_entry(alloc: Global, texts: &[String]) -> Result<Action, Fault> {
+    let [word, package, parts @ ..] = texts else {
+        return Err(Fault::NotUnderstood);
+    };
+    let package = PackageName::parse(alloc, package.as_str())?;
+    let (kind, criteria) = kind(alloc, word.as_str(), parts)?;
+    Ok(Action::AddEntry(Entry {
+        source: Source::Own,
+        package,
+        kind,
+        criteria: names(alloc, criteria)?,
+        notes: None,
+    }))
+}
+
+// What an entry says of its package, and the texts after those that say it.
+fn kind<'a>(alloc: Global, word: &str, parts: &'a [String]) -> Result<(Kind, &'a [String]), Fault> {
+    match word {
+        "full" => full(alloc, parts),
+        "delta" => delta(alloc, parts),
+        "violation" => violation(alloc, parts),
+        "wildcard" => wildcard(alloc, parts),
+        "trusted" => trusted(parts),
+        "exemption" => exemption(alloc, parts),
+        _ => Err(Fault::NotUnderstood),
+    }
+}
+
+fn full(alloc: Global, parts: &[String]) -> Result<(Kind, &[String]), Fault> {
+    let (version, criteria) = version(alloc, parts)?;
+    Ok((Kind::Full(version, Audit::anonymous(alloc)), criteria))
+}
+
+fn delta(alloc: Global, parts: &[String]) -> Result<(Kind, &[String]), Fault> {
+    let (from, rest) = version(alloc, parts)?;
+    let (to, criteria) = version(alloc, rest)?;
+    let delta = Delta { from, to };
+    Ok((Kind::Delta(delta, Audit::anonymous(alloc)), criteria))
+}
+
+fn violation(alloc: Global, parts: &[String]) -> Result<(Kind, &[String]), Fault> {
+    let [req, criteria @ ..] = parts else {
+        return Err(Fault::NotUnderstood);
+    };
+    let req = Req::parse(alloc, req.as_str())?;
+    Ok((Kind::Violation(req, Audit::anonymous(alloc)), criteria))
+}
+
+fn wildcard(alloc: Global, parts: &[String]) -> Result<(Kind, &[String]), Fault> {
+    let (window, criteria) = window(parts)?;
+    let grant = Grant {
+        who: Texts::new(alloc),
+        renew: None,
+    };
+    Ok((Kind::Wildcard(window, grant), criteria))
+}
+
+fn trusted(parts: &[String]) -> Result<(Kind, &[String]), Fault> {
+    let (window, criteria) = window(parts)?;
+    Ok((Kind::Trusted(window), criteria))
+}
+
+fn exemption(alloc: Global, parts: &[String]) -> Result<(Kind, &[String]), Fault> {
+    let (version, criteria) = version(alloc, parts)?;
+    let kind = Kind::Exemption {
+        version,
+        suggest: None,
+    };
+    Ok((kind, criteria))
+}
+
+// The window that the first three texts are, and the other texts.
+fn window(texts: &[String]) -> Result<(Window, &[String]), Fault> {
+    let [number, first, last, rest @ ..] = texts else {
+        return Err(Fault::NotUnderstood);
+    };
+    let window = Window {
+        user: user(number.as_str())?,
+        first: Day::parse(first.as_str())?,
+        last: Day::parse(last.as_str())?,
+    };
+    Ok((window, rest))
+}
+
+fn user(text: &str) -> Result<User, Fault> {
+    let Ok(number) = text.parse::<u64>() else {
+        return Err(Fault::NotUnderstood);
+    };
+    User::new(number).ok_or(Fault::NotUnderstood)
+}
+
+fn set_publishers(alloc: Global, texts: &[String]) -> Result<Action, Fault> {
+    let [package, records @ ..] = texts else {
+        return Err(Fault::NotUnderstood);
+    };
+    let package = PackageName::parse(alloc, package.as_str())?;
+    let mut publishers = Vec::new(alloc);
+    for text in records {
+        publishers.push(publisher(alloc, text.as_str())?)?;
+    }
+    Ok(Action::SetPublishers(package, Publishers::of(alloc, publishers)?))
+}
+
+// The record that a text `VERSION,USER,DAY` is.
+fn publisher(alloc: Global, text: &str) -> Result<Publisher, Fault> {
+    let Some((version, rest)) = text.split_once(',') else {
+        return Err(Fault::NotUnderstood);
+    };
+    let Some((number, day)) = rest.split_once(',') else {
+        return Err(Fault::NotUnderstood);
+    };
+    Ok(Publisher {
+        version: VetVersion::parse(alloc, version)?,
+        user: user(number)?,
+        day: Day::parse(day)?,
+        login: None,
+        name: None,
+    })
+}
+
+// The version that the first text is, and the other texts.
+fn version(alloc: Global, texts: &[String]) -> Result<(VetVersion, &[String]), Fault> {
+    let [text, rest @ ..] = texts else {
+        return Err(Fault::NotUnderstood);
+    };
+    Ok((VetVersion::parse(alloc, text.as_str())?, rest))
+}
+
+/// The set of the names that some texts are. Refused: `BadName`, and `NoMemory`.
+pub fn names(alloc: Global, texts: &[String]) -> Result<Names, Refusal> {
     let mut names = Names::new(alloc);
     for text in texts {
-        names.insert(Name::parse(alloc, text)?)?;
+        names.insert(Name::parse(alloc, text.as_str())?)?;
     }
     Ok(names)
 }

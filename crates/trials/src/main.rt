@@ -1,51 +1,78 @@
-//! Runs a worked example by its name through the libraries, and prints its answers: a program of tests, no
-//! part of the product.
+//! Runs a worked example through the libraries, and prints its answers: a program of tests, no part
+//! of the product.
 //!
-//! `trials NAME` prints what each command of the example is told, and then what the register holds.
-//! `trials --contents NAME` prints also before each command what it holds. Where memory is wanting, the run
-//! ends with that refusal and what the register holds then, and with status 1. Without words the names of
-//! the examples are printed, and at any other words too, with status 2.
+//! `trials` reads an example on standard input, gives its lines in their order, and prints each
+//! answer and in the end what the register holds. `trials --contents` prints also before each command
+//! what it holds. `trials --relay` does as `trials`, with another keeper of the classes. What lines there are stands in `line`, `setting`, `commands`, `values`, `versions`
+//! and `days`. Where memory is wanting, the run ends with that refusal and what the register holds
+//! then, and with status 1, as it does where the demand is refused. At other words, an input that
+//! can't be read, or a line that isn't understood, a message goes to standard error, with status 2.
 #![tactic(auto)]
 
 mod commands;
-mod examples;
+mod days;
+mod fault;
+mod input;
+mod line;
 mod print;
+mod relay;
 mod run;
+mod setting;
+mod values;
+mod versions;
 mod words;
 
-use examples::EXAMPLES;
+use input::{Input, read_input};
 use print::print_refusal;
-use run::{Ending, run};
+use relay::RelayKeeper;
+use run::{Contents, Ending, run};
 use std::io;
 use std::process::ExitCode;
+use vet_base::refusal::Refusal;
+use vet_graph::keeper::Keeper;
+use vet_graph::plain::PlainKeeper;
 use words::{Words, read_words};
 
+/// The status of a run of something that isn't understood.
+const NOT_UNDERSTOOD: u8 = 2;
+
 fn main(rt: HostRuntime) -> io::Result<ExitCode> {
-    match read_words(&rt) {
-        Ok(Words::Example(example, contents)) => {
-            Ok(match run(&rt, rt.alloc(), example, contents)? {
-                Ending::Whole => ExitCode::SUCCESS,
-                Ending::NoMemory => ExitCode::FAILURE,
-            })
+    match run_whole(&rt)? {
+        Ending::Whole => Ok(ExitCode::SUCCESS),
+        Ending::Refused => Ok(ExitCode::FAILURE),
+        Ending::Line(number) => {
+            eprintln!(rt; "line {number} is not understood")?;
+            Ok(ExitCode::from(NOT_UNDERSTOOD))
         }
-        Ok(Words::None) => {
-            print_names(&rt)?;
-            Ok(ExitCode::SUCCESS)
+        Ending::Words => {
+            eprintln!(rt; "trials takes no words but --contents or --relay")?;
+            Ok(ExitCode::from(NOT_UNDERSTOOD))
         }
-        Ok(Words::Other) => {
-            print_names(&rt)?;
-            Ok(ExitCode::from(2))
-        }
-        Err(refusal) => {
-            print_refusal(&rt, &refusal)?;
-            Ok(ExitCode::FAILURE)
+        Ending::Input => {
+            eprintln!(rt; "the input is no text, or too long")?;
+            Ok(ExitCode::from(NOT_UNDERSTOOD))
         }
     }
 }
 
-fn print_names(rt: &impl Print) -> io::Result<()> {
-    for example in &EXAMPLES {
-        println!(rt; "{}", example.name)?;
+fn run_whole(rt: &HostRuntime) -> io::Result<Ending> {
+    match read_words(rt) {
+        Words::Contents(contents) => run_input::<PlainKeeper>(rt, contents),
+        Words::Relay => run_input::<RelayKeeper>(rt, Contents::AtEnd),
+        Words::Other => Ok(Ending::Words),
+        Words::NoMemory => ended_for_memory(rt),
     }
-    Ok(())
+}
+
+fn run_input<K: Keeper>(rt: &HostRuntime, contents: Contents) -> io::Result<Ending> {
+    match read_input(rt.alloc(), &mut rt.reader()) {
+        Input::Text(text) => run::<K>(rt, rt.alloc(), text.as_str(), contents),
+        Input::Other => Ok(Ending::Input),
+        Input::NoMemory => ended_for_memory(rt),
+    }
+}
+
+fn ended_for_memory(rt: &impl Print) -> io::Result<Ending> {
+    print_refusal(rt, &Refusal::NoMemory)?;
+    Ok(Ending::Refused)
 }

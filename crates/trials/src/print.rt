@@ -1,26 +1,21 @@
 //! What a run prints, a line at a time. Printing takes no memory.
 
 use std::io;
-use vet_base::name::Name;
+use vet_base::name::{Name, PackageName};
 use vet_base::refusal::Refusal;
-use vet_entries::entry::Kind;
 use vet_entries::facts::HeldEntry;
+use vet_entries::kind::{Kind, Window};
+use vet_entries::publishers::Publishers;
 use vet_graph::class::Class;
+use vet_graph::keeper::Keeper;
 use vet_graph::moves::Move;
 use vet_graph::standing::Counts;
 use vet_register::command::Outcome;
 use vet_register::moves::RecordedMove;
 use vet_register::register::Register;
 
-/// Prints what a command is told.
-pub fn print_answer(rt: &impl Print, answer: &Result<Outcome, Refusal>) -> io::Result<()> {
-    match answer {
-        Ok(outcome) => print_outcome(rt, *outcome),
-        Err(refusal) => print_refusal(rt, refusal),
-    }
-}
-
-fn print_outcome(rt: &impl Print, outcome: Outcome) -> io::Result<()> {
+/// Prints what came of a command that nothing refused.
+pub fn print_outcome(rt: &impl Print, outcome: Outcome) -> io::Result<()> {
     match outcome {
         Outcome::Done {
             step,
@@ -56,11 +51,14 @@ pub fn print_refusal(rt: &impl Print, refusal: &Refusal) -> io::Result<()> {
 }
 
 /// Prints what a register holds: its step, criteria, entries, demanded pairs, counts and recorded moves.
-pub fn print_contents(rt: &impl Print, register: &Register) -> io::Result<()> {
+pub fn print_contents<K: Keeper>(rt: &impl Print, register: &Register<K>) -> io::Result<()> {
     println!(rt; "step {}", register.step())?;
     print_criteria(rt, register)?;
     for held in register.entries() {
         print_entry(rt, held)?;
+    }
+    for listed in register.publishers() {
+        print_publishers(rt, &listed.package, &listed.publishers)?;
     }
     for pair in register.demand() {
         let class = register.class(&pair.package, &pair.version, &pair.criterion);
@@ -80,7 +78,7 @@ pub fn print_contents(rt: &impl Print, register: &Register) -> io::Result<()> {
     Ok(())
 }
 
-fn print_criteria(rt: &impl Print, register: &Register) -> io::Result<()> {
+fn print_criteria<K: Keeper>(rt: &impl Print, register: &Register<K>) -> io::Result<()> {
     for name in register.criteria().names() {
         print!(rt; "criterion {name}")?;
         if let Some(criterion) = register.criteria().get(name) {
@@ -93,13 +91,41 @@ fn print_criteria(rt: &impl Print, register: &Register) -> io::Result<()> {
 
 fn print_entry(rt: &impl Print, held: &HeldEntry) -> io::Result<()> {
     let entry = &held.entry;
-    let (word, version) = match &entry.kind {
-        Kind::Full(version) => ("full", version),
-        Kind::Exemption(version) => ("exemption", version),
-    };
-    print!(rt; "entry {} {} {version} {word}", held.number, entry.package)?;
+    print!(rt; "entry {} {}", held.number, entry.package)?;
+    print_kind(rt, &entry.kind)?;
     print_names(rt, entry.criteria.as_slice())?;
     println!(rt; "")
+}
+
+fn print_kind(rt: &impl Print, kind: &Kind) -> io::Result<()> {
+    match kind {
+        Kind::Full(version, _) => print!(rt; " full {version}"),
+        Kind::Delta(delta, _) => print!(rt; " delta {} {}", delta.from, delta.to),
+        Kind::Violation(req, _) => print!(rt; " violation {req}"),
+        Kind::Wildcard(window, _) => print_window(rt, "wildcard", *window),
+        Kind::Trusted(window) => print_window(rt, "trusted", *window),
+        Kind::Exemption { version, .. } => print!(rt; " exemption {version}"),
+    }
+}
+
+fn print_window(rt: &impl Print, word: &str, window: Window) -> io::Result<()> {
+    let user = window.user.number();
+    print!(rt; " {word} {user} {} {}", window.first, window.last)
+}
+
+fn print_publishers(
+    rt: &impl Print,
+    package: &PackageName,
+    records: &Publishers,
+) -> io::Result<()> {
+    for published in records.as_slice() {
+        let user = published.user.number();
+        println!(rt;
+            "publisher {package} {} {user} {}",
+            published.version, published.day
+        )?;
+    }
+    Ok(())
 }
 
 fn print_names(rt: &impl Print, names: &[Name]) -> io::Result<()> {

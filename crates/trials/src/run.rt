@@ -1,17 +1,21 @@
 //! A run of an example.
 
-use crate::commands::{answer, register_of};
-use crate::examples::{Example, Step};
-use crate::print::{print_answer, print_contents, print_refusal};
+use crate::commands::answer;
+use crate::fault::Fault;
+use crate::line::{is_command, is_remark};
+use crate::print::{print_contents, print_outcome, print_refusal};
+use crate::setting::{is_setting, register_of};
+use crate::values::value;
 use std::alloc::Global;
 use std::io;
 use vet_base::refusal::Refusal;
+use vet_graph::keeper::Keeper;
 use vet_register::register::Register;
 
 /// When a run prints what the register holds.
 #[derive(Clone, Copy, PartialEq, Eq)]
 pub enum Contents {
-    /// After the last command.
+    /// After the last line.
     AtEnd,
     /// Before each command, too.
     RoundEach,
@@ -20,49 +24,129 @@ pub enum Contents {
 /// How a run ended.
 #[derive(Clone, Copy)]
 pub enum Ending {
-    /// Each command was given.
+    /// Each line was given.
     Whole,
-    /// A command was refused for want of memory, and none was given after it.
-    NoMemory,
+    /// The demand was refused, or a line for want of memory, and none was given after it.
+    Refused,
+    /// The line of this number, counted from 1, was not understood.
+    Line(usize),
+    /// The words of the command line were not understood.
+    Words,
+    /// The input was no text, or too long.
+    Input,
 }
 
-/// Gives an example's commands in their order, up to one that is refused for want of memory, and prints the
-/// answers and, as is asked, what the register holds.
-pub fn run(
+// What came of a line.
+#[derive(Clone, Copy)]
+enum Told {
+    Answer,
+    NoMemory,
+    Nothing,
+}
+
+/// Gives an example's lines in their order, up to one that is refused for want of memory, and prints the
+/// answers and, where it has a command or demands something, what the register holds.
+pub fn run<K: Keeper>(
     rt: &impl Print,
     alloc: Global,
-    example: &Example,
+    text: &str,
     contents: Contents,
 ) -> io::Result<Ending> {
-    match register_of(alloc, example) {
+    match register_of::<K>(alloc, text) {
         Ok(mut register) => {
-            let ending = give_all(rt, alloc, &mut register, example.steps, contents)?;
-            print_contents(rt, &register)?;
+            let ending = give_all(rt, alloc, &mut register, text, contents)?;
+            if let Ending::Line(_) = ending {
+                return Ok(ending);
+            }
+            if has_commands(text) || !register.demand().is_empty() {
+                print_contents(rt, &register)?;
+            }
             Ok(ending)
         }
         Err(refusal) => {
             print_refusal(rt, &refusal)?;
-            Ok(Ending::NoMemory)
+            Ok(Ending::Refused)
         }
     }
 }
 
-fn give_all(
+fn has_commands(text: &str) -> bool {
+    text.lines().any(|line| is_command(line))
+}
+
+fn give_all<K: Keeper>(
     rt: &impl Print,
     alloc: Global,
-    register: &mut Register,
-    steps: &[Step],
+    register: &mut Register<K>,
+    text: &str,
     contents: Contents,
 ) -> io::Result<Ending> {
-    for step in steps {
-        if contents == Contents::RoundEach {
-            print_contents(rt, register)?;
-        }
-        let answer = answer(alloc, register, step);
-        print_answer(rt, &answer)?;
-        if let Err(Refusal::NoMemory) = answer {
-            return Ok(Ending::NoMemory);
+    let mut begun = false;
+    for (place, line) in text.lines().enumerate() {
+        if !is_passed_over(line, begun) {
+            begun = true;
+            match give(rt, alloc, register, line, contents)? {
+                Told::Answer => {}
+                Told::NoMemory => return Ok(Ending::Refused),
+                Told::Nothing => return Ok(Ending::Line(place.saturating_add(1))),
+            }
         }
     }
     Ok(Ending::Whole)
+}
+
+// Whether a line has no answer; a setting has one where it comes after what has been given.
+fn is_passed_over(line: &str, begun: bool) -> bool {
+    is_remark(line) || !begun && is_setting(line)
+}
+
+fn give<K: Keeper>(
+    rt: &impl Print,
+    alloc: Global,
+    register: &mut Register<K>,
+    line: &str,
+    contents: Contents,
+) -> io::Result<Told> {
+    if is_command(line) {
+        return give_command(rt, alloc, register, line, contents);
+    }
+    match value(alloc, register.criteria(), line) {
+        Ok(told) => {
+            println!(rt; "{told}")?;
+            Ok(Told::Answer)
+        }
+        Err(fault) => tell_fault(rt, &fault),
+    }
+}
+
+fn give_command<K: Keeper>(
+    rt: &impl Print,
+    alloc: Global,
+    register: &mut Register<K>,
+    line: &str,
+    contents: Contents,
+) -> io::Result<Told> {
+    if contents == Contents::RoundEach {
+        print_contents(rt, register)?;
+    }
+    match answer(alloc, register, line) {
+        Ok(outcome) => {
+            print_outcome(rt, outcome)?;
+            Ok(Told::Answer)
+        }
+        Err(fault) => tell_fault(rt, &fault),
+    }
+}
+
+fn tell_fault(rt: &impl Print, fault: &Fault) -> io::Result<Told> {
+    match fault {
+        Fault::NotUnderstood => Ok(Told::Nothing),
+        Fault::Refused(refusal) => {
+            print_refusal(rt, refusal)?;
+            if let Refusal::NoMemory = refusal {
+                return Ok(Told::NoMemory);
+            }
+            Ok(Told::Answer)
+        }
+    }
 }

@@ -1,13 +1,13 @@
 -- How a changed table is kept, and what its verdicts say.
-use Rattle.std.proofs.Common.{◌≡◌, ℕ, ◌<◌, Bool, true, false, cond, ◌&&◌, not, nat_le, List, [], length, get_or, set as setn, Option, Some, None, IfSome, Result, Ok, Err, OnOk, OnErr, Less, refl, sym, ap, subst, ◌∙◌, arith, inl, inr}
+use Rattle.std.proofs.Common.{◌≡◌, ℕ, ◌<◌, Bool, true, false, ◌&&◌, not, nat_le, List, [], length, get_or, set as setn, Option, Some, None, IfSome, Result, Ok, Err, OnOk, OnErr, Less, refl, sym, ap, subst, ◌∙◌, arith, inl, inr}
 use Rattle.std.specs.List.{insert, remove}
 use Rattle.std.specs.FinMap as map
-use Rattle.std.proofs.lemmas.Bool.{leb-false, cond-true, cond-false, false≢true, not-false}
+use Rattle.std.proofs.lemmas.Bool.{leb-false, cond-true, cond-false, false≢true}
 use Rattle.std.proofs.lemmas.List.Quantifiers.{all_pairs_remove}
 use Rattle.vet_base.specs.declared.limits.TheConstants.{MOST_CRITERIA}
 use Rattle.vet_base.specs.declared.criterion.Criterion.{Criterion}
 use Rattle.vet_base.specs.declared.refusal.Refusal.{Refusal}
-use Rattle.vet_base.specs.declared.refusal.Refusal.TheVariants.{UnknownCriterion, BuiltInCriterion, CriterionInUse, TooManyCriteria}
+use Rattle.vet_base.specs.declared.refusal.Refusal.TheVariants.{UnknownCriterion, CriterionInUse, TooManyCriteria}
 use Rattle.vet_base.specs.Names.{IsRising}
 use Rattle.vet_base.specs.Criteria.{Criteria, IsTable}
 use Rattle.vet_base.specs.CriteriaChanges.{Answers, Refuses, is_built_in, is_full_for, is_implied, unknown_beside, unknown_then, set_verdict, remove_verdict}
@@ -99,12 +99,16 @@ may_set table c h =
       own = rest.1;
     }
 
-pub may_remove : (table : Criteria) (n : List ℕ) → remove_verdict table n ≡ None → (map.contains_key table n ≡ true) × (is_built_in n ≡ false) × (is_implied table n ≡ false)
-may_remove table n h =
-    let a = no_first (not (map.contains_key table n)) (UnknownCriterion n) (cond (is_built_in n) (Some BuiltInCriterion) (cond (is_implied table n) (Some CriterionInUse) None)) h in
-    let b = no_first (is_built_in n) BuiltInCriterion (cond (is_implied table n) (Some CriterionInUse) None) a.1 in
-    let d = no_first (is_implied table n) CriterionInUse None b.1 in
-    (not-false _ a.0, b.0, d.0)
+-- the verdict of each answer of a removal
+module _ (table : Criteria) (n : List ℕ) where
+  pub verdict_unknown : map.contains_key table n ≡ false → remove_verdict table n ≡ Some (UnknownCriterion n)
+  verdict_unknown lacks = rw lacks refl
+
+  pub verdict_used : map.contains_key table n ≡ true → is_built_in n ≡ false → is_implied table n ≡ true → remove_verdict table n ≡ Some CriterionInUse
+  verdict_used held own used = rw (held, own, used) refl
+
+  pub verdict_free : map.contains_key table n ≡ true → is_built_in n ≡ false → is_implied table n ≡ false → remove_verdict table n ≡ None
+  verdict_free held own free = rw (held, own, free) refl
 
 -- the verdict where there is room, and where there is none
 pub verdict_full : (table : Criteria) (c : Criterion) → is_full_for table c.name ≡ true → set_verdict table c ≡ Some TooManyCriteria

@@ -2,8 +2,10 @@ pub mod BuiltIn
 pub mod Changes
 pub mod Closing
 pub mod DayLemmas
+pub mod DeltaLemmas
 pub mod Held
 pub mod Kept
+pub mod Meeting
 pub mod Missing
 pub mod OrderLemmas
 pub mod ReqLemmas

@@ -10,7 +10,7 @@ use Rattle.std.specs.FinMap as map
 use Rattle.std.proofs.Common.{refl}
 use Rattle.vet_base.specs.declared.limits.TheConstants.{MOST_CRITERIA}
 use Rattle.vet_base.specs.declared.criterion.Criterion.{Criterion}
-use Rattle.vet_base.specs.CriteriaSet.{Places, places_below}
+use Rattle.vet_base.specs.CriteriaSet.{Places, meet, places_below}
 use Rattle.vet_base.specs.Names.{NameSet, members}
 
 -- criteria by their names
@@ -64,6 +64,22 @@ PlacedNamesAreIn = (table : Criteria) (names : NameSet) (n : List ℕ) → is_in
 -- the place of a name is where it stands among the table's names
 abbrev pub PlacesAreOfNames : Type 0
 PlacesAreOfNames = (table : Criteria) (n : List ℕ) (p : ℕ) → (place_of table n ≡ Some p) ↔ (slice_get (map.keys table) p ≡ Some n)
+
+-- the closure of the one criterion at a place: past the table's end there is none
+abbrev pub closure_at : Criteria → ℕ → Places
+closure_at table p = option_map_or (λ n. placed table (closure_of table (set.insert set.empty n))) (slice_get (map.keys table) p) set.empty
+
+-- whether the criterion at a place is in a set or implies in the end one that is
+abbrev pub leads_to : Criteria → Places → ℕ → Bool
+leads_to table places p = meet (closure_at table p) places
+
+-- the criteria that are in a set or imply in the end one that is
+abbrev pub leading_to : Criteria → Places → Places
+leading_to table places = set.retain (places_below (map.len table)) (leads_to table places)
+
+-- a place is among those that lead to a set just where it leads there, whatever the table's length
+abbrev pub LedTo : Type 0
+LedTo = (table : Criteria) (places : Places) (p : ℕ) → set.contains (leading_to table places) p ≡ leads_to table places p
 
 -- the built-in criteria
 abbrev pub safe_to_run : List ℕ

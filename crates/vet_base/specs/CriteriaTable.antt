@@ -1,7 +1,6 @@
 -- How a table of criteria is kept, and how its closures are found.
 use Rattle.std.specs.Prelude.{ℕ, ◌≡◌, ◌<◌, true, false, List, map as mapped, Some}
 use Rattle.std.specs.List.{All, Contains}
-use Rattle.std.specs.Ordering.{nat_cmp}
 use Rattle.std.specs.FinSet as set
 use Rattle.std.specs.FinMap as map
 use Rattle.vet_base.specs.declared.limits.TheConstants.{MOST_CRITERIA}

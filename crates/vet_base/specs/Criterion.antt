@@ -1,15 +1,15 @@
 -- When criteria are the same.
-use Rattle.std.specs.Prelude.{ℕ, ◌≡◌, ◌&&◌, Bool, List, Option, Some, None, nat_eq}
+use Rattle.std.specs.Prelude.{ℕ, ◌≡◌, ◌&&◌, Bool, List, Option, nat_eq}
 use Rattle.std.specs.Bool.{Decides}
 use Rattle.std.specs.Option.{option_eq}
 use Rattle.std.specs.Cmp.{IsEquivalence, and_equiv, on_equiv}
 use Rattle.std.specs.Cmp.Lexicographic.{pointwise, bytes_decides, nat_list_eq_equiv, options_equiv}
-use Rattle.std.proofs.Common.{refl, ap}
+use Rattle.std.proofs.Common.{ap}
 use Rattle.std.proofs.lemmas.Bool.Decides.{Decides-and, Decides-like}
-use Rattle.std.proofs.lemmas.Option.{same_Some}
 use Rattle.vet_base.specs.declared.criterion.Criterion.{Criterion}
 use Rattle.vet_base.specs.Names.{same_names, same_names_equiv}
 use Rattle.vet_base.specs.NameLaws.{same_names-Decides}
+use Rattle.vet_base.specs.OptionLaws.{options_decide}
 
 -- two texts are the same, or both are missing
 abbrev pub same_text : Option (List ℕ) → Option (List ℕ) → Bool
@@ -29,13 +29,6 @@ criterion_eq_equiv =
     (on_equiv (λ (c : Criterion). c.url) (options_equiv nat_list_eq_equiv)))
     (on_equiv (λ (c : Criterion). c.implies) same_names_equiv)
 
--- only a text itself is the same
-same_text-Decides : (a b : Option (List ℕ)) → Decides (same_text a b) (a ≡ b)
-same_text-Decides None None = (λ _. refl, λ _. refl)
-same_text-Decides None (Some y) = (λ h. cc h, λ e. cc e)
-same_text-Decides (Some x) None = (λ h. cc h, λ e. cc e)
-same_text-Decides (Some x) (Some y) = (λ h. ap (λ (t : List ℕ). Some t) ((bytes_decides x y).0 h), λ e. (bytes_decides x y).1 (same_Some x y e))
-
 -- only a criterion itself is equal to it
 pub criterion_eq-Decides : (a b : Criterion) → Decides (criterion_eq a b) (a ≡ b)
 criterion_eq-Decides a b =
@@ -48,6 +41,6 @@ criterion_eq-Decides a b =
     (λ e. (((ap (λ (c : Criterion). c.name) e, ap (λ (c : Criterion). c.description) e), ap (λ (c : Criterion). c.url) e), ap (λ (c : Criterion). c.implies) e))
     (Decides-and _ _ (Decides-and _ _ (Decides-and _ _
     (bytes_decides a.name b.name)
-    (same_text-Decides a.description b.description))
-    (same_text-Decides a.url b.url))
+    (options_decide bytes_decides a.description b.description))
+    (options_decide bytes_decides a.url b.url))
     (same_names-Decides a.implies b.implies))

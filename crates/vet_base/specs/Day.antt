@@ -1,6 +1,9 @@
 -- Which texts are days (`YYYY-MM-DD`, of the proleptic Gregorian calendar), and how days are numbered.
-use Rattle.std.specs.Prelude.{ℕ, ◌+◌, ◌-◌, ◌*◌, ◌/◌, ◌%◌, ◌==◌, ◌&&◌, nat_le, Bool, List, [], ◌∷◌, ◌++◌, Option, Some, None, length, slice_index, if◌then◌else◌, option_and_then, option_map, ℤ, pos}
+use Rattle.std.specs.Prelude.{ℕ, ◌≡◌, ◌+◌, ◌-◌, ◌*◌, ◌/◌, ◌%◌, ◌==◌, ◌&&◌, nat_le, Bool, List, [], ◌∷◌, ◌++◌, Option, Some, None, length, slice_index, if◌then◌else◌, option_and_then, option_map, ℤ, pos}
 use Rattle.std.specs.Char.{is_ascii_digit}
+use Rattle.std.specs.Bool.{Decides}
+use Rattle.std.proofs.Common.{ap}
+use Rattle.std.proofs.lemmas.Bool.Decides.{Decides-and, Decides-eqb, Decides-like}
 use Rattle.std.specs.Cmp.{IsTotalOrder, int_cmp_total, on_total}
 use Rattle.std.specs.Ordering.{on, int_eq, int_cmp}
 use Rattle.std.specs.declared.cmp.Ordering.{Ordering}
@@ -29,6 +32,15 @@ day_eq = on day_number int_eq
 
 abbrev pub day_cmp : DayValue → DayValue → Ordering
 day_cmp = on day_number int_cmp
+
+-- two days have the same year, month and day
+abbrev pub same_day : DayValue → DayValue → Bool
+same_day a b = (a.year == b.year) && ((a.month == b.month) && (a.day == b.day))
+
+pub same_day-Decides : (a b : DayValue) → Decides (same_day a b) (a ≡ b)
+same_day-Decides a b =
+    Decides-like _ (λ h. λ i. record { year = h.0 i; month = h.1.0 i; day = h.1.1 i }) (λ e. (ap (λ d. d.year) e, (ap (λ d. d.month) e, ap (λ d. d.day) e)))
+    (Decides-and _ _ (Decides-eqb a.year b.year) (Decides-and _ _ (Decides-eqb a.month b.month) (Decides-eqb a.day b.day)))
 
 -- their order is total
 pub day_total : IsTotalOrder day_cmp

@@ -4,11 +4,13 @@ pub mod CriteriaSet
 pub mod CriteriaTable
 pub mod Criterion
 pub mod Day
+pub mod Delta
 pub mod Gives
 pub mod KeyText
 pub mod Name
 pub mod NameLaws
 pub mod Names
+pub mod OptionLaws
 pub mod PlaceLaws
 pub mod Refusal
 pub mod Req

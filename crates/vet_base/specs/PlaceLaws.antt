@@ -11,7 +11,7 @@ use Rattle.vet_base.specs.CriteriaSet.{places_below, true_places, truth_below}
 below_zero : (q : ℕ) → false ≡ nat_lt q zero
 below_zero q = sym (le-ltb q 0 (omega arith))
 
-below_more : (q n : ℕ) → ((q == n) || nat_lt q n) ≡ nat_lt q (suc n)
+pub below_more : (q n : ℕ) → ((q == n) || nat_lt q n) ≡ nat_lt q (suc n)
 below_more q n = elim (cases_order q n) [
   | inl same ↦ rw (eq-eqb q n same, lt-ltb q (suc n) (omega arith)) refl
   | inr (inl low) ↦ rw (lt-ltb q n low, lt-ltb q (suc n) (omega arith)) (or_right (q == n) true refl)

@@ -1,6 +1,7 @@
 //! Sets of criteria of one table.
 ghost use Rattle.std.specs.Prelude.{◌≡◌, ◌↔◌, ◌<◌, ℕ, true, IsTrue};
 ghost use Rattle.std.specs.FinSet as set;
+ghost use Rattle.vet_base.specs.CriteriaSet.{meet, MeetOfNothing, MeetOfUnions};
 
 use crate::limits::MOST_CRITERIA;
 use std::marker::Model;
@@ -77,7 +78,8 @@ impl CriteriaSet {
 
     /// Whether some criterion is in both sets.
     pub fn meets(&self, other: &CriteriaSet) -> bool
-        ensures { IsTrue result ↔ ((p : ℕ) × (set.contains self.now p ≡ true) × (set.contains other.now p ≡ true)) }
+        ensures value { result ≡ meet self.now other.now }
+        ensures both { IsTrue result ↔ ((p : ℕ) × (set.contains self.now p ≡ true) × (set.contains other.now p ≡ true)) }
     {
         for place in 0..MOST_CRITERIA {
             if self.held[place] && other.held[place] {
@@ -94,3 +96,13 @@ impl CriteriaSet {
         !self.held.contains(&true)
     }
 }
+
+/// A set meets the union of two just where it meets one of them.
+pub fn meet_of_unions()
+    ensures { MeetOfUnions }
+{}
+
+/// No set meets the empty one.
+pub fn meet_of_nothing()
+    ensures { MeetOfNothing }
+{}

@@ -6,7 +6,7 @@ ghost use Rattle.std.specs.Option.{option_copied};
 ghost use Rattle.std.specs.FinSet as set;
 ghost use Rattle.std.specs.FinMap as map;
 ghost use Rattle.vet_base.specs.Name.{is_name};
-ghost use Rattle.vet_base.specs.Criteria.{Criteria, IsTable, built_in_criteria, closure_of, is_in, least_unknown, place_of, placed, ClosureIsLeast, PlacedNamesAreIn, PlacesAreOfNames};
+ghost use Rattle.vet_base.specs.Criteria.{Criteria, IsTable, built_in_criteria, closure_at, closure_of, is_in, leading_to, least_unknown, place_of, placed, ClosureIsLeast, LedTo, PlacedNamesAreIn, PlacesAreOfNames};
 ghost use Rattle.vet_base.specs.CriteriaChanges.{Answers, Refuses, is_built_in, is_full_for, is_implied, remove_verdict, set_verdict, unknown_beside};
 ghost use Rattle.vet_base.specs.CriteriaTable.{AllIn, IsClosed, IsLeastClosed, LeadsOut, OneOut};
 
@@ -111,6 +111,13 @@ impl CriteriaTable {
         None
     }
 
+    /// The names that the table holds, without what they imply.
+    pub fn set_of(&self, names: &Names) -> CriteriaSet
+        ensures { result ≡ placed self.now names.now }
+    {
+        self.places(names.as_slice())
+    }
+
     /// What some names imply in the end, and they themselves. Refused: `UnknownCriterion` of the least name
     /// that the table lacks, and then `NoMemory`.
     pub fn closure(&self, names: &Names) -> Result<CriteriaSet, Refusal>
@@ -122,7 +129,23 @@ impl CriteriaTable {
         if let Some(name) = self.least_unknown(names) {
             return Err(Refusal::UnknownCriterion(name.clone()?));
         }
-        Ok(self.close(self.places(names.as_slice())))
+        Ok(self.close(self.set_of(names)))
+    }
+
+    /// The criteria that are in the set or imply in the end one that is.
+    pub fn leading_to(&self, set: &CriteriaSet) -> CriteriaSet
+        ensures { result ≡ leading_to self.now set.now }
+    {
+        let mut leading = CriteriaSet::empty();
+        if set.is_empty() {
+            return leading;
+        }
+        for place in 0..self.names().len() {
+            if self.closure_at(place).meets(set) {
+                leading = leading.with(place);
+            }
+        }
+        leading
     }
 
     /// Whether a name is new and the table is full.
@@ -181,20 +204,26 @@ impl CriteriaTable {
     }
 
     /// Removes the criterion of a name. Refused: `UnknownCriterion` where the table lacks the name,
-    /// `BuiltInCriterion`, `CriterionInUse` where another criterion implies it, and `NoMemory` in place of the
-    /// first. After a refusal the table is as it was.
-    pub fn remove(&mut self, name: &Name) -> Result<(), Refusal>
-        ensures refused { IfSome (remove_verdict self.old name.now) (λ e. Refuses e result) }
-        ensures done { remove_verdict self.old name.now ≡ None → result ≡ Ok tt }
-        ensures ok { OnOk result (self.new ≡ map.remove self.old name.now) }
+    /// `BuiltInCriterion`, and `CriterionInUse` where another criterion implies it. After a refusal the table
+    /// is as it was. It takes no memory.
+    pub fn remove(&mut self, name: Name) -> Result<(), Refusal>
+        ensures refused { IfSome (remove_verdict self.old name) (λ e. result ≡ Err e) }
+        ensures done { remove_verdict self.old name ≡ None → result ≡ Ok tt }
+        ensures ok { OnOk result (self.new ≡ map.remove self.old name) }
         ensures err { OnErr result (self.new ≡ self.old) }
         ensures table { IsTable self.new }
     {
-        self.check_remove(name)?;
-        if let Ok(place) = self.names.binary_search(name) {
-            let _ = self.names.remove(place);
-            let _ = self.criteria.remove(place);
+        let Ok(place) = self.names.binary_search(&name) else {
+            return Err(Refusal::UnknownCriterion(name));
+        };
+        if is_built_in(&name) {
+            return Err(Refusal::BuiltInCriterion);
         }
+        if self.is_implied(&name) {
+            return Err(Refusal::CriterionInUse);
+        }
+        let _ = self.names.remove(place);
+        let _ = self.criteria.remove(place);
         Ok(())
     }
 }
@@ -244,6 +273,12 @@ pub fn places_are_of_names()
     ensures { PlacesAreOfNames }
 {}
 
+/// The criterion at a place leads to a set just where its closure meets it; none stands past the table's
+/// end.
+pub fn led_to()
+    ensures { LedTo }
+{}
+
 // A criterion of no more than a name and what it implies.
 fn built_in(alloc: Global, name: &str, implies: Names) -> Result<Criterion, Refusal>
     requires { is_name name.now ≡ true }
@@ -271,6 +306,15 @@ impl CriteriaTable {
             }
         }
         places
+    }
+
+    // What the criterion at a place implies in the end, and it itself.
+    fn closure_at(&self, place: usize) -> CriteriaSet
+        requires within { place < map.len self.now }
+        requires few { place < MOST_CRITERIA }
+        ensures { result ≡ closure_at self.now place }
+    {
+        self.close(CriteriaSet::empty().with(place))
     }
 
     // Adds to a set what its names imply, until nothing is missing.
@@ -331,22 +375,6 @@ impl CriteriaTable {
         }
         Ok(())
     }
-
-    // Whether a name may be removed.
-    fn check_remove(&self, name: &Name) -> Result<(), Refusal>
-        ensures { Answers (remove_verdict self.now name.now) result }
-    {
-        if !self.has(name) {
-            return Err(Refusal::UnknownCriterion(name.clone()?));
-        }
-        if is_built_in(name) {
-            return Err(Refusal::BuiltInCriterion);
-        }
-        if self.is_implied(name) {
-            return Err(Refusal::CriterionInUse);
-        }
-        Ok(())
-    }
 }
 
 // Puts a criterion and its name at a place of their lists, or at none.
@@ -372,6 +400,3 @@ fn put(
     }
     Ok(())
 }
-
-#[cfg(test)]
-mod tests;

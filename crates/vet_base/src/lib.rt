@@ -11,14 +11,13 @@ pub mod criteria_set;
 pub mod criteria_table;
 pub mod criterion;
 pub mod day;
+pub mod delta;
 pub mod key_text;
 pub mod limits;
 pub mod name;
 pub mod names;
 pub mod refusal;
 pub mod req;
-#[cfg(test)]
-mod tests;
 pub mod text;
 pub mod texts;
 pub mod version;

@@ -39,6 +39,9 @@ pub const MOST_ENTRIES: usize = 100_000;
 /// The most publisher records.
 pub const MOST_PUBLISHERS: usize = 100_000;
 
+/// The most days from the day of the command that adds it to the last day of a window.
+pub const MOST_WINDOW_DAYS: u32 = 366;
+
 /// The most policies.
 pub const MOST_POLICIES: usize = 10_000;
 

@@ -128,6 +128,3 @@ fn semver_req(alloc: Global, text: &str) -> Result<Option<VersionReq>, AllocErro
         }
     }
 }
-
-#[cfg(test)]
-mod tests;

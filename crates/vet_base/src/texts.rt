@@ -106,6 +106,3 @@ impl Eq for Texts {
 
     ghost laws = { same_names_equiv };
 }
-
-#[cfg(test)]
-mod tests;

@@ -63,6 +63,16 @@ impl VetVersion {
         VetVersion::read(alloc, text)?.ok_or(Refusal::BadVersion)
     }
 
+    /// The forty digits of the revision, in small letters, if there is one.
+    pub fn revision(&self) -> Option<&str>
+        ensures { option_map (λ r. r.now) result ≡ self.now.revision }
+    {
+        match &self.revision {
+            Some(revision) => Some(revision.as_str()),
+            None => None,
+        }
+    }
+
     // V, as SemVer reads it.
     pub(crate) fn semver(&self) -> &Version
         ensures { parts_of result.now ≡ self.now.parts }

@@ -1,6 +1,6 @@
 -- The order of packages, and what an edit leaves of it.
-use Rattle.std.proofs.Common.{◌≡◌, ℕ, zero, suc, ◌+◌, ◌-◌, ◌<◌, ◌≤◌, ◌==◌, Bool, true, false, not, cond, ◌&&◌, List, [], ◌∷◌, ◌++◌, map, length, get_or, ltb, ltb-true, ltb-false, lt-ltb, le-ltb, take, drop, Ordering, Less, Equal, Greater, refl, sym, ap, subst, ◌∙◌, arith, eqb-true, eq-eqb}
-use Rattle.std.specs.List.{All, between, filter, insert, remove, range_with_len}
+use Rattle.std.proofs.Common.{◌≡◌, ℕ, ◌+◌, ◌-◌, ◌<◌, ◌≤◌, Bool, true, false, cond, List, ◌∷◌, ◌++◌, map, length, get_or, ltb, ltb-true, ltb-false, lt-ltb, le-ltb, take, drop, refl, sym, ap, subst, ◌∙◌, arith}
+use Rattle.std.specs.List.{All, between, filter, insert, range_with_len}
 use Rattle.std.specs.List.Sorted.{IsNonDecreasingBy, IsPartitionPoint}
 use Rattle.std.specs.Ordering.{is_eq, ordering_index}
 use Rattle.std.proofs.lemmas.List.{get_or-map, get_or-take, get_or-drop, length-drop, length-map, length-take, map-append, take-map, drop-map, take-append-le, drop-append-le, take-append-drop, length-take-le}
@@ -11,7 +11,7 @@ use Rattle.std.proofs.lemmas.List.Kept.{IsNonDecreasingBy-filter}
 use Rattle.std.proofs.lemmas.List.Edits.{split_between, length-insert, length-between}
 use Rattle.std.proofs.lemmas.List.Sorted.{IsNonDecreasingBy-insert}
 use Rattle.vet_entries.specs.declared.facts.HeldEntry.{HeldEntry}
-use Rattle.vet_entries.specs.ByPackage.{IsByPackage, IsRange, IsSlot, stand, is_at, places_of, up, down}
+use Rattle.vet_entries.specs.ByPackage.{IsByPackage, IsRange, IsSlot, stand, is_at, places_of, up}
 use Rattle.vet_entries.proofs.Places.{cut_alike, filter-map, filter_front, filter_drops, filter_keeps, in_range, map_range, range_around, range_cut, up_above, up_below, up_within}
 use Rattle.vet_entries.proofs.Standing.{R, same_name, stand_up, stand_new, stands_to_new}
 

@@ -2,6 +2,10 @@ pub mod ByPackage
 pub mod Edits
 pub mod Gathered
 pub mod Numbers
+pub mod PackageRecords
 pub mod Places
+pub mod Records
 pub mod Removed
+pub mod SetRecords
 pub mod Standing
+pub mod Violations

@@ -1,5 +1,5 @@
 -- Entries and their numbers.
-use Rattle.std.proofs.Common.{◌≡◌, ℕ, ◌+◌, ◌<◌, ◌&&◌, Bool, true, false, cond, List, [], ◌∷◌, ◌++◌, length, Option, Some, None, refl, sym, ap, ◌∙◌, arith}
+use Rattle.std.proofs.Common.{◌≡◌, ℕ, ◌+◌, ◌&&◌, Bool, true, false, cond, List, [], ◌∷◌, ◌++◌, length, Option, Some, refl, sym, ap, ◌∙◌, arith}
 use Rattle.std.specs.Prelude.{option_map}
 use Rattle.std.specs.List.{filter}
 use Rattle.std.specs.Option.{option_eq}
@@ -7,8 +7,9 @@ use Rattle.std.specs.Str.{bytes_eq}
 use Rattle.vet_base.specs.Names.{same_names}
 use Rattle.vet_entries.specs.declared.entry.Entry.{Entry}
 use Rattle.vet_entries.specs.declared.facts.HeldEntry.{HeldEntry}
-use Rattle.vet_entries.specs.Entry.{entry_eq, flags_eq, kind_eq, own, source_eq}
+use Rattle.vet_entries.specs.Entry.{entry_eq, own, source_eq}
 use Rattle.vet_entries.specs.Facts.{number_of, numbered}
+use Rattle.vet_entries.specs.Kind.{kind_eq}
 use Rattle.vet_entries.specs.Step.{is_of}
 
 held_number : (n m : ℕ) (entry : Entry) → n ≡ m → ◌≡◌ {A = HeldEntry} (record { number = n; entry = entry }) (record { number = m; entry = entry })
@@ -32,7 +33,7 @@ pub another_package : (a b : Entry) → bytes_eq a.«package» b.«package» ≡
 another_package a b other = ap (λ s. source_eq a.source b.source && (s && rest)) other ∙ and_no (source_eq a.source b.source)
   where
     rest : Bool
-    rest = kind_eq a.kind b.kind && (same_names a.criteria b.criteria && (same_names a.who b.who && (option_eq bytes_eq a.notes b.notes && flags_eq a.flags b.flags)))
+    rest = kind_eq a.kind b.kind && (same_names a.criteria b.criteria && option_eq bytes_eq a.notes b.notes)
 
     and_no : (s : Bool) → (s && false) ≡ false
     and_no true = refl

@@ -1,4 +1,4 @@
--- What is held of packages (ours): a table of criteria, and entries by their numbers.
+-- What is held of packages (ours): a table of criteria, entries by their numbers, and publisher records by package.
 use Rattle.std.specs.Prelude.{ℕ, ◌<◌, ◌≤◌, ◌+◌, ◌-◌, ◌==◌, Bool, List, [], ◌∷◌, Option, length, find, option_map, insert, remove}
 use Rattle.std.specs.List.{position}
 use Rattle.std.specs.Coded.{Coded, code_by, coded×, coded_list, coded_ℕ}
@@ -10,30 +10,38 @@ use Rattle.vet_entries.specs.declared.entry.Entry.{Entry}
 use Rattle.vet_entries.specs.declared.facts.Edit.{Edit}
 use Rattle.vet_entries.specs.declared.facts.Edit.TheVariants as edit
 use Rattle.vet_entries.specs.declared.facts.HeldEntry.{HeldEntry}
+use Rattle.vet_entries.specs.declared.publisher_records.PackagePublishers.{PackagePublishers}
 use Rattle.vet_entries.specs.Entry.{entry_eq, own}
+use Rattle.vet_entries.specs.PublisherRecords.{FitsPublishers, PublishersRoom, edited_publishers, publishers_room_after}
 
--- the criteria, and the entries in the order of their numbers
+-- the criteria, the entries in the order of their numbers, and the publisher records of packages in the order of their names
 pub record Facts : Type 0 where
   pub criteria : Criteria
   pub entries : List HeldEntry
+  pub publishers : List PackagePublishers
 
--- facts, and for how many more entries there is room
+-- facts, and for how many more entries and packages with records there is room
 pub record FactsRoom : Type 0 where
   pub content : Facts
-  pub room : ℕ
+  pub entry_room : ℕ
+  pub package_room : ℕ
 
--- facts are stored as the tuple of the table, the entries and the room
-abbrev pub facts_room_code : Coded HeldEntry → Coded FactsRoom
-facts_room_code held_code =
-    code_by (Criteria × (List HeldEntry × ℕ))
-    (coded× (map.code (coded_list coded_ℕ) criterion_code) (coded× (coded_list held_code) coded_ℕ))
-    (λ f. (f.content.criteria, (f.content.entries, f.room)))
-    (λ p. record { content = record { criteria = p.0; entries = p.1.0 }; room = p.1.1 })
+-- facts are stored as the tuple of the table, the entries, the records and the rooms
+abbrev pub facts_room_code : Coded HeldEntry → Coded PackagePublishers → Coded FactsRoom
+facts_room_code held_code publishers_code =
+    code_by (Criteria × (List HeldEntry × (List PackagePublishers × (ℕ × ℕ))))
+    (coded× (map.code (coded_list coded_ℕ) criterion_code) (coded× (coded_list held_code) (coded× (coded_list publishers_code) (coded× coded_ℕ coded_ℕ))))
+    (λ f. (f.content.criteria, (f.content.entries, (f.content.publishers, (f.entry_room, f.package_room)))))
+    (λ p. record { content = record { criteria = p.0; entries = p.1.0; publishers = p.1.1.0 }; entry_room = p.1.1.1.0; package_room = p.1.1.1.1 })
     (λ _. refl)
+
+-- the publisher records, and for how many more packages there is room
+abbrev pub publishers_room : FactsRoom → PublishersRoom
+publishers_room facts = record { packages = facts.content.publishers; room = facts.package_room }
 
 -- nothing but the built-in criteria
 abbrev pub no_facts : Facts
-no_facts = record { criteria = built_in_criteria; entries = [] }
+no_facts = record { criteria = built_in_criteria; entries = []; publishers = [] }
 
 -- some entries, with numbers from one on
 abbrev pub numbered : ℕ → List Entry → List HeldEntry
@@ -63,15 +71,23 @@ abbrev pub edited : Edit → Facts → Facts
 edited (edit.Criteria table) facts = record facts { criteria = table }
 edited (edit.Insert place held) facts = record facts { entries = insert facts.entries place held }
 edited (edit.Remove place) facts = record facts { entries = remove facts.entries place }
+edited (edit.Publishers change) facts = record facts { publishers = edited_publishers change facts.publishers }
 
 -- an edit can be made, and takes no memory
 abbrev pub Fits : Edit → FactsRoom → Type 0
 Fits (edit.Criteria table) facts = Unit {0}
-Fits (edit.Insert place held) facts = (place ≤ length facts.content.entries) × (0 < facts.room)
+Fits (edit.Insert place held) facts = (place ≤ length facts.content.entries) × (0 < facts.entry_room)
 Fits (edit.Remove place) facts = place < length facts.content.entries
+Fits (edit.Publishers change) facts = FitsPublishers change (publishers_room facts)
 
--- the room after an edit
-abbrev pub room_after : Edit → ℕ → ℕ
-room_after (edit.Criteria table) room = room
-room_after (edit.Insert place held) room = room - 1
-room_after (edit.Remove place) room = room + 1
+-- the room for entries after an edit
+abbrev pub entry_room_after : Edit → ℕ → ℕ
+entry_room_after (edit.Criteria table) room = room
+entry_room_after (edit.Insert place held) room = room - 1
+entry_room_after (edit.Remove place) room = room + 1
+entry_room_after (edit.Publishers change) room = room
+
+-- the room for packages with records after an edit
+abbrev pub package_room_after : Edit → ℕ → ℕ
+package_room_after (edit.Publishers change) room = publishers_room_after change room
+package_room_after _ room = room

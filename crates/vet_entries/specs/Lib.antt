@@ -1,4 +1,10 @@
 pub mod ByPackage
+pub mod Condemned
 pub mod Entry
 pub mod Facts
+pub mod Kind
+pub mod Publisher
+pub mod PublisherLaws
+pub mod PublisherRecords
+pub mod Publishers
 pub mod Step

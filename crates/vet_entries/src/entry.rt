@@ -1,13 +1,12 @@
 //! Entries: what somebody vouches for.
 ghost use Rattle.std.specs.Prelude.{◌≡◌, ◌↔◌, IfOk, IsTrue};
-ghost use Rattle.vet_entries.specs.Entry.{entry_eq, no_flags, own, says_same};
+ghost use Rattle.vet_entries.specs.Entry.{entry_eq, own, says_same};
 
+use crate::kind::Kind;
 use std::alloc::AllocError;
 use vet_base::name::{Name, PackageName};
 use vet_base::names::Names;
 use vet_base::text::Text;
-use vet_base::texts::Texts;
-use vet_base::version::VetVersion;
 
 /// Whose an entry is.
 #[derive(Clone, Debug, Drop)]
@@ -42,76 +41,6 @@ impl Eq for Source {
     ghost laws = { decided source_eq source_eq-Decides };
 }
 
-/// What an entry says of its package (The Cargo Vet Book, audit entries and exemptions).
-#[derive(Debug, Drop)]
-pub enum Kind {
-    /// This version was reviewed in full.
-    Full(VetVersion),
-    /// This version is vouched for without a review.
-    Exemption(VetVersion),
-}
-
-impl Clone for Kind {
-    ghost use Rattle.std.specs.Prelude.{◌≡◌};
-
-    ghost is_clone = { λ a b. b ≡ a };
-
-    fn clone(&self) -> Result<Kind, AllocError> {
-        match self {
-            Kind::Full(version) => Ok(Kind::Full(version.clone()?)),
-            Kind::Exemption(version) => Ok(Kind::Exemption(version.clone()?)),
-        }
-    }
-}
-
-impl PartialEq for Kind {
-    ghost use Rattle.std.specs.Cmp.{decided, partial_equiv_from_equiv};
-    ghost use Rattle.vet_entries.specs.Entry.{kind_eq, kind_eq-Decides};
-
-    ghost eq = { kind_eq };
-
-    ghost laws = { partial_equiv_from_equiv (decided kind_eq kind_eq-Decides) };
-
-    fn eq(&self, other: &Kind) -> bool {
-        match (self, other) {
-            (Kind::Full(version), Kind::Full(other)) => version == other,
-            (Kind::Exemption(version), Kind::Exemption(other)) => version == other,
-            _ => false,
-        }
-    }
-}
-
-impl Eq for Kind {
-    ghost use Rattle.std.specs.Cmp.{decided};
-    ghost use Rattle.vet_entries.specs.Entry.{kind_eq, kind_eq-Decides};
-
-    ghost laws = { decided kind_eq kind_eq-Decides };
-}
-
-/// What an entry says to tools, where it says it.
-#[derive(Clone, Copy, Debug, PartialEq, Eq)]
-pub struct Flags {
-    /// Whether to suggest a review in place of an exemption.
-    pub suggest: Option<bool>,
-    /// Whether a window is to be renewed.
-    pub renew: Option<bool>,
-    /// Whether others may import the entry.
-    pub importable: Option<bool>,
-}
-
-impl Flags {
-    /// Nothing is said.
-    pub fn none() -> Flags
-        ensures { result ≡ no_flags }
-    {
-        Flags {
-            suggest: None,
-            renew: None,
-            importable: None,
-        }
-    }
-}
-
 /// An entry: a package, what is said of it, and for which criteria.
 #[derive(Debug, Drop)]
 pub struct Entry {
@@ -119,10 +48,7 @@ pub struct Entry {
     pub package: PackageName,
     pub kind: Kind,
     pub criteria: Names,
-    /// Who reviewed, in the order of their bytes, each once.
-    pub who: Texts,
     pub notes: Option<Text>,
-    pub flags: Flags,
 }
 
 impl Entry {
@@ -135,9 +61,7 @@ impl Entry {
             package: self.package.clone()?,
             kind: self.kind.clone()?,
             criteria: self.criteria.clone()?,
-            who: self.who.clone()?,
             notes: notes_copied(&self.notes)?,
-            flags: self.flags,
         })
     }
 
@@ -155,9 +79,7 @@ impl Entry {
         self.package == other.package
             && self.kind == other.kind
             && self.criteria == other.criteria
-            && self.who == other.who
             && self.notes == other.notes
-            && self.flags == other.flags
     }
 }
 

@@ -1,13 +1,20 @@
 //! What is held of packages.
-ghost use Rattle.std.specs.Prelude.{◌≡◌, ◌<◌, ◌≤◌, IfOk, IfErr, OnOk, OnErr, Ok, filter, length};
+ghost use Rattle.std.specs.Prelude.{◌≡◌, ◌<◌, ◌≤◌, ◌+◌, ◌^◌, [], IfOk, IfErr, OnOk, OnErr, Ok, filter, length, nat_lt};
 ghost use Rattle.std.specs.List.{All, list_any};
 ghost use Rattle.vet_base.specs.Criteria.{IsTable};
 ghost use Rattle.vet_entries.specs.ByPackage.{gathered};
-ghost use Rattle.vet_entries.specs.Facts.{Fits, edited, is_named_by, no_facts, number_of, numbered, place_of, room_after};
+ghost use Rattle.vet_entries.specs.Facts.{Fits, edited, entry_room_after, is_named_by, no_facts, number_of, numbered, package_room_after, place_of, publishers_room};
+ghost use Rattle.vet_entries.specs.PublisherRecords.{IsByName, records_of, records_total, with_records};
+ghost use Rattle.vet_entries.specs.Publishers.{IsInOrder};
 ghost use Rattle.vet_entries.specs.Step.{is_of};
 
 use crate::by_package::ByPackage;
 use crate::entry::Entry;
+use crate::publisher::Publisher;
+use crate::publisher_records::{
+    PackagePublishers, PublisherRecords, PublishersEdit, records_after_setting,
+};
+use crate::publishers::Publishers;
 use std::alloc::Global;
 use std::marker::Model;
 use vet_base::criteria_table::CriteriaTable;
@@ -21,11 +28,12 @@ pub struct HeldEntry {
     pub entry: Entry,
 }
 
-/// A table of criteria, and entries in the order of their numbers.
+/// A table of criteria, entries in the order of their numbers, and publisher records by package.
 #[derive(Debug, Drop)]
 pub struct EntryFacts {
     criteria: CriteriaTable,
     entries: ByPackage,
+    publishers: PublisherRecords,
 }
 
 /// A change of what is held, which takes no memory.
@@ -37,24 +45,32 @@ pub enum Edit {
     Insert(usize, HeldEntry),
     /// The entry at this place goes.
     Remove(usize),
+    /// The publisher records of a package change.
+    Publishers(PublishersEdit),
 }
 
 impl Model for EntryFacts {
     ghost use Rattle.vet_entries.specs.Facts.{FactsRoom, facts_room_code};
     ghost use Rattle.vet_entries.specs.contracts.facts.HeldEntry as held;
+    ghost use Rattle.vet_entries.specs.contracts.publisher_records.PackagePublishers as listed;
 
     ghost Value = { FactsRoom };
 
-    ghost coded = { facts_room_code held.the_row.coded };
+    ghost coded = { facts_room_code held.the_row.coded listed.the_row.coded };
 
     ghost view = { λ f. record {
-      content = record { criteria = f.criteria; entries = f.entries.entries };
-      room = f.entries.room;
+      content = record {
+        criteria = f.criteria;
+        entries = f.entries.entries;
+        publishers = f.publishers.packages;
+      };
+      entry_room = f.entries.room;
+      package_room = f.publishers.room;
     } };
 }
 
 impl EntryFacts {
-    /// The built-in criteria, and no entries. Refused: `NoMemory`.
+    /// The built-in criteria, no entries and no publisher records. Refused: `NoMemory`.
     pub fn new(alloc: Global) -> Result<EntryFacts, Refusal>
         ensures ok { IfOk result (λ f. f.content ≡ no_facts) }
         ensures table { IfOk result (λ f. IsTable f.content.criteria) }
@@ -63,22 +79,25 @@ impl EntryFacts {
         Ok(EntryFacts {
             criteria: CriteriaTable::new(alloc)?,
             entries: ByPackage::new(alloc),
+            publishers: PublisherRecords::new(alloc),
         })
     }
 
-    /// A table of criteria, and some entries, which are given the numbers from one on. Refused: `NoMemory`.
+    /// A table of criteria, and some entries, which are given the numbers from one on, without publisher
+    /// records. Refused: `NoMemory`.
     pub fn of(
         alloc: Global,
         criteria: CriteriaTable,
         entries: Vec<Entry>,
     ) -> Result<EntryFacts, Refusal>
         ensures ok { IfOk result (λ f.
-            f.content ≡ record { criteria = criteria; entries = numbered 1 entries.items }) }
+            f.content ≡ record { criteria = criteria; entries = numbered 1 entries.items; publishers = [] }) }
         ensures memory { IfErr result (λ e. e ≡ Refusal.NoMemory) }
     {
         Ok(EntryFacts {
             criteria,
             entries: numbered(alloc, entries)?,
+            publishers: PublisherRecords::new(alloc),
         })
     }
 
@@ -94,6 +113,30 @@ impl EntryFacts {
         ensures { result.now ≡ self.now.content.entries }
     {
         self.entries.entries()
+    }
+
+    /// The packages that have publisher records, in the order of their names.
+    pub fn publishers(&self) -> &[PackagePublishers]
+        ensures value { result.now ≡ self.now.content.publishers }
+        ensures by_name { IsByName self.now.content.publishers }
+    {
+        self.publishers.packages()
+    }
+
+    /// The publisher records of a package, in their order. Costs a binary search among the packages that have
+    /// some.
+    pub fn records_of(&self, package: &PackageName) -> &[Publisher]
+        ensures value { result.now ≡ records_of self.now.content.publishers «package».now }
+        ensures in_order { IsInOrder result.now }
+    {
+        self.publishers.records_of(package)
+    }
+
+    /// How many publisher records there are of all packages.
+    pub fn records_total(&self) -> usize
+        ensures { result ≡ records_total self.now.content.publishers }
+    {
+        self.publishers.total()
     }
 
     // The places of a package's entries, in rising order.
@@ -140,26 +183,85 @@ impl EntryFacts {
     /// the room. Refused: `NoMemory`.
     pub fn reserve(&mut self) -> Result<(), Refusal>
         ensures content { self.new.content ≡ self.old.content }
-        ensures ok { OnOk result (0 < self.new.room) }
-        ensures kept { self.old.room ≤ self.new.room }
-        ensures err { OnErr result (self.new.room ≡ self.old.room) }
-        ensures succeeds { 0 < self.old.room → result ≡ Ok tt }
+        ensures ok { OnOk result (0 < self.new.entry_room) }
+        ensures kept { self.old.entry_room ≤ self.new.entry_room }
+        ensures packages { self.new.package_room ≡ self.old.package_room }
+        ensures err { OnErr result (self.new.entry_room ≡ self.old.entry_room) }
+        ensures succeeds { 0 < self.old.entry_room → result ≡ Ok tt }
         ensures memory { IfErr result (λ e. e ≡ Refusal.NoMemory) }
     {
         self.entries.reserve()?;
         Ok(())
     }
 
+    /// Whether there would be more publisher records than this, if these were set for a package. Costs a binary
+    /// search among the packages that have some.
+    pub fn records_would_pass(
+        &self,
+        most: usize,
+        package: &PackageName,
+        publishers: &Publishers,
+    ) -> bool
+        ensures { result ≡ nat_lt most
+            (records_total (with_records «package».now publishers.now self.now.content.publishers)) }
+    {
+        records_after_setting(&self.publishers, package, publishers);
+        let others = self.records_total() - self.records_of(package).len();
+        if publishers.len() > most {
+            return true;
+        }
+        others > most - publishers.len()
+    }
+
+    /// The packages stay in order when publisher records are set, which are in order themselves.
+    pub fn records_stay_in_order(&self, package: &PackageName, publishers: &Publishers)
+        ensures by_name { IsByName
+            (with_records «package».now publishers.now self.now.content.publishers) }
+        ensures in_order { IsInOrder publishers.now }
+    {
+        records_after_setting(&self.publishers, package, publishers);
+        let _ = publishers.as_slice();
+    }
+
+    /// The edit that puts these publisher records in place of those of a package, and room for it. Asks that
+    /// there are some in one or the other, and that all records together can be counted. Costs a binary search
+    /// among the packages that have records, and a copy of these; for a new package at times a move of all
+    /// packages to twice the room. Refused: `NoMemory`.
+    pub fn publishers_edit(
+        &mut self,
+        package: &PackageName,
+        publishers: &Publishers,
+    ) -> Result<Edit, Refusal>
+        requires some { records_of self.old.content.publishers «package».now ≡ []
+            → publishers.now ≡ [] → ⊥ }
+        requires counted { records_total
+            (with_records «package».now publishers.now self.old.content.publishers) < 2 ^ 64 }
+        ensures edit { IfOk result (λ e. edited e self.old.content ≡ record self.old.content {
+          publishers = with_records «package».now publishers.now self.old.content.publishers;
+        }) }
+        ensures fits { IfOk result (λ e. Fits e self.new) }
+        ensures content { self.new.content ≡ self.old.content }
+        ensures entries { self.new.entry_room ≡ self.old.entry_room }
+        ensures kept { self.old.package_room ≤ self.new.package_room }
+        ensures memory { IfErr result (λ e. e ≡ Refusal.NoMemory) }
+    {
+        let change = self.publishers.edit_for(package, publishers)?;
+        Ok(Edit::Publishers(change))
+    }
+
     /// Makes an edit, and answers the one that undoes it. An insert behind all entries costs three binary
     /// searches, and a move of the places behind its own in the order of packages, which are numbers; an insert
     /// in front of entries, or a remove, passes over the places of all entries, and moves those behind it.
+    /// Records of a package are exchanged as a whole; a package that comes or goes moves those behind it.
     pub fn apply(&mut self, edit: Edit) -> Edit
         requires { Fits edit self.old }
         ensures content { self.new.content ≡ edited edit self.old.content }
-        ensures room { self.new.room ≡ room_after edit self.old.room }
+        ensures room { self.new.entry_room ≡ entry_room_after edit self.old.entry_room }
+        ensures packages { self.new.package_room ≡ package_room_after edit self.old.package_room }
         ensures fits { Fits result self.new }
         ensures back { edited result self.new.content ≡ self.old.content }
-        ensures room_back { room_after result self.new.room ≡ self.old.room }
+        ensures room_back { entry_room_after result self.new.entry_room ≡ self.old.entry_room }
+        ensures packages_back { package_room_after result self.new.package_room ≡ self.old.package_room }
     {
         match edit {
             Edit::Criteria(table) => Edit::Criteria(std::mem::replace(&mut self.criteria, table)),
@@ -168,6 +270,7 @@ impl EntryFacts {
                 Edit::Remove(place)
             }
             Edit::Remove(place) => Edit::Insert(place, self.entries.remove(place)),
+            Edit::Publishers(change) => Edit::Publishers(self.publishers.apply(change)),
         }
     }
 }

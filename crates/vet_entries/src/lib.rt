@@ -8,6 +8,12 @@
 #![tactic(auto)]
 
 mod by_package;
+pub mod condemned;
 pub mod entry;
 pub mod facts;
+pub mod kind;
+pub mod publisher;
+pub mod publisher_records;
+pub mod publishers;
 pub mod step;
+pub mod user;

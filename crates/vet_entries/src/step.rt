@@ -1,13 +1,15 @@
 //! Steps of trust, and those that entries give.
 ghost use Rattle.std.specs.Prelude.{◌≡◌, ◌++◌, ◌∷◌, [], IfOk, IfErr, OnOk, None};
 ghost use Rattle.std.specs.List.{All};
-ghost use Rattle.vet_entries.specs.Step.{HasKnownCriteria, entry_steps, first_step, kind_steps, steps_of};
+ghost use Rattle.vet_entries.specs.Step.{HasKnownCriteria, delta_step, entry_steps, first_step, is_covered, steps_of, window_steps};
 
-use crate::entry::Kind;
 use crate::facts::{EntryFacts, HeldEntry};
+use crate::kind::{Kind, Window};
+use crate::publisher::Publisher;
 use std::alloc::{AllocError, Global};
 use vet_base::criteria_set::CriteriaSet;
 use vet_base::criteria_table::CriteriaTable;
+use vet_base::delta::Delta;
 use vet_base::name::PackageName;
 use vet_base::refusal::Refusal;
 use vet_base::version::VetVersion;
@@ -25,9 +27,10 @@ pub struct Step {
     pub exempt: bool,
 }
 
-/// The steps of a package, by the numbers of the entries that give them. Asks that the criteria of each
-/// entry are in the table. Costs two binary searches among all entries, and a look at each of the package's,
-/// whose criteria it closes. Refused: `NoMemory`.
+/// The steps of a package, by the numbers of the entries that give them and, of one entry, in the order of the
+/// publisher records. Asks that the criteria of each entry are in the table. Costs two binary searches among
+/// all entries, and a look at each of the package's, whose criteria it closes; for each window among them a
+/// look at each of the package's publisher records. Refused: `NoMemory`.
 pub fn steps_of(
     alloc: Global,
     package: &PackageName,
@@ -39,9 +42,10 @@ pub fn steps_of(
 {
     let mut steps = Vec::new(alloc);
     let criteria = facts.criteria();
+    let records = facts.records_of(package);
     let entries = facts.entries();
     for place in facts.places_of(package) {
-        add_steps(&mut steps, &entries[*place], criteria)?;
+        add_steps(&mut steps, &entries[*place], records, criteria)?;
     }
     Ok(steps)
 }
@@ -50,25 +54,62 @@ pub fn steps_of(
 fn add_steps(
     steps: &mut Vec<Step>,
     held: &HeldEntry,
+    records: &[Publisher],
     criteria: &CriteriaTable,
 ) -> Result<(), Refusal>
     requires { HasKnownCriteria criteria.now held.now }
-    ensures ok { OnOk result (steps.new.items ≡ steps.old.items ++ entry_steps criteria.now held.now) }
+    ensures ok { OnOk result (steps.new.items
+        ≡ steps.old.items ++ entry_steps criteria.now records.now held.now) }
     ensures memory { IfErr result (λ e. e ≡ Refusal.NoMemory) }
 {
     let closed = criteria.closure(&held.entry.criteria)?;
-    steps.push(kind_step(&held.entry.kind, closed)?)?;
+    match &held.entry.kind {
+        Kind::Full(version, _) => steps.push(first_step(version, closed, false)?)?,
+        Kind::Delta(delta, _) => steps.push(delta_step(delta, closed)?)?,
+        Kind::Violation(_, _) => {}
+        Kind::Wildcard(window, _) => add_window(steps, window, records, closed)?,
+        Kind::Trusted(window) => add_window(steps, window, records, closed)?,
+        Kind::Exemption { version, .. } => steps.push(first_step(version, closed, true)?)?,
+    }
     Ok(())
 }
 
-// The step that a kind gives.
-fn kind_step(kind: &Kind, criteria: CriteriaSet) -> Result<Step, AllocError>
-    ensures { IfOk result (λ step. step ∷ [] ≡ kind_steps criteria kind.now) }
+// Adds the steps that a window gives.
+fn add_window(
+    steps: &mut Vec<Step>,
+    window: &Window,
+    records: &[Publisher],
+    criteria: CriteriaSet,
+) -> Result<(), AllocError>
+    ensures { OnOk result (steps.new.items ≡ steps.old.items ++ window_steps criteria records.now window.now) }
 {
-    match kind {
-        Kind::Full(version) => first_step(version, criteria, false),
-        Kind::Exemption(version) => first_step(version, criteria, true),
+    for published in records {
+        if window.covers(published) {
+            steps.push(first_step(&published.version, criteria, false)?)?;
+        }
     }
+    Ok(())
+}
+
+impl Window {
+    // Whether a record is of the window's user, and of one of its days.
+    fn covers(&self, published: &Publisher) -> bool
+        ensures { result ≡ is_covered self.now published.now }
+    {
+        published.user == self.user && self.first <= published.day && published.day <= self.last
+    }
+}
+
+// A step from one version to another.
+fn delta_step(delta: &Delta, criteria: CriteriaSet) -> Result<Step, AllocError>
+    ensures { IfOk result (λ step. step ≡ delta_step criteria delta.now) }
+{
+    Ok(Step {
+        origin: Some(delta.from.clone()?),
+        target: delta.to.clone()?,
+        criteria,
+        exempt: false,
+    })
 }
 
 // A step from nothing to a version.

@@ -1,7 +1,9 @@
 pub mod Balance
+pub mod ChainKinds
 pub mod ClassSearch
 pub mod Differences
-pub mod FirstSteps
+pub mod Linking
+pub mod Reach
 pub mod SameClass
-pub mod SingleSteps
+pub mod Standings
 pub mod Walk

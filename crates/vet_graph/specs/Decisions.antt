@@ -56,10 +56,10 @@ pub some : {X : Type 0} (P : X → Type 0) → ((x : X) → Answer (P x)) → (x
 some P a [] = inr (λ h. absurd (omega (arith, h.1.1)))
 some P a (x ∷ xs) = some_more P x xs (a x) (some P a xs)
 
-AllPairs-head : {X : Type 0} (R : X → X → Type 0) (x : X) (xs : List X) → AllPairs R (x ∷ xs) → All (R x) xs
+pub AllPairs-head : {X : Type 0} (R : X → X → Type 0) (x : X) (xs : List X) → AllPairs R (x ∷ xs) → All (R x) xs
 AllPairs-head R x xs h k d l = h 0 (suc k) d (omega arith) (omega arith)
 
-AllPairs-tail : {X : Type 0} (R : X → X → Type 0) (x : X) (xs : List X) → AllPairs R (x ∷ xs) → AllPairs R xs
+pub AllPairs-tail : {X : Type 0} (R : X → X → Type 0) (x : X) (xs : List X) → AllPairs R (x ∷ xs) → AllPairs R xs
 AllPairs-tail R x xs h i j d l m = h (suc i) (suc j) d (omega arith) (omega arith)
 
 pub each_pair : {X : Type 0} (R : X → X → Type 0) → ((x y : X) → Answer (R x y)) → (xs : List X) → Answer (AllPairs R xs)

@@ -2,6 +2,11 @@ pub mod Chain
 pub mod Class
 pub mod ClassAt
 pub mod Decisions
+pub mod Links
 pub mod Moves
+pub mod Plain
+pub mod Reaching
+pub mod Search
 pub mod Standing
 pub mod StandingOf
+pub mod Touched

@@ -1,26 +1,31 @@
 -- The class of each demanded pair, as chains of the entries' steps give it (ours).
-use Rattle.std.specs.Prelude.{◌≡◌, List, map}
+use Rattle.std.specs.Prelude.{◌≡◌, ℕ, true, List, map}
+use Rattle.std.specs.FinMap as table
 use Rattle.std.specs.Option.{option_map_or}
 use Rattle.std.specs.List.{All}
 use Rattle.vet_base.specs.Criteria.{Criteria, place_of}
 use Rattle.vet_demand.specs.declared.pair.Pair.{Pair}
+use Rattle.vet_entries.specs.Condemned.{is_condemned}
 use Rattle.vet_entries.specs.Facts.{Facts}
 use Rattle.vet_entries.specs.declared.step.Step.{Step}
 use Rattle.vet_entries.specs.Step.{HasKnownCriteria, steps_of}
-use Rattle.vet_graph.specs.Chain.{none_condemned}
+use Rattle.vet_graph.specs.Chain.{Condemned}
 use Rattle.vet_graph.specs.ClassAt.{class_at}
 use Rattle.vet_graph.specs.declared.class.Class.{Class}
 use Rattle.vet_graph.specs.declared.class.Class.TheVariants.{Unvetted}
 use Rattle.vet_graph.specs.declared.standing.Stand.{Stand}
-use Rattle.vet_graph.specs.declared.moves.Move.{Move}
 
--- the class of a pair by its package's steps; nothing vouches for a criterion that the table lacks
-abbrev pub class_by : Criteria → List Step → Pair → Class
-class_by criteria steps p = option_map_or (λ place. class_at steps none_condemned place p.version) (place_of criteria p.criterion) Unvetted
+-- the condemned versions of a package
+abbrev pub condemned_of : Facts → List ℕ → Condemned
+condemned_of facts name = is_condemned facts name
+
+-- the class of a pair by its package's steps and condemned versions; nothing vouches for a criterion that the table lacks
+abbrev pub class_by : Criteria → List Step → Condemned → Pair → Class
+class_by criteria steps condemned p = option_map_or (λ place. class_at steps condemned place p.version) (place_of criteria p.criterion) Unvetted
 
 -- the class of a pair by these facts
 abbrev pub class_of_pair : Facts → Pair → Class
-class_of_pair facts p = class_by facts.criteria (steps_of facts p.«package») p
+class_of_pair facts p = class_by facts.criteria (steps_of facts p.«package») (condemned_of facts p.«package») p
 
 -- the standing: each demanded pair with its class, in the order of the pairs
 abbrev pub standing_of : Facts → List Pair → List Stand
@@ -30,10 +35,9 @@ standing_of facts demand = map (λ p. record { pair = p; class = class_of_pair f
 abbrev pub AreKnown : Facts → Type 0
 AreKnown facts = All (HasKnownCriteria facts.criteria) facts.entries
 
--- a planned update: the standing after it, and its moves
-pub record UpdateView : Type 0 where
-  pub standing : List Stand
-  pub moves : List Move
+-- the table has each demanded criterion
+abbrev pub HasDemanded : Criteria → List Pair → Type 0
+HasDemanded criteria demand = All (λ p. table.contains_key criteria p.criterion ≡ true) demand
 
 -- nothing is held, so each class is the last
 abbrev pub NoneIsVetted : Facts → Type 0

@@ -1,15 +1,17 @@
 //! The class that chains of steps give a version.
-ghost use Rattle.std.specs.Prelude.{◌≡◌, ℕ, List};
-ghost use Rattle.std.specs.List.{All, list_any};
-ghost use Rattle.vet_base.specs.Version.{VersionValue};
-ghost use Rattle.vet_entries.specs.declared.step.Step.{Step};
-ghost use Rattle.vet_graph.specs.declared.class.Class.{Class};
-ghost use Rattle.vet_graph.specs.Chain.{Condemned, IsFromNothing, none_condemned, reviews, vouches};
-ghost use Rattle.vet_graph.specs.Class.{IsClass, class_word};
+ghost use Rattle.std.specs.Prelude.{◌≡◌, ◌↔◌, ℕ, IsTrue, IfOk, IfErr};
+ghost use Rattle.vet_base.specs.CriteriaSet.{has};
+ghost use Rattle.vet_graph.specs.Chain.{Condemned};
+ghost use Rattle.vet_graph.specs.Class.{IsConflicting, IsExempted, IsFull, IsPartial, class_word};
 ghost use Rattle.vet_graph.specs.ClassAt.{ClassHolds, ClassIsOnly, class_at};
+ghost use Rattle.vet_graph.specs.Search.{AreGuarded, IsReached, steps_in};
 
+use crate::links::LinkedSteps;
+use crate::search::{Skip, Terms, leads_to, search};
+use std::alloc::Global;
+use vet_base::criteria_set::CriteriaSet;
+use vet_base::refusal::Refusal;
 use vet_base::version::VetVersion;
-use vet_entries::step::Step;
 
 /// How well a version is vouched for, for one criterion.
 #[derive(Clone, Copy, Debug, PartialEq, Eq)]
@@ -41,41 +43,130 @@ impl Class {
     }
 }
 
-/// The class of a version for the criterion at a place, where each step is from nothing and no version is
-/// condemned: a chain is then a single step, so the class is `Full`, `Exempted` or `Unvetted`. Takes no
-/// memory; looks at each step at most twice.
-pub fn class_of_first_steps(steps: &[Step], place: usize, version: &VetVersion) -> Class
-    requires { All IsFromNothing steps.now }
-    ensures { result ≡ class_at steps.now none_condemned place version.now }
+/// The class of a version for the criterion at a place, by these steps, where these are the criteria for which
+/// the version is condemned (ours): that of the definition, for any versions that are condemned as the steps
+/// and the version say. Costs at most four searches, each of which looks at each step at most once. Refused:
+/// `NoMemory`.
+pub fn class_of(
+    alloc: Global,
+    steps: &LinkedSteps,
+    condemned: &CriteriaSet,
+    place: usize,
+    version: &VetVersion,
+) -> Result<Class, Refusal>
+    ensures class { (condemned_for : Condemned) → AreGuarded condemned_for steps.now
+        → ((c : ℕ) → has c condemned.now ≡ condemned_for c version.now)
+        → IfOk result (λ class. class ≡ class_at (steps_in steps.now) condemned_for place version.now) }
+    ensures memory { IfErr result (λ e. e ≡ Refusal.NoMemory) }
 {
-    if has_review(steps, place, version) {
-        Class::Full
-    } else if has_step(steps, place, version) {
-        Class::Exempted
-    } else {
-        Class::Unvetted
+    if is_conflicting(alloc, steps, condemned, place, version)? {
+        return Ok(Class::Conflicting);
     }
+    if is_fully_vetted(alloc, steps, place, version)? {
+        return Ok(Class::Full);
+    }
+    if is_partly_vetted(alloc, steps, place, version)? {
+        return Ok(Class::Partial);
+    }
+    if is_vouched_for(alloc, steps, place, version)? {
+        return Ok(Class::Exempted);
+    }
+    Ok(Class::Unvetted)
 }
 
-fn has_review(steps: &[Step], place: usize, version: &VetVersion) -> bool
-    ensures { result ≡ list_any (reviews place version.now) steps.now }
+// Whether the version is condemned, and yet some chain leads to it: through condemned versions too.
+fn is_conflicting(
+    alloc: Global,
+    steps: &LinkedSteps,
+    condemned: &CriteriaSet,
+    place: usize,
+    version: &VetVersion,
+) -> Result<bool, Refusal>
+    ensures ok { (condemned_for : Condemned) → ((c : ℕ) → has c condemned.now ≡ condemned_for c version.now)
+        → IfOk result (λ b. IsTrue b ↔ IsConflicting (steps_in steps.now) condemned_for place version.now) }
+    ensures memory { IfErr result (λ e. e ≡ Refusal.NoMemory) }
 {
-    steps
-        .iter()
-        .any(|step| vouches(step, place, version) && !step.exempt)
+    if !condemned.has(place) {
+        return Ok(false);
+    }
+    let terms = Terms {
+        place,
+        barred: false,
+        skip: Skip::Nothing,
+    };
+    is_reached(alloc, steps, &terms, version)
 }
 
-fn has_step(steps: &[Step], place: usize, version: &VetVersion) -> bool
-    ensures { result ≡ list_any (vouches place version.now) steps.now }
+// Whether some clean chain has no exempt step.
+fn is_fully_vetted(
+    alloc: Global,
+    steps: &LinkedSteps,
+    place: usize,
+    version: &VetVersion,
+) -> Result<bool, Refusal>
+    ensures ok { (condemned_for : Condemned) → AreGuarded condemned_for steps.now
+        → IfOk result (λ b. IsTrue b ↔ IsFull (steps_in steps.now) condemned_for place version.now) }
+    ensures memory { IfErr result (λ e. e ≡ Refusal.NoMemory) }
 {
-    steps.iter().any(|step| vouches(step, place, version))
+    let terms = Terms {
+        place,
+        barred: true,
+        skip: Skip::Exempt,
+    };
+    is_reached(alloc, steps, &terms, version)
 }
 
-// Whether a step for the criterion leads to the version.
-fn vouches(step: &Step, place: usize, version: &VetVersion) -> bool
-    ensures { result ≡ vouches place version.now step.now }
+// Whether some clean chain ends in a step that isn't exempt.
+fn is_partly_vetted(
+    alloc: Global,
+    steps: &LinkedSteps,
+    place: usize,
+    version: &VetVersion,
+) -> Result<bool, Refusal>
+    ensures ok { (condemned_for : Condemned) → AreGuarded condemned_for steps.now
+        → IfOk result (λ b. IsTrue b ↔ IsPartial (steps_in steps.now) condemned_for place version.now) }
+    ensures memory { IfErr result (λ e. e ≡ Refusal.NoMemory) }
 {
-    step.criteria.has(place) && step.target == *version
+    let skip = Skip::ExemptTo(version);
+    let terms = Terms {
+        place,
+        barred: true,
+        skip,
+    };
+    is_reached(alloc, steps, &terms, version)
+}
+
+// Whether some clean chain leads to the version.
+fn is_vouched_for(
+    alloc: Global,
+    steps: &LinkedSteps,
+    place: usize,
+    version: &VetVersion,
+) -> Result<bool, Refusal>
+    ensures ok { (condemned_for : Condemned) → AreGuarded condemned_for steps.now
+        → IfOk result (λ b. IsTrue b ↔ IsExempted (steps_in steps.now) condemned_for place version.now) }
+    ensures memory { IfErr result (λ e. e ≡ Refusal.NoMemory) }
+{
+    let terms = Terms {
+        place,
+        barred: true,
+        skip: Skip::Nothing,
+    };
+    is_reached(alloc, steps, &terms, version)
+}
+
+// Whether a search on these terms reaches the version.
+fn is_reached(
+    alloc: Global,
+    steps: &LinkedSteps,
+    terms: &Terms<'_>,
+    version: &VetVersion,
+) -> Result<bool, Refusal>
+    ensures ok { IfOk result (λ b. IsTrue b ↔ IsReached steps.now terms.now version.now) }
+    ensures memory { IfErr result (λ e. e ≡ Refusal.NoMemory) }
+{
+    let reached = search(alloc, steps, terms)?;
+    Ok(leads_to(steps.steps(), reached.as_slice(), version))
 }
 
 /// The class that the definition gives is the first that holds, and no other one is.

@@ -1,33 +1,39 @@
 //! A keeper of the classes of demanded pairs, which finds every class anew.
-ghost use Rattle.std.specs.Prelude.{◌≡◌, ◌++◌, ◌∷◌, [], IfOk, IfErr, IfSome, map};
-ghost use Rattle.vet_demand.specs.Pair.{IsInOrder};
+ghost use Rattle.std.specs.Prelude.{◌≡◌, IfOk, IfErr, IfSome};
 ghost use Rattle.vet_entries.specs.Facts.{no_facts};
-ghost use Rattle.vet_entries.specs.Step.{steps_of};
-ghost use Rattle.vet_graph.specs.Moves.{moves_between};
-ghost use Rattle.vet_graph.specs.Standing.{class_in, counts_of};
+ghost use Rattle.vet_entries.specs.Condemned.{condemned_by};
+ghost use Rattle.vet_graph.specs.Plain.{AreStepsOf};
+ghost use Rattle.vet_graph.specs.Search.{AreGuarded, steps_in};
 ghost use Rattle.vet_graph.specs.StandingOf.{AreKnown, NoneIsVetted, class_of_pair, standing_of};
 
-use crate::class::{Class, class_of_first_steps};
+use crate::class::{Class, class_of};
+use crate::guarded::GuardedStep;
+use crate::keeper::Keeper;
+use crate::links::LinkedSteps;
 use crate::moves::{Move, differences};
 use crate::standing::{Counts, Stand, class_in, counts_of};
+use crate::touched::Touched;
 use std::alloc::Global;
 use std::marker::Model;
 use vet_base::name::{Name, PackageName};
 use vet_base::refusal::Refusal;
 use vet_base::version::VetVersion;
+use vet_demand::demand::Demand;
 use vet_demand::pair::Pair;
+use vet_entries::condemned::{Violation, condemned_by, violations_condemn, violations_of};
 use vet_entries::facts::EntryFacts;
 use vet_entries::step::{Step, steps_of};
 
-/// The class of a pair by these facts. Asks that each criterion that an entry names is in the table. Looks at
-/// each entry once. Refused: `NoMemory`.
+/// The class of a pair by these facts. Asks that each criterion that an entry names is in the table. Finds the
+/// steps of the package, and searches them at most four times. Refused: `NoMemory`.
 pub fn class_of_pair(alloc: Global, facts: &EntryFacts, pair: &Pair) -> Result<Class, Refusal>
     requires { AreKnown facts.now.content }
     ensures ok { IfOk result (λ class. class ≡ class_of_pair facts.now.content pair.now) }
     ensures memory { IfErr result (λ e. e ≡ Refusal.NoMemory) }
 {
-    let steps = steps_of(alloc, &pair.package, facts)?;
-    Ok(class_by(facts, steps.as_slice(), pair))
+    let found = found_steps(alloc, &pair.package, facts)?;
+    let violations = found.violations.as_slice();
+    class_by(alloc, facts, &found.steps, violations, pair)
 }
 
 /// The class of each demanded pair, in the order of the pairs.
@@ -48,100 +54,110 @@ impl Model for PlainKeeper {
     ghost invariant = { λ k. IsStanding k.standing.items };
 }
 
-/// What other facts or another demand make of the standing, and the moves from one to the other.
+/// What other facts or another demand make of the standing, the moves from one to the other, and what was
+/// told is touched.
 #[derive(Debug, Drop)]
-pub struct Update {
+pub struct PlainUpdate {
     standing: Vec<Stand>,
     moves: Vec<Move>,
+    touched: Touched,
 }
 
-impl Model for Update {
+impl Model for PlainUpdate {
     ghost use Rattle.vet_graph.specs.Standing.{IsStanding};
-    ghost use Rattle.vet_graph.specs.StandingOf.{UpdateView};
+    ghost use Rattle.vet_graph.specs.Plain.{UpdateView};
 
     ghost Value = { UpdateView };
 
-    ghost view = { λ u. record { standing = u.standing.items; moves = u.moves.items } };
+    ghost view = { λ u. record {
+      standing = u.standing.items;
+      moves = u.moves.items;
+      touched = u.touched;
+    } };
 
     ghost invariant = { λ u. IsStanding u.standing.items };
 }
 
-impl Update {
-    /// The moves from the standing on which the update was planned: each pair whose class differs, once, in
-    /// the order of the pairs.
-    pub fn moves(&self) -> &[Move]
-        ensures { result.now ≡ self.now.moves }
-    {
-        self.moves.as_slice()
-    }
-}
+impl Keeper for PlainKeeper {
+    type Update = PlainUpdate;
 
-impl PlainKeeper {
-    /// Nothing is demanded.
-    pub fn empty(alloc: Global) -> PlainKeeper
-        ensures { result ≡ [] }
-    {
-        PlainKeeper {
+    ghost standing = { λ k. k };
+
+    ghost keeps = { λ k facts demand. k ≡ standing_of facts demand };
+
+    ghost planned = { λ u. u.standing };
+
+    ghost plans = { λ u facts demand. u.standing ≡ standing_of facts demand };
+
+    ghost moves_of = { λ u. u.moves };
+
+    ghost touched_of = { λ u. u.touched };
+
+    ghost is_ready = { λ k u. Unit {0} };
+
+    /// Nothing is demanded. Never refused.
+    fn empty(alloc: Global) -> Result<PlainKeeper, Refusal> {
+        Ok(PlainKeeper {
             standing: Vec::new(alloc),
-        }
+        })
     }
 
-    /// Plans the standing of this demand by these facts. Asks that each criterion that an entry names is in
-    /// the table, and that the demand is in order. Looks at the entries once a package, and at a package's
+    /// Finds every class anew, whatever is touched. Looks at the entries once a package, and at a package's
     /// steps at most twice a pair. Refused: `NoMemory`.
-    #[tactic(auto, using(crate::proofs::FirstSteps::standing_in_order))]
-    pub fn plan(
-        &self,
+    #[tactic(auto, using(crate::proofs::Standings::standing_in_order))]
+    fn plan(
+        &mut self,
         alloc: Global,
+        touched: &Touched,
         facts: &EntryFacts,
-        demand: &[Pair],
-    ) -> Result<Update, Refusal>
-        requires known { AreKnown facts.now.content }
-        requires in_order { IsInOrder demand.now }
-        ensures standing { IfOk result (λ u. u.standing ≡ standing_of facts.now.content demand.now) }
-        ensures moves { IfOk result (λ u. u.moves
-            ≡ moves_between self.now (standing_of facts.now.content demand.now)) }
-        ensures memory { IfErr result (λ e. e ≡ Refusal.NoMemory) }
-    {
-        let standing = stands_of(alloc, facts, demand)?;
+        demand: &Demand,
+    ) -> Result<PlainUpdate, Refusal> {
+        let standing = stands_of(alloc, facts, demand.pairs())?;
         let moves = differences(alloc, self.standing.as_slice(), standing.as_slice())?;
-        Ok(Update { standing, moves })
+        Ok(PlainUpdate {
+            standing,
+            moves,
+            touched: touched.clone()?,
+        })
     }
 
-    /// Makes what was planned the standing. Takes no memory.
-    pub fn apply(&mut self, update: Update)
-        ensures { self.new ≡ update.standing }
-    {
-        let Update { standing, moves: _ } = update;
+    fn moves(update: &PlainUpdate) -> &[Move] {
+        update.moves.as_slice()
+    }
+
+    fn touched(update: &PlainUpdate) -> &Touched {
+        &update.touched
+    }
+
+    fn apply(&mut self, update: PlainUpdate) {
+        let PlainUpdate {
+            standing,
+            moves: _,
+            touched: _,
+        } = update;
         self.standing = standing;
     }
 
-    /// The class at which a pair stands, or none where it isn't demanded. Takes no memory.
-    pub fn class(
+    fn class(
         &self,
         package: &PackageName,
         version: &VetVersion,
         criterion: &Name,
-    ) -> Option<Class>
-        ensures { result ≡ class_in self.now
-            (record { «package» = «package».now; version = version.now; criterion = criterion.now }) }
-    {
+    ) -> Option<Class> {
         class_in(self.standing.as_slice(), package, version, criterion)
     }
 
-    /// How many pairs stand in each class. Takes no memory.
-    pub fn counts(&self) -> Counts
-        ensures value { result ≡ counts_of self.now }
-    {
+    fn counts(&self) -> Counts {
         counts_of(self.standing.as_slice())
     }
 }
 
-// The steps of one package.
+// What is known of one package: its steps, each with what condemns its target, and its violations.
 #[derive(Drop)]
 struct PackageSteps {
     package: PackageName,
-    steps: Vec<Step>,
+    steps: LinkedSteps,
+    violations: Vec<Violation>,
 }
 
 // Each pair of a demand with its class. The pairs of a package stand side by side, so its steps are found once.
@@ -154,7 +170,8 @@ fn stands_of(alloc: Global, facts: &EntryFacts, demand: &[Pair]) -> Result<Vec<S
     let mut held: Option<PackageSteps> = None;
     'pairs: for pair in demand {
         let found = package_steps(alloc, held, &pair.package, facts)?;
-        standing.push(stand_of(facts, found.steps.as_slice(), pair)?)?;
+        let violations = found.violations.as_slice();
+        standing.push(stand_of(alloc, facts, &found.steps, violations, pair)?)?;
         held = Some(found);
     }
     Ok(standing)
@@ -168,10 +185,13 @@ fn package_steps(
     facts: &EntryFacts,
 ) -> Result<PackageSteps, Refusal>
     requires known { AreKnown facts.now.content }
-    requires held { IfSome held (λ h. h.steps.items ≡ steps_of facts.now.content h.«package») }
+    requires held { IfSome held (λ h.
+        AreStepsOf facts.now.content h.«package» h.steps h.violations.items) }
     ensures package { IfOk result (λ h. h.«package» ≡ «package».now) }
-    ensures steps { IfOk result (λ h. h.steps.items ≡ steps_of facts.now.content «package».now) }
-    ensures held { IfOk result (λ h. h.steps.items ≡ steps_of facts.now.content h.«package») }
+    ensures steps { IfOk result (λ h.
+        AreStepsOf facts.now.content «package».now h.steps h.violations.items) }
+    ensures held { IfOk result (λ h.
+        AreStepsOf facts.now.content h.«package» h.steps h.violations.items) }
     ensures memory { IfErr result (λ e. e ≡ Refusal.NoMemory) }
 {
     if let Some(found) = held {
@@ -179,36 +199,89 @@ fn package_steps(
             return Ok(found);
         }
     }
+    found_steps(alloc, package, facts)
+}
+
+// The steps of a package, each with the criteria for which its target is condemned.
+fn found_steps(
+    alloc: Global,
+    package: &PackageName,
+    facts: &EntryFacts,
+) -> Result<PackageSteps, Refusal>
+    requires known { AreKnown facts.now.content }
+    ensures package { IfOk result (λ h. h.«package» ≡ «package».now) }
+    ensures steps { IfOk result (λ h.
+        AreStepsOf facts.now.content «package».now h.steps h.violations.items) }
+    ensures held { IfOk result (λ h.
+        AreStepsOf facts.now.content h.«package» h.steps h.violations.items) }
+    ensures memory { IfErr result (λ e. e ≡ Refusal.NoMemory) }
+{
+    let steps = steps_of(alloc, package, facts)?;
+    let violations = violations_of(alloc, package, facts)?;
+    let guarded = guarded(alloc, steps, violations.as_slice())?;
     Ok(PackageSteps {
         package: package.clone()?,
-        steps: steps_of(alloc, package, facts)?,
+        steps: LinkedSteps::of(alloc, guarded)?,
+        violations,
     })
 }
 
-// A pair with its class, where its package's steps are these.
-fn stand_of(facts: &EntryFacts, steps: &[Step], pair: &Pair) -> Result<Stand, Refusal>
-    requires { steps.now ≡ steps_of facts.now.content pair.now.«package» }
+// Steps, each with the criteria for which these violations condemn its target.
+fn guarded(
+    alloc: Global,
+    steps: Vec<Step>,
+    violations: &[Violation],
+) -> Result<Vec<GuardedStep>, Refusal>
+    ensures steps { IfOk result (λ guarded. steps_in guarded.items ≡ steps.items) }
+    ensures guards { IfOk result (λ guarded. AreGuarded (condemned_by violations.now) guarded.items) }
+    ensures memory { IfErr result (λ e. e ≡ Refusal.NoMemory) }
+{
+    let mut guarded = Vec::new(alloc);
+    'steps: for step in steps {
+        let condemned = condemned_by(violations, &step.target);
+        guarded.push(GuardedStep { step, condemned })?;
+    }
+    Ok(guarded)
+}
+
+// A pair with its class, where these are its package's steps and violations.
+fn stand_of(
+    alloc: Global,
+    facts: &EntryFacts,
+    steps: &LinkedSteps,
+    violations: &[Violation],
+    pair: &Pair,
+) -> Result<Stand, Refusal>
+    requires { AreStepsOf facts.now.content pair.now.«package» steps.now violations.now }
     ensures ok { IfOk result (λ s.
         s ≡ record { pair = pair.now; class = class_of_pair facts.now.content pair.now }) }
     ensures memory { IfErr result (λ e. e ≡ Refusal.NoMemory) }
 {
-    let class = class_by(facts, steps, pair);
+    let class = class_by(alloc, facts, steps, violations, pair)?;
     Ok(Stand {
         pair: pair.clone()?,
         class,
     })
 }
 
-// The class of a pair, where its package's steps are these.
-#[tactic(auto, using(crate::proofs::FirstSteps::steps_from_nothing))]
-fn class_by(facts: &EntryFacts, steps: &[Step], pair: &Pair) -> Class
-    requires { steps.now ≡ steps_of facts.now.content pair.now.«package» }
-    ensures { result ≡ class_of_pair facts.now.content pair.now }
+// The class of a pair, where these are its package's steps and violations.
+fn class_by(
+    alloc: Global,
+    facts: &EntryFacts,
+    steps: &LinkedSteps,
+    violations: &[Violation],
+    pair: &Pair,
+) -> Result<Class, Refusal>
+    requires { AreStepsOf facts.now.content pair.now.«package» steps.now violations.now }
+    ensures ok { IfOk result (λ class. class ≡ class_of_pair facts.now.content pair.now) }
+    ensures memory { IfErr result (λ e. e ≡ Refusal.NoMemory) }
 {
-    match facts.criteria().place(&pair.criterion) {
-        Some(place) => class_of_first_steps(steps, place, &pair.version),
-        None => Class::Unvetted,
-    }
+    violations_condemn();
+    let Some(place) = facts.criteria().place(&pair.criterion) else {
+        return Ok(Class::Unvetted);
+    };
+    let condemned = condemned_by(violations, &pair.version);
+    class_of(alloc, steps, &condemned, place, &pair.version)
 }
 
 /// Where nothing is held, no pair is vetted.

@@ -70,6 +70,11 @@ start_is_sound limit demand t l d k = record {
     numbers_rise = λ i j x a b. absurd (omega arith);
     numbers_given = All-nil _;
     few = omega arith;
+    publishers = record {
+      by_name = record { rising = λ i j x a b. absurd (omega arith); filled = All-nil _ };
+      in_order = All-nil _;
+      few = omega arith;
+    };
   };
   next_number = omega arith;
   demanded_once = d;

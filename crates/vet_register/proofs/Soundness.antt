@@ -23,6 +23,7 @@ use Rattle.vet_base.specs.NameLaws.{any-members}
 use Rattle.vet_base.specs.Names.{members}
 use Rattle.vet_entries.specs.declared.entry.Entry.{Entry}
 use Rattle.vet_entries.specs.declared.facts.HeldEntry.{HeldEntry}
+use Rattle.vet_entries.specs.declared.publisher_records.PackagePublishers.{PackagePublishers}
 use Rattle.vet_entries.specs.Entry.{entry_eq, entry_eq-Decides, own}
 use Rattle.vet_entries.specs.Facts.{Facts, has_number, is_named_by, number_of}
 use Rattle.vet_entries.specs.Step.{HasKnownCriteria}
@@ -33,13 +34,13 @@ use Rattle.vet_graph.specs.Moves.{ArrivalsAdd, DeparturesAdd, MovesAreDifference
 use Rattle.vet_graph.specs.Standing.{IsStanding, pairs_of}
 use Rattle.vet_graph.specs.StandingOf.{AreKnown, standing_of}
 use Rattle.vet_register.specs.declared.command.Action.{Action}
-use Rattle.vet_register.specs.declared.command.Action.TheVariants.{SetCriterion, RemoveCriterion, AddEntry, DropEntry}
+use Rattle.vet_register.specs.declared.command.Action.TheVariants.{SetCriterion, RemoveCriterion, AddEntry, DropEntry, SetPublishers}
 use Rattle.vet_register.specs.declared.command.Command.{Command}
 use Rattle.vet_register.specs.declared.moves.RecordedMove.{RecordedMove}
 use Rattle.vet_register.specs.Machine.{facts_after, moves_of, next, number_after, recorded, records_of}
-use Rattle.vet_register.specs.Sound.{AreInOrder, AreSound, ComesBefore, Differ, IsBalanced, IsBy, IsGiven, IsOwn, IsSound, Rise}
+use Rattle.vet_register.specs.Sound.{AreInOrder, ArePublishers, AreSound, ComesBefore, Differ, IsBalanced, IsBy, IsGiven, IsOwn, IsSound, Rise}
 use Rattle.vet_register.specs.State.{State, changes_of, standing}
-use Rattle.vet_register.specs.Verdict.{Answer, accepted, already, answered, checked, entry_limits, held_as, is_in_use, known, limits, moves_fit, number_limit, references, refuse_if, rules, step_limit, verdict}
+use Rattle.vet_register.specs.Verdict.{Answer, accepted, already, answered, checked, entry_limits, held_as, is_in_use, known, limits, moves_fit, number_limit, publisher_limit, references, refuse_if, rules, step_limit, verdict}
 use Rattle.vet_register.proofs.Lists.{AllPairs-append, AllPairs-single, AllPairs-map, find-none, find-none_among, all_fail, none_pass, filter-fewer}
 
 -- ---- what an accepted command passed
@@ -66,17 +67,17 @@ answered_accepts None (Ok u) e = (refl, refl)
 answered_accepts None (Err r) e = cc e
 answered_accepts (Some n) t e = absurd (false≢true (ap accepts e))
 
-pub record Passed (s : State) (a : Action) : Type 0 where
+pub record Passed (s : State) (day : DayValue) (a : Action) : Type 0 where
   pub held : held_as s a ≡ None
   pub limits : limits s a ≡ Ok tt
   pub references : references s a ≡ Ok tt
-  pub rules : rules s a ≡ Ok tt
+  pub rules : rules s day a ≡ Ok tt
   pub fit : moves_fit s a ≡ Ok tt
 
-pub passed : (s : State) (c : Command) → verdict s c ≡ Ok accepted → Passed s c.action
+pub passed : (s : State) (c : Command) → verdict s c ≡ Ok accepted → Passed s c.day c.action
 passed s c e =
     let a = answered_accepts (held_as s c.action) _ e in
-    let b = then_told (checked s c.action) _ tt a.1 in
+    let b = then_told (checked s c) _ tt a.1 in
     let l = then_told (limits s c.action) _ tt b.0 in
     let r = then_told (references s c.action) _ tt l.1 in
     record { held = a.0; limits = l.0; references = r.0; rules = r.1; fit = b.1 }
@@ -107,6 +108,7 @@ step_follows s (SetCriterion c) h =
 step_follows s (RemoveCriterion n) h = one_step_more s h
 step_follows s (AddEntry e) h = one_step_more s (entry_limits_passed s h).step
 step_follows s (DropEntry n) h = one_step_more s h
+step_follows s (SetPublishers n records) h = one_step_more s (then_told (publisher_limit s n records) (λ _. step_limit s) tt h).1
 
 -- ---- the facts
 
@@ -140,27 +142,28 @@ or_parts false b h = (refl, h)
 both_fail : {X : Type 0} (P Q S : X → Type 0) → ((x : X) → P x → Q x → S x) → (xs : List X) → All P xs → All Q xs → All S xs
 both_fail P Q S f xs p q k d l = f (get_or xs k d) (p k d l) (q k d l)
 
-removed : (s : State) (n : List ℕ) → rules s (RemoveCriterion n) ≡ Ok tt → list_any (is_named_by n) s.facts.entries ≡ false
-removed s n h =
+removed : (s : State) (day : DayValue) (n : List ℕ) → rules s day (RemoveCriterion n) ≡ Ok tt → list_any (is_named_by n) s.facts.entries ≡ false
+removed s day n h =
     let r = then_told (refuse_if (is_built_in n) BuiltInCriterion) (λ _. refuse_if (is_in_use s n) CriterionInUse) tt h in
     (or_parts (is_implied s.facts.criteria n) (list_any (is_named_by n) s.facts.entries) (not_refused (is_in_use s n) CriterionInUse r.1)).1
 
 -- the entries' criteria are known after the command too
-pub known_after : (s : State) (a : Action) → AreKnown s.facts → references s a ≡ Ok tt → rules s a ≡ Ok tt → AreKnown (facts_after s a)
-known_after s (SetCriterion c) k r u = All-weaker (HasKnownCriteria s.facts.criteria) _ (stays_known s.facts.criteria c) s.facts.entries k
-known_after s (RemoveCriterion n) k r u =
-    both_fail _ _ _ (known_without s.facts.criteria n) s.facts.entries (none_pass (is_named_by n) s.facts.entries (removed s n u)) k
-known_after s (AddEntry e) k r u =
+pub known_after : (s : State) (day : DayValue) (a : Action) → AreKnown s.facts → references s a ≡ Ok tt → rules s day a ≡ Ok tt → AreKnown (facts_after s a)
+known_after s day (SetCriterion c) k r u = All-weaker (HasKnownCriteria s.facts.criteria) _ (stays_known s.facts.criteria c) s.facts.entries k
+known_after s day (RemoveCriterion n) k r u =
+    both_fail _ _ _ (known_without s.facts.criteria n) s.facts.entries (none_pass (is_named_by n) s.facts.entries (removed s day n u)) k
+known_after s day (AddEntry e) k r u =
     All-append (HasKnownCriteria s.facts.criteria) s.facts.entries _ k
     (All-cons (HasKnownCriteria s.facts.criteria) (record { number = s.next_entry; entry = own e }) [] (all_known (least_unknown s.facts.criteria e.criteria) r) (All-nil _))
-known_after s (DropEntry n) k r u = All-filter (λ h. not (has_number n h)) (HasKnownCriteria s.facts.criteria) s.facts.entries k
+known_after s day (DropEntry n) k r u = All-filter (λ h. not (has_number n h)) (HasKnownCriteria s.facts.criteria) s.facts.entries k
+known_after s day (SetPublishers n records) k r u = k
 
 -- the entries' criteria are known after a command that was checked
-pub known_checked : (s : State) (a : Action) → IsSound s → checked s a ≡ Ok tt → AreKnown (facts_after s a)
-known_checked s a h e =
-    let l = then_told (limits s a) (λ _. references s a >>= λ _. rules s a) tt e in
-    let r = then_told (references s a) (λ _. rules s a) tt l.1 in
-    known_after s a h.facts.known r.0 r.1
+pub known_checked : (s : State) (c : Command) → IsSound s → checked s c ≡ Ok tt → AreKnown (facts_after s c.action)
+known_checked s c h e =
+    let l = then_told (limits s c.action) (λ _. references s c.action >>= λ _. rules s c.day c.action) tt e in
+    let r = then_told (references s c.action) (λ _. rules s c.day c.action) tt l.1 in
+    known_after s c.day c.action h.facts.known r.0 r.1
 
 other_entries : (entries : List HeldEntry) (e : Entry) → number_of entries e ≡ None → All (λ h. h.entry ≢ own e) entries
 other_entries entries e h =
@@ -190,18 +193,32 @@ other_criteria f t n h is k = record {
   numbers_rise = h.numbers_rise;
   numbers_given = h.numbers_given;
   few = h.few;
+  publishers = h.publishers;
 }
 
-facts_sound : (s : State) (a : Action) → Passed s a → AreSound s.facts s.next_entry → IsTable (facts_after s a).criteria
-    → AreSound (facts_after s a) (number_after s.next_entry a)
-facts_sound s (SetCriterion c) p f t = other_criteria s.facts (facts_after s (SetCriterion c)).criteria s.next_entry f t (known_after s (SetCriterion c) f.known p.references p.rules)
-facts_sound s (RemoveCriterion m) p f t = other_criteria s.facts (facts_after s (RemoveCriterion m)).criteria s.next_entry f t (known_after s (RemoveCriterion m) f.known p.references p.rules)
-facts_sound s (AddEntry e) p f t =
+-- other publisher records, and the same entries
+other_publishers : (f : Facts) (ps : List PackagePublishers) (n : ℕ) → AreSound f n → ArePublishers ps → AreSound (record f { publishers = ps }) n
+other_publishers f ps n h are = record {
+  criteria = h.criteria;
+  known = h.known;
+  own = h.own;
+  different = h.different;
+  numbers_rise = h.numbers_rise;
+  numbers_given = h.numbers_given;
+  few = h.few;
+  publishers = are;
+}
+
+facts_sound : (s : State) (day : DayValue) (a : Action) → Passed s day a → AreSound s.facts s.next_entry → IsTable (facts_after s a).criteria
+    → ArePublishers (facts_after s a).publishers → AreSound (facts_after s a) (number_after s.next_entry a)
+facts_sound s day (SetCriterion c) p f t ps = other_criteria s.facts (facts_after s (SetCriterion c)).criteria s.next_entry f t (known_after s day (SetCriterion c) f.known p.references p.rules)
+facts_sound s day (RemoveCriterion m) p f t ps = other_criteria s.facts (facts_after s (RemoveCriterion m)).criteria s.next_entry f t (known_after s day (RemoveCriterion m) f.known p.references p.rules)
+facts_sound s day (AddEntry e) p f t ps =
     let new : HeldEntry = record { number = s.next_entry; entry = own e } in
     let entries = s.facts.entries in
     record {
       criteria = t;
-      known = known_after s (AddEntry e) f.known p.references p.rules;
+      known = known_after s day (AddEntry e) f.known p.references p.rules;
       own = All-append IsOwn entries (new ∷ []) f.own (All-cons IsOwn new [] refl (All-nil _));
       different = AllPairs-append Differ entries (new ∷ []) f.different (AllPairs-single Differ new)
           (All-weaker (λ x. x.entry ≢ own e) (λ x. All (Differ x) (new ∷ [])) (λ x d. All-cons (Differ x) new [] d (All-nil _)) entries
@@ -211,25 +228,29 @@ facts_sound s (AddEntry e) p f t =
       numbers_given = All-append (IsGiven (s.next_entry + 1)) entries (new ∷ []) (later entries s.next_entry f.numbers_given)
           (All-cons (IsGiven (s.next_entry + 1)) new [] (omega arith) (All-nil _));
       few = rw (length-append entries (new ∷ [])) (omega (arith, (entry_limits_passed s p.limits).few));
+      publishers = ps;
     }
-facts_sound s (DropEntry m) p f t =
+facts_sound s day (DropEntry m) p f t ps =
     let stays : HeldEntry → Bool = λ h. not (has_number m h) in
     record {
       criteria = t;
-      known = known_after s (DropEntry m) f.known p.references p.rules;
+      known = known_after s day (DropEntry m) f.known p.references p.rules;
       own = All-filter stays IsOwn s.facts.entries f.own;
       different = AllPairs-filter Differ stays s.facts.entries f.different;
       numbers_rise = AllPairs-filter Rise stays s.facts.entries f.numbers_rise;
       numbers_given = All-filter stays (IsGiven s.next_entry) s.facts.entries f.numbers_given;
       few = omega (arith, filter-fewer stays s.facts.entries, f.few);
+      publishers = ps;
     }
+facts_sound s day (SetPublishers m records) p f t ps = other_publishers s.facts (facts_after s (SetPublishers m records)).publishers s.next_entry f ps
 
-next_number_sound : (s : State) (a : Action) → Passed s a → s.next_entry ≤ LAST_NUMBER + 1
+next_number_sound : (s : State) (day : DayValue) (a : Action) → Passed s day a → s.next_entry ≤ LAST_NUMBER + 1
     → number_after s.next_entry a ≤ LAST_NUMBER + 1
-next_number_sound s (SetCriterion c) p h = h
-next_number_sound s (RemoveCriterion n) p h = h
-next_number_sound s (AddEntry e) p h = omega (arith, (entry_limits_passed s p.limits).number)
-next_number_sound s (DropEntry n) p h = h
+next_number_sound s day (SetCriterion c) p h = h
+next_number_sound s day (RemoveCriterion n) p h = h
+next_number_sound s day (AddEntry e) p h = omega (arith, (entry_limits_passed s p.limits).number)
+next_number_sound s day (DropEntry n) p h = h
+next_number_sound s day (SetPublishers n records) p h = h
 
 -- ---- the moves
 
@@ -240,7 +261,7 @@ same_changes step day (m ∷ moves) = ap (λ ms. m ∷ ms) (same_changes step da
 pub changes-append : (s : State) (c : Command) → changes_of (s.moves ++ records_of s c) ≡ changes_of s.moves ++ moves_of s c.action
 changes-append s c = map-append (λ m. m.change) s.moves (records_of s c) ∙ ap (λ ms. changes_of s.moves ++ ms) (same_changes (s.step + 1) c.day (moves_of s c.action))
 
-same_pairs : (facts : Facts) (demand : List Pair) → pairs_of (standing_of facts demand) ≡ demand
+pub same_pairs : (facts : Facts) (demand : List Pair) → pairs_of (standing_of facts demand) ≡ demand
 same_pairs facts [] = refl
 same_pairs facts (p ∷ demand) = ap (λ ps. p ∷ ps) (same_pairs facts demand)
 
@@ -250,7 +271,7 @@ standing_in_order facts demand h = rw (same_pairs facts demand) h
 abbrev IsOf : ℕ → RecordedMove → Type 0
 IsOf step m = m.step ≡ step
 
-moves_sound : MovesAreDifferences → (s : State) (c : Command) → Passed s c.action → IsInOrder s.demand → AreInOrder s.moves s.step s.moves_limit
+moves_sound : MovesAreDifferences → (s : State) (c : Command) → Passed s c.day c.action → IsInOrder s.demand → AreInOrder s.moves s.step s.moves_limit
     → AreInOrder (s.moves ++ records_of s c) (s.step + 1) s.moves_limit
 moves_sound law s c p d h =
     let made = law (standing s) (standing_of (facts_after s c.action) s.demand) (standing_in_order s.facts s.demand d) (standing_in_order (facts_after s c.action) s.demand d) in
@@ -282,12 +303,13 @@ balance_sound laws s c b class =
     let d = laws.departures class (changes_of s.moves) (moves_of s c.action) in
     rw (changes-append s c, a, d) (omega (arith, b class, law))
 
-pub sound_after : MoveLaws → (s : State) (c : Command) → IsSound s → verdict s c ≡ Ok accepted → IsTable (facts_after s c.action).criteria → IsSound (next s c)
-sound_after laws s c h e t =
+pub sound_after : MoveLaws → (s : State) (c : Command) → IsSound s → verdict s c ≡ Ok accepted → IsTable (facts_after s c.action).criteria
+    → ArePublishers (facts_after s c.action).publishers → IsSound (next s c)
+sound_after laws s c h e t ps =
     let p = passed s c e in
     record {
-      facts = facts_sound s c.action p h.facts t;
-      next_number = next_number_sound s c.action p h.next_number;
+      facts = facts_sound s c.day c.action p h.facts t ps;
+      next_number = next_number_sound s c.day c.action p h.next_number;
       demanded_once = h.demanded_once;
       demanded_known = h.demanded_known;
       last_step = step_follows s c.action p.limits;

@@ -16,9 +16,9 @@ use Rattle.vet_base.specs.declared.refusal.Refusal.TheVariants.{FieldRefused, To
 use Rattle.vet_register.specs.declared.fields.TableKind.{TableKind}
 use Rattle.vet_register.specs.declared.fields.TableKind.TheVariants as kind
 use Rattle.vet_entries.specs.declared.entry.Entry.{Entry}
-use Rattle.vet_entries.specs.declared.entry.Kind.TheVariants.{Full}
 use Rattle.vet_entries.specs.declared.entry.Source.TheVariants.{Own}
-use Rattle.vet_entries.specs.Entry.{no_flags}
+use Rattle.vet_entries.specs.declared.kind.Kind.TheVariants.{Full}
+use Rattle.vet_entries.specs.Kind.{no_audit}
 
 -- what stands at a key of a table is at fault
 abbrev pub fault : List ℕ → List ℕ → Refusal
@@ -89,7 +89,7 @@ entry_path name place = codes "audits." ++ (name ++ (codes "[" ++ (decimal place
 -- an own full entry of which nothing more is said
 abbrev pub review : List ℕ → NameSet → VersionValue → List Entry
 review name criteria version =
-    (record { source = Own; «package» = name; kind = Full version; criteria = criteria; who = set.empty; notes = None; flags = no_flags }) ∷ []
+    (record { source = Own; «package» = name; kind = Full version no_audit; criteria = criteria; notes = None }) ∷ []
 
 -- the entry that these fields make; one without a version is skipped
 abbrev pub reviews_of : List ℕ → NameSet → Option VersionValue → List Entry

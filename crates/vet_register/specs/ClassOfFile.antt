@@ -1,5 +1,5 @@
 -- The class of a pair where one audits file is all that is held, or the first fault.
-use Rattle.std.specs.Prelude.{ℕ, List, Option, Some, None, Ok, Err, if◌then◌else◌, length, nat_lt, fold}
+use Rattle.std.specs.Prelude.{ℕ, List, [], Option, Some, None, Ok, Err, if◌then◌else◌, length, nat_lt, fold}
 use Rattle.std.specs.FinMap as map
 use Rattle.std.specs.Ordering.{is_gt, nat_cmp}
 use Rattle.std.specs.Cmp.Lexicographic.{slice_cmp}
@@ -43,7 +43,7 @@ entries_told file = if nat_lt MOST_INPUT_BYTES (length file) then Err (TooLarge 
 
 -- all that is held, where these entries are
 abbrev pub facts_of : List Entry → Facts
-facts_of entries = record { criteria = built_in_criteria; entries = numbered 1 entries }
+facts_of entries = record { criteria = built_in_criteria; entries = numbered 1 entries; publishers = [] }
 
 -- the pair that three words name
 abbrev pub pair_told : List ℕ → List ℕ → List ℕ → Told Pair

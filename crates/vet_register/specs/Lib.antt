@@ -18,5 +18,7 @@ pub use Rattle.vet_graph.specs.Chain
 pub use Rattle.vet_graph.specs.Class
 pub use Rattle.vet_graph.specs.ClassAt
 pub use Rattle.vet_graph.specs.Moves
+pub use Rattle.vet_graph.specs.Plain
 pub use Rattle.vet_graph.specs.Standing
 pub use Rattle.vet_graph.specs.StandingOf
+pub use Rattle.vet_graph.specs.Touched

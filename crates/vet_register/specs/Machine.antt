@@ -4,11 +4,12 @@ use Rattle.std.specs.FinMap as table
 use Rattle.vet_base.specs.Day.{DayValue}
 use Rattle.vet_entries.specs.Entry.{own}
 use Rattle.vet_entries.specs.Facts.{Facts, has_number}
+use Rattle.vet_entries.specs.PublisherRecords.{with_records}
 use Rattle.vet_graph.specs.declared.moves.Move.{Move}
 use Rattle.vet_graph.specs.Moves.{moves_between}
 use Rattle.vet_graph.specs.StandingOf.{standing_of}
 use Rattle.vet_register.specs.declared.command.Action.{Action}
-use Rattle.vet_register.specs.declared.command.Action.TheVariants.{SetCriterion, RemoveCriterion, AddEntry, DropEntry}
+use Rattle.vet_register.specs.declared.command.Action.TheVariants.{SetCriterion, RemoveCriterion, AddEntry, DropEntry, SetPublishers}
 use Rattle.vet_register.specs.declared.command.Command.{Command}
 use Rattle.vet_register.specs.declared.command.Outcome.{Outcome}
 use Rattle.vet_register.specs.declared.command.Outcome.TheVariants.{Done}
@@ -28,6 +29,7 @@ effect number (SetCriterion c) facts = record facts { criteria = table.insert fa
 effect number (RemoveCriterion name) facts = record facts { criteria = table.remove facts.criteria name }
 effect number (AddEntry entry) facts = record facts { entries = facts.entries ++ (record { number = number; entry = own entry }) ∷ [] }
 effect number (DropEntry n) facts = record facts { entries = filter (λ h. not (has_number n h)) facts.entries }
+effect number (SetPublishers name records) facts = record facts { publishers = with_records name records facts.publishers }
 
 -- the facts after a command
 abbrev pub facts_after : State → Action → Facts

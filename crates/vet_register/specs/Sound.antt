@@ -2,13 +2,16 @@
 use Rattle.std.specs.Prelude.{◌≡◌, ◌≢◌, ◌⊎◌, ℕ, ◌+◌, ◌<◌, ◌≤◌, true, List, length}
 use Rattle.std.specs.List.{All, AllPairs}
 use Rattle.std.specs.declared.cmp.Ordering.TheVariants.{Less}
-use Rattle.vet_base.specs.declared.limits.TheConstants.{MOST_ENTRIES, MOST_MOVES, LAST_STEP, LAST_NUMBER}
+use Rattle.vet_base.specs.declared.limits.TheConstants.{MOST_ENTRIES, MOST_MOVES, MOST_PUBLISHERS, LAST_STEP, LAST_NUMBER}
 use Rattle.vet_base.specs.Criteria.{IsTable}
 use Rattle.vet_base.specs.CriteriaChanges.{is_built_in}
 use Rattle.vet_demand.specs.Pair.{IsInOrder, pair_cmp}
 use Rattle.vet_entries.specs.declared.entry.Source.TheVariants.{Own}
 use Rattle.vet_entries.specs.declared.facts.HeldEntry.{HeldEntry}
 use Rattle.vet_entries.specs.Facts.{Facts}
+use Rattle.vet_entries.specs.declared.publisher_records.PackagePublishers.{PackagePublishers}
+use Rattle.vet_entries.specs.PublisherRecords.{IsByName, records_total}
+use Rattle.vet_entries.specs.Publishers as Publishers
 use Rattle.vet_entries.specs.Step.{HasKnownCriteria}
 use Rattle.vet_graph.specs.declared.class.Class.{Class}
 use Rattle.vet_graph.specs.Moves.{arrivals_of, departures_of}
@@ -45,7 +48,14 @@ IsGiven next h = h.number < next
 abbrev pub IsBy : ℕ → RecordedMove → Type 0
 IsBy step m = m.step ≤ step
 
--- the criteria are a table, and entries name no others; each entry is one's own, and no two are the same; their numbers rise
+-- publisher records are in order, of each package each once, and within the limit
+pub record ArePublishers (publishers : List PackagePublishers) : Type 0 where
+  pub by_name : IsByName publishers
+  pub in_order : All (λ held. Publishers.IsInOrder held.publishers) publishers
+  pub few : records_total publishers ≤ MOST_PUBLISHERS
+
+-- the criteria are a table, and entries name no others; each entry is one's own, and no two are the same; their numbers
+-- rise; publisher records are in order
 pub record AreSound (facts : Facts) (next : ℕ) : Type 0 where
   pub criteria : IsTable facts.criteria
   pub known : All (HasKnownCriteria facts.criteria) facts.entries
@@ -54,6 +64,7 @@ pub record AreSound (facts : Facts) (next : ℕ) : Type 0 where
   pub numbers_rise : AllPairs Rise facts.entries
   pub numbers_given : All (IsGiven next) facts.entries
   pub few : length facts.entries ≤ MOST_ENTRIES
+  pub publishers : ArePublishers facts.publishers
 
 -- moves stand in the order in which they were recorded, none of a later step than the last, and within the limit
 pub record AreInOrder (moves : List RecordedMove) (step limit : ℕ) : Type 0 where

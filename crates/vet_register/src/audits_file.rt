@@ -12,8 +12,8 @@ use toml::value::Array;
 use toml::{Table, Value};
 use vet_base::name::PackageName;
 use vet_base::refusal::Refusal;
-use vet_base::texts::Texts;
-use vet_entries::entry::{Entry, Flags, Kind, Source};
+use vet_entries::entry::{Entry, Source};
+use vet_entries::kind::{Audit, Kind};
 
 /// The entries of an audits file, in the order of their packages' names and, in one package, of the file.
 ///
@@ -137,10 +137,8 @@ fn read_fields(
     Ok(Some(Entry {
         source: Source::Own,
         package: name.clone()?,
-        kind: Kind::Full(version),
+        kind: Kind::Full(version, Audit::anonymous(alloc)),
         criteria,
-        who: Texts::new(alloc),
         notes: None,
-        flags: Flags::none(),
     }))
 }

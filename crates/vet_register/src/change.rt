@@ -4,20 +4,21 @@ ghost use Rattle.std.specs.Prelude.{◌≡◌};
 use crate::command::Outcome;
 use crate::moves::RecordedMove;
 use vet_entries::facts::Edit;
-use vet_graph::plain::Update;
+use vet_graph::keeper::Keeper;
+use vet_graph::touched::Touched;
 
 /// What an accepted command changes: the register that prepared it installs it.
 #[derive(Debug, Drop)]
-pub struct Change {
+pub struct Change<K: Keeper> {
     pub(crate) edit: Edit,
-    pub(crate) update: Update,
+    pub(crate) update: K::Update,
     pub(crate) records: Vec<RecordedMove>,
     pub(crate) step: u64,
     pub(crate) next_entry: u64,
     pub(crate) outcome: Outcome,
 }
 
-impl Change {
+impl<K: Keeper> Change<K> {
     /// What comes of the command: its step, the number of the entry that it makes, and how many pairs it
     /// moves. Takes no memory.
     pub fn outcome(&self) -> Outcome
@@ -25,13 +26,20 @@ impl Change {
     {
         self.outcome
     }
+
+    /// The packages that the command touches, as the keeper was told. Takes no memory.
+    pub fn touched(&self) -> &Touched
+        ensures { result.now ≡ K.touched_of self.now.update }
+    {
+        K::touched(&self.update)
+    }
 }
 
 /// What a register answers to a command that nothing refuses.
 #[derive(Debug, Drop)]
-pub enum Prepared {
+pub enum Prepared<K: Keeper> {
     /// What it sets or adds is held already; an entry, under this number.
     Already(Option<u64>),
     /// What it would change.
-    Change(Change),
+    Change(Change<K>),
 }

@@ -2,8 +2,9 @@
 
 use vet_base::criterion::Criterion;
 use vet_base::day::Day;
-use vet_base::name::Name;
+use vet_base::name::{Name, PackageName};
 use vet_entries::entry::Entry;
+use vet_entries::publishers::Publishers;
 
 /// A command, and the day on which it is given.
 #[derive(Debug, Drop)]
@@ -23,6 +24,8 @@ pub enum Action {
     AddEntry(Entry),
     /// Drops the own entry of this number.
     DropEntry(u64),
+    /// Puts these publisher records in place of those of the package; where there are none, it has none.
+    SetPublishers(PackageName, Publishers),
 }
 
 /// What came of a command that nothing refused.

@@ -2,23 +2,24 @@
 //!
 //! **Each demanded pair stands in exactly the class that chains of entries give it, and of each class the
 //! count at first and what arrived since is what stands there now and what departed since.**
-ghost use Rattle.std.specs.Prelude.{◌≡◌, ◌+◌, ◌<◌, ◌≤◌, not, true, Ok, Some, None, IfOk, IfErr, length};
+ghost use Rattle.std.specs.Prelude.{◌≡◌, ◌+◌, ◌+ℤ◌, ◌<◌, ◌≤◌, pos, not, true, Ok, Some, None, IfOk, IfErr, length};
 ghost use Rattle.std.specs.FinMap as map;
 ghost use Rattle.std.specs.List.{All, list_any};
 ghost use Rattle.std.specs.Option.{option_copied};
+ghost use Rattle.std.specs.Ordering.{int_cmp, is_lt};
+ghost use Rattle.vet_base.specs.Day.{day_number};
 ghost use Rattle.vet_base.specs.Criteria.{IsTable};
 ghost use Rattle.vet_base.specs.CriteriaChanges.{is_built_in, remove_verdict, set_verdict};
 ghost use Rattle.vet_base.specs.Gives.{Gives};
-ghost use Rattle.vet_demand.specs.Demand.{AreThePairs};
 ghost use Rattle.vet_entries.specs.Facts.{Fits, edited, has_number};
 ghost use Rattle.vet_graph.specs.Moves.{moves_between};
 ghost use Rattle.vet_graph.specs.Standing.{class_in, counts_of, total_of};
 ghost use Rattle.vet_graph.specs.StandingOf.{standing_of};
 ghost use Rattle.vet_register.specs.Machine.{ActionValue, CommandValue, effect, facts_after, moves_of, next, number_after, number_given, outcome_of, records_of};
-ghost use Rattle.vet_register.specs.RegisterView.{IsAnswer, IsPrepared, KeepsRoom, all_unvetted, answer_of, facts_room};
-ghost use Rattle.vet_register.specs.Sound.{IsSound};
+ghost use Rattle.vet_register.specs.RegisterView.{IsAnswer, IsPrepared, KeepsPrepared, KeepsReady, KeepsRoom, all_unvetted, answer_of, facts_room};
+ghost use Rattle.vet_register.specs.Sound.{ArePublishers, IsSound};
 ghost use Rattle.vet_register.specs.State.{standing, start};
-ghost use Rattle.vet_register.specs.Verdict.{checked, entry_limits, held_as, is_held, is_in_use, known, limits, moves_fit, references, refuse_if, rules, step_limit, verdict};
+ghost use Rattle.vet_register.specs.Verdict.{checked, entry_limits, held_as, is_held, is_in_use, kind_rules, known, limits, moves_fit, publisher_limit, references, refuse_if, rules, step_limit, verdict, window_rules};
 
 use crate::change::{Change, Prepared};
 use crate::command::{Action, Command, Outcome};
@@ -27,24 +28,33 @@ use std::alloc::Global;
 use std::marker::Model;
 use vet_base::criteria_table::{CriteriaTable, is_built_in};
 use vet_base::criterion::Criterion;
-use vet_base::limits::{LAST_NUMBER, LAST_STEP, MOST_ENTRIES, MOST_MOVES};
+use vet_base::day::Day;
+use vet_base::limits::{
+    LAST_NUMBER, LAST_STEP, MOST_ENTRIES, MOST_MOVES, MOST_PUBLISHERS, MOST_WINDOW_DAYS,
+};
 use vet_base::name::{Name, PackageName};
 use vet_base::refusal::{Limit, Refusal};
 use vet_base::version::VetVersion;
 use vet_demand::demand::Demand;
 use vet_demand::pair::Pair;
 use vet_entries::facts::{Edit, EntryFacts, HeldEntry};
+use vet_entries::kind::{Kind, Window};
+use vet_entries::publisher_records::PackagePublishers;
+use vet_entries::publishers::Publishers;
 use vet_graph::class::Class;
+use vet_graph::keeper::Keeper;
 use vet_graph::moves::{moves_are_differences, moves_balance, runs_of_moves_add};
-use vet_graph::plain::{PlainKeeper, Update, nothing_vets_nothing};
+use vet_graph::plain::nothing_vets_nothing;
 use vet_graph::standing::{Counts, classes_add_up};
+use vet_graph::touched::Touched;
 
-/// What an organisation holds, the class of each demanded pair, and how these came about.
+/// What an organisation holds, the class of each demanded pair, and how these came about. A keeper keeps the
+/// classes; which one it is changes no answer.
 #[derive(Debug, Drop)]
-pub struct Register {
+pub struct Register<K: Keeper> {
     facts: EntryFacts,
     demand: Demand,
-    keeper: PlainKeeper,
+    keeper: K,
     step: u64,
     next_entry: u64,
     moves_limit: usize,
@@ -52,19 +62,20 @@ pub struct Register {
     moves: Vec<RecordedMove>,
 }
 
-impl Model for Register {
-    ghost use Rattle.std.specs.Prelude.{◌≡◌, ◌-◌, vec_len, vec_capacity};
-    ghost use Rattle.vet_graph.specs.StandingOf.{standing_of};
-    ghost use Rattle.vet_register.specs.RegisterView.{RegisterView, register_code};
+impl<K: Keeper> Model for Register<K> {
+    ghost use Rattle.std.specs.Prelude.{◌-◌, vec_len, vec_capacity};
+    ghost use Rattle.vet_register.specs.RegisterView.{HasKept, RegisterView, register_code};
     ghost use Rattle.vet_register.specs.Sound.{IsSound};
+    ghost use Rattle.vet_entries.specs.Facts.{facts_room_code};
     ghost use Rattle.vet_entries.specs.contracts.facts.HeldEntry as held;
+    ghost use Rattle.vet_entries.specs.contracts.publisher_records.PackagePublishers as listed;
     ghost use Rattle.vet_demand.specs.contracts.pair.Pair as pair;
     ghost use Rattle.vet_graph.specs.contracts.standing.Counts as counts;
     ghost use Rattle.vet_register.specs.contracts.moves.RecordedMove as recorded;
 
-    ghost Value = { RegisterView };
+    ghost Value = { RegisterView K };
 
-    ghost coded = { register_code held.the_row.coded pair.the_row.coded counts.the_row.coded recorded.the_row.coded };
+    ghost coded = { register_code K.code (facts_room_code held.the_row.coded listed.the_row.coded) pair.the_row.coded counts.the_row.coded recorded.the_row.coded };
 
     ghost view = { λ r. record {
       state = record {
@@ -76,11 +87,15 @@ impl Model for Register {
         first = r.first;
         moves = r.moves.items;
       };
-      entry_room = r.facts.room;
-      move_room = vec_capacity r.moves - vec_len r.moves;
+      keeper = r.keeper;
+      room = record {
+        entries = r.facts.entry_room;
+        packages = r.facts.package_room;
+        moves = vec_capacity r.moves - vec_len r.moves;
+      };
     } };
 
-    ghost invariant = { λ r. (r.keeper ≡ standing_of r.facts.content r.demand) × IsSound (record {
+    ghost invariant = { λ r. HasKept K.keeps K.standing r.keeper r.facts.content r.demand × IsSound (record {
       facts = r.facts.content;
       demand = r.demand;
       step = r.step;
@@ -91,23 +106,21 @@ impl Model for Register {
     }) };
 }
 
-impl Register {
-    /// A register that holds nothing but the built-in criteria. The demand is that of these pairs, each once;
-    /// each of them stands unvetted, and so the counts at first are. Asks for a limit of 1 to 1,000,000 moves,
-    /// and for pairs of built-in criteria. Refused: `NoMemory`.
-    pub fn new(alloc: Global, moves_limit: usize, demand: Vec<Pair>) -> Result<Register, Refusal>
+impl<K: Keeper> Register<K> {
+    /// A register that holds nothing but the built-in criteria. Each demanded pair stands unvetted, and so the
+    /// counts at first are. Asks for a limit of 1 to 1,000,000 moves, and for pairs of built-in criteria.
+    /// Refused: `NoMemory`.
+    pub fn new(alloc: Global, moves_limit: usize, demand: Demand) -> Result<Register<K>, Refusal>
         requires limit { (0 < moves_limit) × (moves_limit ≤ MOST_MOVES) }
-        requires criteria { All (λ p. is_built_in p.criterion ≡ true) demand.items }
-        ensures start { IfOk result (λ r. r.state ≡ start moves_limit r.state.demand) }
-        ensures demand { IfOk result (λ r. AreThePairs demand.items r.state.demand) }
-        ensures first { IfOk result (λ r. r.state.first ≡ all_unvetted (length r.state.demand)) }
+        requires criteria { All (λ p. is_built_in p.criterion ≡ true) demand }
+        ensures start { IfOk result (λ r. r.state ≡ start moves_limit demand) }
+        ensures first { IfOk result (λ r. r.state.first ≡ all_unvetted (length demand)) }
         ensures memory { IfErr result (λ e. e ≡ Refusal.NoMemory) }
     {
         nothing_vets_nothing();
         let facts = EntryFacts::new(alloc)?;
-        let demand = Demand::of_pairs(alloc, demand)?;
-        let mut keeper = PlainKeeper::empty(alloc);
-        let update = keeper.plan(alloc, &facts, demand.pairs())?;
+        let mut keeper = K::empty(alloc)?;
+        let update = keeper.plan(alloc, &Touched::All, &facts, &demand)?;
         keeper.apply(update);
         let first = keeper.counts();
         Ok(Register {
@@ -123,28 +136,35 @@ impl Register {
     }
 
     /// What a command is told, and what it would change. The state stays, whatever is answered; room is taken
-    /// for what `install` adds. Refused, the first that holds: `TooManyCriteria`, `TooLarge` of `entries`,
-    /// `step` or `number`; `UnknownCriterion`, `UnknownEntry`; `BuiltInCriterion`, `CriterionInUse`;
-    /// `MovesFull`. `NoMemory` can come at any point.
-    pub fn prepare(&mut self, alloc: Global, command: &Command) -> Result<Prepared, Refusal>
+    /// for what `install` adds, and what was prepared on this state before can still be installed. The keeper
+    /// is told that all packages are touched. Refused, the first that holds: `TooManyCriteria`, `TooLarge` of
+    /// `entries`, `publishers`, `step` or `number`; `UnknownCriterion`, `UnknownEntry`; `BuiltInCriterion`,
+    /// `CriterionInUse`, `EmptyWindow`, `WindowTooLong`; `MovesFull`. `NoMemory` can come at any point.
+    #[tactic(auto, using(crate::proofs::Prepared::prepared_stays))]
+    pub fn prepare(&mut self, alloc: Global, command: &Command) -> Result<Prepared<K>, Refusal>
         ensures told { Gives answer_of (verdict self.old.state command.now) result }
-        ensures prepared { IfOk result (IsAnswer self.new command.now) }
+        ensures prepared { IfOk result
+            (IsAnswer K.is_ready K.planned K.plans K.touched_of self.new command.now) }
         ensures state { self.new.state ≡ self.old.state }
         ensures room_stays { KeepsRoom self.old self.new }
+        ensures ready_stays { KeepsReady K.is_ready self.old self.new }
+        ensures prepared_stays { KeepsPrepared K.is_ready K.planned K.plans K.touched_of self.old self.new }
     {
         if let Some(number) = self.held_as(&command.action) {
             return Ok(Prepared::Already(number));
         }
-        self.check(&command.action)?;
-        let edit = self.edit_of(alloc, &command.action)?;
+        self.check(command)?;
+        let edit = self.edit_of(alloc, command)?;
         let planned = self.plan(alloc, edit)?;
         Ok(Prepared::Change(self.change(alloc, command, planned)?))
     }
 
     /// Makes a change that this register prepared on this state: one step of the machine. Takes no memory.
-    pub fn install(&mut self, change: Change)
-        requires { (command : CommandValue) × IsPrepared self.old command change }
-        ensures { (command : CommandValue) → IsPrepared self.old command change
+    pub fn install(&mut self, change: Change<K>)
+        requires { (command : CommandValue)
+            × IsPrepared K.is_ready K.planned K.plans K.touched_of self.old command change }
+        ensures { (command : CommandValue)
+            → IsPrepared K.is_ready K.planned K.plans K.touched_of self.old command change
             → self.new.state ≡ next self.old.state command }
     {
         moves_are_differences();
@@ -166,7 +186,7 @@ impl Register {
     }
 }
 
-impl Register {
+impl<K: Keeper> Register<K> {
     /// The class at which a pair stands, or none where it isn't demanded. Takes no memory.
     pub fn class(
         &self,
@@ -225,6 +245,13 @@ impl Register {
         self.facts.entries()
     }
 
+    /// The packages that have publisher records, in the order of their names. Takes no memory.
+    pub fn publishers(&self) -> &[PackagePublishers]
+        ensures { result.now ≡ self.now.state.facts.publishers }
+    {
+        self.facts.publishers()
+    }
+
     /// The pairs that are demanded, in their order. Takes no memory.
     pub fn demand(&self) -> &[Pair]
         ensures { result.now ≡ self.now.state.demand }
@@ -235,12 +262,12 @@ impl Register {
 
 // An edit of the facts, and the update of the standing that goes with it.
 #[derive(Drop)]
-struct Planned {
+struct Planned<K: Keeper> {
     edit: Edit,
-    update: Update,
+    update: K::Update,
 }
 
-impl Register {
+impl<K: Keeper> Register<K> {
     // Under which number a command's content is held already.
     fn held_as(&self, action: &Action) -> Option<Option<u64>>
         ensures { result ≡ held_as self.now.state action.now }
@@ -254,17 +281,24 @@ impl Register {
                 }
             }
             Action::AddEntry(entry) => Some(Some(self.facts.number_of(entry)?)),
+            Action::SetPublishers(package, publishers) => {
+                if self.facts.records_of(package) == publishers.as_slice() {
+                    Some(None)
+                } else {
+                    None
+                }
+            }
             Action::RemoveCriterion(_) | Action::DropEntry(_) => None,
         }
     }
 
     // Limits, then what the command refers to, then rules.
-    fn check(&self, action: &Action) -> Result<(), Refusal>
-        ensures { Gives (λ u. u) (checked self.now.state action.now) result }
+    fn check(&self, command: &Command) -> Result<(), Refusal>
+        ensures { Gives (λ u. u) (checked self.now.state command.now) result }
     {
-        self.check_limits(action)?;
-        self.check_references(action)?;
-        self.check_rules(action)
+        self.check_limits(&command.action)?;
+        self.check_references(&command.action)?;
+        self.check_rules(command)
     }
 
     fn check_limits(&self, action: &Action) -> Result<(), Refusal>
@@ -278,6 +312,10 @@ impl Register {
                 self.check_step()
             }
             Action::AddEntry(_) => self.check_entry_limits(),
+            Action::SetPublishers(package, publishers) => {
+                self.check_publisher_limit(package, publishers)?;
+                self.check_step()
+            }
             Action::RemoveCriterion(_) | Action::DropEntry(_) => self.check_step(),
         }
     }
@@ -304,6 +342,22 @@ impl Register {
         Ok(())
     }
 
+    fn check_publisher_limit(
+        &self,
+        package: &PackageName,
+        publishers: &Publishers,
+    ) -> Result<(), Refusal>
+        ensures { result ≡ publisher_limit self.now.state «package».now publishers.now }
+    {
+        if self
+            .facts
+            .records_would_pass(MOST_PUBLISHERS, package, publishers)
+        {
+            return Err(Refusal::TooLarge(Limit::Publishers));
+        }
+        Ok(())
+    }
+
     fn check_references(&self, action: &Action) -> Result<(), Refusal>
         ensures { Gives (λ u. u) (references self.now.state action.now) result }
     {
@@ -315,6 +369,7 @@ impl Register {
             }
             Action::AddEntry(entry) => known(criteria.least_unknown(&entry.criteria)),
             Action::DropEntry(number) => self.check_number(*number),
+            Action::SetPublishers(_, _) => Ok(()),
         }
     }
 
@@ -328,16 +383,17 @@ impl Register {
         Ok(())
     }
 
-    fn check_rules(&self, action: &Action) -> Result<(), Refusal>
-        ensures { result ≡ rules self.now.state action.now }
+    fn check_rules(&self, command: &Command) -> Result<(), Refusal>
+        ensures { result ≡ rules self.now.state command.now.day command.now.action }
     {
-        match action {
+        match &command.action {
             Action::SetCriterion(criterion) => check_built_in(&criterion.name),
             Action::RemoveCriterion(name) => {
                 check_built_in(name)?;
                 self.check_in_use(name)
             }
-            Action::AddEntry(_) | Action::DropEntry(_) => Ok(()),
+            Action::AddEntry(entry) => check_kind(command.day, &entry.kind),
+            Action::DropEntry(_) | Action::SetPublishers(_, _) => Ok(()),
         }
     }
 
@@ -351,18 +407,24 @@ impl Register {
     }
 }
 
-impl Register {
+impl<K: Keeper> Register<K> {
     // The edit of the facts that a checked command asks for, and room for it.
-    fn edit_of(&mut self, alloc: Global, action: &Action) -> Result<Edit, Refusal>
-        requires { checked self.old.state action.now ≡ Ok tt }
-        ensures edit { IfOk result (λ e. edited e self.old.state.facts ≡ facts_after self.old.state action.now) }
+    fn edit_of(&mut self, alloc: Global, command: &Command) -> Result<Edit, Refusal>
+        requires other { held_as self.old.state command.now.action ≡ None }
+        requires checked { checked self.old.state command.now ≡ Ok tt }
+        ensures edit { IfOk result (λ e.
+            edited e self.old.state.facts ≡ facts_after self.old.state command.now.action) }
         ensures fits { IfOk result (λ e. Fits e (facts_room self.new)) }
-        ensures table { IfOk result (λ e. IsTable (facts_after self.old.state action.now).criteria) }
+        ensures table { IfOk result (λ e.
+            IsTable (facts_after self.old.state command.now.action).criteria) }
+        ensures publishers { IfOk result (λ e.
+            ArePublishers (facts_after self.old.state command.now.action).publishers) }
         ensures memory { IfErr result (λ e. e ≡ Refusal.NoMemory) }
         ensures state { self.new.state ≡ self.old.state }
+        ensures keeper { self.new.keeper ≡ self.old.keeper }
         ensures room_stays { KeepsRoom self.old self.new }
     {
-        match action {
+        match &command.action {
             Action::SetCriterion(criterion) => {
                 let table = with_criterion(self.facts.criteria(), criterion)?;
                 Ok(Edit::Criteria(table))
@@ -381,6 +443,10 @@ impl Register {
                 Ok(Edit::Insert(place, held))
             }
             Action::DropEntry(number) => self.drop_of(*number),
+            Action::SetPublishers(package, publishers) => {
+                self.facts.records_stay_in_order(package, publishers);
+                self.facts.publishers_edit(package, publishers)
+            }
         }
     }
 
@@ -399,24 +465,32 @@ impl Register {
     }
 
     // The update of the standing that an edit asks for. The facts stay.
-    fn plan(&mut self, alloc: Global, edit: Edit) -> Result<Planned, Refusal>
+    fn plan(&mut self, alloc: Global, edit: Edit) -> Result<Planned<K>, Refusal>
         requires fits { Fits edit (facts_room self.old) }
-        requires checked { (action : ActionValue) × (checked self.old.state action ≡ Ok tt)
-            × (edited edit self.old.state.facts ≡ facts_after self.old.state action) }
+        requires table { IsTable (edited edit self.old.state.facts).criteria }
+        requires checked { (command : CommandValue) × (checked self.old.state command ≡ Ok tt)
+            × (edited edit self.old.state.facts ≡ facts_after self.old.state command.action) }
         ensures edit { IfOk result (λ p.
             edited p.edit self.old.state.facts ≡ edited edit self.old.state.facts) }
         ensures fits { IfOk result (λ p. Fits p.edit (facts_room self.new)) }
-        ensures standing { IfOk result (λ p. p.update.standing
+        ensures standing { IfOk result (λ p. K.planned p.update
             ≡ standing_of (edited edit self.old.state.facts) self.old.state.demand) }
-        ensures moves { IfOk result (λ p. p.update.moves
+        ensures plans { IfOk result (λ p. K.plans p.update
+            (edited edit self.old.state.facts) self.old.state.demand) }
+        ensures moves { IfOk result (λ p. K.moves_of p.update
             ≡ moves_between (standing self.old.state)
             (standing_of (edited edit self.old.state.facts) self.old.state.demand)) }
+        ensures touched { IfOk result (λ p. K.touched_of p.update ≡ Touched.All) }
+        ensures ready { IfOk result (λ p. K.is_ready self.new.keeper p.update) }
         ensures memory { IfErr result (λ e. e ≡ Refusal.NoMemory) }
         ensures state { self.new.state ≡ self.old.state }
         ensures room_stays { KeepsRoom self.old self.new }
+        ensures ready_stays { KeepsReady K.is_ready self.old self.new }
     {
         let back = self.facts.apply(edit);
-        let planned = self.keeper.plan(alloc, &self.facts, self.demand.pairs());
+        let planned = self
+            .keeper
+            .plan(alloc, &Touched::All, &self.facts, &self.demand);
         let edit = self.facts.apply(back);
         Ok(Planned {
             edit,
@@ -429,24 +503,26 @@ impl Register {
         &mut self,
         alloc: Global,
         command: &Command,
-        planned: Planned,
-    ) -> Result<Change, Refusal>
+        planned: Planned<K>,
+    ) -> Result<Change<K>, Refusal>
         requires step { step_limit self.old.state ≡ Ok tt }
-        requires moves { planned.update.moves ≡ moves_of self.old.state command.now.action }
+        requires moves { K.moves_of planned.update ≡ moves_of self.old.state command.now.action }
         ensures told { Gives (λ c. tt) (moves_fit self.old.state command.now.action) result }
         ensures edit { IfOk result (λ c. c.edit ≡ planned.edit) }
         ensures update { IfOk result (λ c. c.update ≡ planned.update) }
         ensures records { IfOk result (λ c. c.records.items ≡ records_of self.old.state command.now) }
-        ensures room { IfOk result (λ c. length c.records.items ≤ self.new.move_room) }
+        ensures room { IfOk result (λ c. length c.records.items ≤ self.new.room.moves) }
         ensures step { IfOk result (λ c. c.step ≡ self.old.state.step + 1) }
         ensures next_entry { IfOk result (λ c.
             c.next_entry ≡ number_after self.old.state.next_entry command.now.action) }
         ensures outcome { IfOk result (λ c. c.outcome ≡ outcome_of self.old.state command.now) }
         ensures state { self.new.state ≡ self.old.state }
-        ensures entry_room { self.new.entry_room ≡ self.old.entry_room }
+        ensures keeper { self.new.keeper ≡ self.old.keeper }
+        ensures entry_room { self.new.room.entries ≡ self.old.room.entries }
+        ensures package_room { self.new.room.packages ≡ self.old.room.packages }
         ensures room_stays { KeepsRoom self.old self.new }
     {
-        let moves = planned.update.moves();
+        let moves = K::moves(&planned.update);
         if self.moves.len() + moves.len() > self.moves_limit {
             return Err(Refusal::MovesFull);
         }
@@ -506,6 +582,41 @@ fn known(unknown: Option<&Name>) -> Result<(), Refusal>
     }
 }
 
+// A window begins before it ends, and ends soon enough after the day of the command.
+fn check_kind(day: Day, kind: &Kind) -> Result<(), Refusal>
+    ensures { result ≡ kind_rules day kind.now }
+{
+    match kind {
+        Kind::Wildcard(window, _) => check_window(day, *window),
+        Kind::Trusted(window) => check_window(day, *window),
+        _ => Ok(()),
+    }
+}
+
+fn check_window(day: Day, window: Window) -> Result<(), Refusal>
+    ensures { result ≡ window_rules day window }
+{
+    if window.last < window.first {
+        return Err(Refusal::EmptyWindow);
+    }
+    if ends_too_late(day, window.last) {
+        return Err(Refusal::WindowTooLong);
+    }
+    Ok(())
+}
+
+// Whether a last day comes more than 366 days after a day. Where that many days lead past the last day of
+// the calendar, none does.
+fn ends_too_late(day: Day, last: Day) -> bool
+    ensures { result ≡ is_lt (int_cmp (day_number day +ℤ pos MOST_WINDOW_DAYS) (day_number last)) }
+{
+    let number = last.number();
+    match day.plus(MOST_WINDOW_DAYS) {
+        Some(latest) => number > latest.number(),
+        None => false,
+    }
+}
+
 fn check_built_in(name: &Name) -> Result<(), Refusal>
     ensures { result ≡ refuse_if (is_built_in name.now) Refusal.BuiltInCriterion }
 {
@@ -535,6 +646,6 @@ fn without_criterion(table: &CriteriaTable, name: &Name) -> Result<CriteriaTable
     ensures memory { IfErr result (λ e. e ≡ Refusal.NoMemory) }
 {
     let mut copy = table.clone()?;
-    copy.remove(name)?;
+    copy.remove(name.clone()?)?;
     Ok(copy)
 }

@@ -1,5 +1,5 @@
-use Rattle.std.proofs.Common.{ltb, rules}
-use Rattle.std.specs.Ordering.{is_lt, ordering_index}
+use Rattle.std.proofs.Common.{rules}
+use Rattle.std.specs.Ordering.{is_lt}
 use Rattle.std.proofs.lemmas.List.Sorted.{IsPartitionPoint-from_clause}
 use Rattle.vet_entries.specs.ByPackage.{stand}
 use Rattle.vet_entries.proofs.Standing.{parted_lt}

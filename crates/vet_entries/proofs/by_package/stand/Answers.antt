@@ -1,4 +1,4 @@
-use Rattle.std.proofs.Common.{sym, ap, ◌∙◌}
+use Rattle.std.proofs.Common.{◌∙◌}
 use Rattle.vet_entries.proofs.Standing.{stand_at, stand_past}
 use Rattle.vet_entries.proofs.by_package.stand.Goals as goal
 

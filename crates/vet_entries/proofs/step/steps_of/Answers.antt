@@ -13,7 +13,7 @@ loop-place-preserved c =
     let places = c.places_of-place-items.result.now in
     let i = c.loop-place.place-index in
     let held = c.index-entries-place.result in
-    let give = entry_steps c.criteria-criteria.result.now in
+    let give = entry_steps c.criteria-criteria.result.now c.records_of-records.result.now in
     let within : get_or places i 0 < length entries = omega (arith, c.places_of-place-items.ensures.within i 0 c.loop-place-test.true, ap length c.entries-entries.ensures) in
     c.in_ok-add_steps.ensures.ok
     ∙ ap (λ steps. steps ++ give held) c.loop-place.invariant

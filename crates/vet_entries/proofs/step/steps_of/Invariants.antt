@@ -6,4 +6,4 @@ use Rattle.vet_entries.specs.Step.{entry_steps}
 use Rattle.vet_entries.proofs.step.steps_of.Given as goal
 
 abbrev pub invariant-loop-place : goal.invariant-loop-place
-invariant-loop-place l = l.steps.items ≡ flat_map (entry_steps l.criteria) (gathered l.entries (take l.place-index l.place-items))
+invariant-loop-place l = l.steps.items ≡ flat_map (entry_steps l.criteria l.records) (gathered l.entries (take l.place-index l.place-items))

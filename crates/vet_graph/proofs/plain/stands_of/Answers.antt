@@ -1,5 +1,5 @@
 use Rattle.std.proofs.Common.{◌∙◌, ◌++◌, ◌∷◌, [], sym}
-use Rattle.vet_graph.proofs.FirstSteps.{standing_push}
+use Rattle.vet_graph.proofs.Standings.{standing_push}
 use Rattle.vet_graph.proofs.plain.stands_of.Goals as goal
 
 pub pairs-preserved : goal.pairs-preserved

@@ -1,10 +1,10 @@
 -- The pairs so far, each with its class, and the steps of the last one's package.
 use Rattle.std.proofs.Common.{◌≡◌, IfSome, take}
-use Rattle.vet_entries.specs.Step.{steps_of}
+use Rattle.vet_graph.specs.Plain.{AreStepsOf}
 use Rattle.vet_graph.specs.StandingOf.{standing_of}
 use Rattle.vet_graph.proofs.plain.stands_of.Given as goal
 
 abbrev pub invariant-pairs : goal.invariant-pairs
 invariant-pairs l =
     (l.standing.items ≡ standing_of l.facts.content (take l.pair-index l.demand))
-    × IfSome l.held (λ h. h.steps.items ≡ steps_of l.facts.content h.«package»)
+    × IfSome l.held (λ h. AreStepsOf l.facts.content h.«package» h.steps h.violations.items)

@@ -1,4 +1,4 @@
-use Rattle.std.proofs.Common.{◌≡◌, ap, ◌∙◌}
+use Rattle.std.proofs.Common.{ap, ◌∙◌}
 use Rattle.vet_entries.specs.ByPackage.{gathered, places_of}
 use Rattle.vet_entries.proofs.ByPackage.{range_is_places}
 use Rattle.vet_entries.proofs.Standing.{gathered_of}

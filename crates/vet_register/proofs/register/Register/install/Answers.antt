@@ -8,10 +8,10 @@ use Rattle.vet_register.proofs.Soundness.{MoveLaws, sound_after}
 use Rattle.vet_register.proofs.register.Register.install.Goals as goal
 
 pub invariant_of-self : goal.invariant_of-self
-invariant_of-self c =
+invariant_of-self g c =
     let command = c.requires.0 in
     let change = c.args.change in
-    let prepared = subst (λ r. IsPrepared r command change) (sym c.self.view_is) c.requires.1 in
+    let prepared = subst (λ r. IsPrepared g.K.Keeper.is_ready g.K.Keeper.planned g.K.Keeper.plans g.K.Keeper.touched_of r command change) (sym c.self.view_is) c.requires.1 in
     let s : State = record {
       facts = c.self.inside.facts.content;
       demand = c.self.inside.demand;
@@ -45,6 +45,9 @@ invariant_of-self c =
       first = c.self.inside.first;
       moves = sym (c.append_reserved.ensures ∙ ap (λ more. c.self.inside.moves.items ++ more) prepared.records) i;
     } in (
-      c.apply-2.ensures ∙ prepared.standing ∙ ap (λ f. standing_of f c.self.inside.demand) (sym facts),
-      subst IsSound same (sound_after laws s command c.self.invariant.1 prepared.accepts prepared.table),
+      (
+        c.apply-2.ensures.keeps _ _ (subst (λ f. g.K.Keeper.plans change.update f c.self.inside.demand) (sym facts) prepared.basis),
+        c.apply-2.ensures.standing ∙ prepared.standing ∙ ap (λ f. standing_of f c.self.inside.demand) (sym facts),
+      ),
+      subst IsSound same (sound_after laws s command c.self.invariant.1 prepared.accepts prepared.table prepared.publishers),
     )

@@ -1,0 +1,39 @@
+//! The text on standard input.
+
+use std::alloc::Global;
+use std::io::{ErrorKind, Read};
+
+/// The most bytes of an input.
+pub const MOST_INPUT_BYTES: usize = 1_048_576;
+
+/// What stands on the input.
+pub enum Input {
+    /// This text.
+    Text(String),
+    /// More than 1,048,576 bytes, or bytes that are no text or can't be read.
+    Other,
+    /// There was no memory to read it.
+    NoMemory,
+}
+
+/// Reads the input to its end.
+pub fn read_input<R: Read>(alloc: Global, reader: &mut R) -> Input {
+    let mut text = String::new(alloc);
+    match reader
+        .take(MOST_INPUT_BYTES as u64 + 1)
+        .read_to_string(&mut text)
+    {
+        Ok(_) => {
+            if text.len() > MOST_INPUT_BYTES {
+                return Input::Other;
+            }
+            Input::Text(text)
+        }
+        Err(error) => {
+            if error.kind() == ErrorKind::OutOfMemory {
+                return Input::NoMemory;
+            }
+            Input::Other
+        }
+    }
+}

@@ -1,0 +1,91 @@
+//! Lines and their words.
+//!
+//! A line's words stand between single spaces. In a word, `%` and two hexadecimal digits write a
+//! byte, and `%` alone writes the empty text.
+
+ghost use Rattle.std.specs.Prelude.{◌<◌, IfOk};
+
+use crate::fault::Fault;
+use std::alloc::Global;
+
+/// Whether a line says nothing: it is empty, or begins with `#`.
+pub fn is_remark(line: &str) -> bool {
+    line.is_empty() || line.starts_with('#')
+}
+
+/// Whether a line gives a command: it begins with a digit, as the day of a command does.
+pub fn is_command(line: &str) -> bool {
+    match line.as_bytes().first() {
+        Some(byte) => byte.is_ascii_digit(),
+        None => false,
+    }
+}
+
+/// The texts that a line's words write. Refused: `NoMemory`.
+pub fn words_of(alloc: Global, line: &str) -> Result<Vec<String>, Fault> {
+    let mut words = Vec::new(alloc);
+    for word in line.split(' ') {
+        words.push(text_of(alloc, word)?)?;
+    }
+    Ok(words)
+}
+
+/// The one text that is given.
+pub fn one(texts: &[String]) -> Result<&str, Fault> {
+    match texts {
+        [text] => Ok(text.as_str()),
+        _ => Err(Fault::NotUnderstood),
+    }
+}
+
+/// The two texts that are given.
+pub fn two(texts: &[String]) -> Result<(&str, &str), Fault> {
+    match texts {
+        [first, second] => Ok((first.as_str(), second.as_str())),
+        _ => Err(Fault::NotUnderstood),
+    }
+}
+
+fn text_of(alloc: Global, word: &str) -> Result<String, Fault> {
+    if word == "%" {
+        return Ok(String::new(alloc));
+    }
+    let mut bytes = Vec::new(alloc);
+    let mut parts = word.split('%');
+    if let Some(first) = parts.next() {
+        bytes.extend_from_slice(first.as_bytes())?;
+    }
+    for part in parts {
+        push_escaped(&mut bytes, part.as_bytes())?;
+    }
+    match String::from_utf8(bytes) {
+        Ok(text) => Ok(text),
+        Err(_) => Err(Fault::NotUnderstood),
+    }
+}
+
+// Adds the byte that the first two bytes write, and the bytes after them.
+fn push_escaped(bytes: &mut Vec<u8>, part: &[u8]) -> Result<(), Fault> {
+    let [high, low, rest @ ..] = part else {
+        return Err(Fault::NotUnderstood);
+    };
+    bytes.push(digit(*high)? * 16 + digit(*low)?)?;
+    bytes.extend_from_slice(rest)?;
+    Ok(())
+}
+
+// The number that a hexadecimal digit writes.
+fn digit(byte: u8) -> Result<u8, Fault>
+    ensures { IfOk result (λ n. n < 16) }
+{
+    if byte.is_ascii_digit() {
+        return Ok(byte - b'0');
+    }
+    if b'a' <= byte && byte <= b'f' {
+        return Ok(byte - b'a' + 10);
+    }
+    if b'A' <= byte && byte <= b'F' {
+        return Ok(byte - b'A' + 10);
+    }
+    Err(Fault::NotUnderstood)
+}

@@ -1,0 +1,90 @@
+//! A keeper that hands all on to a plain one. The register runs the examples with it as well: it needs
+//! nothing of a keeper but what the trait says.
+ghost use Rattle.std.specs.Prelude.{◌≡◌};
+
+use std::alloc::Global;
+use vet_base::name::{Name, PackageName};
+use vet_base::refusal::Refusal;
+use vet_base::version::VetVersion;
+use vet_demand::demand::Demand;
+use vet_entries::facts::EntryFacts;
+use vet_graph::class::Class;
+use vet_graph::keeper::Keeper;
+use vet_graph::moves::Move;
+use vet_graph::plain::{PlainKeeper, PlainUpdate};
+use vet_graph::standing::Counts;
+use vet_graph::touched::Touched;
+
+/// A keeper behind which a plain one stands.
+#[derive(Debug, Drop)]
+pub struct RelayKeeper {
+    plain: PlainKeeper,
+}
+
+/// What the plain keeper planned.
+#[derive(Debug, Drop)]
+pub struct RelayUpdate {
+    plain: PlainUpdate,
+}
+
+impl Keeper for RelayKeeper {
+    ghost use Rattle.vet_graph.specs.StandingOf.{standing_of};
+
+    type Update = RelayUpdate;
+
+    ghost standing = { λ k. k.plain };
+
+    ghost keeps = { λ k facts demand. k.plain ≡ standing_of facts demand };
+
+    ghost planned = { λ u. u.plain.standing };
+
+    ghost plans = { λ u facts demand. u.plain.standing ≡ standing_of facts demand };
+
+    ghost moves_of = { λ u. u.plain.moves };
+
+    ghost touched_of = { λ u. u.plain.touched };
+
+    ghost is_ready = { λ k u. Unit {0} };
+
+    fn empty(alloc: Global) -> Result<RelayKeeper, Refusal> {
+        Ok(RelayKeeper {
+            plain: PlainKeeper::empty(alloc)?,
+        })
+    }
+
+    fn plan(
+        &mut self,
+        alloc: Global,
+        touched: &Touched,
+        facts: &EntryFacts,
+        demand: &Demand,
+    ) -> Result<RelayUpdate, Refusal> {
+        let plain = self.plain.plan(alloc, touched, facts, demand)?;
+        Ok(RelayUpdate { plain })
+    }
+
+    fn moves(update: &RelayUpdate) -> &[Move] {
+        PlainKeeper::moves(&update.plain)
+    }
+
+    fn touched(update: &RelayUpdate) -> &Touched {
+        PlainKeeper::touched(&update.plain)
+    }
+
+    fn apply(&mut self, update: RelayUpdate) {
+        self.plain.apply(update.plain);
+    }
+
+    fn class(
+        &self,
+        package: &PackageName,
+        version: &VetVersion,
+        criterion: &Name,
+    ) -> Option<Class> {
+        self.plain.class(package, version, criterion)
+    }
+
+    fn counts(&self) -> Counts {
+        self.plain.counts()
+    }
+}

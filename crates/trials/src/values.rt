@@ -1,0 +1,103 @@
+//! Lines that ask for a value: of names, texts and the closure of criteria.
+//!
+//! `name TEXT`, `package TEXT` and `key TEXT` tell the value as it is printed; `texts [TEXT ..]`
+//! tells a set of texts, how many it holds and each in brackets, and `text-of N` how many bytes a
+//! text of N letters has; `closure NAME ..` tells the names of the closure in the register's table.
+
+use crate::commands::names;
+use crate::days::{day, day_number, day_of_parts, day_order, plus};
+use crate::fault::Fault;
+use crate::line::{one, words_of};
+use crate::versions::{delta, equal, matches, order, requirement, version};
+use std::alloc::Global;
+use vet_base::criteria_table::CriteriaTable;
+use vet_base::key_text::KeyText;
+use vet_base::name::{Name, PackageName};
+use vet_base::text::Text;
+use vet_base::texts::Texts;
+
+/// What a line is told that asks for a value. Refused: what its texts are refused for, and `NoMemory`.
+pub fn value(alloc: Global, table: &CriteriaTable, line: &str) -> Result<String, Fault> {
+    let words = words_of(alloc, line)?;
+    let [word, texts @ ..] = words.as_slice() else {
+        return Err(Fault::NotUnderstood);
+    };
+    match word.as_str() {
+        "name" => name(alloc, texts),
+        "package" => package_name(alloc, texts),
+        "key" => key(alloc, texts),
+        "texts" => set_of_texts(alloc, texts),
+        "text-of" => text_of(alloc, texts),
+        "closure" => closure(alloc, table, texts),
+        "version" => version(alloc, texts),
+        "delta" => delta(alloc, texts),
+        "order" => order(alloc, texts),
+        "requirement" => requirement(alloc, texts),
+        "matches" => matches(alloc, texts),
+        "equal" => equal(alloc, texts),
+        "day" => day(alloc, texts),
+        "day-order" => day_order(alloc, texts),
+        "day-number" => day_number(alloc, texts),
+        "day-of-parts" => day_of_parts(alloc, texts),
+        "plus" => plus(alloc, texts),
+        _ => Err(Fault::NotUnderstood),
+    }
+}
+
+fn name(alloc: Global, texts: &[String]) -> Result<String, Fault> {
+    Ok(Name::parse(alloc, one(texts)?)?.to_string(alloc)?)
+}
+
+fn package_name(alloc: Global, texts: &[String]) -> Result<String, Fault> {
+    Ok(PackageName::parse(alloc, one(texts)?)?.to_string(alloc)?)
+}
+
+fn key(alloc: Global, texts: &[String]) -> Result<String, Fault> {
+    Ok(KeyText::told(alloc, one(texts)?)?.to_string(alloc)?)
+}
+
+fn set_of_texts(alloc: Global, texts: &[String]) -> Result<String, Fault> {
+    let mut set = Texts::new(alloc);
+    for text in texts {
+        set.insert(Text::parse(alloc, text.as_str())?)?;
+    }
+    let mut told = set.len().to_string(alloc)?;
+    for text in set.as_slice() {
+        told.push_str(" [")?;
+        told.push_str(text.as_str())?;
+        told.push_str("]")?;
+    }
+    Ok(told)
+}
+
+// A text of so many letters `a`, of which the bytes are told.
+fn text_of(alloc: Global, texts: &[String]) -> Result<String, Fault> {
+    let Ok(length) = one(texts)?.parse::<u32>() else {
+        return Err(Fault::NotUnderstood);
+    };
+    let mut letters = String::new(alloc);
+    for _ in 0..length {
+        letters.push_str("a")?;
+    }
+    let text = Text::parse(alloc, letters.as_str())?;
+    Ok(text.as_str().len().to_string(alloc)?)
+}
+
+fn closure(alloc: Global, table: &CriteriaTable, texts: &[String]) -> Result<String, Fault> {
+    let closure = table.closure(&names(alloc, texts)?)?;
+    let mut told = String::new(alloc);
+    for name in table.names() {
+        if closure.contains(name, table) {
+            push_word(&mut told, name.as_str())?;
+        }
+    }
+    Ok(told)
+}
+
+fn push_word(told: &mut String, word: &str) -> Result<(), Fault> {
+    if !told.is_empty() {
+        told.push_str(" ")?;
+    }
+    told.push_str(word)?;
+    Ok(())
+}

@@ -1,0 +1,217 @@
+//! What an entry says of its package.
+ghost use Rattle.std.specs.Prelude.{◌≡◌};
+ghost use Rattle.vet_entries.specs.Kind.{no_audit};
+
+use crate::user::User;
+use std::alloc::{AllocError, Global};
+use vet_base::day::Day;
+use vet_base::delta::Delta;
+use vet_base::req::Req;
+use vet_base::texts::Texts;
+use vet_base::version::VetVersion;
+
+/// Who made an audit, and whether others may import it (The Cargo Vet Book, audit entries).
+#[derive(Debug, Drop)]
+pub struct Audit {
+    /// Who reviewed, in the order of their bytes, each once.
+    pub who: Texts,
+    /// Whether others may import the entry, where it says so.
+    pub importable: Option<bool>,
+}
+
+impl Audit {
+    /// Nobody is named, and nothing is said of imports.
+    pub fn anonymous(alloc: Global) -> Audit
+        ensures { result ≡ no_audit }
+    {
+        Audit {
+            who: Texts::new(alloc),
+            importable: None,
+        }
+    }
+}
+
+impl Clone for Audit {
+    ghost use Rattle.std.specs.Prelude.{◌≡◌};
+
+    ghost is_clone = { λ a b. b ≡ a };
+
+    fn clone(&self) -> Result<Audit, AllocError> {
+        Ok(Audit {
+            who: self.who.clone()?,
+            importable: self.importable,
+        })
+    }
+}
+
+impl PartialEq for Audit {
+    ghost use Rattle.std.specs.Cmp.{decided, partial_equiv_from_equiv};
+    ghost use Rattle.vet_entries.specs.Kind.{audit_eq, audit_eq-Decides};
+
+    ghost eq = { audit_eq };
+
+    ghost laws = { partial_equiv_from_equiv (decided audit_eq audit_eq-Decides) };
+
+    fn eq(&self, other: &Audit) -> bool {
+        self.who == other.who && self.importable == other.importable
+    }
+}
+
+impl Eq for Audit {
+    ghost use Rattle.std.specs.Cmp.{decided};
+    ghost use Rattle.vet_entries.specs.Kind.{audit_eq, audit_eq-Decides};
+
+    ghost laws = { decided audit_eq audit_eq-Decides };
+}
+
+/// Who vouches for what a user publishes, and whether that is to be renewed (The Cargo Vet Book, wildcard
+/// audits).
+#[derive(Debug, Drop)]
+pub struct Grant {
+    /// Who vouches, in the order of their bytes, each once.
+    pub who: Texts,
+    /// Whether the window is to be renewed, where the entry says so.
+    pub renew: Option<bool>,
+}
+
+impl Clone for Grant {
+    ghost use Rattle.std.specs.Prelude.{◌≡◌};
+
+    ghost is_clone = { λ a b. b ≡ a };
+
+    fn clone(&self) -> Result<Grant, AllocError> {
+        Ok(Grant {
+            who: self.who.clone()?,
+            renew: self.renew,
+        })
+    }
+}
+
+impl PartialEq for Grant {
+    ghost use Rattle.std.specs.Cmp.{decided, partial_equiv_from_equiv};
+    ghost use Rattle.vet_entries.specs.Kind.{grant_eq, grant_eq-Decides};
+
+    ghost eq = { grant_eq };
+
+    ghost laws = { partial_equiv_from_equiv (decided grant_eq grant_eq-Decides) };
+
+    fn eq(&self, other: &Grant) -> bool {
+        self.who == other.who && self.renew == other.renew
+    }
+}
+
+impl Eq for Grant {
+    ghost use Rattle.std.specs.Cmp.{decided};
+    ghost use Rattle.vet_entries.specs.Kind.{grant_eq, grant_eq-Decides};
+
+    ghost laws = { decided grant_eq grant_eq-Decides };
+}
+
+/// What a user of crates.io published from a first day to a last, both included (The Cargo Vet Book, wildcard
+/// audits and trusted publishers). A window that ends before it begins has no day.
+#[derive(Debug, Clone, Copy)]
+pub struct Window {
+    pub user: User,
+    pub first: Day,
+    pub last: Day,
+}
+
+impl PartialEq for Window {
+    ghost use Rattle.std.specs.Cmp.{decided, partial_equiv_from_equiv};
+    ghost use Rattle.vet_entries.specs.Kind.{window_eq, window_eq-Decides};
+
+    ghost eq = { window_eq };
+
+    ghost laws = { partial_equiv_from_equiv (decided window_eq window_eq-Decides) };
+
+    fn eq(&self, other: &Window) -> bool {
+        self.user == other.user && self.first == other.first && self.last == other.last
+    }
+}
+
+impl Eq for Window {
+    ghost use Rattle.std.specs.Cmp.{decided};
+    ghost use Rattle.vet_entries.specs.Kind.{window_eq, window_eq-Decides};
+
+    ghost laws = { decided window_eq window_eq-Decides };
+}
+
+/// What an entry says of its package. Each kind holds what goes with it and nothing else: who vouches, and
+/// what it tells tools.
+#[derive(Debug, Drop)]
+pub enum Kind {
+    /// This version was reviewed in full (The Cargo Vet Book, audit entries: `version`).
+    Full(VetVersion, Audit),
+    /// What changed from a version to another was reviewed, so that trust in the first is carried to the second;
+    /// either may be the greater (there: `delta`).
+    Delta(Delta, Audit),
+    /// The versions that match do not meet the criteria (there: `violation`).
+    Violation(Req, Audit),
+    /// What a user publishes within a window is vouched for (there: wildcard audits).
+    Wildcard(Window, Grant),
+    /// What a user publishes within a window is trusted (there: trusted publishers).
+    Trusted(Window),
+    /// This version is vouched for without a review (there: exemptions).
+    Exemption {
+        version: VetVersion,
+        /// Whether to suggest a review in its place, where the entry says so.
+        suggest: Option<bool>,
+    },
+}
+
+impl Clone for Kind {
+    ghost use Rattle.std.specs.Prelude.{◌≡◌};
+
+    ghost is_clone = { λ a b. b ≡ a };
+
+    fn clone(&self) -> Result<Kind, AllocError> {
+        match self {
+            Kind::Full(version, audit) => Ok(Kind::Full(version.clone()?, audit.clone()?)),
+            Kind::Delta(delta, audit) => Ok(Kind::Delta(delta.clone()?, audit.clone()?)),
+            Kind::Violation(req, audit) => Ok(Kind::Violation(req.clone()?, audit.clone()?)),
+            Kind::Wildcard(window, grant) => Ok(Kind::Wildcard(*window, grant.clone()?)),
+            Kind::Trusted(window) => Ok(Kind::Trusted(*window)),
+            Kind::Exemption { version, suggest } => Ok(Kind::Exemption {
+                version: version.clone()?,
+                suggest: *suggest,
+            }),
+        }
+    }
+}
+
+impl PartialEq for Kind {
+    ghost use Rattle.std.specs.Cmp.{decided, partial_equiv_from_equiv};
+    ghost use Rattle.vet_entries.specs.Kind.{kind_eq, kind_eq-Decides};
+
+    ghost eq = { kind_eq };
+
+    ghost laws = { partial_equiv_from_equiv (decided kind_eq kind_eq-Decides) };
+
+    fn eq(&self, other: &Kind) -> bool {
+        match (self, other) {
+            (Kind::Full(v, audit), Kind::Full(w, other)) => v == w && audit == other,
+            (Kind::Delta(c, audit), Kind::Delta(d, other)) => c == d && audit == other,
+            (Kind::Violation(q, audit), Kind::Violation(r, other)) => q == r && audit == other,
+            (Kind::Wildcard(v, grant), Kind::Wildcard(w, other)) => v == w && grant == other,
+            (Kind::Trusted(v), Kind::Trusted(w)) => v == w,
+            (
+                Kind::Exemption {
+                    version: v,
+                    suggest,
+                },
+                Kind::Exemption {
+                    version: w,
+                    suggest: other,
+                },
+            ) => v == w && suggest == other,
+            _ => false,
+        }
+    }
+}
+
+impl Eq for Kind {
+    ghost use Rattle.std.specs.Cmp.{decided};
+    ghost use Rattle.vet_entries.specs.Kind.{kind_eq, kind_eq-Decides};
+
+    ghost laws = { decided kind_eq kind_eq-Decides };
+}

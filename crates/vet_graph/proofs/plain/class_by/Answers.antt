@@ -1,0 +1,20 @@
+use Rattle.std.proofs.Common.{◌≡◌, ◌∙◌, ap, sym}
+use Rattle.std.proofs.lemmas.Result.{IfOk-weaker}
+use Rattle.vet_base.specs.Criteria.{place_of}
+use Rattle.vet_entries.specs.Condemned.{condemned_by}
+use Rattle.vet_graph.specs.ClassAt.{class_at}
+use Rattle.vet_graph.specs.Search.{steps_in}
+use Rattle.vet_graph.specs.StandingOf.{class_of_pair}
+use Rattle.vet_graph.proofs.Standings.{class_by_place}
+use Rattle.vet_graph.proofs.plain.class_by.Goals as goal
+
+pub returns-clause-ok : goal.returns-clause-ok
+returns-clause-ok c =
+    let facts = c.args.facts.now.content in
+    let pair = c.args.pair.now in
+    let violations = c.args.violations.now in
+    let found = sym c.in-Some.is ∙ c.place.ensures.value ∙ ap (λ table. place_of table pair.criterion) c.criteria.ensures in
+    IfOk-weaker c.class_of.result
+    (λ class. class ≡ class_at (steps_in c.args.steps.now) (condemned_by violations) c.in-Some.place pair.version) (λ class. class ≡ class_of_pair facts pair)
+    (λ class is. is ∙ class_by_place c.violations_condemn.ensures facts pair c.args.steps.now violations c.in-Some.place c.requires found)
+    (c.class_of.ensures.class (condemned_by violations) c.requires.guards c.condemned_by-condemned.ensures)

@@ -1,0 +1,56 @@
+-- What a search for chains finds (ours).
+use Rattle.std.specs.Prelude.{◌≡◌, ℕ, Bool, true, false, not, ◌&&◌, List, [], None, map, get_or}
+use Rattle.std.specs.List.{All, Contains}
+use Rattle.std.specs.FinSet as set
+use Rattle.vet_base.specs.CriteriaSet.{has}
+use Rattle.vet_base.specs.Version.{VersionValue}
+use Rattle.vet_base.specs.VersionOrder.{version_eq}
+use Rattle.vet_entries.specs.declared.step.Step.{Step}
+use Rattle.vet_graph.specs.declared.guarded.GuardedStep.{GuardedStep}
+use Rattle.vet_graph.specs.declared.search.Skip.{Skip}
+use Rattle.vet_graph.specs.declared.search.Skip.TheVariants.{Nothing, Exempt, ExemptTo}
+use Rattle.vet_graph.specs.declared.search.Terms.{Terms}
+use Rattle.vet_graph.specs.Chain.{Condemned, IsChain}
+
+-- the steps without their guards
+abbrev pub steps_in : List GuardedStep → List Step
+steps_in guarded = map (λ g. g.step) guarded
+
+-- each step carries the criteria for which its target is condemned
+abbrev pub AreGuarded : Condemned → List GuardedStep → Type 0
+AreGuarded condemned guarded = All (λ g. (c : ℕ) → has c g.condemned ≡ condemned c g.step.target) guarded
+
+-- whether a search takes a step, if it skips these
+abbrev pub may_take : Skip → Step → Bool
+may_take Nothing s = true
+may_take Exempt s = not s.exempt
+may_take (ExemptTo v) s = not (s.exempt && version_eq s.target v.now)
+
+-- whether a step leads to a version that is barred
+abbrev pub is_barred : Terms → GuardedStep → Bool
+is_barred terms g = terms.barred && has terms.place g.condemned
+
+-- whether a search on these terms takes a step
+abbrev pub is_open : Terms → GuardedStep → Bool
+is_open terms g = has terms.place g.step.criteria && (not (is_barred terms g) && may_take terms.skip g.step)
+
+-- a chain leads to v, by steps that aren't skipped and through no version that is barred
+abbrev pub IsReached : List GuardedStep → Terms → VersionValue → Type 0
+IsReached guarded terms v =
+    (chain : List GuardedStep) × All (Contains guarded) chain × IsChain (steps_in guarded) terms.place v (steps_in chain)
+    × All (λ g. is_barred terms g ≡ false) chain × All (λ g. may_take terms.skip g.step ≡ true) chain
+
+-- what a read past the end would give
+abbrev pub no_step : GuardedStep
+no_step = record {
+  step = record { origin = None; target = record { parts = (0, 0, 0, [], []); revision = None }; criteria = set.empty; exempt = false };
+  condemned = set.empty;
+}
+
+-- the version to which the step at a place leads
+abbrev pub version_at : List GuardedStep → ℕ → VersionValue
+version_at guarded place = (get_or guarded place no_step).step.target
+
+-- the versions to which the steps at some places lead
+abbrev pub versions_at : List GuardedStep → List ℕ → List VersionValue
+versions_at guarded places = map (version_at guarded) places

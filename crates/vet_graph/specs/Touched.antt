@@ -1,0 +1,31 @@
+-- What stays outside the packages that a command touches (ours).
+use Rattle.std.specs.Prelude.{◌≡◌, ℕ, List, filter}
+use Rattle.std.specs.List.{Contains}
+use Rattle.std.specs.Str.{bytes_eq}
+use Rattle.vet_base.specs.Version.{VersionValue}
+use Rattle.vet_demand.specs.declared.pair.Pair.{Pair}
+use Rattle.vet_entries.specs.Facts.{Facts}
+use Rattle.vet_entries.specs.Step.{steps_of}
+use Rattle.vet_graph.specs.declared.touched.Touched.{Touched}
+use Rattle.vet_graph.specs.declared.touched.Touched.TheVariants.{All, Packages}
+use Rattle.vet_graph.specs.StandingOf.{condemned_of}
+
+-- the demanded pairs of a package
+abbrev pub pairs_at : List ℕ → List Pair → List Pair
+pairs_at name demand = filter (λ p. bytes_eq p.«package» name) demand
+
+-- a package has the same steps, condemned versions and demanded pairs before and after
+pub record IsSameAt (name : List ℕ) (old_facts : Facts) (old_demand : List Pair) (facts : Facts) (demand : List Pair) : Type 0 where
+  pub steps : steps_of old_facts name ≡ steps_of facts name
+  pub condemned : (c : ℕ) (v : VersionValue) → condemned_of old_facts name c v ≡ condemned_of facts name c v
+  pub pairs : pairs_at name old_demand ≡ pairs_at name demand
+
+-- the criteria are the same, and so is each package that isn't named
+pub record IsSameBeside (names : List (List ℕ)) (old_facts : Facts) (old_demand : List Pair) (facts : Facts) (demand : List Pair) : Type 0 where
+  pub criteria : old_facts.criteria ≡ facts.criteria
+  pub packages : (name : List ℕ) → ¬ Contains names name → IsSameAt name old_facts old_demand facts demand
+
+-- what isn't touched is the same before and after; where all is, nothing is asked
+abbrev pub SameOutside : Touched → Facts → List Pair → Facts → List Pair → Type 0
+SameOutside All old_facts old_demand facts demand = Unit {0}
+SameOutside (Packages names) old_facts old_demand facts demand = IsSameBeside names old_facts old_demand facts demand

@@ -1,0 +1,12 @@
+//! Steps, and what bars them.
+
+use vet_base::criteria_set::CriteriaSet;
+use vet_entries::step::Step;
+
+/// A step, and the criteria for which the version to which it leads is condemned.
+#[derive(Debug, Drop)]
+pub struct GuardedStep {
+    pub step: Step,
+    /// By their places in the table.
+    pub condemned: CriteriaSet,
+}

@@ -1,0 +1,123 @@
+//! What keeps the class of each demanded pair.
+//!
+//! **The standing of a keeper is that which chains of steps give the demand that was applied last, however the
+//! keeper finds it.**
+//!
+//! A change goes in two calls. `plan` finds the standing that other facts or another demand would give, and
+//! the moves to it, and does all that can fail; the standing stays. `apply` makes the planned standing the
+//! keeper's. Whoever keeps the classes in another way implements this trait, and callers stay as they are.
+ghost use Rattle.std.specs.Prelude.{◌≡◌, [], List, IfOk, IfErr};
+ghost use Rattle.vet_demand.specs.declared.pair.Pair.{Pair};
+ghost use Rattle.vet_entries.specs.Facts.{Facts, no_facts};
+ghost use Rattle.vet_graph.specs.declared.moves.Move.{Move};
+ghost use Rattle.vet_graph.specs.declared.standing.Stand.{Stand};
+ghost use Rattle.vet_graph.specs.declared.touched.Touched.{Touched};
+ghost use Rattle.vet_graph.specs.Moves.{moves_between};
+ghost use Rattle.vet_graph.specs.Standing.{IsStanding, class_in, counts_of};
+ghost use Rattle.vet_graph.specs.StandingOf.{AreKnown, HasDemanded, standing_of};
+ghost use Rattle.vet_graph.specs.Touched.{SameOutside};
+
+use crate::class::Class;
+use crate::moves::Move;
+use crate::standing::Counts;
+use crate::touched::Touched;
+use std::alloc::Global;
+use std::fmt::Debug;
+use vet_base::name::{Name, PackageName};
+use vet_base::refusal::Refusal;
+use vet_base::version::VetVersion;
+use vet_demand::demand::Demand;
+use vet_entries::facts::EntryFacts;
+
+/// Keeps the class of each demanded pair.
+///
+/// An implementer says in the ghost members what its values mean, and the clauses of the calls are the
+/// contract that it has to prove and on which every caller rests.
+pub trait Keeper: Debug + Drop {
+    /// A planned change: what it makes of the standing, its moves, and the room that `apply` needs.
+    type Update: Debug + Drop;
+
+    /// The class of each demanded pair, in the order of the pairs.
+    ghost standing: { Self → List Stand };
+
+    /// What the keeper holds is what these facts and this demand give. A keeper that finds all anew holds
+    /// the standing alone; one that remembers more says here what.
+    ghost keeps: { Self → Facts → List Pair → Type 0 };
+
+    /// The standing that an update brings.
+    ghost planned: { Self.Update → List Stand };
+
+    /// What an update brings is what these facts and this demand give.
+    ghost plans: { Self.Update → Facts → List Pair → Type 0 };
+
+    /// The moves of an update.
+    ghost moves_of: { Self.Update → List Move };
+
+    /// The packages that an update was told are touched.
+    ghost touched_of: { Self.Update → Touched };
+
+    /// This keeper planned the update on the standing that it has, and still holds the room for it.
+    ghost is_ready: { Self → Self.Update → Type 0 };
+
+    /// A keeper of which nothing is demanded. Refused: `NoMemory`.
+    fn empty(alloc: Global) -> Result<Self, Refusal>
+        ensures standing { IfOk result (λ k. standing k ≡ []) }
+        ensures keeps { IfOk result (λ k. keeps k no_facts []) }
+        ensures memory { IfErr result (λ e. e ≡ Refusal.NoMemory) };
+
+    /// Plans the standing of a demand by some facts. Asks that the criteria of each entry, and each demanded
+    /// criterion, are in the facts' table; and that outside of what is touched these facts and this demand
+    /// are as those of which the keeper holds what they give. The standing stays, what is held still is what
+    /// the same facts and demand give, and what was planned before stays ready; also where it is refused.
+    /// Refused: `NoMemory`.
+    fn plan(
+        &mut self,
+        alloc: Global,
+        touched: &Touched,
+        facts: &EntryFacts,
+        demand: &Demand,
+    ) -> Result<Self::Update, Refusal>
+        requires known { AreKnown facts.now.content }
+        requires demanded { HasDemanded facts.now.content.criteria demand.now }
+        requires outside { (old_facts : Facts) × (old_demand : List Pair) × keeps self.old old_facts old_demand
+            × SameOutside touched.now old_facts old_demand facts.now.content demand.now }
+        ensures planned { IfOk result (λ u. planned u ≡ standing_of facts.now.content demand.now) }
+        ensures plans { IfOk result (λ u. plans u facts.now.content demand.now) }
+        ensures moves { IfOk result (λ u. moves_of u
+            ≡ moves_between (standing self.old) (standing_of facts.now.content demand.now)) }
+        ensures touched { IfOk result (λ u. touched_of u ≡ touched.now) }
+        ensures ready { IfOk result (is_ready self.new) }
+        ensures memory { IfErr result (λ e. e ≡ Refusal.NoMemory) }
+        ensures standing { standing self.new ≡ standing self.old }
+        ensures keeps { (facts : Facts) (demand : List Pair)
+            → keeps self.old facts demand → keeps self.new facts demand }
+        ensures stays_ready { (u : Self.Update) → is_ready self.old u → is_ready self.new u };
+
+    /// The moves from the standing on which an update was planned: each pair whose class differs, once, in
+    /// the order of the pairs. Takes no memory.
+    fn moves(update: &Self::Update) -> &[Move]
+        ensures { result.now ≡ moves_of update.now };
+
+    /// The packages that an update was told are touched. Takes no memory.
+    fn touched(update: &Self::Update) -> &Touched
+        ensures { result.now ≡ touched_of update.now };
+
+    /// Makes what was planned the standing. Asks that this keeper planned the update on the standing that it
+    /// has, and still holds the room for it. Takes no memory.
+    fn apply(&mut self, update: Self::Update)
+        requires { is_ready self.old update }
+        ensures standing { standing self.new ≡ planned update }
+        ensures keeps { (facts : Facts) (demand : List Pair)
+            → plans update facts demand → keeps self.new facts demand };
+
+    /// The class at which a pair stands, or none where it isn't demanded. Takes no memory.
+    fn class(&self, package: &PackageName, version: &VetVersion, criterion: &Name) -> Option<Class>
+        ensures value { result ≡ class_in (standing self.now)
+            (record { «package» = «package».now; version = version.now; criterion = criterion.now }) }
+        ensures in_order { IsStanding (standing self.now) };
+
+    /// How many pairs stand in each class. Takes no memory.
+    fn counts(&self) -> Counts
+        ensures value { result ≡ counts_of (standing self.now) }
+        ensures in_order { IsStanding (standing self.now) };
+}

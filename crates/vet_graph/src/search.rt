@@ -1,0 +1,217 @@
+//! The versions to which chains lead, by a worklist.
+//!
+//! A chain is a row of steps, each from where the one before arrived, the first from nothing, and no version is
+//! arrived at twice (`specs/Chain.antt`). There can be very many chains, so no one lists them. What stands below
+//! keeps a list of the versions reached so far, takes from it one after the other, and adds each version to which
+//! an open step leads from there and that is not in the list yet. A step is open where it vouches for the
+//! criterion, is not skipped, and, if that is asked, leads to no condemned version. The list is how the answer is
+//! found, never what it means: each contract speaks of chains alone.
+//!
+//! **A version is in the answer exactly where a chain of open steps leads to it.**
+//!
+//! Why each version in the list has a chain. It was added once, by one step, and that step starts from nothing or
+//! at a version that was in the list already. So its chain can be followed back, from step to step, to nothing:
+//! each time to a version that was added earlier, so none comes twice. Put the other way round: at each time
+//! each version in the list has a chain *all of whose versions are in the list*. A version that is to be added is
+//! not in the list, so it is on none of these chains, and the chain that goes on by one more step arrives at no
+//! version twice. No circle has to be cut out of anything, and a delta from a version to itself is a step to a
+//! version that is in the list already: it adds nothing.
+//!
+//! Why each version with a chain is in the list. When the worklist has come to its end, each open step that
+//! starts from nothing, or at a version in the list, leads to a version in the list. Take the steps of a chain of
+//! open steps one after the other: the first starts from nothing, so it leads into the list; the second starts
+//! there, so it does too; and so on to the last. This holds for any walk, whether or not it comes by a version
+//! twice, so a walk leads to no version to which no chain does.
+//!
+//! Three of the four questions of a class are one search each. Is there a chain at all: nothing is skipped,
+//! condemned versions are passed. Is there a clean chain: nothing is skipped, condemned versions are closed: they
+//! aren't reached, and nothing goes on from them. Is there one by reviews alone: exempt steps are skipped.
+//!
+//! Why the fourth needs a search of its own. Partial at a version v asks for a clean chain whose *last* step is
+//! a review. It is not enough that v is reached and that some review arrives at v from a version that is
+//! reached: that version may itself be reached only through v. With an exemption of v, a delta from v to w
+//! and one from w back to v there is such a walk, but it arrives at v twice, and the only chain to v is the
+//! exemption. But a chain to v arrives at v once, with its last step. So none of the steps before it leads to v,
+//! and the exempt steps to v are of no use to it: not as the last step, which is a review, and not before. All
+//! other exempt steps may be of use, further down. So v is partly vetted exactly where it is reached by a
+//! search that skips the exempt steps to v, and only these.
+//!
+//! What it costs. The index (`links`) is built once for a package. It gives each version a number, the place
+//! of the first step that leads to it, its head, and files each step under the head of the version at which
+//! it starts. So a version in the list knows its steps, and whether a version is in the list is one look at a mark.
+//! A version is taken from the list once, so a search looks at each step at most once, and a package of s steps
+//! costs the order of s log s for the index, and of s for each search.
+ghost use Rattle.std.specs.Prelude.{◌≡◌, ◌<◌, ◌↔◌, IsTrue, IfOk, IfErr, false, length, replicate, take};
+ghost use Rattle.std.specs.List.{All, Contains};
+ghost use Rattle.vet_base.specs.Version.{VersionValue};
+ghost use Rattle.vet_graph.specs.Links.{IsLinked};
+ghost use Rattle.vet_graph.specs.Search.{IsReached, is_open, may_take, versions_at};
+ghost use Rattle.vet_graph.specs.Reaching.{IsReaching, LeadsOn, StandsBefore};
+
+use crate::guarded::GuardedStep;
+use crate::links::{LinkedSteps, Links};
+use std::alloc::Global;
+use vet_base::refusal::Refusal;
+use vet_base::version::VetVersion;
+use vet_entries::step::Step;
+
+/// Which steps a search skips.
+#[derive(Clone, Copy, Debug)]
+pub enum Skip<'v> {
+    Nothing,
+    /// The exempt steps.
+    Exempt,
+    /// The exempt steps to a version.
+    ExemptTo(&'v VetVersion),
+}
+
+/// What a search asks of the steps of a chain.
+#[derive(Clone, Copy, Debug)]
+pub struct Terms<'v> {
+    /// The place of the criterion for which each step vouches.
+    pub place: usize,
+    /// Whether no step leads to a version that is condemned for it.
+    pub barred: bool,
+    /// The steps that aren't taken.
+    pub skip: Skip<'v>,
+}
+
+fn may_take(skip: &Skip<'_>, step: &Step) -> bool
+    ensures { result ≡ may_take skip.now step.now }
+{
+    match skip {
+        Skip::Nothing => true,
+        Skip::Exempt => !step.exempt,
+        Skip::ExemptTo(version) => !(step.exempt && step.target == **version),
+    }
+}
+
+fn is_open(terms: &Terms<'_>, guarded: &GuardedStep) -> bool
+    ensures { result ≡ is_open terms.now guarded.now }
+{
+    guarded.step.criteria.has(terms.place)
+        && !(terms.barred && guarded.condemned.has(terms.place))
+        && may_take(&terms.skip, &guarded.step)
+}
+
+/// Whether a version is among those to which the steps at some places lead.
+pub fn leads_to(steps: &[GuardedStep], places: &[usize], version: &VetVersion) -> bool
+    requires { All (λ p. p < length steps.now) places.now }
+    ensures { IsTrue result ↔ Contains (versions_at steps.now places.now) version.now }
+{
+    'places: for place in places {
+        if steps[*place].step.target == *version {
+            return true;
+        }
+    }
+    false
+}
+
+/// The versions to which a chain leads on these terms: for each, the place of a step to it. Looks at each
+/// step at most once. Refused: `NoMemory`.
+pub fn search(alloc: Global, linked: &LinkedSteps, terms: &Terms<'_>) -> Result<Vec<usize>, Refusal>
+    ensures within { IfOk result (λ reached. All (λ p. p < length linked.now) reached.items) }
+    ensures reached { IfOk result (λ reached. (v : VersionValue)
+        → Contains (versions_at linked.now reached.items) v ↔ IsReached linked.now terms.now v) }
+    ensures memory { IfErr result (λ e. e ≡ Refusal.NoMemory) }
+{
+    reach(alloc, linked.steps(), linked.links(), terms)
+}
+
+// The heads of the versions reached so far, in the order in which they were; and for each place whether it is
+// one of them.
+#[derive(Drop)]
+struct Reached {
+    places: Vec<usize>,
+    seen: Vec<bool>,
+}
+
+fn reach(
+    alloc: Global,
+    steps: &[GuardedStep],
+    links: &Links,
+    terms: &Terms<'_>,
+) -> Result<Vec<usize>, Refusal>
+    requires { IsLinked steps.now links.now }
+    ensures within { IfOk result (λ reached. All (λ p. p < length steps.now) reached.items) }
+    ensures reached { IfOk result (λ reached. (v : VersionValue)
+        → Contains (versions_at steps.now reached.items) v ↔ IsReached steps.now terms.now v) }
+    ensures memory { IfErr result (λ e. e ≡ Refusal.NoMemory) }
+{
+    let mut reached = Reached {
+        places: Vec::new(alloc),
+        seen: unseen(alloc, steps.len())?,
+    };
+    extend_by(steps, links, terms, links.first.as_slice(), &mut reached)?;
+    let mut next = 0;
+    'versions: while next < reached.places.len() {
+        let from = reached.places[next];
+        let places = links.after[from].as_slice();
+        extend_by(steps, links, terms, places, &mut reached)?;
+        next += 1;
+    }
+    Ok(reached.places)
+}
+
+fn unseen(alloc: Global, count: usize) -> Result<Vec<bool>, Refusal>
+    ensures ok { IfOk result (λ seen. seen.items ≡ replicate count false) }
+    ensures memory { IfErr result (λ e. e ≡ Refusal.NoMemory) }
+{
+    Ok(vec![in alloc; false; count]?)
+}
+
+// Adds the versions to which the open steps at some places lead.
+fn extend_by(
+    steps: &[GuardedStep],
+    links: &Links,
+    terms: &Terms<'_>,
+    places: &[usize],
+    reached: &mut Reached,
+) -> Result<(), Refusal>
+    requires linked { IsLinked steps.now links.now }
+    requires within { All (λ p. p < length steps.now) places.now }
+    requires stands { All (StandsBefore steps.now reached.old.places.items) places.now }
+    requires reaching { IsReaching steps.now links.now terms.now reached.old.places.items reached.old.seen.items }
+    ensures reaching { IfOk result (λ _.
+        IsReaching steps.now links.now terms.now reached.new.places.items reached.new.seen.items) }
+    ensures kept { IfOk result (λ _.
+        take (length reached.old.places.items) reached.new.places.items ≡ reached.old.places.items) }
+    ensures taken { IfOk result (λ _. All (LeadsOn steps.now terms.now reached.new.places.items) places.now) }
+    ensures memory { IfErr result (λ e. e ≡ Refusal.NoMemory) }
+{
+    'places: for place in places {
+        take_step(steps, links, terms, *place, reached)?;
+    }
+    Ok(())
+}
+
+// Adds the version to which a step leads, where the step is open and the version is not reached yet.
+fn take_step(
+    steps: &[GuardedStep],
+    links: &Links,
+    terms: &Terms<'_>,
+    place: usize,
+    reached: &mut Reached,
+) -> Result<(), Refusal>
+    requires linked { IsLinked steps.now links.now }
+    requires place { place < length steps.now }
+    requires stands { StandsBefore steps.now reached.old.places.items place }
+    requires reaching { IsReaching steps.now links.now terms.now reached.old.places.items reached.old.seen.items }
+    ensures reaching { IfOk result (λ _.
+        IsReaching steps.now links.now terms.now reached.new.places.items reached.new.seen.items) }
+    ensures kept { IfOk result (λ _.
+        take (length reached.old.places.items) reached.new.places.items ≡ reached.old.places.items) }
+    ensures taken { IfOk result (λ _. LeadsOn steps.now terms.now reached.new.places.items place) }
+    ensures memory { IfErr result (λ e. e ≡ Refusal.NoMemory) }
+{
+    if !is_open(terms, &steps[place]) {
+        return Ok(());
+    }
+    let head = links.heads[place];
+    if reached.seen[head] {
+        return Ok(());
+    }
+    reached.places.push(head)?;
+    reached.seen[head] = true;
+    Ok(())
+}
