@@ -4,7 +4,7 @@ use std::alloc::Global;
 use std::io::{ErrorKind, Read};
 
 /// The most bytes of an input.
-pub const MOST_INPUT_BYTES: usize = 1_048_576;
+pub const MOST_EXAMPLE_BYTES: usize = 1_048_576;
 
 /// What stands on the input.
 pub enum Input {
@@ -20,11 +20,11 @@ pub enum Input {
 pub fn read_input<R: Read>(alloc: Global, reader: &mut R) -> Input {
     let mut text = String::new(alloc);
     match reader
-        .take(MOST_INPUT_BYTES as u64 + 1)
+        .take(MOST_EXAMPLE_BYTES as u64 + 1)
         .read_to_string(&mut text)
     {
         Ok(_) => {
-            if text.len() > MOST_INPUT_BYTES {
+            if text.len() > MOST_EXAMPLE_BYTES {
                 return Input::Other;
             }
             Input::Text(text)

@@ -2,9 +2,10 @@
 //! of the product.
 //!
 //! `trials` reads an example on standard input, gives its lines in their order, and prints each
-//! answer and in the end what the register holds. `trials --contents` prints also before each command
-//! what it holds. `trials --relay` does as `trials`, with another keeper of the classes. What lines there are stands in `line`, `setting`, `commands`, `values`, `versions`
-//! and `days`. Where memory is wanting, the run ends with that refusal and what the register holds
+//! answer and, where there is a command or a demand, in the end what the register holds.
+//! `trials --contents` prints also before each command what it holds. `trials --relay` does as
+//! `trials`, with a keeper that hands all on to the plain one. What lines there are stands in `line`,
+//! `setting`, `commands`, `values`, `versions` and `days`. Where memory is wanting, the run ends with that refusal and what the register holds
 //! then, and with status 1, as it does where the demand is refused. At other words, an input that
 //! can't be read, or a line that isn't understood, a message goes to standard error, with status 2.
 #![tactic(auto)]

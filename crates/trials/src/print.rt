@@ -50,7 +50,8 @@ pub fn print_refusal(rt: &impl Print, refusal: &Refusal) -> io::Result<()> {
     }
 }
 
-/// Prints what a register holds: its step, criteria, entries, demanded pairs, counts and recorded moves.
+/// Prints what a register holds: its step, criteria, entries, publisher records, demanded pairs, counts and
+/// recorded moves.
 pub fn print_contents<K: Keeper>(rt: &impl Print, register: &Register<K>) -> io::Result<()> {
     println!(rt; "step {}", register.step())?;
     print_criteria(rt, register)?;

@@ -1,6 +1,6 @@
-//! Lines that ask for values of versions and requirements.
+//! Lines that ask for values of versions, deltas and requirements.
 //!
-//! `version TEXT` and `requirement TEXT` tell the value as it is printed; `order VERSION VERSION`
+//! `version TEXT`, `delta TEXT` and `requirement TEXT` tell the value as it is printed; `order VERSION VERSION`
 //! tells how the two compare, `matches REQUIREMENT VERSION` whether the one matches the other, and
 //! `equal REQUIREMENT REQUIREMENT` whether a copy of the one is the other.
 
@@ -17,12 +17,12 @@ pub fn version(alloc: Global, texts: &[String]) -> Result<String, Fault> {
     Ok(VetVersion::parse(alloc, one(texts)?)?.to_string(alloc)?)
 }
 
-/// How two versions compare.
-/// `delta TEXT`: the delta that a text is, as it is printed.
+/// The delta that a text is.
 pub fn delta(alloc: Global, texts: &[String]) -> Result<String, Fault> {
     Ok(Delta::parse(alloc, one(texts)?)?.to_string(alloc)?)
 }
 
+/// How two versions compare.
 pub fn order(alloc: Global, texts: &[String]) -> Result<String, Fault> {
     let (first, second) = two(texts)?;
     let first = VetVersion::parse(alloc, first)?;

@@ -14,7 +14,7 @@ use Rattle.vet_base.specs.Delta.{is_space, is_head, delta_between, without_leadi
 
 -- ---- spaces that lead a text
 
-one_more_leads : (r : List ℕ) → without_leading (32 ∷ r) ≡ without_leading r
+pub one_more_leads : (r : List ℕ) → without_leading (32 ∷ r) ≡ without_leading r
 one_more_leads r = ap (λ n. drop n (32 ∷ r)) more
   where
     more : 1 + prefix_len is_space r ≡ suc (prefix_len is_space r)
@@ -45,7 +45,7 @@ ends_in : (m : List ℕ) (n : ℕ) → FindsCharSuffix 32 m (Some n) → m ≡ t
 ends_in m n (size, at, bound) =
     sym (take-append-drop (length m - n) m) ∙ ap (λ t. take (length m - n) m ++ t) (drop_at_char 32 m (length m - n) (length m) at (omega arith) ∙ ap (λ t. 32 ∷ t) (drop-length m))
 
-one_more_ends : (r : List ℕ) → without_ending (r ++ (32 ∷ [])) ≡ without_ending r
+pub one_more_ends : (r : List ℕ) → without_ending (r ++ (32 ∷ [])) ≡ without_ending r
 one_more_ends r =
     let tail : suffix_len is_space (r ++ (32 ∷ [])) ≡ 1 + suffix_len is_space r = ap (prefix_len is_space) (reverse-append r (32 ∷ [])) in
     let size : length (r ++ (32 ∷ [])) ≡ length r + 1 = length-append r (32 ∷ []) in
@@ -63,7 +63,7 @@ last_of r some =
     let whole : n + 1 ≡ length r = omega (arith, some) in
     sym (take_all (n + 1) r (omega (arith, whole))) ∙ take_more r n 0 (omega (arith, some))
 
-none_ends : (r : List ℕ) → ((front : List ℕ) → r ≢ front ++ encode_utf8 32) → without_ending r ≡ r
+pub none_ends : (r : List ℕ) → ((front : List ℕ) → r ≢ front ++ encode_utf8 32) → without_ending r ≡ r
 none_ends r h =
     let none : suffix_len is_space r ≡ length r - length r = suffix_len_is is_space r (length r) 0 (omega arith) (λ k low high. absurd (omega (arith, low, high))) last in
     take_all (length r - suffix_len is_space r) r (omega (arith, none))

@@ -3,6 +3,7 @@ pub mod Changes
 pub mod Closing
 pub mod DayLemmas
 pub mod DeltaLemmas
+pub mod DeltaText
 pub mod Held
 pub mod Kept
 pub mod Meeting

@@ -22,7 +22,7 @@ use Rattle.vet_base.specs.Version.{VersionValue, is_at, mark, is_revision, read_
 lower_hex : (b : ℕ) → is_ascii_hexdigit b ≡ true → is_ascii_hexdigit (to_ascii_lowercase b) ≡ true
 lower_hex b h = grind (arith, nat_tests)
 
-lower_hexes : (xs : List ℕ) → list_all is_ascii_hexdigit xs ≡ true → list_all is_ascii_hexdigit (map to_ascii_lowercase xs) ≡ true
+pub lower_hexes : (xs : List ℕ) → list_all is_ascii_hexdigit xs ≡ true → list_all is_ascii_hexdigit (map to_ascii_lowercase xs) ≡ true
 lower_hexes [] h = refl
 lower_hexes (b ∷ xs) h =
     let (here, more) = and_parts (is_ascii_hexdigit b) (list_all is_ascii_hexdigit xs) h in
@@ -41,7 +41,7 @@ revision_lower xs h =
 at_place : (v rest : List ℕ) → position_or_len is_at v ≡ length v → position_or_len is_at (v ++ 64 ∷ rest) ≡ length v
 at_place v rest none = rw (prefix_len-append, none) (grind (arith, nat_tests, common_steps))
 
-drop_front : (v rest : List ℕ) (b : ℕ) → drop (length v + 1) (v ++ b ∷ rest) ≡ rest
+pub drop_front : (v rest : List ℕ) (b : ℕ) → drop (length v + 1) (v ++ b ∷ rest) ≡ rest
 drop_front [] rest b = refl
 drop_front (x ∷ v) rest b =
     let e : length (x ∷ v) + 1 ≡ suc (length v + 1) = omega arith in
@@ -96,7 +96,7 @@ revised_size text short found revision =
     grind (arith, nat_tests)
 
 -- what an answer that was found came from
-found_from : (r : Result Parts Error) (f : Parts → VersionValue) (v : VersionValue) → option_map f (result_ok r) ≡ Some v
+pub found_from : (r : Result Parts Error) (f : Parts → VersionValue) (v : VersionValue) → option_map f (result_ok r) ≡ Some v
     → (p : Parts) × (r ≡ Ok p) × (v ≡ f p)
 found_from (Ok p) f v e = (p, refl, sym (same_Some _ _ e))
 found_from (Err x) f v e = cc e

@@ -6,7 +6,7 @@ ghost use Rattle.vet_base.specs.Version.{read_version};
 ghost use Rattle.vet_base.specs.Delta.{delta_eq, delta_eq_equiv, delta_text, ends_of, read_delta, without_ending, without_leading, without_spaces};
 
 use crate::refusal::Refusal;
-use crate::version::VetVersion;
+use crate::version::{VetVersion, version_text_reads_back};
 use std::alloc::{AllocError, Global};
 use std::fmt;
 
@@ -56,6 +56,14 @@ impl fmt::Display for Delta {
     fn fmt<W: fmt::Write>(&self, f: &mut fmt::Formatter<W>) -> fmt::Result {
         write!(f, "{} -> {}", self.from, self.to)
     }
+}
+
+/// What is printed of a delta is read as that delta.
+pub fn delta_text_reads_back(delta: &Delta)
+    ensures { read_delta (delta_text delta.now) ≡ Some delta.now }
+{
+    version_text_reads_back(&delta.from);
+    version_text_reads_back(&delta.to);
 }
 
 impl Clone for Delta {

@@ -1,8 +1,9 @@
-//! The values of the register: names, versions, days, texts and criteria, the limits that they keep, and the
-//! refusals that every call answers with.
+//! The values of the register: names, versions, requirements, deltas, days, texts and criteria, the limits
+//! that they keep, and the refusals that every call answers with.
 //!
-//! **A parser takes exactly the texts of its definition, and what `Display` prints is read again as the
-//! same value; the closure of some criteria is the least set that holds them and what they imply.**
+//! **A parser takes exactly the texts of its definition, and what `Display` prints of a name, a version, a
+//! requirement or a day is read again as the same value; the closure of some criteria is the least set that
+//! holds them and what they imply.**
 //!
 //! Scope of this crate: values alone. What an entry, a project or a class is stands in the crates above.
 #![tactic(auto)]

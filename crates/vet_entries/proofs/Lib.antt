@@ -4,6 +4,7 @@ pub mod Gathered
 pub mod Numbers
 pub mod PackageRecords
 pub mod Places
+pub mod PublisherLaws
 pub mod Records
 pub mod Removed
 pub mod SetRecords

@@ -16,7 +16,7 @@ use Rattle.vet_entries.specs.declared.publisher.Publisher.{Publisher}
 use Rattle.vet_entries.specs.declared.publisher_records.PackagePublishers.{PackagePublishers}
 use Rattle.vet_entries.specs.declared.publisher_records.PublishersEdit.{PublishersEdit}
 use Rattle.vet_entries.specs.declared.publisher_records.PublishersEdit.TheVariants as edit
-use Rattle.vet_entries.specs.PublisherLaws.{R, IsByName-with_records, above, find_absent, not_named, only_equal}
+use Rattle.vet_entries.proofs.PublisherLaws.{R, IsByName-with_records, above, find_absent, not_named, only_equal}
 use Rattle.vet_entries.specs.PublisherRecords.{FitsPublishers, HasPlace, IsByName, PublishersRoom, IsPlace, edit_at, edited_publishers, is_before, is_behind, is_named, records_held, records_of, records_total, swapped, with_any, with_records}
 use Rattle.vet_entries.proofs.Edits.{remove-insert}
 use Rattle.vet_entries.proofs.Places.{filter_back, filter_front}

@@ -8,7 +8,7 @@ use Rattle.std.proofs.lemmas.List.Elements.{All-head, All-tail}
 use Rattle.std.proofs.lemmas.Map.Text.{is_eq-slice_cmp}
 use Rattle.vet_entries.specs.declared.publisher.Publisher.{Publisher}
 use Rattle.vet_entries.specs.declared.publisher_records.PackagePublishers.{PackagePublishers}
-use Rattle.vet_entries.specs.PublisherLaws.{R, above, below, find_absent, not_named, only_equal, records_total-with_records}
+use Rattle.vet_entries.proofs.PublisherLaws.{R, above, below, find_absent, not_named, only_equal, records_total-with_records}
 use Rattle.vet_entries.specs.PublisherRecords.{IsByName, is_before, is_behind, is_named, records_held, records_of, records_total, with_any, with_records}
 use Rattle.vet_entries.proofs.Places.{filter_drops, filter_keeps}
 

@@ -4,7 +4,6 @@ pub mod Entry
 pub mod Facts
 pub mod Kind
 pub mod Publisher
-pub mod PublisherLaws
 pub mod PublisherRecords
 pub mod Publishers
 pub mod Step

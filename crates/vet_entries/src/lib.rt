@@ -1,7 +1,7 @@
 //! Entries, what is held of them, and the steps of trust that they give a package.
 //!
-//! **`steps_of` gives the steps of the definition, list for list, and what `EntryFacts::apply` changes, the
-//! edit that it answers changes back.**
+//! **`steps_of` gives the steps of the definition, list for list, `condemned` just the criteria of the
+//! definition, and what `EntryFacts::apply` changes, the edit that it answers changes back.**
 //!
 //! Scope of this crate: what is vouched for, and for which criteria. Where chains of steps lead stands in
 //! `vet_graph`; what projects ask for, in `vet_demand`.

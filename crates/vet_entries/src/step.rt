@@ -23,7 +23,7 @@ pub struct Step {
     pub target: VetVersion,
     /// The criteria for which it vouches: those of its entry, and all that these imply.
     pub criteria: CriteriaSet,
-    /// Whether it vouches without a review.
+    /// Whether it comes of an exemption.
     pub exempt: bool,
 }
 

@@ -1,9 +1,8 @@
 -- Chains of steps to a version (ours; in outline The Cargo Vet Book, on audit entries).
-use Rattle.std.specs.Prelude.{◌≡◌, ◌≢◌, ℕ, Bool, true, false, not, ◌&&◌, List, [], ◌∷◌, ◌++◌, Option, Some, None}
+use Rattle.std.specs.Prelude.{◌≡◌, ◌≢◌, ℕ, Bool, true, false, List, [], ◌∷◌, ◌++◌, Option, Some, None}
 use Rattle.std.specs.List.{All, AllPairs, Contains}
 use Rattle.vet_base.specs.CriteriaSet.{has}
 use Rattle.vet_base.specs.Version.{VersionValue}
-use Rattle.vet_base.specs.VersionOrder.{version_eq}
 use Rattle.vet_entries.specs.declared.step.Step.{Step}
 
 -- the versions that are condemned for each criterion
@@ -45,19 +44,3 @@ HasChain steps c v = (chain : List Step) × IsChain steps c v chain
 -- some clean chain for c with this property leads to v
 abbrev pub HasCleanChain : List Step → Condemned → ℕ → VersionValue → (List Step → Type 0) → Type 0
 HasCleanChain steps condemned c v P = (chain : List Step) × IsChain steps c v chain × IsClean condemned c chain × P chain
-
--- a step from nothing
-abbrev pub IsFromNothing : Step → Type 0
-IsFromNothing s = s.origin ≡ None
-
--- no version is condemned for anything
-abbrev pub none_condemned : Condemned
-none_condemned c v = false
-
--- a step for c leads to v
-abbrev pub vouches : ℕ → VersionValue → Step → Bool
-vouches c v s = has c s.criteria && version_eq s.target v
-
--- a step for c that isn't exempt leads to v
-abbrev pub reviews : ℕ → VersionValue → Step → Bool
-reviews c v s = vouches c v s && not s.exempt

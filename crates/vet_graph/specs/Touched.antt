@@ -1,5 +1,5 @@
 -- What stays outside the packages that a command touches (ours).
-use Rattle.std.specs.Prelude.{◌≡◌, ℕ, List, filter}
+use Rattle.std.specs.Prelude.{◌≡◌, ℕ, false, List, [], filter}
 use Rattle.std.specs.List.{Contains}
 use Rattle.std.specs.Str.{bytes_eq}
 use Rattle.vet_base.specs.Version.{VersionValue}
@@ -24,6 +24,11 @@ pub record IsSameAt (name : List ℕ) (old_facts : Facts) (old_demand : List Pai
 pub record IsSameBeside (names : List (List ℕ)) (old_facts : Facts) (old_demand : List Pair) (facts : Facts) (demand : List Pair) : Type 0 where
   pub criteria : old_facts.criteria ≡ facts.criteria
   pub packages : (name : List ℕ) → ¬ Contains names name → IsSameAt name old_facts old_demand facts demand
+
+-- some facts give no package a step, and condemn no version
+pub record GiveNothing (facts : Facts) : Type 0 where
+  pub steps : (name : List ℕ) → steps_of facts name ≡ []
+  pub condemned : (name : List ℕ) (c : ℕ) (v : VersionValue) → condemned_of facts name c v ≡ false
 
 -- what isn't touched is the same before and after; where all is, nothing is asked
 abbrev pub SameOutside : Touched → Facts → List Pair → Facts → List Pair → Type 0

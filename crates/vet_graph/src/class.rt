@@ -18,9 +18,9 @@ use vet_base::version::VetVersion;
 pub enum Class {
     /// The version is condemned, and yet some chain leads to it.
     Conflicting,
-    /// Some clean chain leads to it by reviews alone.
+    /// Some clean chain leads to it without an exempt step.
     Full,
-    /// Some clean chain leads to it whose last step is a review.
+    /// Some clean chain leads to it whose last step isn't exempt.
     Partial,
     /// Some clean chain leads to it.
     Exempted,

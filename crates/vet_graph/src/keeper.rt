@@ -8,14 +8,14 @@
 //! keeper's. Whoever keeps the classes in another way implements this trait, and callers stay as they are.
 ghost use Rattle.std.specs.Prelude.{◌≡◌, [], List, IfOk, IfErr};
 ghost use Rattle.vet_demand.specs.declared.pair.Pair.{Pair};
-ghost use Rattle.vet_entries.specs.Facts.{Facts, no_facts};
+ghost use Rattle.vet_entries.specs.Facts.{Facts};
 ghost use Rattle.vet_graph.specs.declared.moves.Move.{Move};
 ghost use Rattle.vet_graph.specs.declared.standing.Stand.{Stand};
 ghost use Rattle.vet_graph.specs.declared.touched.Touched.{Touched};
 ghost use Rattle.vet_graph.specs.Moves.{moves_between};
 ghost use Rattle.vet_graph.specs.Standing.{IsStanding, class_in, counts_of};
 ghost use Rattle.vet_graph.specs.StandingOf.{AreKnown, HasDemanded, standing_of};
-ghost use Rattle.vet_graph.specs.Touched.{SameOutside};
+ghost use Rattle.vet_graph.specs.Touched.{GiveNothing, SameOutside};
 
 use crate::class::Class;
 use crate::moves::Move;
@@ -59,10 +59,11 @@ pub trait Keeper: Debug + Drop {
     /// This keeper planned the update on the standing that it has, and still holds the room for it.
     ghost is_ready: { Self → Self.Update → Type 0 };
 
-    /// A keeper of which nothing is demanded. Refused: `NoMemory`.
+    /// A keeper of which nothing is demanded. It holds what any facts give that have no steps and condemn
+    /// nothing. Refused: `NoMemory`.
     fn empty(alloc: Global) -> Result<Self, Refusal>
         ensures standing { IfOk result (λ k. standing k ≡ []) }
-        ensures keeps { IfOk result (λ k. keeps k no_facts []) }
+        ensures keeps { IfOk result (λ k. (facts : Facts) → GiveNothing facts → keeps k facts []) }
         ensures memory { IfErr result (λ e. e ≡ Refusal.NoMemory) };
 
     /// Plans the standing of a demand by some facts. Asks that the criteria of each entry, and each demanded

@@ -5,6 +5,7 @@ ghost use Rattle.vet_entries.specs.Condemned.{condemned_by};
 ghost use Rattle.vet_graph.specs.Plain.{AreStepsOf};
 ghost use Rattle.vet_graph.specs.Search.{AreGuarded, steps_in};
 ghost use Rattle.vet_graph.specs.StandingOf.{AreKnown, NoneIsVetted, class_of_pair, standing_of};
+ghost use Rattle.vet_graph.specs.Touched.{GiveNothing};
 
 use crate::class::{Class, class_of};
 use crate::guarded::GuardedStep;
@@ -102,8 +103,8 @@ impl Keeper for PlainKeeper {
         })
     }
 
-    /// Finds every class anew, whatever is touched. Looks at the entries once a package, and at a package's
-    /// steps at most twice a pair. Refused: `NoMemory`.
+    /// Finds every class anew, whatever is touched. Finds the steps and the violations of each package once, and
+    /// searches them at most four times for each of its pairs. Refused: `NoMemory`.
     #[tactic(auto, using(crate::proofs::Standings::standing_in_order))]
     fn plan(
         &mut self,
@@ -284,7 +285,8 @@ fn class_by(
     class_of(alloc, steps, &condemned, place, &pair.version)
 }
 
-/// Where nothing is held, no pair is vetted.
+/// Where nothing is held, there are no steps, no version is condemned, and no pair is vetted.
 pub fn nothing_vets_nothing()
-    ensures { NoneIsVetted no_facts }
+    ensures vets { NoneIsVetted no_facts }
+    ensures gives { GiveNothing no_facts }
 {}

@@ -99,7 +99,7 @@ ends_before_it_begins w = is_lt (day_cmp w.last w.first)
 abbrev pub ends_too_late : DayValue → Window → Bool
 ends_too_late day w = is_lt (int_cmp (day_number day +ℤ pos MOST_WINDOW_DAYS) (day_number w.last))
 
--- a window begins before it ends, and ends soon enough after the day of the command
+-- a window does not end before it begins, and ends soon enough after the day of the command
 abbrev pub window_rules : DayValue → Window → Told (Unit {0})
 window_rules day w = refuse_if (ends_before_it_begins w) EmptyWindow >>= λ _. refuse_if (ends_too_late day w) WindowTooLong
 

@@ -17,7 +17,7 @@ pub mod moves;
 pub mod register;
 
 pub use vet_base::{
-    criteria_table, criterion, day, limits, name, names, refusal, text, texts, version,
+    criteria_table, criterion, day, delta, limits, name, names, refusal, req, text, texts, version,
 };
 pub use vet_demand::{demand, pair};
 pub use vet_entries::{entry, facts, kind, publisher, publisher_records, publishers, step, user};

@@ -217,7 +217,7 @@ impl<K: Keeper> Register<K> {
         self.first
     }
 
-    /// The moves since then, in the order of their steps and, in one step, of their pairs. Takes no memory.
+    /// The moves since the first counts, in the order of their steps and, in one step, of their pairs. Takes no memory.
     pub fn moves(&self) -> &[RecordedMove]
         ensures { result.now ≡ self.now.state.moves }
     {
@@ -582,7 +582,7 @@ fn known(unknown: Option<&Name>) -> Result<(), Refusal>
     }
 }
 
-// A window begins before it ends, and ends soon enough after the day of the command.
+// A window does not end before it begins, and ends soon enough after the day of the command.
 fn check_kind(day: Day, kind: &Kind) -> Result<(), Refusal>
     ensures { result ≡ kind_rules day kind.now }
 {

@@ -1,5 +1,5 @@
 use Rattle.std.proofs.Common.{ap, subst}
-use Rattle.vet_entries.specs.PublisherLaws.{IsByName-with_records, records_of-other, records_of-with_records, records_total-with_records}
+use Rattle.vet_entries.proofs.PublisherLaws.{IsByName-with_records, records_of-other, records_of-with_records, records_total-with_records}
 use Rattle.vet_entries.specs.PublisherRecords.{IsByName}
 use Rattle.vet_entries.proofs.SetRecords.{records_of-total, with_same_records}
 use Rattle.vet_entries.proofs.publisher_records.records_after_setting.Goals as goal

@@ -1,6 +1,6 @@
 use Rattle.std.proofs.Common.{ap, rules}
 use Rattle.std.proofs.lemmas.Fn.{always_returns_same}
-use Rattle.vet_entries.specs.PublisherLaws.{R}
+use Rattle.vet_entries.proofs.PublisherLaws.{R}
 use Rattle.vet_entries.specs.declared.publisher_records.PackagePublishers.{PackagePublishers}
 use Rattle.vet_entries.proofs.PackageRecords.{place_found}
 use Rattle.vet_entries.proofs.publisher_records.PublisherRecords.place_of.Goals as goal

@@ -1,4 +1,4 @@
-use Rattle.std.proofs.Common.{◌≡◌, ◌∙◌, sym, ap, subst}
+use Rattle.std.proofs.Common.{[], ◌≡◌, ◌∙◌, sym, ap, subst}
 use Rattle.vet_base.specs.Criteria.{IsTable}
 use Rattle.vet_demand.specs.Pair.{IsInOrder}
 use Rattle.vet_graph.specs.Standing.{IsStanding, counts_of}
@@ -49,4 +49,7 @@ invariant_of-result g c =
 
 pub returns-clause-first : goal.returns-clause-first
 returns-clause-first g c =
-    c.counts-first.ensures.value ∙ ap counts_of (stands g c) ∙ none_counted no_facts c.nothing_vets_nothing.ensures c.args.demand
+    c.counts-first.ensures.value ∙ ap counts_of (stands g c) ∙ none_counted no_facts c.nothing_vets_nothing.ensures.vets c.args.demand
+
+pub plan-requires-clause-outside : goal.plan-requires-clause-outside
+plan-requires-clause-outside g c = (no_facts, [], c.in_ok-keeper.ensures.keeps no_facts c.nothing_vets_nothing.ensures.gives, tt)
