@@ -13,6 +13,7 @@
 mod commands;
 mod days;
 mod fault;
+mod files;
 mod input;
 mod line;
 mod print;

@@ -7,6 +7,7 @@
 use crate::commands::names;
 use crate::days::{day, day_number, day_of_parts, day_order, plus};
 use crate::fault::Fault;
+use crate::files::{peer_file, policy_key};
 use crate::line::{one, words_of};
 use crate::versions::{delta, equal, matches, order, requirement, version};
 use std::alloc::Global;
@@ -40,6 +41,8 @@ pub fn value(alloc: Global, table: &CriteriaTable, line: &str) -> Result<String,
         "day-number" => day_number(alloc, texts),
         "day-of-parts" => day_of_parts(alloc, texts),
         "plus" => plus(alloc, texts),
+        "policy-key" => policy_key(alloc, texts),
+        "peer-file" => peer_file(alloc, texts),
         _ => Err(Fault::NotUnderstood),
     }
 }

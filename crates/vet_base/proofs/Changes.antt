@@ -115,14 +115,14 @@ module _ (cs ds : List Criterion) (table : Criteria) (is : map.from_sorted {R = 
 
 -- ---- what holds of every table still holds
 
-not_this : (name built : List ℕ) → pointwise nat_eq name built ≡ false → eq_by_cmp R built name ≡ false
+pub not_this : (name built : List ℕ) → pointwise nat_eq name built ≡ false → eq_by_cmp R built name ≡ false
 not_this name built h = (eq_by_cmp_equiv nat_list_cmp_total).symm built name ∙ sym (texts_ties name built) ∙ h
 
 pub no_first : {X : Type 0} (b : Bool) (x : X) (z : Option X) → cond b (Some x) z ≡ None → (b ≡ false) × (z ≡ None)
 no_first true x z h = cc h
 no_first false x z h = (refl, h)
 
-none_found : (p : List ℕ → Bool) (xs : List (List ℕ)) (n : List ℕ) → find p xs ≡ None → Contains xs n → p n ≡ false
+pub none_found : (p : List ℕ → Bool) (xs : List (List ℕ)) (n : List ℕ) → find p xs ≡ None → Contains xs n → p n ≡ false
 none_found p [] n h among = absurd (omega (arith, among.1))
 none_found p (x ∷ xs) n h (zero, l, e) = ap p (sym e) ∙ (no_first (p x) x (find p xs) h).0
 none_found p (x ∷ xs) n h (suc k, l, e) = none_found p xs n ((no_first (p x) x (find p xs) h).1) (k, omega arith, e)

@@ -2,6 +2,8 @@ pub mod BuiltIn
 pub mod Changes
 pub mod Closing
 pub mod DayLemmas
+pub mod DefinedTables
+pub mod DefinedLaws
 pub mod DeltaLemmas
 pub mod DeltaText
 pub mod Held

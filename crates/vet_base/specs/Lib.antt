@@ -4,7 +4,9 @@ pub mod CriteriaSet
 pub mod CriteriaTable
 pub mod Criterion
 pub mod Day
+pub mod Defined
 pub mod Delta
+pub mod Fed
 pub mod Gives
 pub mod KeyText
 pub mod Name

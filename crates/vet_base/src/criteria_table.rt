@@ -8,10 +8,13 @@ ghost use Rattle.std.specs.FinMap as map;
 ghost use Rattle.vet_base.specs.Name.{is_name};
 ghost use Rattle.vet_base.specs.Criteria.{Criteria, IsTable, built_in_criteria, closure_at, closure_of, is_in, leading_to, least_unknown, place_of, placed, ClosureIsLeast, LedTo, PlacedNamesAreIn, PlacesAreOfNames};
 ghost use Rattle.vet_base.specs.CriteriaChanges.{Answers, Refuses, is_built_in, is_full_for, is_implied, remove_verdict, set_verdict, unknown_beside};
-ghost use Rattle.vet_base.specs.CriteriaTable.{AllIn, IsClosed, IsLeastClosed, LeadsOut, OneOut};
+ghost use Rattle.vet_base.specs.CriteriaTable.{AllIn, IsClosed, IsLeastClosed, LeadsOut, OneOut, by_name};
+ghost use Rattle.vet_base.specs.Defined.{IsListed, defined, table_told};
+ghost use Rattle.vet_base.specs.Gives.{Gives};
 
 use crate::criteria_set::CriteriaSet;
 use crate::criterion::Criterion;
+use crate::defined::check_defined;
 use crate::limits::MOST_CRITERIA;
 use crate::name::Name;
 use crate::names::Names;
@@ -20,10 +23,10 @@ use std::alloc::{AllocError, Global};
 use std::marker::Model;
 
 /// The name of the built-in criterion that implies nothing.
-const SAFE_TO_RUN: &str = "safe-to-run";
+pub(crate) const SAFE_TO_RUN: &str = "safe-to-run";
 
 /// The name of the built-in criterion that implies the other.
-const SAFE_TO_DEPLOY: &str = "safe-to-deploy";
+pub(crate) const SAFE_TO_DEPLOY: &str = "safe-to-deploy";
 
 /// A table of at most 64 criteria, the built-in ones among them. Each name that a criterion implies is in
 /// the table. Criteria may imply one another in a cycle.
@@ -64,6 +67,22 @@ impl CriteriaTable {
         criteria.push(built_in(alloc, SAFE_TO_DEPLOY, implied)?)?;
         criteria.push(built_in(alloc, SAFE_TO_RUN, Names::new(alloc))?)?;
         Ok(CriteriaTable { names, criteria })
+    }
+
+    /// The table of the built-in criteria and of these. Refused: `TooManyCriteria` where there would be more
+    /// than a table holds, `UnknownCriterion` of the least name that one of them implies and that none of all
+    /// these has, `BuiltInCriterion` where one is named as a built-in one, and `NoMemory`.
+    pub fn of(alloc: Global, criteria: Vec<Criterion>) -> Result<CriteriaTable, Refusal>
+        ensures told { Gives (λ table. table) (table_told criteria.items) result }
+        ensures table { IfOk result IsTable }
+    {
+        check_defined(alloc, criteria.as_slice())?;
+        let first = CriteriaTable::new(alloc)?;
+        let listed = listed(first.names, first.criteria, criteria)?;
+        Ok(CriteriaTable {
+            names: listed.0,
+            criteria: listed.1,
+        })
     }
 
     /// Whether a name is in the table.
@@ -374,6 +393,48 @@ impl CriteriaTable {
             return Err(Refusal::BuiltInCriterion);
         }
         Ok(())
+    }
+}
+
+// The built-in criteria beside their names, and these among them.
+fn listed(
+    names: Vec<Name>,
+    held: Vec<Criterion>,
+    criteria: Vec<Criterion>,
+) -> Result<(Vec<Name>, Vec<Criterion>), Refusal>
+    requires { IsListed names.items held.items built_in_criteria }
+    ensures ok { IfOk result (λ p. IsListed p.0.items p.1.items (defined criteria.items)) }
+    ensures memory { IfErr result (λ e. e ≡ Refusal.NoMemory) }
+{
+    let mut names = names;
+    let mut held = held;
+    'criteria: for criterion in criteria {
+        add(&mut names, &mut held, criterion)?;
+    }
+    Ok((names, held))
+}
+
+// Puts a criterion in its place among some that stand beside their names in order, or in place of the one of
+// its name.
+fn add(
+    names: &mut Vec<Name>,
+    criteria: &mut Vec<Criterion>,
+    criterion: Criterion,
+) -> Result<(), Refusal>
+    requires { IsListed names.old.items criteria.old.items (map.from_sorted (by_name criteria.old.items)) }
+    ensures listed { OnOk result (IsListed names.new.items criteria.new.items
+        (map.insert (map.from_sorted (by_name criteria.old.items)) criterion.name criterion)) }
+    ensures memory { IfErr result (λ e. e ≡ Refusal.NoMemory) }
+{
+    match names.binary_search(&criterion.name) {
+        Ok(place) => {
+            criteria[place] = criterion;
+            Ok(())
+        }
+        Err(place) => {
+            let name = criterion.name.clone()?;
+            put(names, criteria, place, name, criterion)
+        }
     }
 }
 

@@ -12,6 +12,7 @@ use crate::refusal::Refusal;
 use jiff_core::civil::{Date, days_in_month};
 use std::cmp::Ordering;
 use std::fmt;
+use std::hash::{Hash, Hasher};
 use std::marker::Model;
 
 /// A day of the proleptic Gregorian calendar, from 0000-01-01 to 9999-12-31. Its text is the ten bytes
@@ -208,5 +209,20 @@ impl Ord for Day {
 
     fn cmp(&self, other: &Day) -> Ordering {
         self.number().cmp(&other.number())
+    }
+}
+
+impl Hash for Day {
+    ghost use Rattle.std.proofs.Common.{rules};
+    ghost use Rattle.std.specs.Cmp.Rules.{hashing};
+    ghost use Rattle.std.specs.Hash as fed;
+    ghost use Rattle.vet_base.specs.Day.{day_number};
+
+    ghost hash_input = { λ d. fed.i32 (day_number d) };
+
+    ghost respects_eq = { Prim.search (hashing, rules) };
+
+    fn hash<H: Hasher>(&self, state: &mut H) {
+        state.write_i32(self.number());
     }
 }

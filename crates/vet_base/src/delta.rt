@@ -9,6 +9,7 @@ use crate::refusal::Refusal;
 use crate::version::{VetVersion, version_text_reads_back};
 use std::alloc::{AllocError, Global};
 use std::fmt;
+use std::hash::{Hash, Hasher};
 
 /// From one version to another; either may be the greater. Its text is `FROM -> TO`, with any number of
 /// spaces around each version (ours).
@@ -93,6 +94,21 @@ impl PartialEq for Delta {
 
 impl Eq for Delta {
     ghost laws = { delta_eq_equiv };
+}
+
+impl Hash for Delta {
+    ghost use Rattle.std.specs.Hash as fed;
+    ghost use Rattle.vet_base.specs.Delta.{delta_eq-Decides};
+    ghost use Rattle.vet_base.specs.Fed.{delta_fed};
+
+    ghost hash_input = { delta_fed };
+
+    ghost respects_eq = { (fed.same_Alike delta_fed delta_eq-Decides).fed };
+
+    fn hash<H: Hasher>(&self, state: &mut H) {
+        self.from.hash(state);
+        self.to.hash(state);
+    }
 }
 
 // What is told where there was no memory for the first version: that the second is none, if it is none.

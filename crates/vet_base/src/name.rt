@@ -10,6 +10,7 @@ use crate::refusal::Refusal;
 use crate::text::Text;
 use std::alloc::{AllocError, Global};
 use std::fmt;
+use std::hash::{Hash, Hasher};
 use std::marker::Model;
 
 /// The name of a package or of a project: 1 to 64 ASCII letters, digits, `-` and `_`. `-` and `_` differ,
@@ -73,6 +74,19 @@ impl fmt::Display for PackageName {
     }
 }
 
+impl Hash for PackageName {
+    ghost use Rattle.std.specs.Cmp.Lexicographic.{bytes_decides};
+    ghost use Rattle.std.specs.Hash as fed;
+
+    ghost hash_input = { fed.str };
+
+    ghost respects_eq = { (fed.same_Alike fed.str bytes_decides).fed };
+
+    fn hash<H: Hasher>(&self, state: &mut H) {
+        self.text.as_str().hash(state);
+    }
+}
+
 /// The name of a criterion, a peer or a member: 1 to 64 ASCII characters from `!` to `~`, ordered by
 /// their bytes.
 #[derive(Clone, Debug, Drop, PartialEq, Eq, PartialOrd, Ord)]
@@ -131,6 +145,19 @@ impl fmt::Display for Name {
 
     fn fmt<W: fmt::Write>(&self, f: &mut fmt::Formatter<W>) -> fmt::Result {
         f.write_str(self.text.as_str())
+    }
+}
+
+impl Hash for Name {
+    ghost use Rattle.std.specs.Cmp.Lexicographic.{bytes_decides};
+    ghost use Rattle.std.specs.Hash as fed;
+
+    ghost hash_input = { fed.str };
+
+    ghost respects_eq = { (fed.same_Alike fed.str bytes_decides).fed };
+
+    fn hash<H: Hasher>(&self, state: &mut H) {
+        self.text.as_str().hash(state);
     }
 }
 

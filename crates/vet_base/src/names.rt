@@ -1,10 +1,12 @@
 //! Sets of names.
-ghost use Rattle.std.specs.Prelude.{◌≡◌, ◌==◌, ◌↔◌, IsTrue, OnOk, OnErr, IfOk};
+ghost use Rattle.std.specs.Prelude.{◌≡◌, ◌==◌, ◌↔◌, IsTrue, OnOk, OnErr, IfOk, find, not};
 ghost use Rattle.std.specs.FinSet as set;
+ghost use Rattle.std.specs.Option.{option_copied};
 ghost use Rattle.vet_base.specs.Names.{IsRising, members};
 
 use crate::name::Name;
 use std::alloc::{AllocError, Global};
+use std::hash::{Hash, Hasher};
 use std::marker::Model;
 
 /// A set of names, in the order of their bytes.
@@ -53,6 +55,18 @@ impl Names {
         ensures { result ≡ set.contains self.now name.now }
     {
         self.names.binary_search(name).is_ok()
+    }
+
+    /// The least of these names that others lack.
+    pub fn least_outside<'a>(&'a self, known: &Names) -> Option<&'a Name>
+        ensures { option_copied result ≡ find (λ n. not (set.contains known.now n)) (members self.now) }
+    {
+        for name in self.as_slice() {
+            if !known.contains(name) {
+                return Some(name);
+            }
+        }
+        None
     }
 
     /// The names in the order of their bytes, each once.
@@ -112,4 +126,18 @@ impl Eq for Names {
     ghost use Rattle.vet_base.specs.Names.{same_names_equiv};
 
     ghost laws = { same_names_equiv };
+}
+
+impl Hash for Names {
+    ghost use Rattle.std.specs.Hash as fed;
+    ghost use Rattle.vet_base.specs.Fed.{names_fed};
+    ghost use Rattle.vet_base.specs.NameLaws.{same_names-Decides};
+
+    ghost hash_input = { names_fed };
+
+    ghost respects_eq = { (fed.same_Alike names_fed same_names-Decides).fed };
+
+    fn hash<H: Hasher>(&self, state: &mut H) {
+        self.as_slice().hash(state);
+    }
 }

@@ -13,6 +13,7 @@ use crate::version::{VetVersion, is_memory};
 use semver::VersionReq;
 use std::alloc::{AllocError, Global};
 use std::fmt;
+use std::hash::{Hash, Hasher};
 use std::marker::Model;
 
 /// A requirement of versions, as Cargo reads it: comparators between commas, at most 256 bytes. It is its
@@ -109,6 +110,19 @@ impl PartialEq for Req {
 
 impl Eq for Req {
     ghost laws = { nat_list_eq_equiv };
+}
+
+impl Hash for Req {
+    ghost use Rattle.std.specs.Cmp.Lexicographic.{bytes_decides};
+    ghost use Rattle.std.specs.Hash as fed;
+
+    ghost hash_input = { fed.str };
+
+    ghost respects_eq = { (fed.same_Alike fed.str bytes_decides).fed };
+
+    fn hash<H: Hasher>(&self, state: &mut H) {
+        self.text.as_str().hash(state);
+    }
 }
 
 // The requirement that `semver` reads, if it reads one. No text is refused for want of memory.

@@ -6,6 +6,7 @@ use crate::refusal::{Limit, Refusal};
 use std::alloc::{AllocError, Global};
 use std::cmp::Ordering;
 use std::fmt;
+use std::hash::{Hash, Hasher};
 use std::marker::Model;
 
 /// A text of at most 65,536 bytes, compared by its bytes.
@@ -118,5 +119,18 @@ impl Ord for Text {
 
     fn cmp(&self, other: &Text) -> Ordering {
         self.text.as_str().cmp(other.text.as_str())
+    }
+}
+
+impl Hash for Text {
+    ghost use Rattle.std.specs.Cmp.Lexicographic.{bytes_decides};
+    ghost use Rattle.std.specs.Hash as fed;
+
+    ghost hash_input = { fed.str };
+
+    ghost respects_eq = { (fed.same_Alike fed.str bytes_decides).fed };
+
+    fn hash<H: Hasher>(&self, state: &mut H) {
+        self.text.as_str().hash(state);
     }
 }

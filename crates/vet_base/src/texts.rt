@@ -5,6 +5,7 @@ ghost use Rattle.vet_base.specs.Names.{IsRising, members};
 
 use crate::text::Text;
 use std::alloc::{AllocError, Global};
+use std::hash::{Hash, Hasher};
 use std::marker::Model;
 
 /// A set of texts, in the order of their bytes, each once.
@@ -105,4 +106,18 @@ impl Eq for Texts {
     ghost use Rattle.vet_base.specs.Names.{same_names_equiv};
 
     ghost laws = { same_names_equiv };
+}
+
+impl Hash for Texts {
+    ghost use Rattle.std.specs.Hash as fed;
+    ghost use Rattle.vet_base.specs.Fed.{names_fed};
+    ghost use Rattle.vet_base.specs.NameLaws.{same_names-Decides};
+
+    ghost hash_input = { names_fed };
+
+    ghost respects_eq = { (fed.same_Alike names_fed same_names-Decides).fed };
+
+    fn hash<H: Hasher>(&self, state: &mut H) {
+        self.as_slice().hash(state);
+    }
 }

@@ -1,5 +1,5 @@
 //! Versions of packages.
-ghost use Rattle.std.specs.Prelude.{◌≡◌, ◌↔◌, Some, None, Ok, Err, IfOk, IfErr, IsTrue, IsSome, option_map, refl, string_bytes};
+ghost use Rattle.std.specs.Prelude.{◌≡◌, ◌↔◌, Some, None, Ok, Err, IfOk, IfErr, IsTrue, IsSome, unwrap_or, [], option_map, refl, string_bytes};
 ghost use Rattle.std.specs.List.{list_all};
 ghost use Rattle.std.specs.Char.{is_ascii_hexdigit};
 ghost use Rattle.std.specs.Option.{option_cmp};
@@ -19,6 +19,7 @@ use semver::Version;
 use std::alloc::{AllocError, Global};
 use std::cmp::Ordering;
 use std::fmt;
+use std::hash::{Hash, Hasher};
 use std::marker::Model;
 
 /// A version of a package: V, a version by Semantic Versioning 2.0.0, or `V@git:REV` with a revision of 40
@@ -70,6 +71,16 @@ impl VetVersion {
         match &self.revision {
             Some(revision) => Some(revision.as_str()),
             None => None,
+        }
+    }
+
+    // The digits of the revision, and no text where there is none.
+    fn revision_text(&self) -> &str
+        ensures { result.now ≡ unwrap_or self.now.revision [] }
+    {
+        match &self.revision {
+            Some(revision) => revision.as_str(),
+            None => "",
         }
     }
 
@@ -145,6 +156,25 @@ impl Ord for VetVersion {
             .cmp_precedence(&other.version)
             .then(build.cmp(other_build))
             .then(revision_cmp(&self.revision, &other.revision))
+    }
+}
+
+impl Hash for VetVersion {
+    ghost use Rattle.std.specs.Hash as fed;
+    ghost use Rattle.vet_base.specs.Fed.{version_fed};
+    ghost use Rattle.vet_base.specs.VersionOrder.{version_eq-Decides};
+
+    ghost hash_input = { version_fed };
+
+    ghost respects_eq = { (fed.same_Alike version_fed version_eq-Decides).fed };
+
+    fn hash<H: Hasher>(&self, state: &mut H) {
+        state.write_u64(self.version.major);
+        state.write_u64(self.version.minor);
+        state.write_u64(self.version.patch);
+        self.version.pre.hash(state);
+        self.version.build.hash(state);
+        self.revision_text().hash(state);
     }
 }
 

@@ -1,1 +1,5 @@
+pub mod ByKey
 pub mod DemandLemmas
+pub mod Dependencies
+pub mod KeyLemmas
+pub mod KeyText

@@ -1,2 +1,7 @@
-pub mod Pair
+pub mod ByKey
 pub mod Demand
+pub mod DependencyCriteria
+pub mod Pair
+pub mod Policies
+pub mod Policy
+pub mod PolicyKey

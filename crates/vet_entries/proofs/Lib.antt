@@ -1,6 +1,8 @@
 pub mod ByPackage
 pub mod Edits
+pub mod Firsts
 pub mod Gathered
+pub mod MappedCriteria
 pub mod Numbers
 pub mod PackageRecords
 pub mod Places

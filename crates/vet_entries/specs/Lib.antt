@@ -1,8 +1,13 @@
 pub mod ByPackage
 pub mod Condemned
+pub mod CriteriaMap
+pub mod Distinct
 pub mod Entry
 pub mod Facts
+pub mod Fed
 pub mod Kind
+pub mod PeerContent
+pub mod PeerSettings
 pub mod Publisher
 pub mod PublisherRecords
 pub mod Publishers

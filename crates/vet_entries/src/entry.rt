@@ -4,6 +4,7 @@ ghost use Rattle.vet_entries.specs.Entry.{entry_eq, own, says_same};
 
 use crate::kind::Kind;
 use std::alloc::AllocError;
+use std::hash::{Hash, Hasher};
 use vet_base::name::{Name, PackageName};
 use vet_base::names::Names;
 use vet_base::text::Text;
@@ -39,6 +40,26 @@ impl Eq for Source {
     ghost use Rattle.vet_entries.specs.Entry.{source_eq, source_eq-Decides};
 
     ghost laws = { decided source_eq source_eq-Decides };
+}
+
+impl Hash for Source {
+    ghost use Rattle.std.specs.Hash as fed;
+    ghost use Rattle.vet_entries.specs.Entry.{source_eq-Decides};
+    ghost use Rattle.vet_entries.specs.Fed.{source_fed};
+
+    ghost hash_input = { source_fed };
+
+    ghost respects_eq = { (fed.same_Alike source_fed source_eq-Decides).fed };
+
+    fn hash<H: Hasher>(&self, state: &mut H) {
+        match self {
+            Source::Own => state.write_u8(0),
+            Source::Peer(name) => {
+                state.write_u8(1);
+                name.hash(state);
+            }
+        }
+    }
 }
 
 /// An entry: a package, what is said of it, and for which criteria.
@@ -119,6 +140,24 @@ impl Eq for Entry {
     ghost use Rattle.vet_entries.specs.Entry.{entry_eq, entry_eq-Decides};
 
     ghost laws = { decided entry_eq entry_eq-Decides };
+}
+
+impl Hash for Entry {
+    ghost use Rattle.std.specs.Hash as fed;
+    ghost use Rattle.vet_entries.specs.Entry.{entry_eq-Decides};
+    ghost use Rattle.vet_entries.specs.Fed.{entry_fed};
+
+    ghost hash_input = { entry_fed };
+
+    ghost respects_eq = { (fed.same_Alike entry_fed entry_eq-Decides).fed };
+
+    fn hash<H: Hasher>(&self, state: &mut H) {
+        self.source.hash(state);
+        self.package.hash(state);
+        self.kind.hash(state);
+        self.criteria.hash(state);
+        self.notes.hash(state);
+    }
 }
 
 // A copy of some notes, if there are any.

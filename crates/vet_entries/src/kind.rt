@@ -4,6 +4,7 @@ ghost use Rattle.vet_entries.specs.Kind.{no_audit};
 
 use crate::user::User;
 use std::alloc::{AllocError, Global};
+use std::hash::{Hash, Hasher};
 use vet_base::day::Day;
 use vet_base::delta::Delta;
 use vet_base::req::Req;
@@ -64,6 +65,21 @@ impl Eq for Audit {
     ghost laws = { decided audit_eq audit_eq-Decides };
 }
 
+impl Hash for Audit {
+    ghost use Rattle.std.specs.Hash as fed;
+    ghost use Rattle.vet_entries.specs.Kind.{audit_eq-Decides};
+    ghost use Rattle.vet_entries.specs.Fed.{audit_fed};
+
+    ghost hash_input = { audit_fed };
+
+    ghost respects_eq = { (fed.same_Alike audit_fed audit_eq-Decides).fed };
+
+    fn hash<H: Hasher>(&self, state: &mut H) {
+        self.who.hash(state);
+        self.importable.hash(state);
+    }
+}
+
 /// Who vouches for what a user publishes, and whether that is to be renewed (The Cargo Vet Book, wildcard
 /// audits).
 #[derive(Debug, Drop)]
@@ -107,6 +123,21 @@ impl Eq for Grant {
     ghost laws = { decided grant_eq grant_eq-Decides };
 }
 
+impl Hash for Grant {
+    ghost use Rattle.std.specs.Hash as fed;
+    ghost use Rattle.vet_entries.specs.Kind.{grant_eq-Decides};
+    ghost use Rattle.vet_entries.specs.Fed.{grant_fed};
+
+    ghost hash_input = { grant_fed };
+
+    ghost respects_eq = { (fed.same_Alike grant_fed grant_eq-Decides).fed };
+
+    fn hash<H: Hasher>(&self, state: &mut H) {
+        self.who.hash(state);
+        self.renew.hash(state);
+    }
+}
+
 /// What a user of crates.io published from a first day to a last, both included (The Cargo Vet Book, wildcard
 /// audits and trusted publishers). A window that ends before it begins has no day.
 #[derive(Debug, Clone, Copy)]
@@ -134,6 +165,22 @@ impl Eq for Window {
     ghost use Rattle.vet_entries.specs.Kind.{window_eq, window_eq-Decides};
 
     ghost laws = { decided window_eq window_eq-Decides };
+}
+
+impl Hash for Window {
+    ghost use Rattle.std.specs.Hash as fed;
+    ghost use Rattle.vet_entries.specs.Kind.{window_eq-Decides};
+    ghost use Rattle.vet_entries.specs.Fed.{window_fed};
+
+    ghost hash_input = { window_fed };
+
+    ghost respects_eq = { (fed.same_Alike window_fed window_eq-Decides).fed };
+
+    fn hash<H: Hasher>(&self, state: &mut H) {
+        self.user.hash(state);
+        self.first.hash(state);
+        self.last.hash(state);
+    }
 }
 
 /// What an entry says of its package. Each kind holds what goes with it and nothing else: who vouches, and
@@ -214,4 +261,48 @@ impl Eq for Kind {
     ghost use Rattle.vet_entries.specs.Kind.{kind_eq, kind_eq-Decides};
 
     ghost laws = { decided kind_eq kind_eq-Decides };
+}
+
+impl Hash for Kind {
+    ghost use Rattle.std.specs.Hash as fed;
+    ghost use Rattle.vet_entries.specs.Kind.{kind_eq-Decides};
+    ghost use Rattle.vet_entries.specs.Fed.{kind_fed};
+
+    ghost hash_input = { kind_fed };
+
+    ghost respects_eq = { (fed.same_Alike kind_fed kind_eq-Decides).fed };
+
+    fn hash<H: Hasher>(&self, state: &mut H) {
+        match self {
+            Kind::Full(version, audit) => {
+                state.write_u8(0);
+                version.hash(state);
+                audit.hash(state);
+            }
+            Kind::Delta(delta, audit) => {
+                state.write_u8(1);
+                delta.hash(state);
+                audit.hash(state);
+            }
+            Kind::Violation(req, audit) => {
+                state.write_u8(2);
+                req.hash(state);
+                audit.hash(state);
+            }
+            Kind::Wildcard(window, grant) => {
+                state.write_u8(3);
+                window.hash(state);
+                grant.hash(state);
+            }
+            Kind::Trusted(window) => {
+                state.write_u8(4);
+                window.hash(state);
+            }
+            Kind::Exemption { version, suggest } => {
+                state.write_u8(5);
+                version.hash(state);
+                suggest.hash(state);
+            }
+        }
+    }
 }

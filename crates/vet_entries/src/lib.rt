@@ -9,9 +9,13 @@
 
 mod by_package;
 pub mod condemned;
+pub mod criteria_map;
+pub mod distinct;
 pub mod entry;
 pub mod facts;
 pub mod kind;
+pub mod peer_content;
+pub mod peer_settings;
 pub mod publisher;
 pub mod publisher_records;
 pub mod publishers;

@@ -4,6 +4,7 @@ ghost use Rattle.std.specs.Cmp.{nat_cmp_total, nat_eq_equiv, partial_equiv_from_
 ghost use Rattle.std.specs.Ordering.{as_partial_cmp, nat_cmp};
 
 use std::cmp::Ordering;
+use std::hash::{Hash, Hasher};
 use std::marker::Model;
 
 /// The last number of a user.
@@ -88,5 +89,19 @@ impl Ord for User {
 
     fn cmp(&self, other: &User) -> Ordering {
         self.number.cmp(&other.number)
+    }
+}
+
+impl Hash for User {
+    ghost use Rattle.std.proofs.Common.{rules};
+    ghost use Rattle.std.specs.Cmp.Rules.{hashing};
+    ghost use Rattle.std.specs.Hash as fed;
+
+    ghost hash_input = { fed.u64 };
+
+    ghost respects_eq = { Prim.search (hashing, rules) };
+
+    fn hash<H: Hasher>(&self, state: &mut H) {
+        state.write_u64(self.number);
     }
 }

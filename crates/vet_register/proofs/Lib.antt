@@ -6,4 +6,3 @@ pub mod Lists
 pub mod Prepared
 pub mod Publishing
 pub mod Soundness
-pub mod Walks

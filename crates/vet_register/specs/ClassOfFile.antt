@@ -1,49 +1,55 @@
 -- The class of a pair where one audits file is all that is held, or the first fault.
-use Rattle.std.specs.Prelude.{ℕ, List, [], Option, Some, None, Ok, Err, if◌then◌else◌, length, nat_lt, fold}
+use Rattle.std.specs.Prelude.{ℕ, Bool, not, List, [], Option, Some, None, Ok, Err, if◌then◌else◌, length, nat_lt, find, fold}
 use Rattle.std.specs.FinMap as map
-use Rattle.std.specs.Ordering.{is_gt, nat_cmp}
-use Rattle.std.specs.Cmp.Lexicographic.{slice_cmp}
-use Rattle.vet_base.specs.Criteria.{Criteria, built_in_criteria, least_unknown}
+use Rattle.vet_base.specs.Criteria.{Criteria}
+use Rattle.vet_base.specs.Defined.{defined, least_undefined, lesser}
 use Rattle.vet_base.specs.Gives.{Told, found_or, ◌>>=◌}
+use Rattle.vet_base.specs.Names.{members}
 use Rattle.vet_base.specs.Name.{read_name, read_package_name}
 use Rattle.vet_base.specs.Version.{read_version}
-use Rattle.vet_base.specs.declared.limits.TheConstants.{MOST_INPUT_BYTES}
+use Rattle.vet_base.specs.declared.limits.TheConstants.{MOST_CRITERIA, MOST_INPUT_BYTES}
 use Rattle.vet_base.specs.declared.refusal.Limit.TheVariants.{Input}
-use Rattle.vet_base.specs.declared.refusal.Refusal.TheVariants.{BadName, BadVersion, TooLarge}
+use Rattle.vet_base.specs.declared.refusal.Refusal.TheVariants.{BadName, BadVersion, TooLarge, TooManyCriteria}
 use Rattle.vet_demand.specs.declared.pair.Pair.{Pair}
 use Rattle.vet_entries.specs.declared.entry.Entry.{Entry}
-use Rattle.vet_entries.specs.declared.facts.HeldEntry.{HeldEntry}
 use Rattle.vet_entries.specs.Facts.{Facts, numbered}
+use Rattle.vet_files.specs.Audits.{audits_told}
+use Rattle.vet_files.specs.declared.audits_file.AuditsContent.{AuditsContent}
 use Rattle.vet_graph.specs.StandingOf.{class_of_pair}
 use Rattle.vet_graph.specs.declared.class.Class.{Class}
-use Rattle.vet_register.specs.AuditsFile.{file_told}
 use Rattle.vet_register.specs.Verdict.{known}
 
--- the lesser of two names, as far as they are there
-abbrev pub lesser : Option (List ℕ) → Option (List ℕ) → Option (List ℕ)
-lesser None b = b
-lesser (Some a) None = Some a
-lesser (Some a) (Some b) = if is_gt (slice_cmp nat_cmp a b) then Some b else Some a
+-- a name that isn't known
+abbrev pub unknown_in : (List ℕ → Bool) → List ℕ → Option (List ℕ)
+unknown_in known name = if known name then None else Some name
 
--- a name that the table lacks
-abbrev pub unknown_word : Criteria → List ℕ → Option (List ℕ)
-unknown_word table name = if map.contains_key table name then None else Some name
+-- the least name that isn't known, of one handed in and of the criteria of some entries
+abbrev pub unknown_of_entries : (List ℕ → Bool) → Option (List ℕ) → List Entry → Option (List ℕ)
+unknown_of_entries known least entries = fold (λ least e. lesser least (find (λ n. not (known n)) (members e.criteria))) least entries
 
--- the least name that the table lacks, of a word and of the criteria of some entries
-abbrev pub unknown_name : Criteria → List ℕ → List HeldEntry → Option (List ℕ)
-unknown_name table word entries = fold (λ least h. lesser least (least_unknown table h.entry.criteria)) (unknown_word table word) entries
+-- the least name that isn't known, of a word, of what a file's criteria imply and of its entries' criteria
+abbrev pub unknown_name : (List ℕ → Bool) → List ℕ → AuditsContent → Option (List ℕ)
+unknown_name known word content = unknown_of_entries known (lesser (unknown_in known word) (least_undefined known content.criteria)) content.entries
 
--- the class of a pair by these facts, where the table has each criterion that is named
-abbrev pub class_in : Facts → Pair → Told Class
-class_in facts p = known (unknown_name facts.criteria p.criterion facts.entries) >>= λ _. Ok (class_of_pair facts p)
+-- a table has at most so many criteria
+abbrev pub counted : Criteria → Told (Unit {0})
+counted table = if nat_lt MOST_CRITERIA (map.len table) then Err TooManyCriteria else Ok tt
 
--- a file that isn't too long
-abbrev pub entries_told : List ℕ → Told (List Entry)
-entries_told file = if nat_lt MOST_INPUT_BYTES (length file) then Err (TooLarge Input) else file_told file
+-- there are not too many criteria, and each that is named is known
+abbrev pub checked : List ℕ → AuditsContent → Told (Unit {0})
+checked word content = counted (defined content.criteria) >>= λ _. known (unknown_name (map.contains_key (defined content.criteria)) word content)
 
--- all that is held, where these entries are
-abbrev pub facts_of : List Entry → Facts
-facts_of entries = record { criteria = built_in_criteria; entries = numbered 1 entries; publishers = [] }
+-- all that is held, where this is the file's content
+abbrev pub facts_of : AuditsContent → Facts
+facts_of content = record { criteria = defined content.criteria; entries = numbered 1 content.entries; publishers = [] }
+
+-- the class of a pair by a file's content
+abbrev pub class_in : AuditsContent → Pair → Told Class
+class_in content p = checked p.criterion content >>= λ _. Ok (class_of_pair (facts_of content) p)
+
+-- the content of a file that isn't too long
+abbrev pub content_told : List ℕ → Told AuditsContent
+content_told file = if nat_lt MOST_INPUT_BYTES (length file) then Err (TooLarge Input) else audits_told file >>= λ found. Ok found.content
 
 -- the pair that three words name
 abbrev pub pair_told : List ℕ → List ℕ → List ℕ → Told Pair
@@ -56,4 +62,4 @@ pair_told name version criterion =
 -- the words go first, then the file, then the criteria
 abbrev pub class_told : List ℕ → List ℕ → List ℕ → List ℕ → Told Class
 class_told file name version criterion =
-    pair_told name version criterion >>= λ p. entries_told file >>= λ entries. class_in (facts_of entries) p
+    pair_told name version criterion >>= λ p. content_told file >>= λ content. class_in content p

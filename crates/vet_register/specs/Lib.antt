@@ -1,4 +1,3 @@
-pub mod AuditsFile
 pub mod ClassOfFile
 pub mod Machine
 pub mod RegisterView

@@ -1,19 +1,28 @@
 //! The class of one pair, from an audits file.
-ghost use Rattle.std.specs.Prelude.{◌≡◌};
+ghost use Rattle.std.specs.FinMap as map;
+ghost use Rattle.std.specs.Prelude.{◌≡◌, ℕ, List, Ok, false, IfErr, IfOk};
+ghost use Rattle.std.specs.FinSet as set;
+ghost use Rattle.std.specs.List.{All};
 ghost use Rattle.std.specs.Option.{option_copied};
+ghost use Rattle.vet_base.specs.CriteriaChanges.{is_built_in};
+ghost use Rattle.vet_base.specs.Defined.{defined, table_told};
 ghost use Rattle.vet_base.specs.Gives.{Gives};
-ghost use Rattle.vet_register.specs.ClassOfFile.{class_in, class_told, entries_told, lesser, pair_told, unknown_name, unknown_word};
+ghost use Rattle.vet_files.specs.declared.audits_file.AuditsContent.{AuditsContent};
+ghost use Rattle.vet_register.specs.ClassOfFile.{checked, class_in, class_told, content_told, pair_told, unknown_in, unknown_name, unknown_of_entries};
 
-use crate::audits_file::read_audits;
 use std::alloc::Global;
 use vet_base::criteria_table::CriteriaTable;
-use vet_base::limits::MOST_INPUT_BYTES;
+use vet_base::criterion::Criterion;
+use vet_base::defined::lesser;
+use vet_base::limits::{MOST_CRITERIA, MOST_INPUT_BYTES};
 use vet_base::name::{Name, PackageName};
+use vet_base::names::Names;
 use vet_base::refusal::{Limit, Refusal};
 use vet_base::version::VetVersion;
 use vet_demand::pair::Pair;
 use vet_entries::entry::Entry;
-use vet_entries::facts::{EntryFacts, HeldEntry};
+use vet_entries::facts::EntryFacts;
+use vet_files::audits_file::{AuditsContent, read_audits};
 use vet_graph::class::Class;
 use vet_graph::plain::class_of_pair;
 
@@ -21,8 +30,9 @@ use vet_graph::plain::class_of_pair;
 /// pair alone is demanded.
 ///
 /// Refused, the first that holds: `BadName` and `BadVersion` of the words; `TooLarge` of `input` for a file of
-/// more than 8,388,608 bytes; `TomlRefused` and `FieldRefused` of the file; `UnknownCriterion` of the least
-/// name in the file or the words that is no criterion. `NoMemory` can come at any point.
+/// more than 8,388,608 bytes; `TomlRefused`, `FieldRefused` and `TooLarge` of `text` of the file;
+/// `TooManyCriteria` where it defines more than 62; `UnknownCriterion` of the least name in the file or the
+/// words that is no criterion. `NoMemory` can come at any point.
 pub fn class_of_file(
     alloc: Global,
     file: &[u8],
@@ -34,9 +44,8 @@ pub fn class_of_file(
         (class_told file.now «package».now version.now criterion.now) result }
 {
     let pair = read_pair(alloc, package, version, criterion)?;
-    let entries = read_entries(alloc, file)?;
-    let facts = EntryFacts::of(alloc, CriteriaTable::new(alloc)?, entries)?;
-    class_in(alloc, &facts, &pair)
+    let content = read_content(alloc, file)?;
+    class_in(alloc, content, &pair)
 }
 
 // The pair that three words name.
@@ -50,54 +59,97 @@ fn read_pair(alloc: Global, package: &str, version: &str, criterion: &str) -> Re
     })
 }
 
-// The entries of a file that isn't too long.
-fn read_entries(alloc: Global, file: &[u8]) -> Result<Vec<Entry>, Refusal>
-    ensures { Gives (λ entries. entries.items) (entries_told file.now) result }
+// The content of a file that isn't too long.
+fn read_content(alloc: Global, file: &[u8]) -> Result<AuditsContent, Refusal>
+    ensures told { Gives (λ content. content) (content_told file.now) result }
+    ensures further { IfOk result (λ content. All (λ c. is_built_in c.name ≡ false) content.criteria) }
 {
     if file.len() > MOST_INPUT_BYTES {
         return Err(Refusal::TooLarge(Limit::Input));
     }
-    read_audits(alloc, file)
+    let found = read_audits(alloc, file)?;
+    Ok(found.content)
 }
 
-// The class by what is held, where each criterion that is named is known.
-fn class_in(alloc: Global, facts: &EntryFacts, pair: &Pair) -> Result<Class, Refusal>
-    ensures { Gives (λ class. class) (class_in facts.now.content pair.now) result }
+// The class by a file's content, where there are not too many criteria and each that is named is known.
+fn class_in(alloc: Global, content: AuditsContent, pair: &Pair) -> Result<Class, Refusal>
+    requires { All (λ c. is_built_in c.name ≡ false) content.criteria }
+    ensures { Gives (λ class. class) (class_in content pair.now) result }
 {
-    if let Some(unknown) = unknown_name(facts.criteria(), &pair.criterion, facts.entries()) {
+    check_criteria(alloc, &pair.criterion, &content)?;
+    let criteria = defined_table(alloc, content.criteria.into_vec())?;
+    let facts = EntryFacts::of(alloc, criteria, content.entries.into_vec())?;
+    class_of_pair(alloc, &facts, pair)
+}
+
+// Refuses a file with too many criteria, and a name that isn't known in it or in a word.
+fn check_criteria(alloc: Global, word: &Name, content: &AuditsContent) -> Result<(), Refusal>
+    ensures { Gives (λ u. u) (checked word.now content.now) result }
+{
+    let known = CriteriaTable::names_with(alloc, content.criteria.as_slice())?;
+    if known.len() > MOST_CRITERIA {
+        return Err(Refusal::TooManyCriteria);
+    }
+    if let Some(unknown) = unknown_name(&known, word, content) {
         return Err(Refusal::UnknownCriterion(unknown.clone()?));
     }
-    class_of_pair(alloc, facts, pair)
+    Ok(())
 }
 
-// The least name that the table lacks, of a word and of the criteria of some entries.
-fn unknown_name<'a>(
-    table: &CriteriaTable,
-    word: &'a Name,
-    entries: &'a [HeldEntry],
-) -> Option<&'a Name>
-    ensures { option_copied result ≡ unknown_name table.now word.now entries.now }
+// The table of a file's criteria, which refuses none of them.
+fn defined_table(alloc: Global, criteria: Vec<Criterion>) -> Result<CriteriaTable, Refusal>
+    requires { table_told criteria.items ≡ Ok (defined criteria.items) }
+    ensures ok { IfOk result (λ table. table ≡ defined criteria.items) }
+    ensures memory { IfErr result (λ e. e ≡ Refusal.NoMemory) }
 {
-    let mut least = unknown_word(table, word);
-    for held in entries {
-        least = lesser(least, table.least_unknown(&held.entry.criteria));
+    CriteriaTable::of(alloc, criteria)
+}
+
+// The least name that isn't known, of a word and of a file's content, where these are the known names.
+fn unknown_name<'a>(known: &Names, word: &'a Name, content: &'a AuditsContent) -> Option<&'a Name>
+    requires { (n : List ℕ) → set.contains known.now n ≡ map.contains_key (defined content.now.criteria) n }
+    ensures { option_copied result
+        ≡ unknown_name (map.contains_key (defined content.now.criteria)) word.now content.now }
+{
+    unknown_outside(known, word, content)
+}
+
+// The least name that isn't in a set, of a word and of a file's content.
+fn unknown_outside<'a>(
+    known: &Names,
+    word: &'a Name,
+    content: &'a AuditsContent,
+) -> Option<&'a Name>
+    ensures { option_copied result ≡ unknown_name (set.contains known.now) word.now content.now }
+{
+    let implied = CriteriaTable::least_undefined(content.criteria.as_slice(), known);
+    let least = lesser(unknown_word(known, word), implied);
+    unknown_of_entries(known, least, content.entries.as_slice())
+}
+
+// The word, where it isn't known.
+fn unknown_word<'a>(known: &Names, word: &'a Name) -> Option<&'a Name>
+    ensures { option_copied result ≡ unknown_in (set.contains known.now) word.now }
+{
+    if known.contains(word) {
+        None
+    } else {
+        Some(word)
+    }
+}
+
+// The least name that isn't known, of one handed in and of the criteria of some entries.
+fn unknown_of_entries<'a>(
+    known: &Names,
+    first: Option<&'a Name>,
+    entries: &'a [Entry],
+) -> Option<&'a Name>
+    ensures { option_copied result
+        ≡ unknown_of_entries (set.contains known.now) (option_copied first.entry) entries.now }
+{
+    let mut least = first;
+    for entry in entries {
+        least = lesser(least, entry.criteria.least_outside(known));
     }
     least
-}
-
-fn unknown_word<'a>(table: &CriteriaTable, word: &'a Name) -> Option<&'a Name>
-    ensures { option_copied result ≡ unknown_word table.now word.now }
-{
-    if table.has(word) { None } else { Some(word) }
-}
-
-// The lesser of two names, as far as they are there.
-fn lesser<'a>(a: Option<&'a Name>, b: Option<&'a Name>) -> Option<&'a Name>
-    ensures { option_copied result ≡ lesser (option_copied a.entry) (option_copied b.entry) }
-{
-    match (a, b) {
-        (Some(a), Some(b)) => Some(if a > b { b } else { a }),
-        (Some(a), None) => Some(a),
-        (None, b) => b,
-    }
 }

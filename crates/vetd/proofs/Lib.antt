@@ -1,2 +1,2 @@
 mod WordsLemmas
-mod ClassRunLemmas
+mod AnswerLemmas

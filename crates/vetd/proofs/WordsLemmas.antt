@@ -1,15 +1,16 @@
 -- What the words give, by clap's answer.
-use Rattle.std.proofs.Common.{◌≡◌, ◌≢◌, ◌⊎◌, inl, inr, List, [], ◌∷◌, Option, None, true, refl, ap, sym, subst, ◌∙◌}
+use Rattle.std.proofs.Common.{◌≡◌, ◌≢◌, ◌⊎◌, inl, inr, List, [], ◌∷◌, Option, None, Result, Ok, Err, IfOk, IfErr, true, refl, ap, sym, subst, ◌∙◌}
 use Rattle.clap.specs.Walk.{Row, Text}
-use Rattle.clap.specs.Kinds.{HasKind, IsAmong, Kinds}
+use Rattle.clap.specs.Kinds.{FailsBy, HasKind, IsAmong, Kinds}
 use Rattle.clap.specs.Faults.{fault_of, is_simple_and_free}
-use Rattle.clap.specs.Simple.{App, is_simple, subcommand_of}
+use Rattle.clap.specs.Simple.{App, HasMatchesOf, is_simple, subcommand_of, subcommand_rows_of}
 use Rattle.clap.specs.Words.{kind_of}
 use Rattle.clap.specs.declared.error.Error.{Error}
 use Rattle.clap.specs.declared.error.kind.ErrorKind.{ErrorKind}
 use Rattle.clap.specs.declared.error.kind.ErrorKind.TheVariants.{OutOfMemory}
+use Rattle.clap.specs.declared.parser.matches.ArgMatches.{ArgMatches}
 use Rattle.clap.proofs.OnLiterals.{clap_on_literals}
-use Rattle.vetd.specs.Words.{AskedWords, given, top_app, unless_fault, words_of_subcommand}
+use Rattle.vetd.specs.Words.{given, rows_if_named, top_app, unless_fault}
 
 simple : is_simple top_app ≡ true
 unfolding clap_on_literals
@@ -19,34 +20,48 @@ simple_and_free : is_simple_and_free top_app ≡ true
 unfolding clap_on_literals
 simple_and_free = refl
 
-given_ok : (words : List Text) → fault_of top_app words ≡ [] → given words ≡ words_of_subcommand (subcommand_of top_app words)
+given_ok : (name : Text) (words : List Text) → fault_of top_app words ≡ [] → given name words ≡ rows_if_named name (subcommand_of top_app words)
 unfolding given
-given_ok words none = ap (λ (ks : Kinds). unless_fault ks (words_of_subcommand (subcommand_of top_app words))) none
+given_ok name words none = ap (λ (ks : Kinds). unless_fault ks (rows_if_named name (subcommand_of top_app words))) none
 
-none_of : (k : ErrorKind) (ks : Kinds) (asked : Option AskedWords) → IsAmong k ks → unless_fault ks asked ≡ None
-none_of k [] asked among = absurd among
-none_of k (y ∷ ys) asked among = refl
+none_of : (k : ErrorKind) (ks : Kinds) (rows : Option (List Row)) → IsAmong k ks → unless_fault ks rows ≡ None
+none_of k [] rows among = absurd among
+none_of k (y ∷ ys) rows among = refl
 
-given_err : (words : List Text) (k : ErrorKind) → (k ≡ OutOfMemory) ⊎ IsAmong k (fault_of top_app words) → k ≢ OutOfMemory → given words ≡ None
+given_err : (name : Text) (words : List Text) (k : ErrorKind) → (k ≡ OutOfMemory) ⊎ IsAmong k (fault_of top_app words) → k ≢ OutOfMemory
+    → given name words ≡ None
 unfolding given
-given_err words k (inl memory) other = absurd (other memory)
-given_err words k (inr among) other = none_of k (fault_of top_app words) (words_of_subcommand (subcommand_of top_app words)) among
+given_err name words k (inl memory) other = absurd (other memory)
+given_err name words k (inr among) other = none_of k (fault_of top_app words) (rows_if_named name (subcommand_of top_app words)) among
 
 -- what clap's matches give is what the words give
-pub given_found : {R : Type 0} (app : App) (words : List Text) (subcommand : Option (Text × List Row)) → app ≡ top_app
+given_found : {R : Type 0} (name : Text) (app : App) (words : List Text) (subcommand : Option (Text × List Row)) → app ≡ top_app
     → (is_simple app ≡ true → R × (subcommand ≡ subcommand_of app words)) → (is_simple_and_free app ≡ true → fault_of app words ≡ [])
-    → given words ≡ words_of_subcommand subcommand
-given_found app words subcommand app_is met none =
+    → given name words ≡ rows_if_named name subcommand
+given_found name app words subcommand app_is met none =
     let same : subcommand ≡ subcommand_of top_app words =
     (met (ap is_simple app_is ∙ simple)).1 ∙ ap (λ (a : App). subcommand_of a words) app_is in
     let clean : fault_of top_app words ≡ [] =
     ap (λ (a : App). fault_of a words) (sym app_is) ∙ none (ap is_simple_and_free app_is ∙ simple_and_free) in
-    given_ok words clean ∙ ap words_of_subcommand (sym same)
+    given_ok name words clean ∙ ap (rows_if_named name) (sym same)
 
 -- where clap refuses the words, they give nothing
-pub given_refused : (app : App) (words : List Text) (error : Error) → app ≡ top_app
-    → (is_simple_and_free app ≡ true → HasKind (fault_of app words) error) → kind_of error ≢ OutOfMemory → given words ≡ None
-given_refused app words error app_is fails other =
+given_refused : (name : Text) (app : App) (words : List Text) (error : Error) → app ≡ top_app
+    → (is_simple_and_free app ≡ true → HasKind (fault_of app words) error) → kind_of error ≢ OutOfMemory → given name words ≡ None
+given_refused name app words error app_is fails other =
     let kind : HasKind (fault_of top_app words) error =
     subst (λ (a : App). HasKind (fault_of a words) error) app_is (fails (ap is_simple_and_free app_is ∙ simple_and_free)) in
-    given_err words (kind_of error) kind other
+    given_err name words (kind_of error) kind other
+
+-- the same of a parse, for each subcommand
+pub all_found : (app : App) (words : List Text) (r : Result ArgMatches Error) → app ≡ top_app → IfOk r (HasMatchesOf app words)
+    → (is_simple_and_free app ≡ true → FailsBy (fault_of app words) r)
+    → IfOk r (λ matches. (name : Text) → given name words ≡ rows_if_named name (subcommand_rows_of matches))
+all_found app words (Err error) app_is met fails = tt
+all_found app words (Ok matches) app_is met fails = λ name. given_found name app words (subcommand_rows_of matches) app_is met fails
+
+pub all_refused : (app : App) (words : List Text) (r : Result ArgMatches Error) → app ≡ top_app
+    → (is_simple_and_free app ≡ true → FailsBy (fault_of app words) r)
+    → IfErr r (λ error. kind_of error ≢ OutOfMemory → (name : Text) → given name words ≡ None)
+all_refused app words (Ok matches) app_is fails = tt
+all_refused app words (Err error) app_is fails = λ other name. given_refused name app words error app_is fails other

@@ -1,57 +1,21 @@
--- What a run writes, and its status.
-use Rattle.std.specs.Prelude.{◌≡◌, ◌≢◌, ℕ, ◌+◌, List, ◌++◌, Option, IfSome, take, codes, Ok, Err}
-use Rattle.std.specs.Io.KnownBytes.{Appends, Keeps}
-use Rattle.std.specs.Option.{option_map_or}
-use Rattle.vet_base.specs.Gives.{Told}
-use Rattle.vet_base.specs.declared.limits.TheConstants.{MOST_INPUT_BYTES}
-use Rattle.vet_base.specs.declared.refusal.Refusal.{Refusal}
-use Rattle.vet_base.specs.declared.refusal.Refusal.TheVariants.{NoMemory}
+-- What `class` prints of an audits file.
+use Rattle.std.specs.Prelude.{ℕ, List, ◌++◌, Option, Ok, codes, option_map}
+use Rattle.clap.specs.Walk.{Text}
+use Rattle.vet_base.specs.Gives.{◌>>=◌}
 use Rattle.vet_graph.specs.Class.{class_word}
-use Rattle.vet_register.specs.ClassOfFile.{class_told}
 use Rattle.vet_graph.specs.declared.class.Class.{Class}
-use Rattle.vetd.specs.Output.{AppendsPart}
-use Rattle.vetd.specs.RefusalText.{refusal_line}
-use Rattle.vetd.specs.Words.{given}
-use Rattle.vetd.specs.declared.class_run.TheConstants.{PRINTED, REFUSED, EXPLAINED}
+use Rattle.vet_register.specs.ClassOfFile.{class_told}
+use Rattle.vetd.specs.Answer.{Telling}
+use Rattle.vetd.specs.Words.{AskedWords, class_given}
 
--- what a run answers: a text, a refusal, or an explanation of the command line
-pub data Answer : Type 0 where
-  Prints : List ℕ → Answer
-  Refuses : Refusal → Answer
-  Explains : Answer
+-- the line of a class: its word
+abbrev pub class_line : Class → List ℕ
+class_line class = class_word class ++ codes "\n"
 
-abbrev pub answer_for : Told Class → Answer
-answer_for (Ok class) = Prints (class_word class ++ codes "\n")
-answer_for (Err refusal) = Refuses refusal
+-- the line of the class that is asked for
+abbrev pub class_line_told : AskedWords → Telling
+class_line_told w file = class_told file w.package_name w.version w.criterion >>= λ class. Ok (class_line class)
 
--- what a run reads of its input: at most a byte more than an audits file may have
-abbrev pub input_read : List ℕ → List ℕ
-input_read input = take (MOST_INPUT_BYTES + 1) input
-
--- the answer to the words and the input
-abbrev pub answer_of : List (List ℕ) → List ℕ → Answer
-answer_of words input = option_map_or (λ w. answer_for (class_told (input_read input) w.package_name w.version w.criterion))
-    (given words) Explains
-
--- the input is what the reader holds, where the reader tells it
-abbrev pub IsInput : Option (List ℕ) → List ℕ → Type 0
-IsInput known input = IfSome known (λ bytes. input ≡ bytes)
-
--- this holds of the answer to the words and the input
-abbrev pub Answers : Option (List ℕ) → List (List ℕ) → (Answer → Type 0) → Type 0
-Answers known words Holds = (input : List ℕ) × (IsInput known input × Holds (answer_of words input))
-
--- the status, and what was written to the output and to the errors. Want of memory is never told so.
-abbrev pub Says : Answer → ℕ → Option (List ℕ) → Option (List ℕ) → Option (List ℕ) → Option (List ℕ) → Type 0
-Says (Prints text) status out out' errors errors' = (status ≡ PRINTED) × Appends out out' text × Keeps errors errors'
-Says (Refuses refusal) status out out' errors errors' =
-    (status ≡ REFUSED) × Keeps out out' × Appends errors errors' (refusal_line refusal) × (refusal ≢ NoMemory)
-Says Explains status out out' errors errors' =
-    (status ≡ EXPLAINED) × Keeps out out' × ((text : List ℕ) × Appends errors errors' text)
-
--- what was written where a write failed
-abbrev pub Stops : Answer → Option (List ℕ) → Option (List ℕ) → Option (List ℕ) → Option (List ℕ) → Type 0
-Stops (Prints text) out out' errors errors' = AppendsPart out out' text × Keeps errors errors'
-Stops (Refuses refusal) out out' errors errors' =
-    Keeps out out' × AppendsPart errors errors' (refusal_line refusal) × (refusal ≢ NoMemory)
-Stops Explains out out' errors errors' = Keeps out out' × ((text : List ℕ) × AppendsPart errors errors' text)
+-- what the words of a class command ask for
+abbrev pub class_asked : List Text → Option Telling
+class_asked words = option_map class_line_told (class_given words)

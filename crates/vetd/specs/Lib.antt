@@ -1,6 +1,10 @@
+pub mod Answer
 pub mod ClassRun
+pub mod Counts
+pub mod FileKind
 pub mod Input
 pub mod IoFault
 pub mod Output
+pub mod ReadRun
 pub mod RefusalText
 pub mod Words

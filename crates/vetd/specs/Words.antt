@@ -1,5 +1,5 @@
 -- The command line, as clap reads it.
-use Rattle.std.specs.Prelude.{◌≡◌, List, [], ◌∷◌, Option, None, codes, if◌then◌else◌, true, false}
+use Rattle.std.specs.Prelude.{◌≡◌, Bool, List, [], ◌∷◌, Option, Some, None, codes, if◌then◌else◌, true, false}
 use Rattle.std.specs.Prelude.{option_and_then, option_map}
 use Rattle.std.specs.Str.{bytes_eq}
 use Rattle.clap.specs.Walk.{Row, Rule, Text, first_of}
@@ -7,6 +7,8 @@ use Rattle.clap.specs.Simple.{App, app_of, new_app, new_rule, with_rule, with_su
 use Rattle.clap.specs.Walk.{rule_of}
 use Rattle.clap.specs.Faults.{fault_of}
 use Rattle.clap.specs.Kinds.{Kinds}
+use Rattle.vetd.specs.FileKind.{file_kind}
+use Rattle.vetd.specs.declared.file_kind.FileKind.{FileKind}
 use Rattle.vetd.specs.declared.words.ClassWords.{ClassWords}
 use Rattle.clap.specs.declared.builder.arg.Arg.{Arg}
 use Rattle.clap.specs.declared.builder.command.Command.{Command}
@@ -31,6 +33,10 @@ abbrev pub class_app : App
 class_app = with_rule (with_rule (with_rule (new_app (codes "class")) (word_rule (codes "PACKAGE")))
     (word_rule (codes "VERSION"))) (word_rule (codes "CRITERION"))
 
+-- `read KIND`
+abbrev pub read_app : App
+read_app = with_rule (new_app (codes "read")) (word_rule (codes "KIND"))
+
 -- the program, whose words come without its own name, before its subcommands
 abbrev pub bare_app : App
 bare_app = record (new_app (codes "vetd")) {
@@ -39,7 +45,22 @@ bare_app = record (new_app (codes "vetd")) {
 
 -- the program's command line
 abbrev pub top_app : App
-top_app = with_subcommand bare_app class_app.top
+top_app = with_subcommand (with_subcommand bare_app class_app.top) read_app.top
+
+-- the matches of a subcommand, where it is the one of this name
+abbrev pub rows_if_named : Text → Option (Text × List Row) → Option (List Row)
+rows_if_named name subcommand = option_and_then (λ s. if bytes_eq s.0 name then Some s.1 else None) subcommand
+
+-- nothing, where there is a fault
+abbrev pub unless_fault : Kinds → Option (List Row) → Option (List Row)
+unless_fault [] rows = rows
+unless_fault (k ∷ ks) rows = None
+
+-- the matches that clap gives the subcommand of a name, where it takes the words
+unfoldable pub given : Text → List Text → Option (List Row)
+given name words = unless_fault (fault_of top_app words) (rows_if_named name (subcommand_of top_app words))
+
+-- ---- `class`
 
 -- a package, a version and a criterion
 pub record AskedWords : Type 0 where
@@ -57,15 +78,21 @@ words_from rows = option_and_then (λ p. option_and_then (λ v.
     option_map (λ c. record { package_name = p; version = v; criterion = c })
     (first_of (codes "CRITERION") rows)) (first_of (codes "VERSION") rows)) (first_of (codes "PACKAGE") rows)
 
--- the words of the subcommand `class`
-abbrev pub words_of_subcommand : Option (Text × List Row) → Option AskedWords
-words_of_subcommand subcommand = option_and_then (λ s. if bytes_eq s.0 (codes "class") then words_from s.1 else None) subcommand
+-- what the words of a class command ask for
+abbrev pub class_given : List Text → Option AskedWords
+class_given words = option_and_then words_from (given (codes "class") words)
 
--- nothing, where there is a fault
-abbrev pub unless_fault : Kinds → Option AskedWords → Option AskedWords
-unless_fault [] asked = asked
-unless_fault (k ∷ ks) asked = None
+-- ---- `read`
 
--- what clap gives of the words, where it takes them
-unfoldable pub given : List Text → Option AskedWords
-given words = unless_fault (fault_of top_app words) (words_of_subcommand (subcommand_of top_app words))
+-- whether words begin with it
+abbrev pub begins_read : List Text → Bool
+begins_read [] = false
+begins_read (word ∷ rest) = bytes_eq word (codes "read")
+
+-- the kind that the word names, where it was given and names one
+abbrev pub kind_from : List Row → Option FileKind
+kind_from rows = option_and_then file_kind (first_of (codes "KIND") rows)
+
+-- the kind of file that the words of a read command name
+abbrev pub read_given : List Text → Option FileKind
+read_given words = option_and_then kind_from (given (codes "read") words)

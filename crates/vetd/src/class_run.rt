@@ -1,35 +1,22 @@
-//! A run, from the words and the input to what is written.
-ghost use Rattle.std.specs.Prelude.{◌≡◌, ◌≢◌, ◌+◌, ℕ, List, IfOk, IfErr, map};
-ghost use Rattle.std.specs.Io.KnownBytes.{Appends, Keeps};
-ghost use Rattle.clap.specs.Words.{kind_of};
-ghost use Rattle.vetd.specs.ClassRun.{Answers, Says, Stops, answer_for};
+//! A run of `class`, from the words and the input to what is written.
+ghost use Rattle.std.specs.Prelude.{◌≡◌, ◌≢◌, ◌+◌, IfOk, IfErr, map, string_bytes};
+ghost use Rattle.std.specs.Io.KnownBytes.{Keeps};
+ghost use Rattle.vet_base.specs.Gives.{Gives};
+ghost use Rattle.vetd.specs.Answer.{Answers, Says, Stops};
+ghost use Rattle.vetd.specs.ClassRun.{class_asked, class_line_told};
 ghost use Rattle.vetd.specs.Input.{TakesAtMost};
-ghost use Rattle.vetd.specs.Output.{AppendsPart};
-ghost use Rattle.vetd.specs.Words.{given};
+ghost use Rattle.vetd.specs.Words.{asked_of, class_given};
 
+use crate::answer::{explain, report};
 use crate::input::{Reads, read_at_most};
 use crate::io_fault::IoFault;
-use crate::output::write_whole;
-use crate::refusal_text::refusal_text;
-use crate::words::class_words;
-use clap::Error;
-use clap::error::ErrorKind;
+use crate::words::{ClassWords, class_words};
 use std::alloc::Global;
 use std::convert::AsStr;
 use std::io::{Read, Write};
 use vet_base::limits::MOST_INPUT_BYTES;
 use vet_base::refusal::Refusal;
-use vet_register::class::Class;
 use vet_register::class_of_file::class_of_file;
-
-/// The status of a run that printed a class.
-pub const PRINTED: u8 = 0;
-
-/// The status of a run that told a refusal.
-pub const REFUSED: u8 = 1;
-
-/// The status of a run that explained its command line.
-pub const EXPLAINED: u8 = 2;
 
 /// Answers the words, which come without the program's own name, by the audits file that the reader
 /// gives: the class's word goes to `writer`, and a refusal or clap's text to `errors`. What clap's text
@@ -44,11 +31,11 @@ pub fn class_run<S: AsStr, R: Read, W: Write, E: Write>(
     writer: &mut W,
     errors: &mut E,
 ) -> Result<u8, IoFault>
-    ensures says { IfOk result (λ status. Answers (R.remaining reader.old) (map S.text words.now)
+    ensures says { IfOk result (λ status. Answers (R.remaining reader.old) (class_asked (map S.text words.now))
         (λ answer. Says answer status (W.contents writer.old) (W.contents writer.new)
         (E.contents errors.old) (E.contents errors.new))) }
     ensures part { IfErr result (λ fault. fault ≡ IoFault.Output
-        → Answers (R.remaining reader.old) (map S.text words.now)
+        → Answers (R.remaining reader.old) (class_asked (map S.text words.now))
         (λ answer. Stops answer (W.contents writer.old) (W.contents writer.new)
         (E.contents errors.old) (E.contents errors.new))) }
     ensures silent { IfErr result (λ fault. fault ≢ IoFault.Output
@@ -58,8 +45,8 @@ pub fn class_run<S: AsStr, R: Read, W: Write, E: Write>(
     // No more is read, and nothing where clap refuses the words.
     ensures bounded { TakesAtMost (MOST_INPUT_BYTES + 1)
         (R.remaining reader.old) (R.remaining reader.new) }
-    ensures unread { given (map S.text words.now) ≡ None → reader.new ≡ reader.old }
-    ensures unfailing { given (map S.text words.now) ≡ None
+    ensures unread { class_given (map S.text words.now) ≡ None → reader.new ≡ reader.old }
+    ensures unfailing { class_given (map S.text words.now) ≡ None
         → IfErr result (λ fault. (fault ≢ IoFault.Input) × (fault ≢ IoFault.Endless)) }
 {
     let asked = match class_words(alloc, words) {
@@ -68,67 +55,24 @@ pub fn class_run<S: AsStr, R: Read, W: Write, E: Write>(
     };
     let mut reads = Reads::new();
     let input = read_at_most(alloc, reader, &mut reads, MOST_INPUT_BYTES + 1)?;
-    let told = class_of_file(
-        alloc,
-        input.as_slice(),
-        asked.package_name,
-        asked.version,
-        asked.criterion,
-    );
+    let told = class_line(alloc, asked, input.as_slice());
     report(alloc, told, writer, errors)
 }
 
-/// Writes clap's text to the errors.
-pub(crate) fn explain<E: Write>(alloc: Global, error: &Error, errors: &mut E) -> Result<u8, IoFault>
-    ensures says { IfOk result (λ status. (status ≡ EXPLAINED)
-        × (kind_of error.now ≢ ErrorKind.OutOfMemory)
-        × ((text : List ℕ) × Appends (E.contents errors.old) (E.contents errors.new) text)) }
-    ensures part { IfErr result (λ fault. fault ≡ IoFault.Output
-        → (kind_of error.now ≢ ErrorKind.OutOfMemory)
-        × ((text : List ℕ) × AppendsPart (E.contents errors.old) (E.contents errors.new) text)) }
-    ensures silent { IfErr result (λ fault. fault ≢ IoFault.Output
-        → Keeps (E.contents errors.old) (E.contents errors.new)) }
-    ensures faults { IfErr result (λ fault. (fault ≢ IoFault.Input) × (fault ≢ IoFault.Endless)) }
+/// The line of the class that is asked for.
+fn class_line(alloc: Global, asked: ClassWords<'_>, file: &[u8]) -> Result<String, Refusal>
+    ensures { Gives string_bytes (class_line_told (asked_of asked.entry) file.now) result }
 {
-    if error.kind() == ErrorKind::OutOfMemory {
-        return Err(IoFault::NoMemory);
-    }
-    let text = error.to_string(alloc)?;
-    write_whole(errors, text.as_bytes())?;
-    Ok(EXPLAINED)
-}
-
-/// Writes the class's word to the output, or the refusal to the errors. Want of memory is a fault.
-fn report<W: Write, E: Write>(
-    alloc: Global,
-    told: Result<Class, Refusal>,
-    writer: &mut W,
-    errors: &mut E,
-) -> Result<u8, IoFault>
-    ensures says { IfOk result (λ status. Says (answer_for told) status
-        (W.contents writer.old) (W.contents writer.new)
-        (E.contents errors.old) (E.contents errors.new)) }
-    ensures part { IfErr result (λ fault. fault ≡ IoFault.Output → Stops (answer_for told)
-        (W.contents writer.old) (W.contents writer.new)
-        (E.contents errors.old) (E.contents errors.new)) }
-    ensures silent { IfErr result (λ fault. fault ≢ IoFault.Output
-        → Keeps (W.contents writer.old) (W.contents writer.new)
-        × Keeps (E.contents errors.old) (E.contents errors.new)) }
-{
-    match told {
-        Ok(class) => {
-            let mut line = class.word().to_string(alloc)?;
-            line.push_str("\n")?;
-            write_whole(writer, line.as_bytes())?;
-            Ok(PRINTED)
-        }
-        Err(Refusal::NoMemory) => Err(IoFault::NoMemory),
-        Err(refusal) => {
-            let line = refusal_text(alloc, &refusal)?;
-            write_whole(errors, line.as_bytes())?;
-            Ok(REFUSED)
-        }
-    }
+    let class = class_of_file(
+        alloc,
+        file,
+        asked.package_name,
+        asked.version,
+        asked.criterion,
+    )?;
+    let mut line = class.word().to_string(alloc)?;
+    line.push_str("\n")?;
+    Ok(line)
 }
 
 #[cfg(test)]

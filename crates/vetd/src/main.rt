@@ -1,27 +1,36 @@
-//! `vetd`: the class of one version of a package, by an audits file on standard input.
+//! `vetd`: what one file on standard input says, by the words of a command.
 //!
-//! `vetd class PACKAGE VERSION CRITERION` prints the class's word and ends with status 0. A refusal goes
-//! to standard error as one line, with status 1. Where the words are no command, or ask for help, clap's
-//! text goes to standard error, with status 2, and nothing is read.
+//! `vetd class PACKAGE VERSION CRITERION` prints the word of the class that an audits file gives a version of
+//! a package. `vetd read KIND`, KIND `audits`, `config` or `imports`, prints how many things a file holds, and
+//! how many were passed over. Both end with status 0. A refusal goes to standard error as one line, with
+//! status 1. Where the words are no command, or ask for help, clap's text goes to standard error, with
+//! status 2, and nothing is read.
 //!
 //! **The words and the input alone decide what is written and the status. A run that ends with a fault
 //! wrote nothing, or, where a write failed, the front of that answer.**
 //!
-//! Scope of this crate: words, reads and writes. What a class is stands in the crates below.
+//! Scope of this crate: words, reads and writes. What a class is and what files hold stands in the crates
+//! below.
 #![tactic(auto)]
 
 ghost use Rattle.std.specs.Prelude.{◌≡◌, IfOk};
 
+mod answer;
 mod class_run;
+mod counts;
+mod file_kind;
 mod input;
 mod io_fault;
 mod output;
+mod read_run;
 mod refusal_text;
 mod words;
 
-use crate::class_run::{EXPLAINED, class_run, explain};
+use crate::answer::{EXPLAINED, explain};
+use crate::class_run::class_run;
 use crate::io_fault::IoFault;
-use crate::words::not_text;
+use crate::read_run::read_run;
+use crate::words::{begins_read, not_text};
 use std::alloc::Global;
 use std::io::Write;
 use std::process::ExitCode;
@@ -63,6 +72,13 @@ fn fault_status<R: Eprint>(rt: &R, fault: IoFault) -> u8
 
 fn main(rt: HostRuntime) -> ExitCode {
     let run = match words_after_name(&rt) {
+        Ok(words) if begins_read(words.as_slice()) => read_run(
+            rt.alloc(),
+            words.as_slice(),
+            &mut rt.reader(),
+            &mut io::writer(&rt),
+            &mut rt.stderr(),
+        ),
         Ok(words) => class_run(
             rt.alloc(),
             words.as_slice(),

@@ -1,16 +1,18 @@
 //! The command line.
-ghost use Rattle.std.specs.Prelude.{◌≡◌, ◌≢◌, IfOk, IfErr, map, option_map};
+ghost use Rattle.std.specs.Prelude.{◌≡◌, ◌≢◌, List, IfOk, IfErr, codes, map, option_and_then, option_map};
 ghost use Rattle.clap.specs.Words.{App, Rule, first_of, found_of, kind_of, rows_of, with_rule};
-ghost use Rattle.clap.specs.Words.{subcommand_rows_of};
-ghost use Rattle.vetd.specs.Words.{IsApp, IsRule, asked_of, bare_app, class_app, given, top_app};
-ghost use Rattle.vetd.specs.Words.{word_rule, words_from, words_of_subcommand};
+ghost use Rattle.clap.specs.Words.{subcommand_rows_of, Text};
+ghost use Rattle.vetd.specs.Words.{IsApp, IsRule, asked_of, bare_app, begins_read, class_app, class_given};
+ghost use Rattle.vetd.specs.Words.{given, kind_from, read_app, read_given, rows_if_named, top_app, word_rule};
+ghost use Rattle.vetd.specs.Words.{words_from};
 
+use crate::file_kind::FileKind;
 use clap::error::ErrorKind;
 use clap::{Arg, ArgMatches, Command, Error};
 use std::alloc::{AllocError, Global};
 use std::convert::AsStr;
 
-/// What a command line asks for.
+/// What a class command asks for.
 #[derive(Clone, Copy)]
 pub struct ClassWords<'a> {
     pub package_name: &'a str,
@@ -18,21 +20,51 @@ pub struct ClassWords<'a> {
     pub criterion: &'a str,
 }
 
-/// What the words ask for, which come without the program's own name. Refused: clap's error of words that
-/// are no `class` command or ask for help, and `OutOfMemory`.
+/// What the words of a class command ask for, which come without the program's own name. Refused: clap's
+/// error of words that are no command line or ask for help, one of words that are another command, and
+/// `OutOfMemory`.
 pub fn class_words<'a, S: AsStr>(alloc: Global, words: &'a [S]) -> Result<ClassWords<'a>, Error>
-    ensures found { IfOk result (λ asked. given (map S.text words.entry.now) ≡ Some (asked_of asked)) }
+    ensures found { IfOk result (λ asked. class_given (map S.text words.entry.now) ≡ Some (asked_of asked)) }
     ensures refused { IfErr result (λ error. kind_of error ≢ ErrorKind.OutOfMemory
-        → given (map S.text words.entry.now) ≡ None) }
+        → class_given (map S.text words.entry.now) ≡ None) }
 {
-    let matches = top_command(alloc)?.try_get_matches_from(words)?;
-    match class_subcommand(&matches) {
+    let matches = matches_of(alloc, words)?;
+    match class_asked(&matches) {
         Some(asked) => Ok(asked),
         None => Err(words_error(
             alloc,
             ErrorKind::MissingSubcommand,
             "no class was asked for",
         )?),
+    }
+}
+
+/// The kind of file that the words of a read command name, which come without the program's own name.
+/// Refused: clap's error of words that are no command line or ask for help, one of words that are another
+/// command or name no kind, and `OutOfMemory`.
+pub fn read_words<S: AsStr>(alloc: Global, words: &[S]) -> Result<FileKind, Error>
+    ensures found { IfOk result (λ kind. read_given (map S.text words.now) ≡ Some kind) }
+    ensures refused { IfErr result (λ error. kind_of error ≢ ErrorKind.OutOfMemory
+        → read_given (map S.text words.now) ≡ None) }
+{
+    let matches = matches_of(alloc, words)?;
+    match kind_asked(&matches) {
+        Some(kind) => Ok(kind),
+        None => Err(words_error(
+            alloc,
+            ErrorKind::InvalidValue,
+            "no audits, config or imports file was asked for",
+        )?),
+    }
+}
+
+/// Whether the words begin with `read`.
+pub fn begins_read<S: AsStr>(words: &[S]) -> bool
+    ensures { result ≡ begins_read (map S.text words.now) }
+{
+    match words.first() {
+        Some(word) => word.as_str() == "read",
+        None => false,
     }
 }
 
@@ -54,12 +86,23 @@ fn words_error(alloc: Global, kind: ErrorKind, message: &str) -> Result<Error, A
     top_command(alloc)?.error(kind, message)
 }
 
+/// What clap gives of the words.
+fn matches_of<'a, S: AsStr>(alloc: Global, words: &'a [S]) -> Result<ArgMatches<'a>, Error>
+    ensures found { IfOk result (λ matches. (name : Text) → given name (map S.text words.entry.now)
+        ≡ rows_if_named name (subcommand_rows_of matches)) }
+    ensures refused { IfErr result (λ error. kind_of error ≢ ErrorKind.OutOfMemory
+        → (name : Text) → given name (map S.text words.entry.now) ≡ None) }
+{
+    top_command(alloc)?.try_get_matches_from(words)
+}
+
 /// The program's command line.
 fn top_command<'a>(alloc: Global) -> Result<Command<'a>, AllocError>
     ensures { IfOk result (IsApp top_app) }
 {
     let class = class_command(alloc)?;
-    bare_command(alloc)?.subcommand(class)
+    let read = read_command(alloc)?;
+    bare_command(alloc)?.subcommand(class)?.subcommand(read)
 }
 
 /// The command line before its subcommands.
@@ -67,7 +110,7 @@ fn bare_command<'a>(alloc: Global) -> Result<Command<'a>, AllocError>
     ensures { IfOk result (IsApp bare_app) }
 {
     Command::new(alloc, "vetd")
-        .about("The class of one version of a package")
+        .about("Audits of third-party packages")
         .no_binary_name(true)
         .subcommand_required(true)
         .bin_name("vetd")
@@ -90,6 +133,20 @@ fn class_command<'a>(alloc: Global) -> Result<Command<'a>, AllocError>
     )
 }
 
+fn read_command<'a>(alloc: Global) -> Result<Command<'a>, AllocError>
+    ensures { IfOk result (IsApp read_app) }
+{
+    let command = Command::new(alloc, "read").about("Counts what the file on standard input holds");
+    add(
+        command,
+        word(
+            alloc,
+            "KIND",
+            "The kind of the file: audits, config or imports",
+        ),
+    )
+}
+
 /// A required word.
 fn word<'a>(alloc: Global, id: &'a str, help: &'a str) -> Arg<'a>
     ensures { IsRule (word_rule id.entry.now) result }
@@ -106,15 +163,28 @@ fn add<'a>(command: Command<'a>, arg: Arg<'a>) -> Result<Command<'a>, AllocError
 }
 
 /// The words of a class command, where it is one.
-fn class_subcommand<'a>(matches: &ArgMatches<'a>) -> Option<ClassWords<'a>>
-    ensures { option_map asked_of result ≡ words_of_subcommand (subcommand_rows_of matches.now) }
+fn class_asked<'a>(matches: &ArgMatches<'a>) -> Option<ClassWords<'a>>
+    ensures { option_map asked_of result
+        ≡ option_and_then words_from (rows_if_named (codes "class") (subcommand_rows_of matches.now)) }
 {
-    let (name, subcommand) = matches.subcommand()?;
-    if name == "class" {
-        words_of(subcommand)
-    } else {
-        None
-    }
+    words_of(matches_if_named(matches, "class")?)
+}
+
+/// The kind that a read command names, where it is one.
+fn kind_asked(matches: &ArgMatches<'_>) -> Option<FileKind>
+    ensures { result
+        ≡ option_and_then kind_from (rows_if_named (codes "read") (subcommand_rows_of matches.now)) }
+{
+    kind_of_file(matches_if_named(matches, "read")?)
+}
+
+/// The matches of the subcommand, where it is the one of this name.
+fn matches_if_named<'m, 'a>(matches: &'m ArgMatches<'a>, name: &str) -> Option<&'m ArgMatches<'a>>
+    ensures { option_map (λ m. rows_of (found_of m.now)) result
+        ≡ rows_if_named name.now (subcommand_rows_of matches.now) }
+{
+    let (met, subcommand) = matches.subcommand()?;
+    if met == name { Some(subcommand) } else { None }
 }
 
 /// The three words of a class command.
@@ -129,6 +199,13 @@ fn words_of<'a>(subcommand: &ArgMatches<'a>) -> Option<ClassWords<'a>>
         version,
         criterion,
     })
+}
+
+/// The kind of file that a read command names.
+fn kind_of_file(subcommand: &ArgMatches<'_>) -> Option<FileKind>
+    ensures { result ≡ kind_from (rows_of (found_of subcommand.now)) }
+{
+    FileKind::of_word(value(subcommand, "KIND")?)
 }
 
 /// The value of an argument.

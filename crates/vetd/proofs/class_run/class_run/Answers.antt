@@ -1,26 +1,23 @@
-use Rattle.std.proofs.Common.{◌≡◌, rules, map, Some}
-use Rattle.vetd.specs.Words.{AskedWords, given}
-use Rattle.vetd.proofs.ClassRunLemmas.{explained_says, explained_stops, says_all, stops_all}
+use Rattle.std.proofs.Common.{ap, option_map, rules, string_bytes}
+use Rattle.vetd.specs.ClassRun.{class_line_told}
+use Rattle.vetd.specs.Words.{asked_of}
+use Rattle.vetd.proofs.AnswerLemmas.{explained_says, explained_stops, says_all, stops_all}
 use Rattle.vetd.proofs.class_run.class_run.Goals as goal
 
 pub returns-in-Err-clause-says : goal.returns-in-Err-clause-says
 returns-in-Err-clause-says g c =
-    explained_says _ _ c.in-Err.error.kind _ _ _ _ c.in-Err.ensures.refused c.explain.ensures.says
+    explained_says _ _ c.in-Err.error.kind _ _ _ _ (λ other. ap (option_map class_line_told) (c.in-Err.ensures.refused other)) c.explain.ensures.says
 
 pub returns-in-Err-clause-part : goal.returns-in-Err-clause-part
 returns-in-Err-clause-part g c =
-    explained_stops _ _ c.in-Err.error.kind _ _ _ _ c.in-Err.ensures.refused c.explain.ensures.part
+    explained_stops _ _ c.in-Err.error.kind _ _ _ _ (λ other. ap (option_map class_line_told) (c.in-Err.ensures.refused other)) c.explain.ensures.part
 
 pub returns-clause-says : goal.returns-clause-says
 returns-clause-says g c =
-    let asked = c.in-Ok.asked in
-    let w : AskedWords = record { package_name = asked.package_name.now; version = asked.version.now; criterion = asked.criterion.now } in
-    let given_is : given (map g.S.AsStr.text c.args.words.now) ≡ Some w = search rules in
-    says_all _ c.in_ok-input.input.items _ w c.class_of_file-told.result _ _ _ _ _ (search rules) (search rules) given_is (search rules) c.report.ensures.says
+    says_all string_bytes _ c.in_ok-input.input.items _ (class_line_told (asked_of c.in-Ok.asked)) c.class_line-told.result _ _ _ _ _ (search rules) (search rules)
+    (ap (option_map class_line_told) c.in-Ok.ensures.found) (search rules) c.report.ensures.says
 
 pub returns-clause-part : goal.returns-clause-part
 returns-clause-part g c =
-    let asked = c.in-Ok.asked in
-    let w : AskedWords = record { package_name = asked.package_name.now; version = asked.version.now; criterion = asked.criterion.now } in
-    let given_is : given (map g.S.AsStr.text c.args.words.now) ≡ Some w = search rules in
-    stops_all _ c.in_ok-input.input.items _ w c.class_of_file-told.result _ _ _ _ _ (search rules) (search rules) given_is (search rules) c.report.ensures.part
+    stops_all string_bytes _ c.in_ok-input.input.items _ (class_line_told (asked_of c.in-Ok.asked)) c.class_line-told.result _ _ _ _ _ (search rules) (search rules)
+    (ap (option_map class_line_told) c.in-Ok.ensures.found) (search rules) c.report.ensures.part

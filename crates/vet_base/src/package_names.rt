@@ -1,0 +1,115 @@
+//! Sets of names of packages.
+ghost use Rattle.std.specs.Prelude.{◌≡◌, ◌==◌, ◌↔◌, IsTrue, OnOk, OnErr, IfOk};
+ghost use Rattle.std.specs.FinSet as set;
+ghost use Rattle.vet_base.specs.Names.{IsRising, members};
+
+use crate::name::PackageName;
+use std::alloc::{AllocError, Global};
+use std::marker::Model;
+
+/// A set of names of packages, in the order of their bytes.
+#[derive(Debug, Drop)]
+pub struct PackageNames {
+    names: Vec<PackageName>,
+}
+
+impl Model for PackageNames {
+    ghost use Rattle.std.specs.Coded.{coded_list, coded_ℕ};
+    ghost use Rattle.std.specs.FinSet as set;
+    ghost use Rattle.vet_base.specs.Names.{NameSet, IsRising};
+
+    ghost Value = { NameSet };
+
+    ghost coded = { set.code (coded_list coded_ℕ) };
+
+    ghost view = { λ n. set.from_list n.names.items };
+
+    ghost invariant = { λ n. IsRising n.names.items };
+}
+
+impl PackageNames {
+    /// No names.
+    pub fn new(alloc: Global) -> PackageNames
+        ensures { result ≡ set.empty }
+    {
+        PackageNames {
+            names: Vec::new(alloc),
+        }
+    }
+
+    /// Adds a name. Where there is no memory, the set stays.
+    pub fn insert(&mut self, name: PackageName) -> Result<(), AllocError>
+        ensures ok { OnOk result (self.new ≡ set.insert self.old name) }
+        ensures err { OnErr result (self.new ≡ self.old) }
+    {
+        if let Err(place) = self.names.binary_search(&name) {
+            self.names.insert(place, name)?;
+        }
+        Ok(())
+    }
+
+    /// Whether a name is in the set.
+    pub fn contains(&self, name: &PackageName) -> bool
+        ensures { result ≡ set.contains self.now name.now }
+    {
+        self.names.binary_search(name).is_ok()
+    }
+
+    /// The names in the order of their bytes, each once.
+    pub fn as_slice(&self) -> &[PackageName]
+        ensures members { result.now ≡ members self.now }
+        ensures rising { IsRising result.now }
+        ensures set { self.now ≡ set.from_list result.now }
+    {
+        self.names.as_slice()
+    }
+
+    /// Whether there are no names.
+    pub fn is_empty(&self) -> bool
+        ensures { IsTrue result ↔ (self.now ≡ set.empty) }
+    {
+        self.names.is_empty()
+    }
+
+    /// How many names there are.
+    pub fn len(&self) -> usize
+        ensures { result ≡ set.len self.now }
+    {
+        self.names.len()
+    }
+}
+
+impl Clone for PackageNames {
+    ghost use Rattle.std.specs.Prelude.{◌≡◌};
+
+    ghost is_clone = { λ a b. b ≡ a };
+
+    fn clone(&self) -> Result<PackageNames, AllocError> {
+        Ok(PackageNames {
+            names: self.names.clone()?,
+        })
+    }
+}
+
+impl PartialEq for PackageNames {
+    ghost use Rattle.std.specs.Cmp.{partial_equiv_from_equiv};
+    ghost use Rattle.std.specs.Prelude.{IsTrue, ◌↔◌, ◌≡◌};
+    ghost use Rattle.vet_base.specs.Names.{same_names, same_names_equiv};
+
+    ghost eq = { same_names };
+
+    ghost laws = { partial_equiv_from_equiv same_names_equiv };
+
+    fn eq(&self, other: &PackageNames) -> bool
+        ensures value { result ≡ same_names self.now other.now }
+        ensures same { IsTrue result ↔ (self.now ≡ other.now) }
+    {
+        self.names == other.names
+    }
+}
+
+impl Eq for PackageNames {
+    ghost use Rattle.vet_base.specs.Names.{same_names_equiv};
+
+    ghost laws = { same_names_equiv };
+}

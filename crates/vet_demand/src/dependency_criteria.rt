@@ -1,0 +1,176 @@
+//! Criteria for the dependencies of a package.
+ghost use Rattle.std.specs.Prelude.{◌≡◌, ◌↔◌, ◌==◌, [], IsTrue, OnErr, OnOk, length};
+ghost use Rattle.std.specs.Cmp.{decided, partial_equiv_from_equiv};
+ghost use Rattle.std.specs.Option.{option_copied};
+ghost use Rattle.vet_demand.specs.DependencyCriteria.{IsByPackage, IsDependencyPlace, OtherCriteriaStay, SetCriteriaAreFound, criteria_for, dependencies_eq, dependencies_eq-Decides, dependency_eq, dependency_eq-Decides, with_criteria};
+
+use std::alloc::{AllocError, Global};
+use std::marker::Model;
+use vet_base::name::PackageName;
+use vet_base::names::Names;
+
+/// The criteria that a package passes along its edges to a dependency of this name. An empty set is kept,
+/// and passes nothing.
+#[derive(Debug, Drop)]
+pub struct DependencyItem {
+    pub package: PackageName,
+    pub criteria: Names,
+}
+
+impl Clone for DependencyItem {
+    ghost is_clone = { λ a b. b ≡ a };
+
+    fn clone(&self) -> Result<DependencyItem, AllocError> {
+        Ok(DependencyItem {
+            package: self.package.clone()?,
+            criteria: self.criteria.clone()?,
+        })
+    }
+}
+
+impl PartialEq for DependencyItem {
+    ghost eq = { dependency_eq };
+
+    ghost laws = { partial_equiv_from_equiv (decided dependency_eq dependency_eq-Decides) };
+
+    fn eq(&self, other: &DependencyItem) -> bool
+        ensures value { result ≡ dependency_eq self.now other.now }
+        ensures same { IsTrue result ↔ (self.now ≡ other.now) }
+    {
+        self.package == other.package && self.criteria == other.criteria
+    }
+}
+
+impl Eq for DependencyItem {
+    ghost laws = { decided dependency_eq dependency_eq-Decides };
+}
+
+/// Criteria by the names of dependencies, in the order of the names' bytes, each name once.
+#[derive(Debug, Drop)]
+pub struct DependencyCriteria {
+    items: Vec<DependencyItem>,
+}
+
+impl Model for DependencyCriteria {
+    ghost use Rattle.std.specs.Coded.{coded_list};
+    ghost use Rattle.std.specs.Prelude.{List};
+    ghost use Rattle.vet_demand.specs.DependencyCriteria.{IsByPackage};
+    ghost use Rattle.vet_demand.specs.contracts.dependency_criteria.DependencyItem as item;
+    ghost use Rattle.vet_demand.specs.declared.dependency_criteria.DependencyItem.{DependencyItem};
+
+    ghost Value = { List DependencyItem };
+
+    ghost coded = { coded_list item.the_row.coded };
+
+    ghost view = { λ d. d.items.items };
+
+    ghost invariant = { λ d. IsByPackage d.items.items };
+}
+
+impl DependencyCriteria {
+    /// No criteria. Takes no memory.
+    pub fn new(alloc: Global) -> DependencyCriteria
+        ensures { result ≡ [] }
+    {
+        DependencyCriteria {
+            items: Vec::new(alloc),
+        }
+    }
+
+    /// Sets the criteria at a name. Costs a binary search, and moves what stands behind the name. Where
+    /// there is no memory, all stays.
+    pub fn insert(&mut self, name: PackageName, criteria: Names) -> Result<(), AllocError>
+        ensures ok { OnOk result (self.new ≡ with_criteria self.old name criteria) }
+        ensures err { OnErr result (self.new ≡ self.old) }
+    {
+        match self.place_of(&name) {
+            Ok(place) => {
+                self.items[place] = DependencyItem {
+                    package: name,
+                    criteria,
+                };
+                Ok(())
+            }
+            Err(place) => {
+                let item = DependencyItem {
+                    package: name,
+                    criteria,
+                };
+                self.items.insert(place, item)?;
+                Ok(())
+            }
+        }
+    }
+
+    /// The criteria at a name, if there are some. Takes no memory, and a time of log n.
+    pub fn get(&self, name: &PackageName) -> Option<&Names>
+        ensures { option_copied result ≡ criteria_for self.now name.now }
+    {
+        match self.place_of(name) {
+            Ok(place) => Some(&self.items[place].criteria),
+            Err(_) => None,
+        }
+    }
+
+    /// The names with their criteria, in the order of the names' bytes.
+    pub fn items(&self) -> &[DependencyItem]
+        ensures value { result.now ≡ self.now }
+        ensures by_package { IsByPackage self.now }
+    {
+        self.items.as_slice()
+    }
+
+    /// How many names there are.
+    pub fn len(&self) -> usize
+        ensures { result ≡ length self.now }
+    {
+        self.items.len()
+    }
+
+    /// Whether there are no names.
+    pub fn is_empty(&self) -> bool
+        ensures { result ≡ (length self.now == 0) }
+    {
+        self.items.is_empty()
+    }
+
+    // Where a name stands, or belongs.
+    fn place_of(&self, name: &PackageName) -> Result<usize, usize>
+        ensures { IsDependencyPlace self.now name.now result }
+    {
+        self.items.binary_search_by(|item| item.package.cmp(name))
+    }
+}
+
+impl Clone for DependencyCriteria {
+    ghost is_clone = { λ a b. b ≡ a };
+
+    fn clone(&self) -> Result<DependencyCriteria, AllocError> {
+        Ok(DependencyCriteria {
+            items: self.items.clone()?,
+        })
+    }
+}
+
+impl PartialEq for DependencyCriteria {
+    ghost eq = { dependencies_eq };
+
+    ghost laws = { partial_equiv_from_equiv (decided dependencies_eq dependencies_eq-Decides) };
+
+    fn eq(&self, other: &DependencyCriteria) -> bool
+        ensures value { result ≡ dependencies_eq self.now other.now }
+        ensures same { IsTrue result ↔ (self.now ≡ other.now) }
+    {
+        self.items == other.items
+    }
+}
+
+impl Eq for DependencyCriteria {
+    ghost laws = { decided dependencies_eq dependencies_eq-Decides };
+}
+
+/// Criteria are found at the name at which they were set, and at each other name what was found there stays.
+pub fn set_criteria_are_found()
+    ensures own { SetCriteriaAreFound }
+    ensures others { OtherCriteriaStay }
+{}

@@ -1,0 +1,175 @@
+//! The policies of a project.
+ghost use Rattle.std.specs.Prelude.{◌≡◌, ◌↔◌, ◌==◌, [], IsTrue, OnErr, OnOk, length};
+ghost use Rattle.std.specs.Cmp.{decided, partial_equiv_from_equiv};
+ghost use Rattle.std.specs.Option.{option_copied};
+ghost use Rattle.vet_demand.specs.Policies.{IsInKeyOrder, IsPolicyPlace, OtherPoliciesStay, SetPolicyIsFound, has_policy, keyed_policy_eq, keyed_policy_eq-Decides, policies_eq, policies_eq-Decides, policy_of, with_policy};
+
+use crate::policy::Policy;
+use crate::policy_key::PolicyKey;
+use std::alloc::{AllocError, Global};
+use std::marker::Model;
+
+/// A policy, and what it is of.
+#[derive(Debug, Drop)]
+pub struct KeyedPolicy {
+    pub key: PolicyKey,
+    pub policy: Policy,
+}
+
+impl Clone for KeyedPolicy {
+    ghost is_clone = { λ a b. b ≡ a };
+
+    fn clone(&self) -> Result<KeyedPolicy, AllocError> {
+        Ok(KeyedPolicy {
+            key: self.key.clone()?,
+            policy: self.policy.clone()?,
+        })
+    }
+}
+
+impl PartialEq for KeyedPolicy {
+    ghost eq = { keyed_policy_eq };
+
+    ghost laws = { partial_equiv_from_equiv (decided keyed_policy_eq keyed_policy_eq-Decides) };
+
+    fn eq(&self, other: &KeyedPolicy) -> bool
+        ensures value { result ≡ keyed_policy_eq self.now other.now }
+        ensures same { IsTrue result ↔ (self.now ≡ other.now) }
+    {
+        self.key == other.key && self.policy == other.policy
+    }
+}
+
+impl Eq for KeyedPolicy {
+    ghost laws = { decided keyed_policy_eq keyed_policy_eq-Decides };
+}
+
+/// Policies in the order of their keys, no key twice.
+#[derive(Debug, Drop)]
+pub struct Policies {
+    policies: Vec<KeyedPolicy>,
+}
+
+impl Model for Policies {
+    ghost use Rattle.std.specs.Coded.{coded_list};
+    ghost use Rattle.std.specs.Prelude.{List};
+    ghost use Rattle.vet_demand.specs.Policies.{IsInKeyOrder};
+    ghost use Rattle.vet_demand.specs.contracts.policies.KeyedPolicy as keyed;
+    ghost use Rattle.vet_demand.specs.declared.policies.KeyedPolicy.{KeyedPolicy};
+
+    ghost Value = { List KeyedPolicy };
+
+    ghost coded = { coded_list keyed.the_row.coded };
+
+    ghost view = { λ p. p.policies.items };
+
+    ghost invariant = { λ p. IsInKeyOrder p.policies.items };
+}
+
+impl Policies {
+    /// No policies. Takes no memory.
+    pub fn new(alloc: Global) -> Policies
+        ensures { result ≡ [] }
+    {
+        Policies {
+            policies: Vec::new(alloc),
+        }
+    }
+
+    /// Whether there is a policy of a key. Takes no memory, and a time of log n.
+    pub fn has(&self, key: &PolicyKey) -> bool
+        ensures { result ≡ has_policy self.now key.now }
+    {
+        self.place_of(key).is_ok()
+    }
+
+    /// The policy of a key, if there is one. Takes no memory, and a time of log n.
+    pub fn get(&self, key: &PolicyKey) -> Option<&Policy>
+        ensures { option_copied result ≡ policy_of self.now key.now }
+    {
+        match self.place_of(key) {
+            Ok(place) => Some(&self.policies[place].policy),
+            Err(_) => None,
+        }
+    }
+
+    /// Adds the policy of a key, or puts it in place of the one of this key. Costs a binary search, and moves
+    /// what stands behind the key. Where there is no memory, all stays.
+    pub fn insert(&mut self, key: PolicyKey, policy: Policy) -> Result<(), AllocError>
+        ensures ok { OnOk result (self.new ≡ with_policy self.old key policy) }
+        ensures err { OnErr result (self.new ≡ self.old) }
+    {
+        match self.place_of(&key) {
+            Ok(place) => {
+                self.policies[place] = KeyedPolicy { key, policy };
+                Ok(())
+            }
+            Err(place) => {
+                self.policies.insert(place, KeyedPolicy { key, policy })?;
+                Ok(())
+            }
+        }
+    }
+
+    /// The policies, in the order of their keys.
+    pub fn as_slice(&self) -> &[KeyedPolicy]
+        ensures value { result.now ≡ self.now }
+        ensures in_order { IsInKeyOrder self.now }
+    {
+        self.policies.as_slice()
+    }
+
+    /// How many policies there are.
+    pub fn len(&self) -> usize
+        ensures { result ≡ length self.now }
+    {
+        self.policies.len()
+    }
+
+    /// Whether there are no policies.
+    pub fn is_empty(&self) -> bool
+        ensures { result ≡ (length self.now == 0) }
+    {
+        self.policies.is_empty()
+    }
+
+    // Where a key stands, or belongs.
+    fn place_of(&self, key: &PolicyKey) -> Result<usize, usize>
+        ensures { IsPolicyPlace self.now key.now result }
+    {
+        self.policies.binary_search_by(|held| held.key.cmp(key))
+    }
+}
+
+impl Clone for Policies {
+    ghost is_clone = { λ a b. b ≡ a };
+
+    fn clone(&self) -> Result<Policies, AllocError> {
+        Ok(Policies {
+            policies: self.policies.clone()?,
+        })
+    }
+}
+
+impl PartialEq for Policies {
+    ghost eq = { policies_eq };
+
+    ghost laws = { partial_equiv_from_equiv (decided policies_eq policies_eq-Decides) };
+
+    fn eq(&self, other: &Policies) -> bool
+        ensures value { result ≡ policies_eq self.now other.now }
+        ensures same { IsTrue result ↔ (self.now ≡ other.now) }
+    {
+        self.policies == other.policies
+    }
+}
+
+impl Eq for Policies {
+    ghost laws = { decided policies_eq policies_eq-Decides };
+}
+
+/// A policy is found at its key, and at each other key what was found there stays.
+pub fn set_policy_is_found()
+    ensures own { SetPolicyIsFound }
+    ensures others { OtherPoliciesStay }
+{}

@@ -1,0 +1,93 @@
+//! Policies: what is asked of a package and of its dependencies.
+ghost use Rattle.std.specs.Prelude.{◌≡◌, ◌↔◌, IfOk, IsTrue};
+ghost use Rattle.std.specs.Cmp.{decided, partial_equiv_from_equiv};
+ghost use Rattle.vet_demand.specs.Policy.{policy_eq, policy_eq-Decides};
+
+use crate::dependency_criteria::DependencyCriteria;
+use std::alloc::AllocError;
+use vet_base::names::Names;
+use vet_base::text::Text;
+
+/// What is asked of a package and of its dependencies, in place of what is asked by default (The Cargo Vet
+/// Book, config). Criteria count with all that they imply. No criteria at all ask for nothing, and differ
+/// from an absent list, with which the default stays.
+#[derive(Debug, Drop)]
+pub struct Policy {
+    /// Whether the package, where it is first-party, is audited as the one of its name and version at
+    /// crates.io: only with `true` is it demanded itself. `false` and none ask for the same.
+    pub audit_as_crates_io: Option<bool>,
+    /// All that the package needs where it is first-party, however it is reached. Where there is none, a
+    /// root needs `safe-to-deploy` and what its dependants pass, and another package what these pass. Counts
+    /// for nothing where the package is third-party.
+    pub criteria: Option<Names>,
+    /// What the package passes along dev edges where it is first-party. Where there is none, `safe-to-run`.
+    pub dev_criteria: Option<Names>,
+    /// What the package passes along the edges to a dependency of a name, in place of all else. Along the
+    /// dev edges of a third-party package nothing is passed.
+    pub dependency_criteria: DependencyCriteria,
+    /// What people wrote of the policy.
+    pub notes: Option<Text>,
+}
+
+impl Clone for Policy {
+    ghost is_clone = { λ a b. b ≡ a };
+
+    fn clone(&self) -> Result<Policy, AllocError> {
+        Ok(Policy {
+            audit_as_crates_io: self.audit_as_crates_io,
+            criteria: names_copied(&self.criteria)?,
+            dev_criteria: names_copied(&self.dev_criteria)?,
+            dependency_criteria: self.dependency_criteria.clone()?,
+            notes: text_copied(&self.notes)?,
+        })
+    }
+}
+
+impl PartialEq for Policy {
+    ghost eq = { policy_eq };
+
+    ghost laws = { partial_equiv_from_equiv (decided policy_eq policy_eq-Decides) };
+
+    // Only a policy itself is equal to it.
+    fn eq(&self, other: &Policy) -> bool
+        ensures value { result ≡ policy_eq self.now other.now }
+        ensures same { IsTrue result ↔ (self.now ≡ other.now) }
+    {
+        are_same(self, other)
+    }
+}
+
+impl Eq for Policy {
+    ghost laws = { decided policy_eq policy_eq-Decides };
+}
+
+// Whether all that two policies say is the same.
+fn are_same(a: &Policy, b: &Policy) -> bool
+    ensures { result ≡ policy_eq a.now b.now }
+{
+    a.audit_as_crates_io == b.audit_as_crates_io
+        && a.criteria == b.criteria
+        && a.dev_criteria == b.dev_criteria
+        && a.dependency_criteria == b.dependency_criteria
+        && a.notes == b.notes
+}
+
+// A copy of some names, if there are some.
+fn names_copied(names: &Option<Names>) -> Result<Option<Names>, AllocError>
+    ensures { IfOk result (λ copy. copy ≡ names.now) }
+{
+    match names {
+        Some(names) => Ok(Some(names.clone()?)),
+        None => Ok(None),
+    }
+}
+
+// A copy of a text, if there is one.
+fn text_copied(text: &Option<Text>) -> Result<Option<Text>, AllocError>
+    ensures { IfOk result (λ copy. copy ≡ text.now) }
+{
+    match text {
+        Some(text) => Ok(Some(text.clone()?)),
+        None => Ok(None),
+    }
+}

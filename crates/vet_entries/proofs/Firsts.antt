@@ -1,0 +1,78 @@
+-- The entries that are kept, one more at a time.
+use Rattle.std.proofs.Common.{◌≡◌, Bool, true, false, cond, ◌||◌, List, [], ◌∷◌, ◌++◌, refl, sym, ap, ◌∙◌}
+use Rattle.std.specs.List.{list_any}
+use Rattle.std.specs.Cmp.{decided}
+use Rattle.std.proofs.lemmas.Bool.{false≢true}
+use Rattle.std.proofs.lemmas.List.Folds.{list_any-append}
+use Rattle.vet_entries.specs.declared.entry.Entry.{Entry}
+use Rattle.vet_entries.specs.Entry.{entry_eq, entry_eq-Decides}
+use Rattle.vet_entries.specs.Distinct.{firsts, distinct}
+
+abbrev pub has : Entry → List Entry → Bool
+has e es = list_any (entry_eq e) es
+
+-- one more entry, where it is not seen yet
+abbrev pub one_unless : Bool → Entry → List Entry
+one_unless true e = []
+one_unless false e = e ∷ []
+
+or_seen : (same seen rest : Bool) → (same ≡ true → seen ≡ true) → (seen || rest) ≡ (seen || (same || rest))
+or_seen true true rest h = refl
+or_seen true false rest h = absurd (false≢true (h refl))
+or_seen false seen rest h = refl
+
+or_later : (same seen rest : Bool) → ((same || seen) || rest) ≡ (seen || (same || rest))
+or_later true true rest = refl
+or_later true false rest = refl
+or_later false seen rest = refl
+
+-- what is equal to one that is there is there
+pub has-same : (e x : Entry) (es : List Entry) → has x es ≡ true → entry_eq e x ≡ true → has e es ≡ true
+has-same e x es h same = ap (λ y. has y es) ((entry_eq-Decides e x).0 same) ∙ h
+
+firsts-push : (seen es : List Entry) (e : Entry) → firsts seen (es ++ e ∷ []) ≡ firsts seen es ++ one_unless (has e seen || has e es) e
+firsts-push seen [] e = last (has e seen)
+  where
+    last : (b : Bool) → cond b [] (e ∷ []) ≡ one_unless (b || false) e
+    last true = refl
+    last false = refl
+firsts-push seen (x ∷ es) e = step (firsts-push seen es e) (firsts-push (x ∷ seen) es e) (has x seen) refl
+  where
+    step : firsts seen (es ++ e ∷ []) ≡ firsts seen es ++ one_unless (has e seen || has e es) e
+        → firsts (x ∷ seen) (es ++ e ∷ []) ≡ firsts (x ∷ seen) es ++ one_unless (has e (x ∷ seen) || has e es) e
+        → (b : Bool) → has x seen ≡ b → cond b (firsts seen (es ++ e ∷ [])) (x ∷ firsts (x ∷ seen) (es ++ e ∷ [])) ≡ cond b (firsts seen es) (x ∷ firsts (x ∷ seen) es) ++ one_unless (has e seen || (entry_eq e x || has e es)) e
+    step old new true h = old ∙ ap (λ b. firsts seen es ++ one_unless b e) (or_seen (entry_eq e x) (has e seen) (has e es) (has-same e x seen h))
+    step old new false h = ap (λ (t : List Entry). x ∷ t) (new ∙ ap (λ b. firsts (x ∷ seen) es ++ one_unless b e) (or_later (entry_eq e x) (has e seen) (has e es)))
+
+-- one that is new stands at the end
+pub distinct-new : (es : List Entry) (e : Entry) → has e es ≡ false → distinct (es ++ e ∷ []) ≡ distinct es ++ e ∷ []
+distinct-new es e h = firsts-push [] es e ∙ ap (λ b. distinct es ++ one_unless b e) h
+
+with_nothing : (es : List Entry) → es ++ [] ≡ es
+with_nothing [] = refl
+with_nothing (e ∷ es) = ap (λ (t : List Entry). e ∷ t) (with_nothing es)
+
+-- one that stands there already is no more
+pub distinct-held : (es : List Entry) (e : Entry) → has e es ≡ true → distinct (es ++ e ∷ []) ≡ distinct es
+distinct-held es e h = firsts-push [] es e ∙ ap (λ b. distinct es ++ one_unless b e) h ∙ with_nothing (distinct es)
+
+cond_or : (a b : Bool) → cond a true b ≡ (b || (a || false))
+cond_or true true = refl
+cond_or true false = refl
+cond_or false true = refl
+cond_or false false = refl
+
+held_or : (a b : Bool) → (a ≡ true → b ≡ true) → b ≡ (b || (a || false))
+held_or true true h = refl
+held_or true false h = absurd (false≢true (h refl))
+held_or false true h = refl
+held_or false false h = refl
+
+-- what is among the entries with one more
+pub has-new : (es : List Entry) (copy e q : Entry) (old : Bool) → copy ≡ e → old ≡ has q es → cond (entry_eq copy q) true old ≡ has q (es ++ e ∷ [])
+has-new es copy e q old same is =
+    ap (λ b. cond b true old) (ap (λ c. entry_eq c q) same ∙ (decided entry_eq entry_eq-Decides).symm e q)
+    ∙ ap (cond (entry_eq q e) true) is ∙ cond_or (entry_eq q e) (has q es) ∙ sym (list_any-append (entry_eq q) es (e ∷ []))
+
+pub has-held : (es : List Entry) (e q : Entry) → has e es ≡ true → has q es ≡ has q (es ++ e ∷ [])
+has-held es e q h = held_or (entry_eq q e) (has q es) (has-same q e es h) ∙ sym (list_any-append (entry_eq q) es (e ∷ []))

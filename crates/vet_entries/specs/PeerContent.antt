@@ -1,0 +1,55 @@
+-- What the audits file of a peer gives.
+use Rattle.std.specs.Prelude.{◌≡◌, ◌≤◌, ◌&&◌, not, Bool, true, false, List, Option, Some, None, length, refl}
+use Rattle.std.specs.List.{All}
+use Rattle.std.specs.Coded.{Coded, code_by, coded×, coded_list}
+use Rattle.vet_base.specs.declared.criterion.Criterion.{Criterion}
+use Rattle.vet_base.specs.declared.limits.TheConstants.{MOST_PEER_CRITERIA}
+use Rattle.vet_base.specs.CriteriaChanges.{is_built_in}
+use Rattle.vet_entries.specs.declared.entry.Entry.{Entry}
+use Rattle.vet_entries.specs.declared.entry.Source.{Source}
+use Rattle.vet_entries.specs.declared.entry.Source.TheVariants.{Own, Peer}
+use Rattle.vet_entries.specs.declared.kind.Kind.{Kind}
+use Rattle.vet_entries.specs.declared.kind.Kind.TheVariants.{Full, Delta, Violation, Wildcard, Trusted, Exemption}
+
+-- the criteria that a peer defines, and its entries, in the peer's own words
+pub record PeerContentValue : Type 0 where
+  pub criteria : List Criterion
+  pub entries : List Entry
+
+-- content is stored as the pair of its lists
+abbrev pub peer_content_code : Coded Criterion → Coded Entry → Coded PeerContentValue
+peer_content_code of_criteria of_entries =
+    code_by (List Criterion × List Entry)
+    (coded× (coded_list of_criteria) (coded_list of_entries))
+    (λ c. (c.criteria, c.entries))
+    (λ p. record { criteria = p.0; entries = p.1 })
+    (λ _. refl)
+
+-- whether others may import, where nothing says that they may not
+abbrev pub may_import : Option Bool → Bool
+may_import (Some importable) = importable
+may_import None = true
+
+-- an own entry, as each speaks of its own
+abbrev pub is_own : Source → Bool
+is_own Own = true
+is_own (Peer name) = false
+
+-- a kind that a peer's file gives: no audit that others may not import, nobody whom the peer trusts, no exemption
+abbrev pub is_peer_kind : Kind → Bool
+is_peer_kind (Full v a) = may_import a.importable
+is_peer_kind (Delta d a) = may_import a.importable
+is_peer_kind (Violation r a) = may_import a.importable
+is_peer_kind (Wildcard w g) = true
+is_peer_kind (Trusted w) = false
+is_peer_kind (Exemption v s) = false
+
+-- whether an entry is one that a peer's file gives
+abbrev pub is_peer_entry : Entry → Bool
+is_peer_entry e = is_own e.source && is_peer_kind e.kind
+
+-- no criterion is named as a built-in one, there are not too many, and each entry is one that a peer's file gives
+pub record IsPeerContent (criteria : List Criterion) (entries : List Entry) : Type 0 where
+  pub further : All (λ c. is_built_in c.name ≡ false) criteria
+  pub few : length criteria ≤ MOST_PEER_CRITERIA
+  pub given : All (λ e. is_peer_entry e ≡ true) entries

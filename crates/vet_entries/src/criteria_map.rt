@@ -1,0 +1,180 @@
+//! What the criteria of a peer are in one's own.
+ghost use Rattle.std.specs.Prelude.{◌≡◌, ◌↔◌, IsTrue, OnOk, OnErr};
+ghost use Rattle.std.specs.FinMap as map;
+ghost use Rattle.std.specs.Option.{option_copied};
+ghost use Rattle.vet_base.specs.Names.{IsRising};
+ghost use Rattle.vet_entries.specs.CriteriaMap.{IsPlaceOf, by_name, map_eq, mapped_eq, names_of};
+
+use std::alloc::{AllocError, Global};
+use std::marker::Model;
+use vet_base::name::Name;
+use vet_base::names::Names;
+
+/// Which criteria of one's own a criterion of a peer stands for.
+#[derive(Debug, Drop)]
+pub struct MappedCriterion {
+    /// The peer's criterion.
+    pub name: Name,
+    /// What it stands for.
+    pub criteria: Names,
+}
+
+impl Clone for MappedCriterion {
+    ghost use Rattle.std.specs.Prelude.{◌≡◌};
+
+    ghost is_clone = { λ a b. b ≡ a };
+
+    fn clone(&self) -> Result<MappedCriterion, AllocError> {
+        Ok(MappedCriterion {
+            name: self.name.clone()?,
+            criteria: self.criteria.clone()?,
+        })
+    }
+}
+
+impl PartialEq for MappedCriterion {
+    ghost use Rattle.std.specs.Cmp.{decided, partial_equiv_from_equiv};
+    ghost use Rattle.vet_entries.specs.CriteriaMap.{mapped_eq, mapped_eq-Decides};
+
+    ghost eq = { mapped_eq };
+
+    ghost laws = { partial_equiv_from_equiv (decided mapped_eq mapped_eq-Decides) };
+
+    fn eq(&self, other: &MappedCriterion) -> bool {
+        self.name == other.name && self.criteria == other.criteria
+    }
+}
+
+impl Eq for MappedCriterion {
+    ghost use Rattle.std.specs.Cmp.{decided};
+    ghost use Rattle.vet_entries.specs.CriteriaMap.{mapped_eq, mapped_eq-Decides};
+
+    ghost laws = { decided mapped_eq mapped_eq-Decides };
+}
+
+/// From criteria of a peer to criteria of one's own, in the order of the names' bytes, each name once (The
+/// Cargo Vet Book, config: `criteria-map`).
+#[derive(Debug, Drop)]
+pub struct CriteriaMap {
+    items: Vec<MappedCriterion>,
+}
+
+impl Model for CriteriaMap {
+    ghost use Rattle.std.specs.Coded.{coded_list, coded_ℕ};
+    ghost use Rattle.std.specs.FinMap as map;
+    ghost use Rattle.std.specs.FinSet as set;
+    ghost use Rattle.vet_base.specs.Names.{IsRising};
+    ghost use Rattle.vet_entries.specs.CriteriaMap.{NamesByName, by_name, names_of};
+
+    ghost Value = { NamesByName };
+
+    ghost coded = { map.code (coded_list coded_ℕ) (set.code (coded_list coded_ℕ)) };
+
+    ghost view = { λ m. map.from_sorted (by_name m.items.items) };
+
+    ghost invariant = { λ m. IsRising (names_of m.items.items) };
+}
+
+impl CriteriaMap {
+    /// No criteria. Takes no memory.
+    pub fn new(alloc: Global) -> CriteriaMap
+        ensures { result ≡ map.empty }
+    {
+        CriteriaMap {
+            items: Vec::new(alloc),
+        }
+    }
+
+    /// Puts what a criterion of the peer stands for, in place of what it stood for. Where there is no
+    /// memory, the map stays.
+    pub fn insert(&mut self, name: Name, criteria: Names) -> Result<(), AllocError>
+        ensures ok { OnOk result (self.new ≡ map.insert self.old name criteria) }
+        ensures err { OnErr result (self.new ≡ self.old) }
+    {
+        match place_of(self.items.as_slice(), &name) {
+            Ok(place) => self.items[place] = MappedCriterion { name, criteria },
+            Err(place) => {
+                self.items
+                    .insert(place, MappedCriterion { name, criteria })?;
+            }
+        }
+        Ok(())
+    }
+
+    /// What a criterion of the peer stands for, where the map says so.
+    pub fn get(&self, name: &Name) -> Option<&Names>
+        ensures { option_copied result ≡ map.get self.now name.now }
+    {
+        match place_of(self.items.as_slice(), name) {
+            Ok(place) => Some(&self.items[place].criteria),
+            Err(_) => None,
+        }
+    }
+
+    /// The peer's criteria with what they stand for, in the order of the names' bytes.
+    pub fn items(&self) -> &[MappedCriterion]
+        ensures entries { by_name result.now ≡ map.entries self.now }
+        ensures rising { IsRising (names_of result.now) }
+        ensures map { self.now ≡ map.from_sorted (by_name result.now) }
+    {
+        self.items.as_slice()
+    }
+
+    /// How many of the peer's criteria stand for others.
+    pub fn len(&self) -> usize
+        ensures { result ≡ map.len self.now }
+    {
+        self.items.len()
+    }
+
+    /// Whether none does.
+    pub fn is_empty(&self) -> bool
+        ensures { IsTrue result ↔ (self.now ≡ map.empty) }
+    {
+        self.items.is_empty()
+    }
+}
+
+impl Clone for CriteriaMap {
+    ghost use Rattle.std.specs.Prelude.{◌≡◌};
+
+    ghost is_clone = { λ a b. b ≡ a };
+
+    fn clone(&self) -> Result<CriteriaMap, AllocError> {
+        Ok(CriteriaMap {
+            items: self.items.clone()?,
+        })
+    }
+}
+
+impl PartialEq for CriteriaMap {
+    ghost use Rattle.std.specs.Cmp.{decided, partial_equiv_from_equiv};
+    ghost use Rattle.std.specs.Prelude.{IsTrue, ◌↔◌, ◌≡◌};
+    ghost use Rattle.vet_entries.specs.CriteriaMap.{map_eq, map_eq-Decides};
+
+    ghost eq = { map_eq };
+
+    ghost laws = { partial_equiv_from_equiv (decided map_eq map_eq-Decides) };
+
+    fn eq(&self, other: &CriteriaMap) -> bool
+        ensures value { result ≡ map_eq self.now other.now }
+        ensures same { IsTrue result ↔ (self.now ≡ other.now) }
+    {
+        self.items == other.items
+    }
+}
+
+impl Eq for CriteriaMap {
+    ghost use Rattle.std.specs.Cmp.{decided};
+    ghost use Rattle.vet_entries.specs.CriteriaMap.{map_eq, map_eq-Decides};
+
+    ghost laws = { decided map_eq map_eq-Decides };
+}
+
+// Where a name stands among items, or belongs.
+fn place_of(items: &[MappedCriterion], name: &Name) -> Result<usize, usize>
+    requires { IsRising (names_of items.now) }
+    ensures { IsPlaceOf items.now name.now result }
+{
+    items.binary_search_by(|item| item.name.cmp(name))
+}

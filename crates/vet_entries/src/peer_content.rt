@@ -1,0 +1,56 @@
+//! What the audits file of a peer gives.
+ghost use Rattle.std.specs.Prelude.{◌≡◌};
+ghost use Rattle.vet_entries.specs.PeerContent.{IsPeerContent};
+
+use crate::entry::Entry;
+use std::marker::Model;
+use vet_base::criterion::Criterion;
+
+/// What the audits file of a peer gives, in the peer's own words: at most 62 criteria, none of them named as a
+/// built-in one, and its entries. Each entry is the peer's own; none is of a kind that is the peer's affair
+/// alone, as exemptions and trusted publishers are, and none is one that others may not import.
+#[derive(Debug, Drop)]
+pub struct PeerContent {
+    criteria: Vec<Criterion>,
+    entries: Vec<Entry>,
+}
+
+impl Model for PeerContent {
+    ghost use Rattle.vet_base.specs.Criteria.{criterion_code};
+    ghost use Rattle.vet_entries.specs.contracts.entry.Entry as entry;
+    ghost use Rattle.vet_entries.specs.PeerContent.{IsPeerContent, PeerContentValue, peer_content_code};
+
+    ghost Value = { PeerContentValue };
+
+    ghost coded = { peer_content_code criterion_code entry.the_row.coded };
+
+    ghost view = { λ p. record { criteria = p.criteria.items; entries = p.entries.items } };
+
+    ghost invariant = { λ p. IsPeerContent p.criteria.items p.entries.items };
+}
+
+impl PeerContent {
+    /// What these criteria and entries are. Asks that they are what a peer's file can give. Takes no memory.
+    pub fn of(criteria: Vec<Criterion>, entries: Vec<Entry>) -> PeerContent
+        requires { IsPeerContent criteria.items entries.items }
+        ensures { result ≡ record { criteria = criteria.items; entries = entries.items } }
+    {
+        PeerContent { criteria, entries }
+    }
+
+    /// The criteria that the peer defines, in the order in which its file was read.
+    pub fn criteria(&self) -> &[Criterion]
+        ensures value { result.now ≡ self.now.criteria }
+        ensures content { IsPeerContent self.now.criteria self.now.entries }
+    {
+        self.criteria.as_slice()
+    }
+
+    /// The peer's entries, in the order in which its file was read.
+    pub fn entries(&self) -> &[Entry]
+        ensures value { result.now ≡ self.now.entries }
+        ensures content { IsPeerContent self.now.criteria self.now.entries }
+    {
+        self.entries.as_slice()
+    }
+}

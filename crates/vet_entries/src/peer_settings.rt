@@ -1,0 +1,65 @@
+//! How a peer is imported.
+ghost use Rattle.std.specs.Prelude.{◌≡◌};
+ghost use Rattle.vet_entries.specs.PeerSettings.{settings_eq};
+
+use crate::criteria_map::CriteriaMap;
+use std::alloc::AllocError;
+use vet_base::name::Name;
+use vet_base::package_names::PackageNames;
+use vet_base::texts::Texts;
+
+/// What a peer is imported with (The Cargo Vet Book, config: `imports`).
+#[derive(Debug, Drop)]
+pub struct PeerSettings {
+    /// The peer.
+    pub name: Name,
+    /// Where its audits are published, in the order of their bytes, each once. These are texts, which
+    /// nothing fetches.
+    pub url: Texts,
+    /// The packages of which nothing is taken from the peer.
+    pub exclude: PackageNames,
+    /// Which criteria of one's own the peer's criteria stand for.
+    pub map: CriteriaMap,
+}
+
+impl Clone for PeerSettings {
+    ghost use Rattle.std.specs.Prelude.{◌≡◌};
+
+    ghost is_clone = { λ a b. b ≡ a };
+
+    fn clone(&self) -> Result<PeerSettings, AllocError> {
+        Ok(PeerSettings {
+            name: self.name.clone()?,
+            url: self.url.clone()?,
+            exclude: self.exclude.clone()?,
+            map: self.map.clone()?,
+        })
+    }
+}
+
+impl PartialEq for PeerSettings {
+    ghost use Rattle.std.specs.Cmp.{decided, partial_equiv_from_equiv};
+    ghost use Rattle.std.specs.Prelude.{IsTrue, ◌↔◌, ◌≡◌};
+    ghost use Rattle.vet_entries.specs.PeerSettings.{settings_eq, settings_eq-Decides};
+
+    ghost eq = { settings_eq };
+
+    ghost laws = { partial_equiv_from_equiv (decided settings_eq settings_eq-Decides) };
+
+    fn eq(&self, other: &PeerSettings) -> bool
+        ensures value { result ≡ settings_eq self.now other.now }
+        ensures same { IsTrue result ↔ (self.now ≡ other.now) }
+    {
+        self.name == other.name
+            && self.url == other.url
+            && self.exclude == other.exclude
+            && self.map == other.map
+    }
+}
+
+impl Eq for PeerSettings {
+    ghost use Rattle.std.specs.Cmp.{decided};
+    ghost use Rattle.vet_entries.specs.PeerSettings.{settings_eq, settings_eq-Decides};
+
+    ghost laws = { decided settings_eq settings_eq-Decides };
+}

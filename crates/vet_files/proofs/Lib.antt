@@ -1,0 +1,4 @@
+pub mod FurtherCriteria
+pub mod Ordered
+pub mod PeerLemmas
+pub mod Walks

@@ -1,0 +1,106 @@
+-- The tables of a config file (The Cargo Vet Book, config file; what is counted is ours).
+use Rattle.std.specs.Prelude.{ℕ, List, [], ◌++◌, codes, Option, Some, None, Ok, Err, if◌then◌else◌}
+use Rattle.std.specs.FinSet as set
+use Rattle.std.specs.Option.{option_map_or}
+use Rattle.toml.specs.Data.{Data, Members, as_table}
+use Rattle.vet_base.specs.Gives.{Told, found_or, ◌>>=◌}
+use Rattle.vet_base.specs.Name.{is_name}
+use Rattle.vet_demand.specs.Policies.{has_policy, with_policy}
+use Rattle.vet_demand.specs.PolicyKey.{read_key}
+use Rattle.vet_demand.specs.declared.policies.KeyedPolicy.{KeyedPolicy}
+use Rattle.vet_demand.specs.declared.policy.Policy.{Policy}
+use Rattle.vet_demand.specs.declared.policy_key.PolicyKey.{PolicyKey}
+use Rattle.vet_entries.specs.declared.entry.Entry.{Entry}
+use Rattle.vet_entries.specs.declared.kind.Kind.TheVariants.{Exemption}
+use Rattle.vet_entries.specs.declared.peer_settings.PeerSettings.{PeerSettings}
+use Rattle.vet_files.specs.Audits.{document_told, entries_of, or_none, own_entry}
+use Rattle.vet_files.specs.declared.config_file.ConfigContent.{ConfigContent}
+use Rattle.vet_files.specs.declared.found.Found.{Found}
+use Rattle.vet_files.specs.declared.keys.TableKind.TheVariants as kind
+use Rattle.vet_files.specs.Field.{a_flag, a_text, a_version, fault, names, optional, package_names, required, texts}
+use Rattle.vet_files.specs.Keys.{unknown_keys}
+use Rattle.vet_files.specs.Lists.{Reading, listed, nothing, one, onto, path_below, table_at}
+use Rattle.vet_files.specs.Maps.{criteria_map, dependency_criteria, or_no_dependencies, or_no_map}
+use Rattle.vet_files.specs.Notices.{no_notices, only_keys, together}
+use Rattle.vet_files.specs.Walk.{each_member}
+
+-- ---- `[cargo-vet]`
+
+-- the version of cargo-vet that the file names
+abbrev pub vet_version_told : Members → Told (Found (Option (List ℕ)))
+vet_version_told ms =
+    table_at (codes "top") (codes "cargo-vet") ms >>= λ table. optional a_text (codes "cargo-vet") (codes "version") table >>= λ version.
+    Ok (record { content = version; notices = only_keys (unknown_keys kind.CargoVet table) })
+
+-- ---- `imports`
+
+-- the settings of a peer: its urls, the packages that aren't taken from it, and its map
+abbrev pub peer_told : List ℕ → List ℕ → Members → Told (Found (Option PeerSettings))
+peer_told name path ms =
+    required texts path (codes "url") ms >>= λ url. optional package_names path (codes "exclude") ms >>= λ exclude.
+    optional criteria_map path (codes "criteria-map") ms >>= λ mapped.
+    Ok (one (record { name = name; url = url; exclude = or_none exclude; map = or_no_map mapped }) (unknown_keys kind.Peer ms))
+
+abbrev pub settings_told : List ℕ → Data → Told (Found (Option PeerSettings))
+settings_told name d = found_or (fault (codes "imports") name) (as_table d) >>= peer_told name (path_below (codes "imports") name)
+
+-- one more peer
+abbrev pub next_peer : Found (List PeerSettings) → List ℕ → Data → Told (Found (List PeerSettings))
+next_peer found name d = if is_name name then settings_told name d >>= (λ more. Ok (onto found (listed more))) else Err (fault (codes "imports") name)
+
+abbrev pub peers_told : Members → Told (Found (List PeerSettings))
+peers_told ms = table_at (codes "top") (codes "imports") ms >>= each_member next_peer nothing
+
+-- ---- `policy`
+
+-- the policy of a table
+abbrev pub policy_told : List ℕ → Members → Told (Found Policy)
+policy_told path ms =
+    optional a_flag path (codes "audit-as-crates-io") ms >>= λ published. optional names path (codes "criteria") ms >>= λ criteria.
+    optional names path (codes "dev-criteria") ms >>= λ dev. optional dependency_criteria path (codes "dependency-criteria") ms >>= λ dependencies.
+    optional a_text path (codes "notes") ms >>= λ notes.
+    Ok (record {
+      content = record { audit_as_crates_io = published; criteria = criteria; dev_criteria = dev; dependency_criteria = or_no_dependencies dependencies; notes = notes };
+      notices = only_keys (unknown_keys kind.Policy ms);
+    })
+
+-- one more policy, whose key isn't that of an earlier one
+abbrev pub new_key : List ℕ → List KeyedPolicy → PolicyKey → Told PolicyKey
+new_key text held key = if has_policy held key then Err (fault (codes "policy") text) else Ok key
+
+abbrev pub policy_onto : Found (List KeyedPolicy) → PolicyKey → Found Policy → Found (List KeyedPolicy)
+policy_onto found key more = record { content = with_policy found.content key more.content; notices = together found.notices more.notices }
+
+abbrev pub next_policy : Found (List KeyedPolicy) → List ℕ → Data → Told (Found (List KeyedPolicy))
+next_policy found text d =
+    found_or (fault (codes "policy") text) (read_key text) >>= new_key text found.content >>= λ key.
+    found_or (fault (codes "policy") text) (as_table d) >>= policy_told (path_below (codes "policy") text) >>= λ more.
+    Ok (policy_onto found key more)
+
+abbrev pub policies_told : Members → Told (Found (List KeyedPolicy))
+policies_told ms = table_at (codes "top") (codes "policy") ms >>= each_member next_policy (record { content = []; notices = no_notices })
+
+-- ---- `exemptions`
+
+abbrev pub exemption_told : Reading Entry
+exemption_told name path ms =
+    required a_version path (codes "version") ms >>= λ version. required names path (codes "criteria") ms >>= λ criteria.
+    optional a_flag path (codes "suggest") ms >>= λ suggest. optional a_text path (codes "notes") ms >>= λ notes.
+    Ok (one (own_entry name (Exemption version suggest) criteria notes) (unknown_keys kind.Exemption ms))
+
+-- ---- the file
+
+-- what a config file holds
+abbrev pub config_file_told : Members → Told (Found ConfigContent)
+config_file_told ms =
+    vet_version_told ms >>= λ version. optional names (codes "top") (codes "default-criteria") ms >>= λ default.
+    peers_told ms >>= λ peers. policies_told ms >>= λ policies.
+    entries_of exemption_told (codes "top") [] (codes "exemptions") ms >>= λ exemptions.
+    Ok (record {
+      content = record { vet_version = version.content; default_criteria = default; peers = peers.content; policies = policies.content; exemptions = exemptions.content };
+      notices = together (together (together version.notices peers.notices) (together policies.notices exemptions.notices)) (only_keys (unknown_keys kind.ConfigFile ms));
+    })
+
+-- the content of a config file
+abbrev pub config_told : List ℕ → Told (Found ConfigContent)
+config_told bytes = document_told bytes >>= config_file_told

@@ -1,0 +1,10 @@
+pub mod Audits
+pub mod Config
+pub mod Field
+pub mod Imports
+pub mod Keys
+pub mod Lists
+pub mod Maps
+pub mod Notices
+pub mod Publishers
+pub mod Walk

@@ -1,0 +1,66 @@
+-- Lists of tables by package, as `[[audits.serde]]` (The Cargo Vet Book, audits, config and imports files).
+use Rattle.std.specs.Prelude.{ℕ, ◌-◌, List, [], ◌++◌, codes, Option, Some, None, Ok, Err, if◌then◌else◌, length}
+use Rattle.std.specs.Fmt.{decimal}
+use Rattle.std.specs.Option.{option_to_list}
+use Rattle.toml.specs.Data.{Data, Members, no_members, as_array, as_table, get_member}
+use Rattle.vet_base.specs.Gives.{Told, found_or, ◌>>=◌}
+use Rattle.vet_base.specs.Name.{is_package_name}
+use Rattle.vet_files.specs.declared.found.Found.{Found}
+use Rattle.vet_files.specs.Field.{fault}
+use Rattle.vet_files.specs.Notices.{no_notices, one_skipped, only_doubles, only_keys, together}
+use Rattle.vet_files.specs.Walk.{each_item}
+
+-- nothing was found
+abbrev pub nothing : {A : Type 0} → Found (List A)
+nothing = record { content = []; notices = no_notices }
+
+-- what was found, and then more
+abbrev pub onto : {A : Type 0} → Found (List A) → Found (List A) → Found (List A)
+onto found more = record { content = found.content ++ more.content; notices = together found.notices more.notices }
+
+-- one, with so many unknown keys; and none, where it is skipped
+abbrev pub one : {A : Type 0} → A → ℕ → Found (Option A)
+one x keys = record { content = Some x; notices = only_keys keys }
+
+abbrev pub skipped : {A : Type 0} → Found (Option A)
+skipped = record { content = None; notices = one_skipped }
+
+abbrev pub listed : {A : Type 0} → Found (Option A) → Found (List A)
+listed found = record { content = option_to_list found.content; notices = found.notices }
+
+-- each once; those that equal an earlier one are counted
+abbrev pub each_once : {A : Type 0} → (List A → List A) → Found (List A) → Found (List A)
+each_once distinct found = record {
+  content = distinct found.content;
+  notices = together found.notices (only_doubles (length found.content - length (distinct found.content)));
+}
+
+-- the table at a key; a missing one is empty
+abbrev pub table_of : List ℕ → List ℕ → Option Data → Told Members
+table_of path key None = Ok no_members
+table_of path key (Some d) = found_or (fault path key) (as_table d)
+
+abbrev pub table_at : List ℕ → List ℕ → Members → Told Members
+table_at path key ms = table_of path key (get_member key ms)
+
+-- the path of what stands in a table at a key: `criteria.ours`
+abbrev pub path_below : List ℕ → List ℕ → List ℕ
+path_below path key = path ++ (codes "." ++ key)
+
+-- the path of a table in a list: `audits.serde[0]`
+abbrev pub path_in_list : List ℕ → List ℕ → ℕ → List ℕ
+path_in_list path name place = path ++ (codes "." ++ (name ++ (codes "[" ++ (decimal place ++ codes "]"))))
+
+-- how a table of a list is read, by the package's name and the table's path
+abbrev pub Reading : Type 0 → Type 0
+Reading A = List ℕ → List ℕ → Members → Told (Found (Option A))
+
+-- one more table of a package's list
+abbrev pub next_table : {A : Type 0} → Reading A → List ℕ → List ℕ → Found (List A) → ℕ → Data → Told (Found (List A))
+next_table read path name found place d =
+    found_or (fault path name) (as_table d) >>= read name (path_in_list path name place) >>= λ more. Ok (onto found (listed more))
+
+-- the tables of a package: a list of them at the package's name
+abbrev pub tables_of_package : {A : Type 0} → Reading A → List ℕ → List ℕ → Data → Told (Found (List A))
+tables_of_package read path name d =
+    if is_package_name name then found_or (fault path name) (as_array d) >>= each_item (next_table read path name) nothing 0 else Err (fault path name)

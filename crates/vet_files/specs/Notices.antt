@@ -1,0 +1,24 @@
+-- What a reader passed over.
+use Rattle.std.specs.Prelude.{ℕ, ◌+◌}
+use Rattle.vet_files.specs.declared.notices.Notices.{Notices}
+
+-- nothing, one unknown key, one skipped entry
+abbrev pub no_notices : Notices
+no_notices = record { keys = 0; skipped = 0; doubles = 0 }
+
+abbrev pub one_key : Notices
+one_key = record { keys = 1; skipped = 0; doubles = 0 }
+
+abbrev pub one_skipped : Notices
+one_skipped = record { keys = 0; skipped = 1; doubles = 0 }
+
+-- so many unknown keys, so many doubles
+abbrev pub only_keys : ℕ → Notices
+only_keys n = record { keys = n; skipped = 0; doubles = 0 }
+
+abbrev pub only_doubles : ℕ → Notices
+only_doubles n = record { keys = 0; skipped = 0; doubles = n }
+
+-- what both passed over
+abbrev pub together : Notices → Notices → Notices
+together a b = record { keys = a.keys + b.keys; skipped = a.skipped + b.skipped; doubles = a.doubles + b.doubles }

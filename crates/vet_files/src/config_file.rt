@@ -1,0 +1,119 @@
+//! Config files.
+ghost use Rattle.std.specs.Prelude.{◌≡◌};
+ghost use Rattle.toml.specs.View.{table_view};
+ghost use Rattle.vet_base.specs.Gives.{Gives};
+ghost use Rattle.vet_files.specs.Config.{config_file_told, config_told, exemption_told, vet_version_told};
+
+use crate::audits_file::{read_document, read_entries, table_at};
+use crate::entries::own_entry;
+use crate::field::{optional, required};
+use crate::found::Found;
+use crate::keys::{TableKind, unknown_keys};
+use crate::listed::Listed;
+use crate::lists::ReadTable;
+use crate::notices::Notices;
+use crate::peers::read_peers;
+use crate::policies::read_policies;
+use std::alloc::Global;
+use toml::Table;
+use vet_base::name::PackageName;
+use vet_base::names::Names;
+use vet_base::refusal::Refusal;
+use vet_base::text::Text;
+use vet_demand::policies::Policies;
+use vet_entries::entry::Entry;
+use vet_entries::kind::Kind;
+use vet_entries::peer_settings::PeerSettings;
+
+/// What a config file holds: peers in the order of their names' bytes, policies in the order of their keys,
+/// and exemptions in the order of reading, each once.
+#[derive(Debug, Drop)]
+pub struct ConfigContent {
+    /// The version of cargo-vet that the file names.
+    pub vet_version: Option<Text>,
+    /// The criteria that a new audit is for where nothing else is said. None of them is looked up.
+    pub default_criteria: Option<Names>,
+    pub peers: Listed<PeerSettings>,
+    pub policies: Policies,
+    pub exemptions: Listed<Entry>,
+}
+
+/// The content of a config file (The Cargo Vet Book, config file).
+///
+/// Refused, the first of the walk: `TomlRefused` where the bytes are no TOML document in UTF-8, `FieldRefused`
+/// of what does not belong where it stands or is missing, and `TooLarge` of `text`. `NoMemory` can come at any
+/// point.
+pub fn read_config(alloc: Global, bytes: &[u8]) -> Result<Found<ConfigContent>, Refusal>
+    ensures { Gives (λ f. f) (config_told bytes.now) result }
+{
+    let file = read_document(alloc, bytes)?;
+    read_config_file(alloc, &file)
+}
+
+/// What the table of a config file holds.
+fn read_config_file(alloc: Global, file: &Table) -> Result<Found<ConfigContent>, Refusal>
+    ensures { Gives (λ f. f) (config_file_told (table_view file.now)) result }
+{
+    let version = read_vet_version(alloc, file)?;
+    let default_criteria = optional(alloc, "top", file, "default-criteria")?;
+    let peers = read_peers(alloc, file)?;
+    let policies = read_policies(alloc, file)?;
+    let exemptions = read_entries(alloc, &ReadExemptions {}, "top", "", "exemptions", file)?;
+    let settings = version.notices.and(peers.notices)?;
+    let rules = policies.notices.and(exemptions.notices)?;
+    let keys = unknown_keys(TableKind::ConfigFile, file)?;
+    Ok(Found {
+        content: ConfigContent {
+            vet_version: version.content,
+            default_criteria,
+            peers: peers.content,
+            policies: policies.content,
+            exemptions: exemptions.content,
+        },
+        notices: settings.and(rules)?.and(keys)?,
+    })
+}
+
+/// The version of cargo-vet that the file names.
+fn read_vet_version(alloc: Global, file: &Table) -> Result<Found<Option<Text>>, Refusal>
+    ensures { Gives (λ f. f) (vet_version_told (table_view file.now)) result }
+{
+    let Some(table) = table_at(alloc, "top", file, "cargo-vet")? else {
+        return Ok(Found {
+            content: None,
+            notices: Notices::none(),
+        });
+    };
+    Ok(Found {
+        content: optional(alloc, "cargo-vet", table, "version")?,
+        notices: unknown_keys(TableKind::CargoVet, table)?,
+    })
+}
+
+/// Reads the exemptions of a file.
+#[derive(Drop)]
+struct ReadExemptions {}
+
+impl ReadTable for ReadExemptions {
+    type Item = Entry;
+
+    ghost told = { λ r. exemption_told };
+
+    fn read(
+        &self,
+        alloc: Global,
+        package: &PackageName,
+        path: &str,
+        table: &Table,
+    ) -> Result<Found<Option<Entry>>, Refusal> {
+        let version = required(alloc, path, table, "version")?;
+        let criteria = required(alloc, path, table, "criteria")?;
+        let suggest = optional(alloc, path, table, "suggest")?;
+        let notes = optional(alloc, path, table, "notes")?;
+        let kind = Kind::Exemption { version, suggest };
+        Ok(Found {
+            content: Some(own_entry(package, kind, criteria, notes)?),
+            notices: unknown_keys(TableKind::Exemption, table)?,
+        })
+    }
+}

@@ -1,0 +1,259 @@
+//! What stands at a key of a table, by its type, and the faults that it can have.
+ghost use Rattle.std.specs.Prelude.{◌≡◌, ◌⊎◌, List, ℕ, Option, IfOk, option_map, option_and_then};
+ghost use Rattle.toml.specs.Data.{Data, as_integer, get_member};
+ghost use Rattle.toml.specs.View.{table_view, view};
+ghost use Rattle.vet_base.specs.Gives.{Gives, Told};
+ghost use Rattle.vet_base.specs.Delta.{read_delta};
+ghost use Rattle.vet_base.specs.Name.{read_name, read_package_name};
+ghost use Rattle.vet_base.specs.Req.{read_req};
+ghost use Rattle.vet_base.specs.Version.{read_version};
+ghost use Rattle.vet_files.specs.Field.{a_day, a_delta, a_reading, a_flag, a_name, a_package, a_requirement, a_text, a_user, a_version, day_of, day_of_date, fault, local_date, optional, required, user_of};
+
+use std::alloc::{AllocError, Global};
+use toml::value::Datetime;
+use toml::{Table, Value};
+use vet_base::day::Day;
+use vet_base::delta::Delta;
+use vet_base::key_text::KeyText;
+use vet_base::name::{Name, PackageName};
+use vet_base::refusal::Refusal;
+use vet_base::req::Req;
+use vet_base::text::Text;
+use vet_base::version::VetVersion;
+use vet_entries::user::User;
+
+/// The refusal of what stands in a table at a key, or want of memory.
+pub(crate) fn fault(alloc: Global, path: &str, key: &str) -> Refusal
+    ensures { (result ≡ Refusal.NoMemory) ⊎ (result ≡ fault path.now key.now) }
+{
+    match (KeyText::told(alloc, path), KeyText::told(alloc, key)) {
+        (Ok(path), Ok(key)) => Refusal::FieldRefused(path, key),
+        _ => Refusal::NoMemory,
+    }
+}
+
+/// A type of what can stand at a key.
+pub(crate) trait Field: Drop {
+    /// What is told of a value that stands in the table of a path at a key.
+    ghost told: { List ℕ → List ℕ → Data → Told Self };
+
+    /// Reads a value, or refuses it.
+    fn read(alloc: Global, path: &str, key: &str, value: &Value) -> Result<Self, Refusal>
+        ensures { Gives (λ v. v) (told path.now key.now (view value.now)) result };
+}
+
+/// The value at a key.
+pub(crate) fn value_at<'a>(table: &'a Table, key: &str) -> Option<&'a Value>
+    ensures { option_map (λ v. view v.now) result ≡ get_member key.now (table_view table.now) }
+{
+    table.get(key)
+}
+
+/// What stands at a key, where something does.
+pub(crate) fn optional<V: Field>(
+    alloc: Global,
+    path: &str,
+    table: &Table,
+    key: &str,
+) -> Result<Option<V>, Refusal>
+    ensures { Gives (λ v. v) (optional V.told path.now key.now (table_view table.now)) result }
+{
+    match value_at(table, key) {
+        Some(value) => Ok(Some(V::read(alloc, path, key, value)?)),
+        None => Ok(None),
+    }
+}
+
+/// What stands at a key, where something must.
+pub(crate) fn required<V: Field>(
+    alloc: Global,
+    path: &str,
+    table: &Table,
+    key: &str,
+) -> Result<V, Refusal>
+    ensures { Gives (λ v. v) (required V.told path.now key.now (table_view table.now)) result }
+{
+    match value_at(table, key) {
+        Some(value) => V::read(alloc, path, key, value),
+        None => Err(fault(alloc, path, key)),
+    }
+}
+
+impl Field for bool {
+    ghost told = { a_flag };
+
+    fn read(alloc: Global, path: &str, key: &str, value: &Value) -> Result<bool, Refusal> {
+        match value.as_bool() {
+            Some(flag) => Ok(flag),
+            None => Err(fault(alloc, path, key)),
+        }
+    }
+}
+
+impl Field for Text {
+    ghost told = { a_text };
+
+    fn read(alloc: Global, path: &str, key: &str, value: &Value) -> Result<Text, Refusal> {
+        match value.as_str() {
+            Some(text) => Text::parse(alloc, text),
+            None => Err(fault(alloc, path, key)),
+        }
+    }
+}
+
+/// A type whose values are written as texts.
+pub(crate) trait FromText: Drop {
+    /// The value that a text is, if it is one.
+    ghost reads: { List ℕ → Option Self };
+
+    /// Reads a text.
+    fn from_text(alloc: Global, text: &str) -> Result<Option<Self>, AllocError>
+        ensures { IfOk result (λ v. v ≡ reads text.now) };
+}
+
+/// Reads a text that is a value of such a type, or refuses it.
+fn reading<V: FromText>(alloc: Global, path: &str, key: &str, value: &Value) -> Result<V, Refusal>
+    ensures { Gives (λ v. v) (a_reading V.reads path.now key.now (view value.now)) result }
+{
+    let Some(text) = value.as_str() else {
+        return Err(fault(alloc, path, key));
+    };
+    match V::from_text(alloc, text)? {
+        Some(reading) => Ok(reading),
+        None => Err(fault(alloc, path, key)),
+    }
+}
+
+impl FromText for VetVersion {
+    ghost reads = { read_version };
+
+    fn from_text(alloc: Global, text: &str) -> Result<Option<VetVersion>, AllocError> {
+        VetVersion::read(alloc, text)
+    }
+}
+
+impl Field for VetVersion {
+    ghost told = { a_version };
+
+    fn read(alloc: Global, path: &str, key: &str, value: &Value) -> Result<VetVersion, Refusal> {
+        reading(alloc, path, key, value)
+    }
+}
+
+impl FromText for Delta {
+    ghost reads = { read_delta };
+
+    fn from_text(alloc: Global, text: &str) -> Result<Option<Delta>, AllocError> {
+        Delta::read(alloc, text)
+    }
+}
+
+impl Field for Delta {
+    ghost told = { a_delta };
+
+    fn read(alloc: Global, path: &str, key: &str, value: &Value) -> Result<Delta, Refusal> {
+        reading(alloc, path, key, value)
+    }
+}
+
+impl FromText for Req {
+    ghost reads = { read_req };
+
+    fn from_text(alloc: Global, text: &str) -> Result<Option<Req>, AllocError> {
+        Req::read(alloc, text)
+    }
+}
+
+impl Field for Req {
+    ghost told = { a_requirement };
+
+    fn read(alloc: Global, path: &str, key: &str, value: &Value) -> Result<Req, Refusal> {
+        reading(alloc, path, key, value)
+    }
+}
+
+impl FromText for Name {
+    ghost reads = { read_name };
+
+    fn from_text(alloc: Global, text: &str) -> Result<Option<Name>, AllocError> {
+        Name::read(alloc, text)
+    }
+}
+
+impl Field for Name {
+    ghost told = { a_name };
+
+    fn read(alloc: Global, path: &str, key: &str, value: &Value) -> Result<Name, Refusal> {
+        reading(alloc, path, key, value)
+    }
+}
+
+impl FromText for PackageName {
+    ghost reads = { read_package_name };
+
+    fn from_text(alloc: Global, text: &str) -> Result<Option<PackageName>, AllocError> {
+        PackageName::read(alloc, text)
+    }
+}
+
+impl Field for PackageName {
+    ghost told = { a_package };
+
+    fn read(alloc: Global, path: &str, key: &str, value: &Value) -> Result<PackageName, Refusal> {
+        reading(alloc, path, key, value)
+    }
+}
+
+impl Field for Day {
+    ghost told = { a_day };
+
+    fn read(alloc: Global, path: &str, key: &str, value: &Value) -> Result<Day, Refusal> {
+        match day_of(value) {
+            Some(day) => Ok(day),
+            None => Err(fault(alloc, path, key)),
+        }
+    }
+}
+
+/// The day that a value is: a text, or a local date.
+fn day_of(value: &Value) -> Option<Day>
+    ensures { result ≡ day_of (view value.now) }
+{
+    match value {
+        Value::String(text) => Day::read(text.as_str()),
+        Value::Datetime(moment) => local_day(moment),
+        _ => None,
+    }
+}
+
+/// The day of a local date.
+fn local_day(moment: &Datetime) -> Option<Day>
+    ensures { result ≡ option_and_then day_of_date (local_date moment.now) }
+{
+    match (moment.date, moment.time, moment.offset) {
+        (Some(date), None, None) => Day::from_parts(date.year, date.month, date.day),
+        _ => None,
+    }
+}
+
+impl Field for User {
+    ghost told = { a_user };
+
+    fn read(alloc: Global, path: &str, key: &str, value: &Value) -> Result<User, Refusal> {
+        match user_of(value) {
+            Some(user) => Ok(user),
+            None => Err(fault(alloc, path, key)),
+        }
+    }
+}
+
+/// The user whose number a value is.
+fn user_of(value: &Value) -> Option<User>
+    ensures { result ≡ option_and_then user_of (as_integer (view value.now)) }
+{
+    let number = value.as_integer()?;
+    match u64::try_from(number) {
+        Ok(number) => User::new(number),
+        Err(_) => None,
+    }
+}

@@ -1,0 +1,46 @@
+//! What a reader finds.
+ghost use Rattle.std.specs.Prelude.{◌≡◌, IfOk};
+ghost use Rattle.vet_files.specs.Lists.{listed, nothing, onto};
+
+use crate::listed::Listed;
+use crate::notices::Notices;
+use std::alloc::{AllocError, Global};
+
+/// What was found in a file, and what was passed over.
+#[derive(Debug, Drop)]
+pub struct Found<T> {
+    pub content: T,
+    pub notices: Notices,
+}
+
+impl<T: Drop> Found<Listed<T>> {
+    /// Nothing was found.
+    pub(crate) fn nothing(alloc: Global) -> Found<Listed<T>>
+        ensures { result ≡ nothing }
+    {
+        Found {
+            content: Listed::new(alloc),
+            notices: Notices::none(),
+        }
+    }
+
+    /// What was found, and then more.
+    pub(crate) fn onto(self, more: Found<Listed<T>>) -> Result<Found<Listed<T>>, AllocError>
+        ensures { IfOk result (λ f. f ≡ onto self more) }
+    {
+        Ok(Found {
+            content: self.content.followed_by(more.content)?,
+            notices: self.notices.and(more.notices)?,
+        })
+    }
+
+    /// What was found, and then one more, or one that was skipped.
+    pub(crate) fn with(self, more: Found<Option<T>>) -> Result<Found<Listed<T>>, AllocError>
+        ensures { IfOk result (λ f. f ≡ onto self (listed more)) }
+    {
+        Ok(Found {
+            content: self.content.with(more.content)?,
+            notices: self.notices.and(more.notices)?,
+        })
+    }
+}

@@ -1,0 +1,176 @@
+//! Imports files, and the audits files of peers.
+ghost use Rattle.std.specs.Prelude.{◌≡◌};
+ghost use Rattle.toml.specs.View.{table_view, view};
+ghost use Rattle.vet_base.specs.Gives.{Gives};
+ghost use Rattle.vet_files.specs.Imports.{imported_at, imported_from, imported_table, imported_told, imports_file_told, imports_told, next_imported, peer_content_told, peer_file_told};
+
+use crate::audits_file::{AuditsContent, read_audits_file, read_document, table_at};
+use crate::field::fault;
+use crate::found::Found;
+use crate::keys::{TableKind, unknown_keys};
+use crate::listed::Listed;
+use crate::lists::path_below;
+use crate::publishers::read_publishers;
+use crate::walk::{ReadMember, each_member};
+use crate::whose::Whose;
+use std::alloc::Global;
+use toml::{Table, Value};
+use vet_base::name::Name;
+use vet_base::refusal::Refusal;
+use vet_entries::peer_content::PeerContent;
+use vet_entries::publisher_records::PackagePublishers;
+
+/// What was imported from a peer.
+#[derive(Debug, Drop)]
+pub struct ImportedPeer {
+    pub name: Name,
+    pub content: PeerContent,
+}
+
+/// What an imports file holds: the publisher records of packages that have some, and what was imported from
+/// peers, both in the order of the names' bytes.
+#[derive(Debug, Drop)]
+pub struct ImportsContent {
+    pub publishers: Listed<PackagePublishers>,
+    pub peers: Listed<ImportedPeer>,
+}
+
+/// The content of an imports file (The Cargo Vet Book, imports.lock).
+///
+/// Refused, the first of the walk: `TomlRefused` where the bytes are no TOML document in UTF-8, `FieldRefused`
+/// of what does not belong where it stands or is missing, and `TooLarge` of `text` and of `peer-criteria`.
+/// `NoMemory` can come at any point.
+pub fn read_imports(alloc: Global, bytes: &[u8]) -> Result<Found<ImportsContent>, Refusal>
+    ensures { Gives (λ f. f) (imports_told bytes.now) result }
+{
+    let file = read_document(alloc, bytes)?;
+    read_imports_file(alloc, &file)
+}
+
+/// The content of the audits file of a peer, in its own words. Its trusted publishers, and what is not
+/// importable, are skipped.
+///
+/// Refused, the first of the walk: `TomlRefused` where the bytes are no TOML document in UTF-8, `FieldRefused`
+/// of what does not belong where it stands or is missing, and `TooLarge` of `text` and, at the 63rd criterion
+/// that it defines beside the built-in ones, of `peer-criteria`. `NoMemory` can come at any point.
+pub fn read_peer(alloc: Global, bytes: &[u8]) -> Result<Found<PeerContent>, Refusal>
+    ensures { Gives (λ f. f) (peer_content_told bytes.now) result }
+{
+    let file = read_document(alloc, bytes)?;
+    read_peer_file(alloc, "top", "", &file)
+}
+
+/// What the table of an imports file holds.
+fn read_imports_file(alloc: Global, file: &Table) -> Result<Found<ImportsContent>, Refusal>
+    ensures { Gives (λ f. f) (imports_file_told (table_view file.now)) result }
+{
+    let publishers = read_publishers(alloc, file)?;
+    let peers = read_imported(alloc, file)?;
+    let keys = unknown_keys(TableKind::ImportsFile, file)?;
+    Ok(Found {
+        content: ImportsContent {
+            publishers: publishers.content,
+            peers: peers.content,
+        },
+        notices: publishers.notices.and(peers.notices)?.and(keys)?,
+    })
+}
+
+/// What was imported from peers.
+fn read_imported(alloc: Global, file: &Table) -> Result<Found<Listed<ImportedPeer>>, Refusal>
+    ensures { Gives (λ f. f) (imported_told (table_view file.now)) result }
+{
+    let Some(table) = table_at(alloc, "top", file, "audits")? else {
+        return Ok(Found::nothing(alloc));
+    };
+    each_member(alloc, &ReadImported {}, Found::nothing(alloc), table)
+}
+
+/// Reads what was imported, one peer after the other.
+#[derive(Drop)]
+struct ReadImported {}
+
+impl ReadMember for ReadImported {
+    type Found = Found<Listed<ImportedPeer>>;
+
+    ghost told = { λ r. next_imported };
+
+    fn read(
+        &self,
+        alloc: Global,
+        found: Found<Listed<ImportedPeer>>,
+        key: &str,
+        value: &Value,
+    ) -> Result<Found<Listed<ImportedPeer>>, Refusal> {
+        let Some(name) = Name::read(alloc, key)? else {
+            return Err(fault(alloc, "audits", key));
+        };
+        let more = read_imported_at(alloc, name, value)?;
+        Ok(found.with(more)?)
+    }
+}
+
+/// What was imported from the peer at whose name it stands.
+fn read_imported_at(
+    alloc: Global,
+    name: Name,
+    value: &Value,
+) -> Result<Found<Option<ImportedPeer>>, Refusal>
+    ensures { Gives (λ f. f) (imported_at name (view value.now)) result }
+{
+    match value.as_table() {
+        Some(table) => read_imported_table(alloc, name, table),
+        None => Err(fault(alloc, "audits", name.as_str())),
+    }
+}
+
+/// What was imported from a peer, by its table.
+fn read_imported_table(
+    alloc: Global,
+    name: Name,
+    table: &Table,
+) -> Result<Found<Option<ImportedPeer>>, Refusal>
+    ensures { Gives (λ f. f) (imported_table name (table_view table.now)) result }
+{
+    let path = path_below(alloc, "audits", name.as_str())?;
+    let prefix = format!(in alloc; "{path}.")?;
+    read_imported_from(alloc, name, path.as_str(), prefix.as_str(), table)
+}
+
+/// What was imported from a peer, whose tables stand in one of this path and whose tables' paths begin with this
+/// prefix.
+fn read_imported_from(
+    alloc: Global,
+    name: Name,
+    path: &str,
+    prefix: &str,
+    table: &Table,
+) -> Result<Found<Option<ImportedPeer>>, Refusal>
+    ensures { Gives (λ f. f) (imported_from name path.now prefix.now (table_view table.now)) result }
+{
+    let found = read_peer_file(alloc, path, prefix, table)?;
+    Ok(Found {
+        content: Some(ImportedPeer {
+            name,
+            content: found.content,
+        }),
+        notices: found.notices,
+    })
+}
+
+/// What a peer's audits file holds, as its content.
+fn read_peer_file(
+    alloc: Global,
+    path: &str,
+    prefix: &str,
+    file: &Table,
+) -> Result<Found<PeerContent>, Refusal>
+    ensures { Gives (λ f. f) (peer_file_told path.now prefix.now (table_view file.now)) result }
+{
+    let found = read_audits_file(alloc, Whose::Peers, path, prefix, file)?;
+    let AuditsContent { criteria, entries } = found.content;
+    Ok(Found {
+        content: PeerContent::of(criteria.into_vec(), entries.into_vec()),
+        notices: found.notices,
+    })
+}

@@ -1,0 +1,9 @@
+use Rattle.clap.specs.Words.{new_app}
+use Rattle.std.proofs.Common.{codes, rules}
+use Rattle.vetd.specs.Words.{IsApp}
+use Rattle.vetd.proofs.words.read_command.Goals as goal
+
+pub returns : goal.returns
+returns c =
+    let bare : IsApp (new_app (codes "read")) c.about-command.result = record { is = search rules; own = search rules } in
+    c.add.ensures _ _ bare c.word.ensures

@@ -1,0 +1,11 @@
+-- The words for the kinds of files.
+use Rattle.std.specs.Prelude.{ℕ, List, Option, Some, None, codes, if◌then◌else◌}
+use Rattle.std.specs.Str.{bytes_eq}
+use Rattle.vetd.specs.declared.file_kind.FileKind.{FileKind}
+use Rattle.vetd.specs.declared.file_kind.FileKind.TheVariants.{Audits, Config, Imports}
+
+-- the kind that a word names
+abbrev pub file_kind : List ℕ → Option FileKind
+file_kind word =
+    if bytes_eq word (codes "audits") then Some Audits
+    else (if bytes_eq word (codes "config") then Some Config else (if bytes_eq word (codes "imports") then Some Imports else None))

@@ -1,0 +1,38 @@
+-- What `read` prints of a file.
+use Rattle.std.specs.Prelude.{List, Option, Ok, Err, if◌then◌else◌, length, nat_lt, option_map}
+use Rattle.clap.specs.Walk.{Text}
+use Rattle.vet_base.specs.Gives.{◌>>=◌}
+use Rattle.vet_base.specs.declared.limits.TheConstants.{MOST_INPUT_BYTES}
+use Rattle.vet_base.specs.declared.refusal.Limit.TheVariants.{Input}
+use Rattle.vet_base.specs.declared.refusal.Refusal.TheVariants.{TooLarge}
+use Rattle.vet_files.specs.Audits.{audits_told}
+use Rattle.vet_files.specs.Config.{config_told}
+use Rattle.vet_files.specs.Imports.{imports_told}
+use Rattle.vetd.specs.Answer.{Telling}
+use Rattle.vetd.specs.Counts.{counts_line, counts_of_audits, counts_of_config, counts_of_imports}
+use Rattle.vetd.specs.Words.{read_given}
+use Rattle.vetd.specs.declared.file_kind.FileKind.{FileKind}
+use Rattle.vetd.specs.declared.file_kind.FileKind.TheVariants.{Audits, Config, Imports}
+
+-- the line of each kind of file
+abbrev pub audits_line_told : Telling
+audits_line_told file = audits_told file >>= λ found. Ok (counts_line (counts_of_audits found.content) found.notices)
+
+abbrev pub config_line_told : Telling
+config_line_told file = config_told file >>= λ found. Ok (counts_line (counts_of_config found.content) found.notices)
+
+abbrev pub imports_line_told : Telling
+imports_line_told file = imports_told file >>= λ found. Ok (counts_line (counts_of_imports found.content) found.notices)
+
+abbrev pub file_line_told : FileKind → Telling
+file_line_told Audits file = audits_line_told file
+file_line_told Config file = config_line_told file
+file_line_told Imports file = imports_line_told file
+
+-- the line of a file that isn't too long
+abbrev pub read_told : FileKind → Telling
+read_told kind file = if nat_lt MOST_INPUT_BYTES (length file) then Err (TooLarge Input) else file_line_told kind file
+
+-- what the words of a read command ask for
+abbrev pub read_asked : List Text → Option Telling
+read_asked words = option_map read_told (read_given words)
