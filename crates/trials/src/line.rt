@@ -46,6 +46,37 @@ pub fn two(texts: &[String]) -> Result<(&str, &str), Fault> {
     }
 }
 
+/// The word that writes a text: what is no mark, digit or letter of ASCII, and `%`, is escaped.
+pub fn word_of(alloc: Global, text: &str) -> Result<String, Fault> {
+    let mut word = String::new(alloc);
+    if text.is_empty() {
+        word.push('%')?;
+    }
+    for byte in text.as_bytes() {
+        push_byte(&mut word, *byte)?;
+    }
+    Ok(word)
+}
+
+fn push_byte(word: &mut String, byte: u8) -> Result<(), Fault> {
+    if byte.is_ascii_graphic() && byte != b'%' {
+        word.push(byte as char)?;
+        return Ok(());
+    }
+    word.push('%')?;
+    word.push(hexadecimal(byte / 16))?;
+    word.push(hexadecimal(byte % 16))?;
+    Ok(())
+}
+
+// The digit that writes a number below 16.
+fn hexadecimal(number: u8) -> char {
+    match char::from_digit(number as u32, 16) {
+        Some(digit) => digit,
+        None => '0',
+    }
+}
+
 fn text_of(alloc: Global, word: &str) -> Result<String, Fault> {
     if word == "%" {
         return Ok(String::new(alloc));

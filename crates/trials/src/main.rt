@@ -5,9 +5,10 @@
 //! answer and, where there is a command or a demand, in the end what the register holds.
 //! `trials --contents` prints also before each command what it holds. `trials --relay` does as
 //! `trials`, with a keeper that hands all on to the plain one. What lines there are stands in `line`,
-//! `setting`, `commands`, `values`, `versions` and `days`. Where memory is wanting, the run ends with that refusal and what the register holds
-//! then, and with status 1, as it does where the demand is refused. At other words, an input that
-//! can't be read, or a line that isn't understood, a message goes to standard error, with status 2.
+//! `setting`, `commands`, `values`, `versions`, `days`, `files` and `written`. Where memory is wanting,
+//! the run ends with that refusal and what the register holds then, and with status 1, as it does where
+//! the demand is refused. At other words, an input that can't be read, or a line that isn't understood,
+//! a message goes to standard error, with status 2.
 #![tactic(auto)]
 
 mod commands;
@@ -23,6 +24,7 @@ mod setting;
 mod values;
 mod versions;
 mod words;
+mod written;
 
 use input::{Input, read_input};
 use print::print_refusal;

@@ -10,6 +10,7 @@ use crate::fault::Fault;
 use crate::files::{peer_file, policy_key};
 use crate::line::{one, words_of};
 use crate::versions::{delta, equal, matches, order, requirement, version};
+use crate::written::{written_audits, written_config, written_imports};
 use std::alloc::Global;
 use vet_base::criteria_table::CriteriaTable;
 use vet_base::key_text::KeyText;
@@ -43,6 +44,9 @@ pub fn value(alloc: Global, table: &CriteriaTable, line: &str) -> Result<String,
         "plus" => plus(alloc, texts),
         "policy-key" => policy_key(alloc, texts),
         "peer-file" => peer_file(alloc, texts),
+        "written-audits" => written_audits(alloc, texts),
+        "written-config" => written_config(alloc, texts),
+        "written-imports" => written_imports(alloc, texts),
         _ => Err(Fault::NotUnderstood),
     }
 }

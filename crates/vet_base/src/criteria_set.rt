@@ -6,8 +6,8 @@ ghost use Rattle.vet_base.specs.CriteriaSet.{meet, MeetOfNothing, MeetOfUnions};
 use crate::limits::MOST_CRITERIA;
 use std::marker::Model;
 
-/// A set of criteria of one table, by their places among the table's names. It belongs to the table that
-/// made it, until that table changes.
+/// A set of criteria of one table, by their places among the table's names. A change of that table makes it
+/// void.
 #[derive(Clone, Copy, Debug)]
 pub struct CriteriaSet {
     held: [bool; MOST_CRITERIA],

@@ -13,8 +13,8 @@ use std::fmt;
 use std::hash::{Hash, Hasher};
 use std::marker::Model;
 
-/// The name of a package or of a project: 1 to 64 ASCII letters, digits, `-` and `_`. `-` and `_` differ,
-/// as do capital and small letters. Names are ordered by their bytes.
+/// What a package or a project is called: up to 64 ASCII letters and digits, `-` and `_` among them, and not
+/// none. Two names are the same only where their bytes are, and by these they are ordered.
 #[derive(Clone, Debug, Drop, PartialEq, Eq, PartialOrd, Ord)]
 pub struct PackageName {
     text: Text,

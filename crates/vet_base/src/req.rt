@@ -59,8 +59,8 @@ impl Req {
         Req::read(alloc, text)?.ok_or(Refusal::BadRequirement)
     }
 
-    /// Whether V of the version is among what it asks for. A V with a pre-release is only where a
-    /// comparator with the same three numbers has a pre-release. A revision does not count.
+    /// Whether the V of a version meets it. A pre-release meets it only where one of the comparators is of a
+    /// pre-release of these three numbers. The revision is not looked at.
     pub fn matches(&self, version: &VetVersion) -> bool
         ensures { result ≡ req_matches self.now version.now.parts }
     {

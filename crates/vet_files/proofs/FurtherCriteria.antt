@@ -1,5 +1,5 @@
 -- The criteria of an audits file are none of the built-in ones.
-use Rattle.std.proofs.Common.{◌≡◌, ◌++◌, List, Bool, true, false, IfOk}
+use Rattle.std.proofs.Common.{◌≡◌, ◌++◌, List, false, IfOk}
 use Rattle.std.specs.Prelude.{ℕ, Ok, Err, Option, codes, if◌then◌else◌}
 use Rattle.std.specs.List.{All}
 use Rattle.std.specs.Option.{option_to_list}

@@ -1,15 +1,20 @@
 //! Audits files: one's own, and those of peers.
 ghost use Rattle.std.specs.List.{All};
-ghost use Rattle.std.specs.Prelude.{◌≡◌, ◌++◌, IfOk, false, string_bytes};
+ghost use Rattle.std.specs.Prelude.{◌≡◌, ◌++◌, IfErr, IfOk, Some, false, string_bytes};
 ghost use Rattle.std.specs.Option.{option_map_or};
 ghost use Rattle.toml.specs.Data.{no_members};
+ghost use Rattle.toml.specs.Parse.{parse_document};
 ghost use Rattle.toml.specs.View.{table_view, view};
 ghost use Rattle.vet_base.specs.CriteriaChanges.{is_built_in};
 ghost use Rattle.vet_base.specs.Gives.{Gives};
 ghost use Rattle.vet_entries.specs.Distinct.{distinct};
 ghost use Rattle.vet_files.specs.Audits.{audits_file_told, audits_told, criteria_of, document_told, entries_of, next_package};
+ghost use Rattle.vet_files.specs.AuditsTable.{audits_table};
 ghost use Rattle.vet_files.specs.Lists.{each_once, table_at};
+ghost use Rattle.vet_files.specs.ReadAgain.{GivesBack};
+ghost use Rattle.vet_files.specs.SameContent.{IsAudits, SameAudits};
 
+use crate::audits_table::audits_file_table;
 use crate::criteria::ReadCriteria;
 use crate::entries::ReadAudits;
 use crate::field::{fault, value_at};
@@ -18,12 +23,14 @@ use crate::keys::{TableKind, unknown_keys};
 use crate::listed::Listed;
 use crate::lists::{ReadTable, tables_of_package};
 use crate::notices::Notices;
+use crate::print::print;
 use crate::walk::{ReadMember, each_member};
 use crate::whose::Whose;
 use crate::windows::{ReadTrusted, ReadWildcards};
 use std::alloc::{AllocError, Global};
 use toml::{Table, Value};
 use vet_base::criterion::Criterion;
+use vet_base::package_names::PackageNames;
 use vet_base::refusal::Refusal;
 use vet_entries::distinct::distinct;
 use vet_entries::entry::Entry;
@@ -45,9 +52,26 @@ pub struct AuditsContent {
 pub fn read_audits(alloc: Global, bytes: &[u8]) -> Result<Found<AuditsContent>, Refusal>
     ensures told { Gives (λ f. f) (audits_told bytes.now) result }
     ensures further { IfOk result (λ f. All (λ c. is_built_in c.name ≡ false) f.content.criteria) }
+    ensures stands { IfOk result (λ f. IsAudits f.content) }
 {
     let file = read_document(alloc, bytes)?;
     read_audits_file(alloc, Whose::Ours, "top", "", &file)
+}
+
+/// An audits file of some content (The Cargo Vet Book, audits file; its layout is that of `toml`). What it says
+/// is `audits_table` of the content; where an audits file can give the content, it is read again as the same one.
+///
+/// Refused for want of memory alone.
+pub fn write_audits(alloc: Global, content: &AuditsContent) -> Result<String, Refusal>
+    ensures table { IfOk result (λ s. parse_document (string_bytes s) ≡ Some (audits_table content.now)) }
+    ensures read { IfOk result (λ s. IsAudits content.now → GivesBack audits_told (SameAudits content.now) (string_bytes s)) }
+    ensures memory { IfErr result (λ e. e ≡ Refusal.NoMemory) }
+{
+    let none = PackageNames::new(alloc);
+    let criteria = content.criteria.as_slice();
+    let entries = content.entries.as_slice();
+    let file = audits_file_table(alloc, &none, criteria, entries)?;
+    print(alloc, &file)
 }
 
 /// The table of a file.

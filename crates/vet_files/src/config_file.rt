@@ -1,10 +1,15 @@
 //! Config files.
-ghost use Rattle.std.specs.Prelude.{◌≡◌};
+ghost use Rattle.std.specs.Prelude.{◌≡◌, IfErr, IfOk, Some, string_bytes};
+ghost use Rattle.toml.specs.Parse.{parse_document};
 ghost use Rattle.toml.specs.View.{table_view};
 ghost use Rattle.vet_base.specs.Gives.{Gives};
 ghost use Rattle.vet_files.specs.Config.{config_file_told, config_told, exemption_told, vet_version_told};
+ghost use Rattle.vet_files.specs.ConfigTable.{config_table};
+ghost use Rattle.vet_files.specs.ReadAgain.{GivesBack};
+ghost use Rattle.vet_files.specs.SameContent.{IsConfig, SameConfig};
 
 use crate::audits_file::{read_document, read_entries, table_at};
+use crate::config_table::config_table;
 use crate::entries::own_entry;
 use crate::field::{optional, required};
 use crate::found::Found;
@@ -14,6 +19,7 @@ use crate::lists::ReadTable;
 use crate::notices::Notices;
 use crate::peers::read_peers;
 use crate::policies::read_policies;
+use crate::print::print;
 use std::alloc::Global;
 use toml::Table;
 use vet_base::name::PackageName;
@@ -44,10 +50,24 @@ pub struct ConfigContent {
 /// of what does not belong where it stands or is missing, and `TooLarge` of `text`. `NoMemory` can come at any
 /// point.
 pub fn read_config(alloc: Global, bytes: &[u8]) -> Result<Found<ConfigContent>, Refusal>
-    ensures { Gives (λ f. f) (config_told bytes.now) result }
+    ensures told { Gives (λ f. f) (config_told bytes.now) result }
+    ensures stands { IfOk result (λ f. IsConfig f.content) }
 {
     let file = read_document(alloc, bytes)?;
     read_config_file(alloc, &file)
+}
+
+/// A config file of some content (The Cargo Vet Book, config file; its layout is that of `toml`). What it says is
+/// `config_table` of the content; where a config file can give the content, it is read again as the same one.
+///
+/// Refused for want of memory alone.
+pub fn write_config(alloc: Global, content: &ConfigContent) -> Result<String, Refusal>
+    ensures table { IfOk result (λ s. parse_document (string_bytes s) ≡ Some (config_table content.now)) }
+    ensures read { IfOk result (λ s. IsConfig content.now → GivesBack config_told (SameConfig content.now) (string_bytes s)) }
+    ensures memory { IfErr result (λ e. e ≡ Refusal.NoMemory) }
+{
+    let file = config_table(alloc, content)?;
+    print(alloc, &file)
 }
 
 /// What the table of a config file holds.

@@ -1,15 +1,22 @@
 //! Imports files, and the audits files of peers.
-ghost use Rattle.std.specs.Prelude.{◌≡◌};
+ghost use Rattle.std.specs.Prelude.{◌≡◌, IfErr, IfOk, Some, string_bytes};
+ghost use Rattle.toml.specs.Parse.{parse_document};
 ghost use Rattle.toml.specs.View.{table_view, view};
 ghost use Rattle.vet_base.specs.Gives.{Gives};
 ghost use Rattle.vet_files.specs.Imports.{imported_at, imported_from, imported_table, imported_told, imports_file_told, imports_told, next_imported, peer_content_told, peer_file_told};
+ghost use Rattle.vet_files.specs.ImportsTable.{imports_table};
+ghost use Rattle.vet_files.specs.ReadAgain.{GivesBack};
+ghost use Rattle.vet_files.specs.SameContent.{CanStand, IsImports, SameImports};
+ghost use Rattle.vet_files.specs.declared.whose.Whose.TheVariants.{Peers};
 
 use crate::audits_file::{AuditsContent, read_audits_file, read_document, table_at};
 use crate::field::fault;
 use crate::found::Found;
+use crate::imports_table::imports_table;
 use crate::keys::{TableKind, unknown_keys};
 use crate::listed::Listed;
 use crate::lists::path_below;
+use crate::print::print;
 use crate::publishers::read_publishers;
 use crate::walk::{ReadMember, each_member};
 use crate::whose::Whose;
@@ -18,6 +25,7 @@ use toml::{Table, Value};
 use vet_base::name::Name;
 use vet_base::refusal::Refusal;
 use vet_entries::peer_content::PeerContent;
+use vet_entries::peer_settings::PeerSettings;
 use vet_entries::publisher_records::PackagePublishers;
 
 /// What was imported from a peer.
@@ -41,10 +49,31 @@ pub struct ImportsContent {
 /// of what does not belong where it stands or is missing, and `TooLarge` of `text` and of `peer-criteria`.
 /// `NoMemory` can come at any point.
 pub fn read_imports(alloc: Global, bytes: &[u8]) -> Result<Found<ImportsContent>, Refusal>
-    ensures { Gives (λ f. f) (imports_told bytes.now) result }
+    ensures told { Gives (λ f. f) (imports_told bytes.now) result }
+    ensures stands { IfOk result (λ f. IsImports f.content) }
 {
     let file = read_document(alloc, bytes)?;
     read_imports_file(alloc, &file)
+}
+
+/// An imports file of some content, less the entries of the packages that the settings of a peer exclude (The Cargo
+/// Vet Book, imports.lock; that these are left out is ours, and its layout is that of `toml`). What it says is
+/// `imports_table` of settings and content; where an imports file can give the content, it is read again as the
+/// same one.
+///
+/// Refused for want of memory alone.
+pub fn write_imports(
+    alloc: Global,
+    settings: &[PeerSettings],
+    content: &ImportsContent,
+) -> Result<String, Refusal>
+    ensures table { IfOk result (λ s. parse_document (string_bytes s) ≡ Some (imports_table settings.now content.now)) }
+    ensures read { IfOk result (λ s. IsImports content.now
+        → GivesBack imports_told (SameImports settings.now content.now) (string_bytes s)) }
+    ensures memory { IfErr result (λ e. e ≡ Refusal.NoMemory) }
+{
+    let file = imports_table(alloc, settings, content)?;
+    print(alloc, &file)
 }
 
 /// The content of the audits file of a peer, in its own words. Its trusted publishers, and what is not
@@ -54,7 +83,8 @@ pub fn read_imports(alloc: Global, bytes: &[u8]) -> Result<Found<ImportsContent>
 /// of what does not belong where it stands or is missing, and `TooLarge` of `text` and, at the 63rd criterion
 /// that it defines beside the built-in ones, of `peer-criteria`. `NoMemory` can come at any point.
 pub fn read_peer(alloc: Global, bytes: &[u8]) -> Result<Found<PeerContent>, Refusal>
-    ensures { Gives (λ f. f) (peer_content_told bytes.now) result }
+    ensures told { Gives (λ f. f) (peer_content_told bytes.now) result }
+    ensures stands { IfOk result (λ f. CanStand Peers f.content.criteria f.content.entries) }
 {
     let file = read_document(alloc, bytes)?;
     read_peer_file(alloc, "top", "", &file)

@@ -1,12 +1,15 @@
 //! Maps from names to sets of names.
 ghost use Rattle.std.specs.Prelude.{◌≡◌};
+ghost use Rattle.toml.specs.Data.{table};
+ghost use Rattle.vet_files.specs.ConfigTable.{dependencies_table, mapped_table};
 ghost use Rattle.vet_files.specs.Maps.{criteria_map, dependency_criteria, next_dependency, next_mapped};
 
 use crate::field::{Field, fault};
 use crate::lists::path_below;
+use crate::put::put;
 use crate::walk::{ReadMember, each_member};
-use std::alloc::Global;
-use toml::Value;
+use std::alloc::{AllocError, Global};
+use toml::{Table, Value};
 use vet_base::name::{Name, PackageName};
 use vet_base::names::Names;
 use vet_base::refusal::Refusal;
@@ -44,6 +47,8 @@ impl ReadMember for ReadMapped<'_> {
 impl Field for CriteriaMap {
     ghost told = { criteria_map };
 
+    ghost written = { λ m. table (mapped_table m) };
+
     fn read(alloc: Global, path: &str, key: &str, value: &Value) -> Result<CriteriaMap, Refusal> {
         let Some(table) = value.as_table() else {
             return Err(fault(alloc, path, key));
@@ -53,6 +58,14 @@ impl Field for CriteriaMap {
             path: below.as_str(),
         };
         each_member(alloc, &reader, CriteriaMap::new(alloc), table)
+    }
+
+    fn write(&self, alloc: Global) -> Result<Value, AllocError> {
+        let mut table = Table::new(alloc);
+        'criteria: for item in self.items() {
+            put(alloc, &mut table, item.name.as_str(), &item.criteria)?;
+        }
+        Ok(Value::Table(table))
     }
 }
 
@@ -87,6 +100,8 @@ impl ReadMember for ReadDependencies<'_> {
 impl Field for DependencyCriteria {
     ghost told = { dependency_criteria };
 
+    ghost written = { λ d. table (dependencies_table d) };
+
     fn read(
         alloc: Global,
         path: &str,
@@ -101,5 +116,13 @@ impl Field for DependencyCriteria {
             path: below.as_str(),
         };
         each_member(alloc, &reader, DependencyCriteria::new(alloc), table)
+    }
+
+    fn write(&self, alloc: Global) -> Result<Value, AllocError> {
+        let mut table = Table::new(alloc);
+        'packages: for item in self.items() {
+            put(alloc, &mut table, item.package.as_str(), &item.criteria)?;
+        }
+        Ok(Value::Table(table))
     }
 }

@@ -1,20 +1,35 @@
 //! Sets of names and of texts.
-ghost use Rattle.std.specs.Prelude.{◌≡◌};
+ghost use Rattle.std.specs.Prelude.{◌≡◌, All, IfOk, map};
 ghost use Rattle.std.specs.FinSet as set;
 ghost use Rattle.vet_base.specs.Gives.{Gives};
-ghost use Rattle.toml.specs.View.{view};
+ghost use Rattle.toml.specs.View.{array_view, items_of, view};
 ghost use Rattle.vet_files.specs.Field.{a_name, a_package, a_text, names, package_names, texts, with_item};
+ghost use Rattle.vet_files.specs.ReadAgain.{IsReadAs};
+ghost use Rattle.vet_files.specs.Tables.{list_data, set_data};
 
 use crate::field::{Field, fault};
 use crate::walk::{ReadItem, each_item};
-use std::alloc::Global;
+use std::alloc::{AllocError, Global};
 use toml::Value;
+use toml::value::Array;
 use vet_base::name::{Name, PackageName};
 use vet_base::names::Names;
 use vet_base::package_names::PackageNames;
 use vet_base::refusal::Refusal;
 use vet_base::text::Text;
 use vet_base::texts::Texts;
+
+/// Writes a list, of which each item is read again.
+fn write_items<V: Field>(alloc: Global, items: &[V]) -> Result<Array, AllocError>
+    ensures items { IfOk result (λ a. array_view a ≡ items_of (map (λ v. V.written v) items.now)) }
+    ensures read { IfOk result (λ a. All (λ v. IsReadAs V.told (V.written v) v) items.now) }
+{
+    let mut values = Vec::new(alloc);
+    'items: for item in items {
+        values.push(item.write(alloc)?)?;
+    }
+    Ok(values)
+}
 
 /// Reads the names of a list that stands in the table of a path at a key.
 #[derive(Drop)]
@@ -45,6 +60,8 @@ impl ReadItem for ReadNames<'_> {
 impl Field for Names {
     ghost told = { names };
 
+    ghost written = { set_data };
+
     fn read(alloc: Global, path: &str, key: &str, value: &Value) -> Result<Names, Refusal> {
         let reader = ReadNames { path, key };
         match value {
@@ -52,6 +69,14 @@ impl Field for Names {
             Value::Array(items) => each_item(alloc, &reader, Names::new(alloc), items),
             _ => Err(fault(alloc, path, key)),
         }
+    }
+
+    fn write(&self, alloc: Global) -> Result<Value, AllocError> {
+        let names = self.as_slice();
+        if names.len() == 1 {
+            return names[0].write(alloc);
+        }
+        Ok(Value::Array(write_items(alloc, names)?))
     }
 }
 
@@ -84,6 +109,8 @@ impl ReadItem for ReadTexts<'_> {
 impl Field for Texts {
     ghost told = { texts };
 
+    ghost written = { set_data };
+
     fn read(alloc: Global, path: &str, key: &str, value: &Value) -> Result<Texts, Refusal> {
         let reader = ReadTexts { path, key };
         match value {
@@ -91,6 +118,14 @@ impl Field for Texts {
             Value::Array(items) => each_item(alloc, &reader, Texts::new(alloc), items),
             _ => Err(fault(alloc, path, key)),
         }
+    }
+
+    fn write(&self, alloc: Global) -> Result<Value, AllocError> {
+        let texts = self.as_slice();
+        if texts.len() == 1 {
+            return texts[0].write(alloc);
+        }
+        Ok(Value::Array(write_items(alloc, texts)?))
     }
 }
 
@@ -123,11 +158,17 @@ impl ReadItem for ReadPackageNames<'_> {
 impl Field for PackageNames {
     ghost told = { package_names };
 
+    ghost written = { list_data };
+
     fn read(alloc: Global, path: &str, key: &str, value: &Value) -> Result<PackageNames, Refusal> {
         let reader = ReadPackageNames { path, key };
         match value.as_array() {
             Some(items) => each_item(alloc, &reader, PackageNames::new(alloc), items),
             None => Err(fault(alloc, path, key)),
         }
+    }
+
+    fn write(&self, alloc: Global) -> Result<Value, AllocError> {
+        Ok(Value::Array(write_items(alloc, self.as_slice())?))
     }
 }

@@ -26,8 +26,8 @@ use vet_files::audits_file::{AuditsContent, read_audits};
 use vet_graph::class::Class;
 use vet_graph::plain::class_of_pair;
 
-/// The class of a version of a package for a criterion, where this audits file is all that is held and this
-/// pair alone is demanded.
+/// The class that a pair has in a register that holds this audits file and nothing else, where nothing but this
+/// pair is demanded.
 ///
 /// Refused, the first that holds: `BadName` and `BadVersion` of the words; `TooLarge` of `input` for a file of
 /// more than 8,388,608 bytes; `TomlRefused`, `FieldRefused` and `TooLarge` of `text` of the file;

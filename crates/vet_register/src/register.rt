@@ -1,7 +1,7 @@
 //! The machine that keeps the accepted commands.
 //!
-//! **Each demanded pair stands in exactly the class that chains of entries give it, and of each class the
-//! count at first and what arrived since is what stands there now and what departed since.**
+//! **A demanded pair is in the class that chains of entries give it and in no other, and each class has what it
+//! had at first, with what came since and without what went.**
 ghost use Rattle.std.specs.Prelude.{◌≡◌, ◌+◌, ◌+ℤ◌, ◌<◌, ◌≤◌, pos, not, true, Ok, Some, None, IfOk, IfErr, length};
 ghost use Rattle.std.specs.FinMap as map;
 ghost use Rattle.std.specs.List.{All, list_any};

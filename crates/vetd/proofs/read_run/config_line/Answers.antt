@@ -8,4 +8,4 @@ returns c =
     let found = c.in_ok-found.found in
     let line : counts_line (counts_of_config found.content) found.notices ≡ string_bytes c.in_ok-line.field-0 =
     ap (λ (counts : Counts). counts_line counts found.notices) (sym c.of_config-counts.ensures) ∙ sym c.in_ok-line.ensures in
-    rw c.in_ok-found.ensures (ap (λ (text : List ℕ). Ok text) line)
+    rw c.in_ok-found.ensures.told (ap (λ (text : List ℕ). Ok text) line)

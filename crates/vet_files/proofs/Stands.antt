@@ -1,0 +1,247 @@
+-- What an audits file gives can be written again.
+use Rattle.std.proofs.Common.{◌≡◌, ◌&&◌, not, Bool, ℕ, true, false, List, [], ◌++◌, refl, sym, ap, ◌∙◌, IfOk, append-nil}
+use Rattle.std.specs.Prelude.{Ok, Err, Option, codes, if◌then◌else◌, length}
+use Rattle.std.specs.List.{All}
+use Rattle.std.specs.Option.{option_to_list}
+use Rattle.std.specs.declared.result.Result.{Result}
+use Rattle.std.proofs.lemmas.Bool.{cond_both}
+use Rattle.std.proofs.lemmas.List.Elements.{All-append, All-cons, All-nil, All-weaker}
+use Rattle.std.proofs.lemmas.Result.{IfOk-at_ok}
+use Rattle.toml.specs.Data.{Data, Members, as_table}
+use Rattle.vet_base.specs.CriteriaChanges.{is_built_in}
+use Rattle.vet_base.specs.Gives.{Gives, Told, found_or}
+use Rattle.vet_base.specs.Name.{is_name}
+use Rattle.vet_base.specs.declared.criterion.Criterion.{Criterion}
+use Rattle.vet_base.specs.declared.refusal.Refusal.{Refusal}
+use Rattle.vet_entries.specs.PeerContent.{PeerContentValue, is_own}
+use Rattle.vet_entries.specs.declared.entry.Entry.{Entry}
+use Rattle.vet_entries.specs.declared.kind.Kind.{Kind}
+use Rattle.vet_entries.specs.declared.kind.Kind.TheVariants.{Full, Delta, Violation, Wildcard, Trusted, Exemption}
+use Rattle.vet_files.specs.declared.audits_file.AuditsContent.{AuditsContent}
+use Rattle.vet_files.specs.declared.found.Found.{Found}
+use Rattle.vet_files.specs.declared.listing.Listing.{Listing}
+use Rattle.vet_files.specs.declared.listing.Listing.TheVariants as listing
+use Rattle.vet_files.specs.declared.whose.Whose.{Whose}
+use Rattle.vet_files.specs.declared.whose.Whose.TheVariants.{Ours, Peers}
+use Rattle.vet_files.specs.Audits.{audit_told, audits_file_told, built_in_criterion, criteria_of, criterion_at, criterion_told, entries_of, further_criterion, next_criterion, or_none, room_for_criterion, trusted_told, wildcard_told}
+use Rattle.vet_files.specs.EntryTables.{is_listed}
+use Rattle.vet_files.specs.Imports.{peer_file_told}
+use Rattle.vet_files.specs.Field.{a_text, fault, names, optional}
+use Rattle.vet_files.specs.Lists.{nothing, path_below, table_at}
+use Rattle.vet_files.specs.SameContent.{CanStand, is_entry_of}
+use Rattle.vet_files.specs.Walk.{each_member}
+use Rattle.vet_files.proofs.Apart.{Appends, AreApart, HasOther, Holds, IsOther, apart-append, apart-pairs, other-name, walk-apart}
+use Rattle.vet_files.proofs.FurtherCriteria.{further-answered}
+use Rattle.vet_files.proofs.Once.{distinct-apart}
+use Rattle.vet_files.proofs.PackageEntries.{IsOf, StandOnce, audits-listed, entries-once, trusted-listed, wildcards-listed}
+use Rattle.vet_files.proofs.PeerLemmas.{peer_content}
+use Rattle.vet_files.proofs.Rising.{Rising}
+use Rattle.vet_files.proofs.RisingTables.{table_at-rises}
+use Rattle.vet_files.proofs.Walks.{bind-gives, bind-keeps}
+
+-- ---- criteria
+
+abbrev name_of : Criterion → List ℕ
+name_of c = c.name
+
+abbrev Any : Criterion → Type 0
+Any c = Unit {0}
+
+abbrev NamedAs : List ℕ → Found (Option Criterion) → Type 0
+NamedAs name more = All (λ c. name_of c ≡ name) (option_to_list more.content) × AreApart (HasOther name_of) (option_to_list more.content)
+
+abbrev AppendsCriteria : Found (List Criterion) → List ℕ → Found (List Criterion) → Type 0
+AppendsCriteria = Appends name_of (HasOther name_of) Any
+
+criterion-named : (name path : List ℕ) (ms : Members) → IfOk (criterion_told name path ms) (NamedAs name)
+criterion-named name path ms =
+    bind-gives (NamedAs name) (optional a_text path (codes "description") ms) _ (λ description.
+    bind-gives (NamedAs name) (optional a_text path (codes "description-url") ms) _ (λ url.
+    bind-gives (NamedAs name) (optional names path (codes "implies") ms) _ (λ implies.
+    let found : Criterion = record { name = name; description = description; url = url; implies = or_none implies } in
+    (All-cons (λ c. name_of c ≡ name) found [] refl (All-nil (λ c. name_of c ≡ name)), (All-nil (HasOther name_of found), tt)))))
+
+further-appends : (whose : Whose) (path name : List ℕ) (found : Found (List Criterion)) (table : Option Members)
+    → IfOk (further_criterion whose path name found table) (AppendsCriteria found name)
+further-appends whose path name found table =
+    bind-gives (AppendsCriteria found name) (room_for_criterion whose (length found.content)) _ (λ _.
+    bind-keeps (NamedAs name) (AppendsCriteria found name) (criterion_at path name table) _
+    (bind-gives (NamedAs name) (found_or (fault path name) table) (criterion_told name (path_below path name)) (λ ms. criterion-named name (path_below path name) ms))
+    (λ more named. (option_to_list more.content, (refl, (named.0, (named.1, λ k d l. tt))))))
+
+built_in-appends : (path name : List ℕ) (found : Found (List Criterion)) (table : Option Members) → IfOk (built_in_criterion path name found table) (AppendsCriteria found name)
+built_in-appends path name found table =
+    bind-gives (AppendsCriteria found name) (found_or (fault path name) table) _
+    (λ _. ([], (sym (append-nil found.content), (All-nil (λ c. name_of c ≡ name), (tt, All-nil Any)))))
+
+next_criterion-appends : (whose : Whose) (path : List ℕ) (found : Found (List Criterion)) (name : List ℕ) (d : Data) → IfOk (next_criterion whose path found name d) (AppendsCriteria found name)
+next_criterion-appends whose path found name d =
+    let passed = built_in_criterion path name found (as_table d) in
+    let further = further_criterion whose path name found (as_table d) in
+    cond_both (is_name name) (if is_built_in name then passed else further) (Err (fault path name)) (λ r. IfOk r (AppendsCriteria found name))
+    (λ _. cond_both (is_built_in name) passed further (λ r. IfOk r (AppendsCriteria found name)) (λ _. built_in-appends path name found (as_table d)) (λ _. further-appends whose path name found (as_table d)))
+    (λ _. tt)
+
+abbrev NamedApart : Found (List Criterion) → Type 0
+NamedApart = Holds (HasOther name_of) Any
+
+criteria-named : (whose : Whose) (path prefix : List ℕ) (ms : Members) → Rising ms → IfOk (criteria_of whose path prefix ms) NamedApart
+criteria-named whose path prefix ms rise =
+    let step = next_criterion whose (prefix ++ codes "criteria") in
+    bind-keeps Rising NamedApart (table_at path (codes "criteria") ms) (each_member step nothing) (table_at-rises path (codes "criteria") ms rise)
+    (λ inner inner_rise. walk-apart name_of (HasOther name_of) Any (other-name name_of) step
+    (λ found name d _. next_criterion-appends whose (prefix ++ codes "criteria") found name d) inner inner_rise)
+
+-- ---- entries of different tables
+
+-- no kind stands in two of the tables
+apart-kinds : (first second : Listing) → ((k : Kind) → is_listed first k ≡ true → is_listed second k ≡ true → ⊥) → (xs ys : List Entry) → All (IsOf first) xs → All (IsOf second) ys
+    → All (λ x. All (IsOther x) ys) xs
+apart-kinds first second none xs ys in_first in_second =
+    All-weaker (IsOf first) (λ x. All (IsOther x) ys)
+    (λ x hx. All-weaker (IsOf second) (IsOther x) (λ y hy same. none x.kind hx.1 (ap (λ (e : Entry). is_listed second e.kind) same ∙ hy.1)) ys in_second) xs in_first
+
+no_wildcard : (k : Kind) → is_listed listing.Audits k ≡ true → is_listed listing.WildcardAudits k ≡ true → ⊥
+no_wildcard (Full v a) h g = cc g
+no_wildcard (Delta d a) h g = cc g
+no_wildcard (Violation r a) h g = cc g
+no_wildcard (Wildcard w g') h g = cc h
+no_wildcard (Trusted w) h g = cc g
+no_wildcard (Exemption v s) h g = cc g
+
+no_trusted : (k : Kind) → is_listed listing.Audits k ≡ true → is_listed listing.Trusted k ≡ true → ⊥
+no_trusted (Full v a) h g = cc g
+no_trusted (Delta d a) h g = cc g
+no_trusted (Violation r a) h g = cc g
+no_trusted (Wildcard w g') h g = cc g
+no_trusted (Trusted w) h g = cc h
+no_trusted (Exemption v s) h g = cc g
+
+no_window : (k : Kind) → is_listed listing.WildcardAudits k ≡ true → is_listed listing.Trusted k ≡ true → ⊥
+no_window (Full v a) h g = cc g
+no_window (Delta d a) h g = cc g
+no_window (Violation r a) h g = cc g
+no_window (Wildcard w g') h g = cc g
+no_window (Trusted w) h g = cc h
+no_window (Exemption v s) h g = cc g
+
+-- an own entry that is no exemption
+abbrev IsGiven : Entry → Type 0
+IsGiven e = is_entry_of Ours e ≡ true
+
+pub both : (a b : Bool) → a ≡ true → b ≡ true → (a && b) ≡ true
+both true true h g = refl
+both true false h g = g
+both false b h g = h
+
+audits-given : (e : Entry) → IsOf listing.Audits e → IsGiven e
+audits-given e h = both (is_own e.source) (not (is_listed listing.Exemptions e.kind)) h.0 (other e.kind h.1)
+  where
+    other : (k : Kind) → is_listed listing.Audits k ≡ true → not (is_listed listing.Exemptions k) ≡ true
+    other (Full v a) g = refl
+    other (Delta d a) g = refl
+    other (Violation r a) g = refl
+    other (Wildcard w a) g = refl
+    other (Trusted w) g = refl
+    other (Exemption v s) g = cc g
+
+wildcards-given : (e : Entry) → IsOf listing.WildcardAudits e → IsGiven e
+wildcards-given e h = both (is_own e.source) (not (is_listed listing.Exemptions e.kind)) h.0 (other e.kind h.1)
+  where
+    other : (k : Kind) → is_listed listing.WildcardAudits k ≡ true → not (is_listed listing.Exemptions k) ≡ true
+    other (Full v a) g = refl
+    other (Delta d a) g = refl
+    other (Violation r a) g = refl
+    other (Wildcard w a) g = refl
+    other (Trusted w) g = refl
+    other (Exemption v s) g = cc g
+
+trusted-given : (e : Entry) → IsOf listing.Trusted e → IsGiven e
+trusted-given e h = both (is_own e.source) (not (is_listed listing.Exemptions e.kind)) h.0 (other e.kind h.1)
+  where
+    other : (k : Kind) → is_listed listing.Trusted k ≡ true → not (is_listed listing.Exemptions k) ≡ true
+    other (Full v a) g = refl
+    other (Delta d a) g = refl
+    other (Violation r a) g = refl
+    other (Wildcard w a) g = refl
+    other (Trusted w) g = refl
+    other (Exemption v s) g = cc g
+
+-- ---- the file
+
+-- the entries of the three tables
+abbrev AreEntries : List Entry → Type 0
+AreEntries es = AreApart IsOther es × All IsGiven es
+
+three-tables : (audits wildcards trusted : Found (List Entry)) → StandOnce listing.Audits audits → StandOnce listing.WildcardAudits wildcards → StandOnce listing.Trusted trusted
+    → AreEntries ((audits.content ++ wildcards.content) ++ trusted.content)
+three-tables audits wildcards trusted a w t =
+    let both_apart = apart-append IsOther audits.content wildcards.content a.0 w.0 (apart-kinds listing.Audits listing.WildcardAudits no_wildcard audits.content wildcards.content a.1 w.1) in
+    let across = All-append (λ x. All (IsOther x) trusted.content) audits.content wildcards.content
+    (apart-kinds listing.Audits listing.Trusted no_trusted audits.content trusted.content a.1 t.1)
+    (apart-kinds listing.WildcardAudits listing.Trusted no_window wildcards.content trusted.content w.1 t.1) in (
+      apart-append IsOther (audits.content ++ wildcards.content) trusted.content both_apart t.0 across,
+      All-append IsGiven (audits.content ++ wildcards.content) trusted.content
+          (All-append IsGiven audits.content wildcards.content (All-weaker (IsOf listing.Audits) IsGiven audits-given audits.content a.1)
+          (All-weaker (IsOf listing.WildcardAudits) IsGiven wildcards-given wildcards.content w.1))
+          (All-weaker (IsOf listing.Trusted) IsGiven trusted-given trusted.content t.1),
+    )
+
+abbrev AreApartAll : Found AuditsContent → Type 0
+AreApartAll found = AreApart (HasOther name_of) found.content.criteria × AreEntries found.content.entries
+
+file-apart : (whose : Whose) (path prefix : List ℕ) (ms : Members) → Rising ms → IfOk (audits_file_told whose path prefix ms) AreApartAll
+file-apart whose path prefix ms rise =
+    bind-keeps NamedApart AreApartAll (criteria_of whose path prefix ms) _ (criteria-named whose path prefix ms rise) (λ criteria named.
+    bind-keeps (StandOnce listing.Audits) AreApartAll (entries_of (audit_told whose) path prefix (codes "audits") ms) _
+    (entries-once listing.Audits (audit_told whose) (audits-listed whose) path prefix (codes "audits") ms rise) (λ audits audits_once.
+    bind-keeps (StandOnce listing.WildcardAudits) AreApartAll (entries_of wildcard_told path prefix (codes "wildcard-audits") ms) _
+    (entries-once listing.WildcardAudits wildcard_told wildcards-listed path prefix (codes "wildcard-audits") ms rise) (λ wildcards wildcards_once.
+    bind-keeps (StandOnce listing.Trusted) AreApartAll (entries_of (trusted_told whose) path prefix (codes "trusted") ms) _
+    (entries-once listing.Trusted (trusted_told whose) (trusted-listed whose) path prefix (codes "trusted") ms rise) (λ trusted trusted_once.
+    (named.0, three-tables audits wildcards trusted audits_once wildcards_once trusted_once)))))
+
+-- what a file's table holds can be written again
+pub stands : (whose : Whose) (path prefix : List ℕ) (ms : Members) (found : Found AuditsContent) → Rising ms → audits_file_told whose path prefix ms ≡ Ok found
+    → CanStand whose found.content.criteria found.content.entries
+stands Ours path prefix ms found rise told =
+    let apart = IfOk-at_ok AreApartAll told (file-apart Ours path prefix ms rise) in
+    record {
+      further = further-answered Ours path prefix ms (Ok found) told;
+      named_once = apart-pairs (HasOther name_of) found.content.criteria apart.0;
+      few = tt;
+      kinds = apart.1.1;
+      once = distinct-apart found.content.entries apart.1.0;
+    }
+stands Peers path prefix ms found rise told =
+    let apart = IfOk-at_ok AreApartAll told (file-apart Peers path prefix ms rise) in
+    let content = peer_content path prefix ms found told in
+    record {
+      further = content.further;
+      named_once = apart-pairs (HasOther name_of) found.content.criteria apart.0;
+      few = content.few;
+      kinds = content.given;
+      once = distinct-apart found.content.entries apart.1.0;
+    }
+
+-- ---- what the readers answer
+
+ok-if : {A : Type 0} (P : A → Type 0) (told : Told A) → ((a : A) → told ≡ Ok a → P a) → IfOk told P
+ok-if P (Ok a) h = h a refl
+ok-if P (Err refusal) h = tt
+
+pub answered : {A : Type 0} (P : A → Type 0) (told : Told A) (answer : Result A Refusal) → IfOk told P → Gives (λ a. a) told answer → IfOk answer P
+answered P told (Ok a) h is = IfOk-at_ok P is h
+answered P told (Err refusal) h is = tt
+
+abbrev Stands : Whose → Found AuditsContent → Type 0
+Stands whose found = CanStand whose found.content.criteria found.content.entries
+
+pub file-stands : (whose : Whose) (path prefix : List ℕ) (ms : Members) → Rising ms → IfOk (audits_file_told whose path prefix ms) (Stands whose)
+file-stands whose path prefix ms rise = ok-if (Stands whose) (audits_file_told whose path prefix ms) (λ found told. stands whose path prefix ms found rise told)
+
+abbrev pub PeerStands : Found PeerContentValue → Type 0
+PeerStands found = CanStand Peers found.content.criteria found.content.entries
+
+pub peer-stands : (path prefix : List ℕ) (ms : Members) → Rising ms → IfOk (peer_file_told path prefix ms) PeerStands
+peer-stands path prefix ms rise = bind-keeps (Stands Peers) PeerStands (audits_file_told Peers path prefix ms) _ (file-stands Peers path prefix ms rise) (λ found held. held)

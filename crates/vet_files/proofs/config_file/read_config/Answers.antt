@@ -1,0 +1,14 @@
+use Rattle.std.proofs.lemmas.Result.{IfOk-at_ok}
+use Rattle.toml.specs.View.{table_view}
+use Rattle.vet_files.specs.Config.{config_file_told}
+use Rattle.vet_files.proofs.Rising.{Rising}
+use Rattle.vet_files.proofs.RisingTables.{file-rises}
+use Rattle.vet_files.proofs.Stands.{answered}
+use Rattle.vet_files.proofs.StandsConfig.{ConfigStands, config-stands}
+use Rattle.vet_files.proofs.config_file.read_config.Goals as goal
+
+pub returns-clause-stands : goal.returns-clause-stands
+returns-clause-stands c =
+    let ms = table_view c.in_ok-file.file in
+    answered ConfigStands (config_file_told ms) c.read_config_file.result
+    (config-stands ms (IfOk-at_ok Rising c.in_ok-file.ensures (file-rises c.args.bytes.now))) c.read_config_file.ensures

@@ -1,0 +1,37 @@
+-- The table of an audits file, as a function of what the file holds (The Cargo Vet Book, audits file).
+use Rattle.std.specs.Prelude.{ℕ, List, [], ◌∷◌, codes, Option, Some, map}
+use Rattle.std.specs.FinSet as set
+use Rattle.toml.specs.Data.{Data, table, Members}
+use Rattle.vet_base.specs.Names.{NameSet}
+use Rattle.vet_base.specs.declared.criterion.Criterion.{Criterion}
+use Rattle.vet_entries.specs.declared.entry.Entry.{Entry}
+use Rattle.vet_files.specs.declared.audits_file.AuditsContent.{AuditsContent}
+use Rattle.vet_files.specs.declared.listing.Listing.TheVariants.{Audits, Trusted, WildcardAudits}
+use Rattle.vet_files.specs.EntryTables.{listed_entries, package_lists, some_text}
+use Rattle.vet_files.specs.Tables.{by_name, fields, some_set, unless_empty}
+
+-- a criterion's table
+abbrev pub criterion_fields : Criterion → List (List ℕ × Option Data)
+criterion_fields c = (codes "description", some_text c.description) ∷ (codes "description-url", some_text c.url) ∷ (codes "implies", some_set c.implies) ∷ []
+
+abbrev pub criterion_table : Criterion → Members
+criterion_table c = fields (criterion_fields c)
+
+-- the criteria, by name
+abbrev pub criteria_table : List Criterion → Members
+criteria_table criteria = by_name (map (λ c. (c.name, table (criterion_table c))) criteria)
+
+-- criteria and entries, less the entries of excluded packages. The table `audits` is there even where it is empty.
+abbrev pub audits_file_fields : NameSet → List Criterion → List Entry → List (List ℕ × Option Data)
+audits_file_fields exclude criteria entries =
+    (codes "audits", Some (table (package_lists (listed_entries Audits exclude entries))))
+    ∷ (codes "criteria", unless_empty (criteria_table criteria))
+    ∷ (codes "trusted", unless_empty (package_lists (listed_entries Trusted exclude entries)))
+    ∷ (codes "wildcard-audits", unless_empty (package_lists (listed_entries WildcardAudits exclude entries))) ∷ []
+
+abbrev pub audits_file_table : NameSet → List Criterion → List Entry → Members
+audits_file_table exclude criteria entries = fields (audits_file_fields exclude criteria entries)
+
+-- the table of an audits file
+abbrev pub audits_table : AuditsContent → Members
+audits_table content = audits_file_table set.empty content.criteria content.entries

@@ -1,0 +1,78 @@
+-- The tables in which entries are written (The Cargo Vet Book, audits and config files).
+use Rattle.std.specs.Prelude.{ℕ, pos, ◌&&◌, not, Bool, true, false, List, [], ◌∷◌, codes, Option, Some, filter, map, option_map}
+use Rattle.std.specs.FinSet as set
+use Rattle.std.specs.Str.{bytes_eq}
+use Rattle.toml.specs.Data.{Data, string, integer, boolean, array, table, Items, Members}
+use Rattle.toml.specs.View.{items_of}
+use Rattle.vet_base.specs.Day.{day_text}
+use Rattle.vet_base.specs.Delta.{delta_text}
+use Rattle.vet_base.specs.Names.{NameSet}
+use Rattle.vet_base.specs.Version.{version_text}
+use Rattle.vet_entries.specs.declared.entry.Entry.{Entry}
+use Rattle.vet_entries.specs.declared.kind.Kind.{Kind}
+use Rattle.vet_entries.specs.declared.kind.Kind.TheVariants.{Full, Delta, Violation, Wildcard, Trusted, Exemption}
+use Rattle.vet_files.specs.declared.listing.Listing.{Listing}
+use Rattle.vet_files.specs.declared.listing.Listing.TheVariants as listing
+use Rattle.vet_files.specs.Tables.{by_name, fields, set_data, some_set}
+
+-- ---- one entry
+
+-- a text and a truth value, where there is one
+abbrev pub some_text : Option (List ℕ) → Option Data
+some_text = option_map string
+
+abbrev pub some_flag : Option Bool → Option Data
+some_flag = option_map boolean
+
+-- the keys of an entry's table, by its kind, with its criteria and notes
+abbrev pub entry_fields : Data → Option Data → Kind → List (List ℕ × Option Data)
+entry_fields criteria notes (Full version audit) =
+    (codes "criteria", Some criteria) ∷ (codes "importable", some_flag audit.importable) ∷ (codes "notes", notes)
+    ∷ (codes "version", Some (string (version_text version))) ∷ (codes "who", some_set audit.who) ∷ []
+entry_fields criteria notes (Delta delta audit) =
+    (codes "criteria", Some criteria) ∷ (codes "delta", Some (string (delta_text delta))) ∷ (codes "importable", some_flag audit.importable)
+    ∷ (codes "notes", notes) ∷ (codes "who", some_set audit.who) ∷ []
+entry_fields criteria notes (Violation req audit) =
+    (codes "criteria", Some criteria) ∷ (codes "importable", some_flag audit.importable) ∷ (codes "notes", notes)
+    ∷ (codes "violation", Some (string req)) ∷ (codes "who", some_set audit.who) ∷ []
+entry_fields criteria notes (Wildcard window grant) =
+    (codes "criteria", Some criteria) ∷ (codes "end", Some (string (day_text window.last))) ∷ (codes "notes", notes)
+    ∷ (codes "renew", some_flag grant.renew) ∷ (codes "start", Some (string (day_text window.first)))
+    ∷ (codes "user-id", Some (integer (pos window.user))) ∷ (codes "who", some_set grant.who) ∷ []
+entry_fields criteria notes (Trusted window) =
+    (codes "criteria", Some criteria) ∷ (codes "end", Some (string (day_text window.last))) ∷ (codes "notes", notes)
+    ∷ (codes "start", Some (string (day_text window.first))) ∷ (codes "user-id", Some (integer (pos window.user))) ∷ []
+entry_fields criteria notes (Exemption version suggest) =
+    (codes "criteria", Some criteria) ∷ (codes "notes", notes) ∷ (codes "suggest", some_flag suggest)
+    ∷ (codes "version", Some (string (version_text version))) ∷ []
+
+abbrev pub entry_table : Entry → Members
+entry_table e = fields (entry_fields (set_data e.criteria) (some_text e.notes) e.kind)
+
+-- ---- lists of entries, by package
+
+-- the kinds whose entries stand in a table of lists
+abbrev pub is_listed : Listing → Kind → Bool
+is_listed listing.Audits (Full v a) = true
+is_listed listing.Audits (Delta d a) = true
+is_listed listing.Audits (Violation r a) = true
+is_listed listing.WildcardAudits (Wildcard w g) = true
+is_listed listing.Trusted (Trusted w) = true
+is_listed listing.Exemptions (Exemption v s) = true
+is_listed _ _ = false
+
+-- the entries that stand there, less those of excluded packages, in order
+abbrev pub listed_entries : Listing → NameSet → List Entry → List Entry
+listed_entries which exclude entries = filter (λ e. is_listed which e.kind && not (set.contains exclude e.«package»)) entries
+
+-- the entries of a package, in order
+abbrev pub of_package : List ℕ → List Entry → List Entry
+of_package name entries = filter (λ e. bytes_eq name e.«package») entries
+
+-- their tables, in order
+abbrev pub entry_items : List Entry → Items
+entry_items entries = items_of (map (λ e. table (entry_table e)) entries)
+
+-- at each package's name the list of its entries
+abbrev pub package_lists : List Entry → Members
+package_lists entries = by_name (map (λ e. (e.«package», array (entry_items (of_package e.«package» entries)))) entries)

@@ -1,0 +1,108 @@
+-- What is written is read again as what it was written of.
+use Rattle.std.specs.Prelude.{ℕ, ◌≡◌, Bool, true, List, Some, Ok}
+use Rattle.std.specs.FinSet as set
+use Rattle.std.specs.List.{All}
+use Rattle.std.specs.Option.{IfSome}
+use Rattle.toml.specs.Data.{Data, string}
+use Rattle.vet_base.specs.Gives.{Told}
+use Rattle.vet_base.specs.Name.{is_name, is_package_name}
+use Rattle.vet_base.specs.Names.{NameSet}
+use Rattle.vet_base.specs.declared.criterion.Criterion.{Criterion}
+use Rattle.vet_demand.specs.PolicyKey.{key_text, read_key}
+use Rattle.vet_demand.specs.declared.policies.KeyedPolicy.{KeyedPolicy}
+use Rattle.vet_entries.specs.PeerContent.{is_own, is_peer_kind}
+use Rattle.vet_entries.specs.declared.entry.Entry.{Entry}
+use Rattle.vet_entries.specs.declared.kind.Kind.{Kind}
+use Rattle.vet_entries.specs.declared.kind.Kind.TheVariants.{Full, Delta, Violation, Wildcard, Trusted, Exemption}
+use Rattle.vet_entries.specs.declared.peer_settings.PeerSettings.{PeerSettings}
+use Rattle.vet_entries.specs.declared.publisher.Publisher.{Publisher}
+use Rattle.vet_entries.specs.declared.publisher_records.PackagePublishers.{PackagePublishers}
+use Rattle.vet_files.specs.declared.config_file.ConfigContent.{ConfigContent}
+use Rattle.vet_files.specs.declared.found.Found.{Found}
+use Rattle.vet_files.specs.declared.imports_file.ImportedPeer.{ImportedPeer}
+use Rattle.vet_files.specs.declared.imports_file.ImportsContent.{ImportsContent}
+use Rattle.vet_files.specs.declared.listing.Listing.TheVariants as listing
+use Rattle.vet_files.specs.declared.whose.Whose.{Whose}
+use Rattle.vet_files.specs.declared.whose.Whose.TheVariants.{Ours, Peers}
+use Rattle.vet_files.specs.Audits.{audit_told, criterion_told, trusted_told, wildcard_told}
+use Rattle.vet_files.specs.AuditsTable.{criterion_table}
+use Rattle.vet_files.specs.Config.{exemption_told, peer_told, policy_told}
+use Rattle.vet_files.specs.ConfigTable.{peer_table, policy_table}
+use Rattle.vet_files.specs.EntryTables.{entry_table, listed_entries}
+use Rattle.vet_files.specs.Field.{a_text, names}
+use Rattle.vet_files.specs.Imports.{publisher_told}
+use Rattle.vet_files.specs.ImportsTable.{excluded_of, publisher_table}
+use Rattle.vet_files.specs.Lists.{Reading, one}
+use Rattle.vet_files.specs.Notices.{no_notices}
+use Rattle.vet_files.specs.Tables.{set_data}
+
+-- what stands at a key, whatever the key and its table's path, is read as this
+abbrev pub IsReadAs : {A : Type 0} → (List ℕ → List ℕ → Data → Told A) → Data → A → Type 0
+IsReadAs told d x = (path key : List ℕ) → told path key d ≡ Ok x
+
+-- a text is read as a content that is the same as one, with nothing passed over
+abbrev pub GivesBack : {C : Type 0} → (List ℕ → Told (Found C)) → (C → Type 0) → List ℕ → Type 0
+GivesBack {C} told IsSame text = (found : C) × ((told text ≡ Ok (record { content = found; notices = no_notices })) × IsSame found)
+
+-- how entries of a kind are read
+abbrev pub reading_of : Whose → Kind → Reading Entry
+reading_of whose (Full v a) = audit_told whose
+reading_of whose (Delta d a) = audit_told whose
+reading_of whose (Violation r a) = audit_told whose
+reading_of whose (Wildcard w g) = wildcard_told
+reading_of whose (Trusted w) = trusted_told whose
+reading_of whose (Exemption v s) = exemption_told
+
+-- whether entries of a kind are taken: of a peer not all
+abbrev pub is_taken : Whose → Kind → Bool
+is_taken Ours kind = true
+is_taken Peers kind = is_peer_kind kind
+
+-- an entry's table is read as the entry, and nothing in it is passed over
+pub record ReadsEntry (e : Entry) : Type 0 where
+  pub named : is_package_name e.«package» ≡ true
+  pub read : (whose : Whose) → is_own e.source ≡ true → is_taken whose e.kind ≡ true
+      → (path : List ℕ) → reading_of whose e.kind e.«package» path (entry_table e) ≡ Ok (one e 0)
+
+pub record ReadsCriterion (c : Criterion) : Type 0 where
+  pub named : is_name c.name ≡ true
+  pub read : (path : List ℕ) → criterion_told c.name path (criterion_table c) ≡ Ok (one c 0)
+
+pub record ReadsPeer (p : PeerSettings) : Type 0 where
+  pub named : is_name p.name ≡ true
+  pub read : (path : List ℕ) → peer_told p.name path (peer_table p) ≡ Ok (one p 0)
+
+pub record ReadsPolicy (p : KeyedPolicy) : Type 0 where
+  pub keyed : read_key (key_text p.key) ≡ Some p.key
+  pub read : (path : List ℕ) → policy_told path (policy_table p.policy) ≡ Ok (record { content = p.policy; notices = no_notices })
+
+pub record ReadsPublisher (p : Publisher) : Type 0 where
+  pub read : (name path : List ℕ) → publisher_told name path (publisher_table p) ≡ Ok (one p 0)
+
+-- ---- the tables of a file
+
+-- all that an audits file's table is made of is read again
+pub record ReadsAudits (exclude : NameSet) (criteria : List Criterion) (entries : List Entry) : Type 0 where
+  pub each_criterion : All ReadsCriterion criteria
+  pub audits : All ReadsEntry (listed_entries listing.Audits exclude entries)
+  pub wildcards : All ReadsEntry (listed_entries listing.WildcardAudits exclude entries)
+  pub trusted : All ReadsEntry (listed_entries listing.Trusted exclude entries)
+
+pub record ReadsConfig (content : ConfigContent) : Type 0 where
+  pub version : IfSome content.vet_version (λ v. IsReadAs a_text (string v) v)
+  pub default_criteria : IfSome content.default_criteria (λ s. IsReadAs names (set_data s) s)
+  pub peers : All ReadsPeer content.peers
+  pub policies : All ReadsPolicy content.policies
+  pub exemptions : All ReadsEntry (listed_entries listing.Exemptions set.empty content.exemptions)
+
+pub record ReadsRecords (p : PackagePublishers) : Type 0 where
+  pub named : is_package_name p.«package» ≡ true
+  pub read : All ReadsPublisher p.publishers
+
+pub record ReadsImported (settings : List PeerSettings) (p : ImportedPeer) : Type 0 where
+  pub named : is_name p.name ≡ true
+  pub read : ReadsAudits (excluded_of settings p.name) p.content.criteria p.content.entries
+
+pub record ReadsImports (settings : List PeerSettings) (content : ImportsContent) : Type 0 where
+  pub publishers : All ReadsRecords content.publishers
+  pub peers : All (ReadsImported settings) content.peers

@@ -1,0 +1,60 @@
+//! The table of an audits file.
+ghost use Rattle.std.specs.Prelude.{◌≡◌, IfOk};
+ghost use Rattle.toml.specs.Data.{table};
+ghost use Rattle.toml.specs.View.{table_view};
+ghost use Rattle.vet_files.specs.AuditsTable.{audits_file_table, criterion_table};
+ghost use Rattle.vet_files.specs.ReadAgain.{ReadsAudits, ReadsCriterion};
+
+use crate::criteria_tables::criterion_table;
+use crate::listing::Listing;
+use crate::package_lists::package_lists;
+use crate::put::{put_unless_empty, put_value};
+use crate::write_members::{Member, WriteMember, write_members};
+use std::alloc::{AllocError, Global};
+use toml::{Table, Value};
+use vet_base::criterion::Criterion;
+use vet_base::package_names::PackageNames;
+use vet_entries::entry::Entry;
+
+/// Writes the criteria of a file, each at its name.
+#[derive(Drop)]
+struct WriteCriteria {}
+
+impl WriteMember for WriteCriteria {
+    type Item = Criterion;
+
+    ghost name = { λ c. c.name };
+
+    ghost written = { λ w c. table (criterion_table c) };
+
+    ghost Reads = { λ w c. ReadsCriterion c };
+
+    fn write(&self, alloc: Global, criterion: &Criterion) -> Result<Member, AllocError> {
+        Ok(Member {
+            name: String::from_str(alloc, criterion.name.as_str())?,
+            value: Value::Table(criterion_table(alloc, criterion)?),
+        })
+    }
+}
+
+/// The table of an audits file of these criteria and entries, less the entries of excluded packages.
+pub(crate) fn audits_file_table(
+    alloc: Global,
+    exclude: &PackageNames,
+    criteria: &[Criterion],
+    entries: &[Entry],
+) -> Result<Table, AllocError>
+    ensures table { IfOk result (λ t. table_view t ≡ audits_file_table exclude.now criteria.now entries.now) }
+    ensures read { IfOk result (λ t. ReadsAudits exclude.now criteria.now entries.now) }
+{
+    let audits = package_lists(alloc, Listing::Audits, exclude, entries)?;
+    let criteria = write_members(alloc, &WriteCriteria {}, criteria)?;
+    let trusted = package_lists(alloc, Listing::Trusted, exclude, entries)?;
+    let wildcards = package_lists(alloc, Listing::WildcardAudits, exclude, entries)?;
+    let mut file = Table::new(alloc);
+    put_value(alloc, &mut file, "audits", Value::Table(audits))?;
+    put_unless_empty(alloc, &mut file, "criteria", criteria)?;
+    put_unless_empty(alloc, &mut file, "trusted", trusted)?;
+    put_unless_empty(alloc, &mut file, "wildcard-audits", wildcards)?;
+    Ok(file)
+}
