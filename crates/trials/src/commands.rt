@@ -42,7 +42,7 @@ pub fn answer<K: Keeper>(
     ensures { OnErr result (register.new.state ≡ register.old.state) }
 {
     let command = command(alloc, line)?;
-    Ok(apply(alloc, register, &command)?)
+    apply(alloc, register, &command)
 }
 
 // Prepares a command and installs what it changes.
@@ -50,7 +50,7 @@ fn apply<K: Keeper>(
     alloc: Global,
     register: &mut Register<K>,
     command: &Command,
-) -> Result<Outcome, Refusal>
+) -> Result<Outcome, Fault>
     ensures { OnErr result (register.new.state ≡ register.old.state) }
 {
     match register.prepare(alloc, command)? {

@@ -8,36 +8,35 @@
 use crate::fault::Fault;
 use crate::line::{one, two, word_of};
 use std::alloc::Global;
+use vet_entries::peer_settings::PeerSettings;
 use vet_files::audits_file::{read_audits, write_audits};
 use vet_files::config_file::{read_config, write_config};
 use vet_files::imports_file::{ImportsContent, read_imports, write_imports};
 use vet_files::notices::Notices;
 
+// A file that was read and written.
+#[derive(Drop)]
+struct Written {
+    // The text that was written.
+    text: String,
+    // How much the file held that was read, in words.
+    held: String,
+    // What was passed over where it was read.
+    notices: Notices,
+}
+
 /// What is written of an audits file. Refused: what the file is refused for, and `NoMemory`.
 pub fn written_audits(alloc: Global, texts: &[String]) -> Result<String, Fault> {
-    let found = read_audits(alloc, one(texts)?.as_bytes())?;
-    let written = write_audits(alloc, &found.content)?;
-    let again = read_audits(alloc, written.as_bytes())?;
-    let second = write_audits(alloc, &again.content)?;
-    let criteria = again.content.criteria.len();
-    let entries = again.content.entries.len();
-    let held = format!(in alloc; "criteria {criteria} entries {entries}")?;
-    let same = written == second;
-    told(alloc, written.as_str(), held.as_str(), again.notices, same)
+    let first = write_audits_of(alloc, one(texts)?.as_bytes())?;
+    let second = write_audits_of(alloc, first.text.as_bytes())?;
+    told(alloc, &first, &second)
 }
 
 /// What is written of a config file. Refused: what the file is refused for, and `NoMemory`.
 pub fn written_config(alloc: Global, texts: &[String]) -> Result<String, Fault> {
-    let found = read_config(alloc, one(texts)?.as_bytes())?;
-    let written = write_config(alloc, &found.content)?;
-    let again = read_config(alloc, written.as_bytes())?;
-    let second = write_config(alloc, &again.content)?;
-    let entries = again.content.exemptions.len();
-    let policies = again.content.policies.len();
-    let peers = again.content.peers.len();
-    let held = format!(in alloc; "entries {entries} policies {policies} peers {peers}")?;
-    let same = written == second;
-    told(alloc, written.as_str(), held.as_str(), again.notices, same)
+    let first = write_config_of(alloc, one(texts)?.as_bytes())?;
+    let second = write_config_of(alloc, first.text.as_bytes())?;
+    told(alloc, &first, &second)
 }
 
 /// What is written of an imports file by the settings of a config file. Refused: what the files are refused for,
@@ -45,14 +44,49 @@ pub fn written_config(alloc: Global, texts: &[String]) -> Result<String, Fault> 
 pub fn written_imports(alloc: Global, texts: &[String]) -> Result<String, Fault> {
     let (config, imports) = two(texts)?;
     let config = read_config(alloc, config.as_bytes())?;
-    let settings = config.content.peers.as_slice();
-    let found = read_imports(alloc, imports.as_bytes())?;
-    let written = write_imports(alloc, settings, &found.content)?;
-    let again = read_imports(alloc, written.as_bytes())?;
-    let second = write_imports(alloc, settings, &again.content)?;
-    let held = held_of_imports(alloc, &again.content)?;
-    let same = written == second;
-    told(alloc, written.as_str(), held.as_str(), again.notices, same)
+    imports_told(alloc, config.content.peers.as_slice(), imports)
+}
+
+fn imports_told(alloc: Global, settings: &[PeerSettings], imports: &str) -> Result<String, Fault> {
+    let first = write_imports_of(alloc, settings, imports.as_bytes())?;
+    let second = write_imports_of(alloc, settings, first.text.as_bytes())?;
+    told(alloc, &first, &second)
+}
+
+fn write_audits_of(alloc: Global, bytes: &[u8]) -> Result<Written, Fault> {
+    let found = read_audits(alloc, bytes)?;
+    let criteria = found.content.criteria.len();
+    let entries = found.content.entries.len();
+    Ok(Written {
+        notices: found.notices,
+        held: format!(in alloc; "criteria {criteria} entries {entries}")?,
+        text: write_audits(alloc, &found.content)?,
+    })
+}
+
+fn write_config_of(alloc: Global, bytes: &[u8]) -> Result<Written, Fault> {
+    let found = read_config(alloc, bytes)?;
+    let entries = found.content.exemptions.len();
+    let policies = found.content.policies.len();
+    let peers = found.content.peers.len();
+    Ok(Written {
+        notices: found.notices,
+        held: format!(in alloc; "entries {entries} policies {policies} peers {peers}")?,
+        text: write_config(alloc, &found.content)?,
+    })
+}
+
+fn write_imports_of(
+    alloc: Global,
+    settings: &[PeerSettings],
+    bytes: &[u8],
+) -> Result<Written, Fault> {
+    let found = read_imports(alloc, bytes)?;
+    Ok(Written {
+        notices: found.notices,
+        held: held_of_imports(alloc, &found.content)?,
+        text: write_imports(alloc, settings, &found.content)?,
+    })
 }
 
 // How much an imports file holds, of all packages and all peers together.
@@ -74,20 +108,20 @@ fn held_of_imports(alloc: Global, content: &ImportsContent) -> Result<String, Fa
     Ok(held)
 }
 
-fn told(
-    alloc: Global,
-    written: &str,
-    held: &str,
-    notices: Notices,
-    same: bool,
-) -> Result<String, Fault> {
-    let word = word_of(alloc, written)?;
-    let keys = notices.keys;
-    let skipped = notices.skipped;
-    let doubles = notices.doubles;
-    let second = if same { "same" } else { "other" };
+// What a file is told that was written, read and written again.
+fn told(alloc: Global, first: &Written, second: &Written) -> Result<String, Fault> {
+    let word = word_of(alloc, first.text.as_str())?;
+    let held = second.held.as_str();
+    let keys = second.notices.keys;
+    let skipped = second.notices.skipped;
+    let doubles = second.notices.doubles;
+    let same = if first.text == second.text {
+        "same"
+    } else {
+        "other"
+    };
     let line = format!(in alloc;
-        "{word} {held} keys {keys} skipped {skipped} doubles {doubles} {second}"
+        "{word} {held} keys {keys} skipped {skipped} doubles {doubles} {same}"
     )?;
     Ok(line)
 }

@@ -62,17 +62,8 @@ cond_or true false = refl
 cond_or false true = refl
 cond_or false false = refl
 
-held_or : (a b : Bool) → (a ≡ true → b ≡ true) → b ≡ (b || (a || false))
-held_or true true h = refl
-held_or true false h = absurd (false≢true (h refl))
-held_or false true h = refl
-held_or false false h = refl
-
 -- what is among the entries with one more
-pub has-new : (es : List Entry) (copy e q : Entry) (old : Bool) → copy ≡ e → old ≡ has q es → cond (entry_eq copy q) true old ≡ has q (es ++ e ∷ [])
-has-new es copy e q old same is =
-    ap (λ b. cond b true old) (ap (λ c. entry_eq c q) same ∙ (decided entry_eq entry_eq-Decides).symm e q)
+pub has-new : (es : List Entry) (e q : Entry) (old : Bool) → old ≡ has q es → cond (entry_eq e q) true old ≡ has q (es ++ e ∷ [])
+has-new es e q old is =
+    ap (λ b. cond b true old) ((decided entry_eq entry_eq-Decides).symm e q)
     ∙ ap (cond (entry_eq q e) true) is ∙ cond_or (entry_eq q e) (has q es) ∙ sym (list_any-append (entry_eq q) es (e ∷ []))
-
-pub has-held : (es : List Entry) (e q : Entry) → has e es ≡ true → has q es ≡ has q (es ++ e ∷ [])
-has-held es e q h = held_or (entry_eq q e) (has q es) (has-same q e es h) ∙ sym (list_any-append (entry_eq q) es (e ∷ []))

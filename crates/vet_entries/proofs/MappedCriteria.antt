@@ -1,6 +1,6 @@
 -- Items in the order of their names, as a map.
-use Rattle.std.proofs.Common.{◌≡◌, ℕ, zero, suc, ◌+◌, ◌<◌, ◌↔◌, ◌==◌, ◌&&◌, Bool, true, false, cond, T, List, [], ◌∷◌, map as mapped, length, get_or, take, drop, set as setn, Option, Some, None, Result, Ok, Err, Less, Greater, refl, sym, ap, subst, ◌∙◌, arith, eqb-true, eq-eqb}
-use Rattle.std.specs.List.{All, AllPairs, insert, list_any}
+use Rattle.std.proofs.Common.{◌≡◌, ℕ, zero, suc, ◌+◌, ◌<◌, ◌↔◌, ◌==◌, ◌&&◌, Bool, true, false, cond, T, List, [], ◌∷◌, map as mapped, length, get_or, take, drop, set as setn, Some, None, Result, Ok, Err, Less, Greater, refl, sym, ap, subst, ◌∙◌, arith, eqb-true, eq-eqb}
+use Rattle.std.specs.List.{All, insert}
 use Rattle.std.specs.List.Sorted.{IsBinarySearchResult, IsSearchInRange, IsPartitionPoint, IsSortedBy}
 use Rattle.std.specs.Ordering.{eq_by_cmp, is_eq, is_lt}
 use Rattle.std.specs.Cmp.Lexicographic.{pointwise}

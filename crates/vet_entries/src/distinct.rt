@@ -1,23 +1,33 @@
 //! Entries, each once.
-ghost use Rattle.std.specs.Prelude.{◌≡◌, IfOk};
+ghost use Rattle.std.specs.HashSet.{contains, Updates};
+ghost use Rattle.std.specs.Prelude.{◌≡◌, IfOk, not, OnOk, true};
+ghost use Rattle.vet_entries.specs.Entry.{entry_eq};
 ghost use Rattle.vet_entries.specs.Distinct.{distinct};
 
 use crate::entry::Entry;
 use std::alloc::{AllocError, Global};
 use std::collections::HashSet;
 
-/// Each of some entries once, at its first place, in order. Costs one look-up by a hash for each entry, and
-/// holds a copy of each that it keeps until it is done.
+/// Each of some entries once, at its first place, in order. Costs a copy and one look-up by a hash for each
+/// entry, and holds the copies of those that it keeps until it is done.
 pub fn distinct(alloc: Global, entries: Vec<Entry>) -> Result<Vec<Entry>, AllocError>
     ensures { IfOk result (λ v. v.items ≡ distinct entries.items) }
 {
     let mut seen = HashSet::new(alloc);
     let mut kept = Vec::new(alloc);
     'entries: for entry in entries {
-        if !seen.contains(&entry) {
-            seen.insert(entry.clone()?)?;
+        let is_new = see(&mut seen, &entry)?;
+        if is_new {
             kept.push(entry)?;
         }
     }
     Ok(kept)
+}
+
+// Sees an entry, and tells whether none equal to it was seen before.
+fn see(seen: &mut HashSet<Entry>, entry: &Entry) -> Result<bool, AllocError>
+    ensures new { IfOk result (λ is_new. contains entry_eq seen.old entry.now ≡ not is_new) }
+    ensures seen { OnOk result (Updates entry_eq seen.old seen.new entry.now true) }
+{
+    Ok(seen.insert(entry.clone()?)?)
 }

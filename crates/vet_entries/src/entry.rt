@@ -80,9 +80,9 @@ impl Entry {
         Ok(Entry {
             source: Source::Own,
             package: self.package.clone()?,
-            kind: self.kind.clone()?,
             criteria: self.criteria.clone()?,
             notes: notes_copied(&self.notes)?,
+            kind: self.kind.clone()?,
         })
     }
 
@@ -110,11 +110,9 @@ impl Clone for Entry {
     ghost is_clone = { λ a b. b ≡ a };
 
     fn clone(&self) -> Result<Entry, AllocError> {
+        let source = self.source.clone()?;
         let own = self.to_own()?;
-        Ok(Entry {
-            source: self.source.clone()?,
-            ..own
-        })
+        Ok(Entry { source, ..own })
     }
 }
 

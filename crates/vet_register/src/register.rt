@@ -43,7 +43,7 @@ use vet_entries::publisher_records::PackagePublishers;
 use vet_entries::publishers::Publishers;
 use vet_graph::class::Class;
 use vet_graph::keeper::Keeper;
-use vet_graph::moves::{moves_are_differences, moves_balance, runs_of_moves_add};
+use vet_graph::moves::{Move, moves_are_differences, moves_balance, runs_of_moves_add};
 use vet_graph::plain::nothing_vets_nothing;
 use vet_graph::standing::{Counts, classes_add_up};
 use vet_graph::touched::Touched;
@@ -522,13 +522,8 @@ impl<K: Keeper> Register<K> {
         ensures package_room { self.new.room.packages ≡ self.old.room.packages }
         ensures room_stays { KeepsRoom self.old self.new }
     {
-        let moves = K::moves(&planned.update);
-        if self.moves.len() + moves.len() > self.moves_limit {
-            return Err(Refusal::MovesFull);
-        }
+        let records = self.records(alloc, command, K::moves(&planned.update))?;
         let step = self.step + 1;
-        let records = record(alloc, step, command.day, moves)?;
-        self.moves.reserve(records.len())?;
         let number = number_given(self.next_entry, &command.action);
         Ok(Change {
             outcome: Outcome::Done {
@@ -546,6 +541,32 @@ impl<K: Keeper> Register<K> {
             records,
             step,
         })
+    }
+
+    // The records of a command's moves, and room for them.
+    fn records(
+        &mut self,
+        alloc: Global,
+        command: &Command,
+        moves: &[Move],
+    ) -> Result<Vec<RecordedMove>, Refusal>
+        requires step { step_limit self.old.state ≡ Ok tt }
+        requires moves { moves.now ≡ moves_of self.old.state command.now.action }
+        ensures told { Gives (λ r. tt) (moves_fit self.old.state command.now.action) result }
+        ensures records { IfOk result (λ r. r.items ≡ records_of self.old.state command.now) }
+        ensures room { IfOk result (λ r. length r.items ≤ self.new.room.moves) }
+        ensures state { self.new.state ≡ self.old.state }
+        ensures keeper { self.new.keeper ≡ self.old.keeper }
+        ensures entry_room { self.new.room.entries ≡ self.old.room.entries }
+        ensures package_room { self.new.room.packages ≡ self.old.room.packages }
+        ensures room_stays { KeepsRoom self.old self.new }
+    {
+        if self.moves.len() + moves.len() > self.moves_limit {
+            return Err(Refusal::MovesFull);
+        }
+        let records = record(alloc, self.step + 1, command.day, moves)?;
+        self.moves.reserve(records.len())?;
+        Ok(records)
     }
 }
 

@@ -1,6 +1,5 @@
 use Rattle.std.proofs.Common.{ap, Some, ◌∙◌, Ok, Err}
 use Rattle.vet_entries.specs.CriteriaMap.{IsPlaceOf}
-use Rattle.vet_base.specs.Names.{NameSet}
 use Rattle.vet_entries.specs.declared.criteria_map.MappedCriterion.{MappedCriterion}
 use Rattle.vet_entries.proofs.MappedCriteria.{get_at, get_none}
 use Rattle.vet_entries.proofs.criteria_map.CriteriaMap.get.Goals as goal
