@@ -29,7 +29,7 @@ use Rattle.vet_files.specs.declared.listing.Listing.TheVariants as listing
 use Rattle.vet_files.specs.AuditsTable.{audits_file_fields, audits_file_table, audits_table, criteria_table, criterion_fields, criterion_table}
 use Rattle.vet_files.specs.ConfigTable.{cargo_vet_table, config_fields, config_table, dependencies_table, exemptions_table, mapped_table, optional_set, peer_fields, peer_table, peers_table, policies_table, policy_fields, policy_table}
 use Rattle.vet_files.specs.EntryTables.{entry_fields, entry_items, entry_table, listed_entries, of_package, package_lists, some_flag, some_text}
-use Rattle.vet_files.specs.ImportsTable.{excluded_of, imported_peers_table, imported_table, imports_fields, imports_table, publisher_fields, publisher_items, publisher_table, publishers_table}
+use Rattle.vet_files.specs.ImportsTable.{excluded_of, imported_peers_table, imported_peer_table, imports_fields, imports_table, publisher_fields, publisher_items, publisher_table, publishers_table}
 use Rattle.vet_files.specs.Tables.{by_name, fields, list_data, members_from, one_or_list, put_all, set_data, some_set, text_items, unless_empty, unless_none}
 
 -- ---- tables of known keys, and tables by name
@@ -207,7 +207,7 @@ publishers_within ps =
 
 imported_within : (settings : List PeerSettings) (ps : List ImportedPeer) → members_depth (imported_peers_table settings ps) ≤ 5
 imported_within settings ps =
-    by_name_within 5 _ (pairs_within 5 (λ (p : ImportedPeer). p.name) (λ p. table (imported_table settings p))
+    by_name_within 5 _ (pairs_within 5 (λ (p : ImportedPeer). p.name) (λ p. table (imported_peer_table settings p))
     (λ p. omega (arith, audits_file_within (excluded_of settings p.name) p.content.criteria p.content.entries)) ps)
 
 pub imports_depth : (settings : List PeerSettings) (content : ImportsContent) → members_depth (imports_table settings content) ≤ 80

@@ -15,7 +15,7 @@ use Rattle.vet_files.specs.declared.listing.Listing.TheVariants.{Audits, Trusted
 use Rattle.vet_files.specs.declared.whose.Whose.TheVariants.{Peers}
 use Rattle.vet_files.specs.EntryTables.{listed_entries}
 use Rattle.vet_files.specs.Imports.{imported_told, imports_file_told, next_imported, next_publishers, peer_value, publisher_told, published, publishers_told}
-use Rattle.vet_files.specs.ImportsTable.{excluded_of, imported_table, imports_fields, imports_table, publisher_items, publisher_table, publishers_table}
+use Rattle.vet_files.specs.ImportsTable.{excluded_of, imported_peer_table, imports_fields, imports_table, publisher_items, publisher_table, publishers_table}
 use Rattle.vet_files.specs.Keys.{unknown_keys}
 use Rattle.vet_files.specs.Lists.{each_once, nothing, onto, path_below}
 use Rattle.vet_files.specs.Notices.{no_notices}
@@ -82,7 +82,7 @@ abbrev name_of_peer : ImportedPeer → List ℕ
 name_of_peer p = p.name
 
 abbrev table_of_peer : List PeerSettings → ImportedPeer → Data
-table_of_peer settings p = table (imported_table settings p)
+table_of_peer settings p = table (imported_peer_table settings p)
 
 peer_next : (settings : List PeerSettings) (p : ImportedPeer) → CanStandPeer p → IsImportedAgain settings p
     → IsNext (SamePeer settings) next_imported name_of_peer (table_of_peer settings) p

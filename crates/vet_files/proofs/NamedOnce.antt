@@ -62,11 +62,6 @@ module _ {X : Type 0} where
       from true is more (inr kept) = let both = more kept in (inr both.0, both.1)
       from false is more kept = let both = more kept in (inr both.0, both.1)
 
-  pub IsIn-map : {Y : Type 0} (f : X → Y) (x : X) (xs : List X) → IsIn x xs → IsIn (f x) (map f xs)
-  IsIn-map f x [] among = absurd among
-  IsIn-map f x (y ∷ ys) (inl here) = inl (ap f here)
-  IsIn-map f x (y ∷ ys) (inr among) = inr (IsIn-map f x ys among)
-
   pub IsIn-of_map : {Y : Type 0} (f : X → Y) (y : Y) (xs : List X) → IsIn y (map f xs) → (x : X) × (IsIn x xs × (y ≡ f x))
   IsIn-of_map f y [] among = absurd among
   IsIn-of_map f y (x ∷ xs) (inl here) = (x, (inl refl, here))

@@ -7,7 +7,7 @@ use Rattle.std.specs.Str.{is_utf8}
 use Rattle.std.proofs.lemmas.Bool.{cond_both}
 use Rattle.toml.specs.Data.{Data, string, integer, float, boolean, datetime, array, table, Members, no_members, member, as_table, get_member}
 use Rattle.toml.specs.Parse.{parse_document}
-use Rattle.vet_base.specs.Gives.{Told, found_or, ◌>>=◌}
+use Rattle.vet_base.specs.Gives.{found_or}
 use Rattle.vet_base.specs.declared.refusal.Refusal.{Refusal}
 use Rattle.vet_base.specs.declared.refusal.Refusal.TheVariants.{TomlRefused}
 use Rattle.vet_files.specs.Audits.{document_told}
@@ -15,7 +15,6 @@ use Rattle.vet_files.specs.Field.{fault}
 use Rattle.vet_files.specs.Lists.{table_at, table_of}
 use Rattle.vet_files.proofs.Rising.{Rises, Rising}
 use Rattle.vet_files.proofs.RisingTexts.{document-rises}
-use Rattle.vet_files.proofs.Walks.{bind-keeps}
 
 -- what stands at a key
 get-rises : (key : List ℕ) (ms : Members) → Rising ms → IfSome (get_member key ms) Rises
@@ -53,7 +52,3 @@ found-rises (Some ms) h = h
 pub file-rises : (bytes : List ℕ) → IfOk (document_told bytes) Rising
 file-rises bytes =
     found-rises _ (cond_both (is_utf8 bytes) (parse_document bytes) None (λ o. IfSome o Rising) (λ _. document-rises bytes) (λ _. tt))
-
--- what is told of a file's table, where its keys rise
-pub file-told : {A : Type 0} (P : A → Type 0) (told : Members → Told A) → ((ms : Members) → Rising ms → IfOk (told ms) P) → (bytes : List ℕ) → IfOk (document_told bytes >>= told) P
-file-told P told each bytes = bind-keeps Rising P (document_told bytes) told (file-rises bytes) each

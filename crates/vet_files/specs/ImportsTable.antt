@@ -43,11 +43,11 @@ excluded_of [] name = set.empty
 excluded_of (s ∷ rest) name = if bytes_eq name s.name then s.exclude else excluded_of rest name
 
 -- what was imported from a peer, less the entries of excluded packages
-abbrev pub imported_table : List PeerSettings → ImportedPeer → Members
-imported_table settings peer = audits_file_table (excluded_of settings peer.name) peer.content.criteria peer.content.entries
+abbrev pub imported_peer_table : List PeerSettings → ImportedPeer → Members
+imported_peer_table settings peer = audits_file_table (excluded_of settings peer.name) peer.content.criteria peer.content.entries
 
 abbrev pub imported_peers_table : List PeerSettings → List ImportedPeer → Members
-imported_peers_table settings peers = by_name (map (λ p. (p.name, table (imported_table settings p))) peers)
+imported_peers_table settings peers = by_name (map (λ p. (p.name, table (imported_peer_table settings p))) peers)
 
 -- ---- the file
 

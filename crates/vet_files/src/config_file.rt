@@ -132,8 +132,8 @@ impl ReadTable for ReadExemptions {
         let notes = optional(alloc, path, table, "notes")?;
         let kind = Kind::Exemption { version, suggest };
         Ok(Found {
-            content: Some(own_entry(package, kind, criteria, notes)?),
             notices: unknown_keys(TableKind::Exemption, table)?,
+            content: Some(own_entry(package, kind, criteria, notes)?),
         })
     }
 }

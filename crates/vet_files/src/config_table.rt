@@ -13,7 +13,7 @@ ghost use Rattle.vet_files.specs.Tables.{with_key};
 ghost use Rattle.vet_files.specs.ReadAgain.{IsReadAs, ReadsConfig, ReadsEntry, ReadsPeer, ReadsPolicy};
 
 use crate::config_file::ConfigContent;
-use crate::config_tables::{cargo_vet_table, peer_table, policy_table};
+use crate::config_records::{cargo_vet_table, peer_table, policy_table};
 use crate::listing::Listing;
 use crate::package_lists::package_lists;
 use crate::put::{put_some, put_unless_empty, put_value};
@@ -68,27 +68,6 @@ impl WriteMember for WritePolicies {
     }
 }
 
-/// Puts the table `cargo-vet`, where a version is held.
-fn put_version(alloc: Global, file: &mut Table, version: &Option<Text>) -> Result<(), AllocError>
-    ensures put { OnOk result (table_view file.new ≡ with_key (table_view file.old) (codes "cargo-vet") (option_map (λ v. table (cargo_vet_table v)) version.now)) }
-    ensures read { OnOk result (IfSome version.now (λ v. IsReadAs a_text (string v) v)) }
-{
-    let Some(version) = version else {
-        return Ok(());
-    };
-    let inner = cargo_vet_table(alloc, version)?;
-    put_value(alloc, file, "cargo-vet", Value::Table(inner))
-}
-
-/// The lists of exemptions.
-fn exemptions_table(alloc: Global, exemptions: &[Entry]) -> Result<Table, AllocError>
-    ensures table { IfOk result (λ t. table_view t ≡ exemptions_table exemptions.now) }
-    ensures read { IfOk result (λ t. All ReadsEntry (listed_entries Listing.Exemptions set.empty exemptions.now)) }
-{
-    let none = PackageNames::new(alloc);
-    package_lists(alloc, Listing::Exemptions, &none, exemptions)
-}
-
 /// The table of a config file.
 pub(crate) fn config_table(alloc: Global, content: &ConfigContent) -> Result<Table, AllocError>
     ensures table { IfOk result (λ t. table_view t ≡ config_table content.now) }
@@ -109,4 +88,25 @@ pub(crate) fn config_table(alloc: Global, content: &ConfigContent) -> Result<Tab
     put_unless_empty(alloc, &mut file, "imports", peers)?;
     put_unless_empty(alloc, &mut file, "policy", policies)?;
     Ok(file)
+}
+
+/// Puts the table `cargo-vet`, where a version is held.
+fn put_version(alloc: Global, file: &mut Table, version: &Option<Text>) -> Result<(), AllocError>
+    ensures put { OnOk result (table_view file.new ≡ with_key (table_view file.old) (codes "cargo-vet") (option_map (λ v. table (cargo_vet_table v)) version.now)) }
+    ensures read { OnOk result (IfSome version.now (λ v. IsReadAs a_text (string v) v)) }
+{
+    let Some(version) = version else {
+        return Ok(());
+    };
+    let inner = cargo_vet_table(alloc, version)?;
+    put_value(alloc, file, "cargo-vet", Value::Table(inner))
+}
+
+/// The lists of exemptions.
+fn exemptions_table(alloc: Global, exemptions: &[Entry]) -> Result<Table, AllocError>
+    ensures table { IfOk result (λ t. table_view t ≡ exemptions_table exemptions.now) }
+    ensures read { IfOk result (λ t. All ReadsEntry (listed_entries Listing.Exemptions set.empty exemptions.now)) }
+{
+    let none = PackageNames::new(alloc);
+    package_lists(alloc, Listing::Exemptions, &none, exemptions)
 }

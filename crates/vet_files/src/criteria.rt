@@ -133,12 +133,12 @@ fn read_criterion(
     let url = optional(alloc, path, table, "description-url")?;
     let implies: Option<Names> = optional(alloc, path, table, "implies")?;
     Ok(Found {
+        notices: unknown_keys(TableKind::Criterion, table)?,
         content: Some(Criterion {
             name,
             description,
             url,
             implies: implies.unwrap_or(Names::new(alloc)),
         }),
-        notices: unknown_keys(TableKind::Criterion, table)?,
     })
 }

@@ -161,8 +161,8 @@ fn read_audit(
         importable,
     };
     Ok(Found {
-        content: Some(own_entry(package, audit_kind(subject, audit), criteria, notes)?),
         notices: unknown_keys(TableKind::Audit, table)?,
+        content: Some(own_entry(package, audit_kind(subject, audit), criteria, notes)?),
     })
 }
 

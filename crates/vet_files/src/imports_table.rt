@@ -4,7 +4,7 @@ ghost use Rattle.std.specs.Option.{option_map_or};
 ghost use Rattle.std.specs.Prelude.{◌≡◌, IfOk, option_copied};
 ghost use Rattle.toml.specs.Data.{array, table};
 ghost use Rattle.toml.specs.View.{table_view};
-ghost use Rattle.vet_files.specs.ImportsTable.{excluded_of, imported_table, imports_table, publisher_items};
+ghost use Rattle.vet_files.specs.ImportsTable.{excluded_of, imported_peer_table, imports_table, publisher_items};
 ghost use Rattle.vet_files.specs.ReadAgain.{ReadsAudits, ReadsImported, ReadsImports, ReadsRecords};
 
 use crate::audits_table::audits_file_table;
@@ -52,44 +52,15 @@ impl WriteMember for WriteImported<'_> {
 
     ghost name = { λ p. p.name };
 
-    ghost written = { λ w p. table (imported_table w.settings.now p) };
+    ghost written = { λ w p. table (imported_peer_table w.settings.now p) };
 
     ghost Reads = { λ w p. ReadsImported w.settings.now p };
 
     fn write(&self, alloc: Global, peer: &ImportedPeer) -> Result<Member, AllocError> {
         Ok(Member {
             name: String::from_str(alloc, peer.name.as_str())?,
-            value: Value::Table(imported_table(alloc, self.settings, peer)?),
+            value: Value::Table(imported_peer_table(alloc, self.settings, peer)?),
         })
-    }
-}
-
-/// The packages of which nothing is taken from a peer, by the first settings of its name.
-fn excluded<'a>(settings: &'a [PeerSettings], name: &Name) -> Option<&'a PackageNames>
-    ensures { option_map_or (λ s. s) (option_copied result) set.empty ≡ excluded_of settings.now name.now }
-{
-    'peers: for peer in settings {
-        if *name == peer.name {
-            return Some(&peer.exclude);
-        }
-    }
-    None
-}
-
-/// The table of what was imported from a peer.
-fn imported_table(
-    alloc: Global,
-    settings: &[PeerSettings],
-    peer: &ImportedPeer,
-) -> Result<Table, AllocError>
-    ensures table { IfOk result (λ t. table_view t ≡ imported_table settings.now peer.now) }
-    ensures read { IfOk result (λ t. ReadsAudits (excluded_of settings.now peer.now.name) peer.now.content.criteria peer.now.content.entries) }
-{
-    let criteria = peer.content.criteria();
-    let entries = peer.content.entries();
-    match excluded(settings, &peer.name) {
-        Some(exclude) => audits_file_table(alloc, exclude, criteria, entries),
-        None => audits_file_table(alloc, &PackageNames::new(alloc), criteria, entries),
     }
 }
 
@@ -108,4 +79,33 @@ pub(crate) fn imports_table(
     put_value(alloc, &mut file, "audits", Value::Table(peers))?;
     put_unless_empty(alloc, &mut file, "publisher", publishers)?;
     Ok(file)
+}
+
+/// The packages of which nothing is taken from a peer, by the first settings of its name.
+fn excluded<'a>(settings: &'a [PeerSettings], name: &Name) -> Option<&'a PackageNames>
+    ensures { option_map_or (λ s. s) (option_copied result) set.empty ≡ excluded_of settings.now name.now }
+{
+    'peers: for peer in settings {
+        if *name == peer.name {
+            return Some(&peer.exclude);
+        }
+    }
+    None
+}
+
+/// The table of what was imported from a peer.
+fn imported_peer_table(
+    alloc: Global,
+    settings: &[PeerSettings],
+    peer: &ImportedPeer,
+) -> Result<Table, AllocError>
+    ensures table { IfOk result (λ t. table_view t ≡ imported_peer_table settings.now peer.now) }
+    ensures read { IfOk result (λ t. ReadsAudits (excluded_of settings.now peer.now.name) peer.now.content.criteria peer.now.content.entries) }
+{
+    let criteria = peer.content.criteria();
+    let entries = peer.content.entries();
+    match excluded(settings, &peer.name) {
+        Some(exclude) => audits_file_table(alloc, exclude, criteria, entries),
+        None => audits_file_table(alloc, &PackageNames::new(alloc), criteria, entries),
+    }
 }

@@ -12,8 +12,8 @@
 pub mod audits_file;
 mod audits_table;
 pub mod config_file;
+mod config_records;
 mod config_table;
-mod config_tables;
 mod criteria;
 mod criteria_tables;
 mod entries;

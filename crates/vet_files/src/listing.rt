@@ -18,14 +18,14 @@ impl Listing {
     pub(crate) fn holds(self, kind: &Kind) -> bool
         ensures { result ≡ is_listed self kind.now }
     {
-        match (self, kind) {
-            (Listing::Audits, Kind::Full(_, _)) => true,
-            (Listing::Audits, Kind::Delta(_, _)) => true,
-            (Listing::Audits, Kind::Violation(_, _)) => true,
-            (Listing::WildcardAudits, Kind::Wildcard(_, _)) => true,
-            (Listing::Trusted, Kind::Trusted(_)) => true,
-            (Listing::Exemptions, Kind::Exemption { .. }) => true,
-            _ => false,
+        match self {
+            Listing::Audits => matches!(
+                kind,
+                Kind::Full(_, _) | Kind::Delta(_, _) | Kind::Violation(_, _)
+            ),
+            Listing::WildcardAudits => matches!(kind, Kind::Wildcard(_, _)),
+            Listing::Trusted => matches!(kind, Kind::Trusted(_)),
+            Listing::Exemptions => matches!(kind, Kind::Exemption { .. }),
         }
     }
 }

@@ -18,47 +18,6 @@ use toml::{Table, Value};
 use vet_base::package_names::PackageNames;
 use vet_entries::entry::Entry;
 
-/// The items of a list; what is no list has none.
-fn items_of(alloc: Global, value: Value) -> Array
-    ensures { array_view result ≡ items_in (Some (view value)) }
-{
-    match value {
-        Value::Array(items) => items,
-        _ => Vec::new(alloc),
-    }
-}
-
-/// Puts a value at the end of a list; what is no list is made one.
-fn push(alloc: Global, list: &mut Value, value: Value) -> Result<(), AllocError>
-    ensures { OnOk result (view list.new ≡ array (push_item (items_in (Some (view list.old))) (view value))) }
-{
-    // The list is taken out while it grows, and what holds its place is of no account.
-    let mut items = items_of(alloc, mem::replace(list, Value::Boolean(false)));
-    items.push(value)?;
-    *list = Value::Array(items);
-    Ok(())
-}
-
-/// Puts a value at the end of the list at a key; where there is none, one begins.
-fn push_at(alloc: Global, table: &mut Table, key: &str, value: Value) -> Result<(), AllocError>
-    ensures { OnOk result (table_view table.new
-        ≡ put_member key.now (array (push_item (list_at key.now (table_view table.old)) (view value))) (table_view table.old)) }
-{
-    if let Some(list) = table.get_mut(key) {
-        return push(alloc, list, value);
-    }
-    let mut items = Vec::new(alloc);
-    items.push(value)?;
-    put_value(alloc, table, key, Value::Array(items))
-}
-
-/// Whether an entry stands in a listing: one of its kinds, and of no excluded package.
-fn is_written(which: Listing, exclude: &PackageNames, entry: &Entry) -> bool
-    ensures { result ≡ (is_listed which entry.now.kind && not (set.contains exclude.now entry.now.«package»)) }
-{
-    which.holds(&entry.kind) && !exclude.contains(&entry.package)
-}
-
 /// The table of the entries of a listing, less those of excluded packages: at each package's name the list of
 /// its entries, in their order.
 pub(crate) fn package_lists(
@@ -83,4 +42,45 @@ pub(crate) fn package_lists(
         }
     }
     Ok(table)
+}
+
+/// The items of a list; what is no list has none.
+fn array_of(alloc: Global, value: Value) -> Array
+    ensures { array_view result ≡ items_in (Some (view value)) }
+{
+    match value {
+        Value::Array(items) => items,
+        _ => Vec::new(alloc),
+    }
+}
+
+/// Puts a value at the end of a list; what is no list is made one.
+fn push(alloc: Global, list: &mut Value, value: Value) -> Result<(), AllocError>
+    ensures { OnOk result (view list.new ≡ array (push_item (items_in (Some (view list.old))) (view value))) }
+{
+    // The list is taken out while it grows, and what holds its place is of no account.
+    let mut items = array_of(alloc, mem::replace(list, Value::Boolean(false)));
+    items.push(value)?;
+    *list = Value::Array(items);
+    Ok(())
+}
+
+/// Puts a value at the end of the list at a key; where there is none, one begins.
+fn push_at(alloc: Global, table: &mut Table, key: &str, value: Value) -> Result<(), AllocError>
+    ensures { OnOk result (table_view table.new
+        ≡ put_member key.now (array (push_item (list_at key.now (table_view table.old)) (view value))) (table_view table.old)) }
+{
+    if let Some(list) = table.get_mut(key) {
+        return push(alloc, list, value);
+    }
+    let mut items = Vec::new(alloc);
+    items.push(value)?;
+    put_value(alloc, table, key, Value::Array(items))
+}
+
+/// Whether an entry stands in a listing: one of its kinds, and of no excluded package.
+fn is_written(which: Listing, exclude: &PackageNames, entry: &Entry) -> bool
+    ensures { result ≡ (is_listed which entry.now.kind && not (set.contains exclude.now entry.now.«package»)) }
+{
+    which.holds(&entry.kind) && !exclude.contains(&entry.package)
 }

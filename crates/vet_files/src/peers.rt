@@ -84,12 +84,12 @@ fn read_peer(
     let exclude: Option<PackageNames> = optional(alloc, path, table, "exclude")?;
     let map: Option<CriteriaMap> = optional(alloc, path, table, "criteria-map")?;
     Ok(Found {
+        notices: unknown_keys(TableKind::Peer, table)?,
         content: Some(PeerSettings {
             name,
             url,
             exclude: exclude.unwrap_or(PackageNames::new(alloc)),
             map: map.unwrap_or(CriteriaMap::new(alloc)),
         }),
-        notices: unknown_keys(TableKind::Peer, table)?,
     })
 }

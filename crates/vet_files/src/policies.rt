@@ -95,6 +95,7 @@ fn read_policy(alloc: Global, path: &str, table: &Table) -> Result<Found<Policy>
     )?;
     let notes = optional(alloc, path, table, "notes")?;
     Ok(Found {
+        notices: unknown_keys(TableKind::Policy, table)?,
         content: Policy {
             audit_as_crates_io,
             criteria,
@@ -102,6 +103,5 @@ fn read_policy(alloc: Global, path: &str, table: &Table) -> Result<Found<Policy>
             dependency_criteria: dependencies.unwrap_or(DependencyCriteria::new(alloc)),
             notes,
         },
-        notices: unknown_keys(TableKind::Policy, table)?,
     })
 }

@@ -136,6 +136,7 @@ fn read_publisher(
     let login = optional(alloc, path, table, "user-login")?;
     let name = optional(alloc, path, table, "user-name")?;
     Ok(Found {
+        notices: unknown_keys(TableKind::Publisher, table)?,
         content: Some(Publisher {
             version,
             user,
@@ -143,6 +144,5 @@ fn read_publisher(
             login,
             name,
         }),
-        notices: unknown_keys(TableKind::Publisher, table)?,
     })
 }

@@ -105,8 +105,8 @@ fn read_wildcard(
         renew,
     };
     Ok(Found {
-        content: Some(own_entry(package, Kind::Wildcard(window, grant), criteria, notes)?),
         notices: unknown_keys(TableKind::Wildcard, table)?,
+        content: Some(own_entry(package, Kind::Wildcard(window, grant), criteria, notes)?),
     })
 }
 
@@ -123,7 +123,7 @@ fn read_trusted(
     let window = read_window(alloc, path, table)?;
     let notes = optional(alloc, path, table, "notes")?;
     Ok(Found {
-        content: Some(own_entry(package, Kind::Trusted(window), criteria, notes)?),
         notices: unknown_keys(TableKind::Trusted, table)?,
+        content: Some(own_entry(package, Kind::Trusted(window), criteria, notes)?),
     })
 }

@@ -7,6 +7,6 @@ use Rattle.vet_files.proofs.package_lists.push.Goals as goal
 
 pub returns : goal.returns
 returns c =
-    let items = c.items_of-items.result.items in
-    let taken = c.items_of-items.ensures ∙ ap (λ v. items_in (Some (view v))) c.replace.ensures.value in
+    let items = c.array_of-items.result.items in
+    let taken = c.array_of-items.ensures ∙ ap (λ v. items_in (Some (view v))) c.replace.ensures.value in
     view-Array c.push.new.self ∙ ap array (ap items_view c.in_ok-push.ensures.items ∙ items_view-push items c.args.value ∙ ap (λ ds. push_item ds (view c.args.value)) taken)

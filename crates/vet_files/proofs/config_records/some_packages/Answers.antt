@@ -2,7 +2,7 @@ use Rattle.std.proofs.Common.{sym, ◌∙◌}
 use Rattle.std.proofs.lemmas.Bool.{false≢true}
 use Rattle.vet_files.specs.Tables.{list_data}
 use Rattle.vet_files.proofs.ConfigRead.{empty_set_out, other_set_in}
-use Rattle.vet_files.proofs.config_tables.some_packages.Goals as goal
+use Rattle.vet_files.proofs.config_records.some_packages.Goals as goal
 
 pub returns-then-is_empty-clause-written : goal.returns-then-is_empty-clause-written
 returns-then-is_empty-clause-written c =

@@ -1,5 +1,5 @@
 use Rattle.vet_files.proofs.ConfigRead.{peer_read}
-use Rattle.vet_files.proofs.config_tables.peer_table.Goals as goal
+use Rattle.vet_files.proofs.config_records.peer_table.Goals as goal
 
 pub returns-clause-read : goal.returns-clause-read
 returns-clause-read c =
