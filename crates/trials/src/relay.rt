@@ -16,13 +16,13 @@ use vet_graph::standing::Counts;
 use vet_graph::touched::Touched;
 
 /// A keeper behind which a plain one stands.
-#[derive(Debug, Drop)]
+#[derive(Drop)]
 pub struct RelayKeeper {
     plain: PlainKeeper,
 }
 
 /// What the plain keeper planned.
-#[derive(Debug, Drop)]
+#[derive(Drop)]
 pub struct RelayUpdate {
     plain: PlainUpdate,
 }

@@ -15,7 +15,6 @@ use vet_files::imports_file::{ImportsContent, read_imports, write_imports};
 use vet_files::notices::Notices;
 
 // A file that was read and written.
-#[derive(Drop)]
 struct Written {
     // The text that was written.
     text: String,
@@ -23,6 +22,16 @@ struct Written {
     held: String,
     // What was passed over where it was read.
     notices: Notices,
+}
+
+impl Drop for Written {
+    fn drop(self) {
+        let Written {
+            text: _,
+            held: _,
+            notices: _,
+        } = self;
+    }
 }
 
 /// What is written of an audits file. Refused: what the file is refused for, and `NoMemory`.

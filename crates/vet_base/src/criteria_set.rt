@@ -8,7 +8,7 @@ use std::marker::Model;
 
 /// A set of criteria of one table, by their places among the table's names. A change of that table makes it
 /// void.
-#[derive(Clone, Copy, Debug)]
+#[derive(Clone, Copy)]
 pub struct CriteriaSet {
     held: [bool; MOST_CRITERIA],
 }

@@ -1,12 +1,12 @@
 //! The table of criteria, and the closure of a set of them.
 //!
 //! **The closure of some names is the least set that holds them and, with each name, what it implies.**
-ghost use Rattle.std.specs.Prelude.{◌≡◌, ◌⊎◌, ◌&&◌, ◌<◌, true, ◌≤◌, IfOk, IfErr, OnOk, OnErr, IfSome, IfNone, vec_len, insert};
+ghost use Rattle.std.specs.Prelude.{◌≡◌, ◌⊎◌, ◌&&◌, ◌<◌, true, ◌≤◌, [], ◌∷◌, IfOk, IfErr, OnOk, OnErr, IfSome, IfNone, vec_len, insert};
 ghost use Rattle.std.specs.Option.{option_copied};
 ghost use Rattle.std.specs.FinSet as set;
 ghost use Rattle.std.specs.FinMap as map;
 ghost use Rattle.vet_base.specs.Name.{is_name};
-ghost use Rattle.vet_base.specs.Criteria.{Criteria, IsTable, built_in_criteria, closure_at, closure_of, is_in, leading_to, least_unknown, place_of, placed, ClosureIsLeast, LedTo, PlacedNamesAreIn, PlacesAreOfNames};
+ghost use Rattle.vet_base.specs.Criteria.{Criteria, IsTable, built_in_criteria, closure_at, closure_of, is_in, leading_to, least_unknown, place_of, placed, deploy_criterion, run_criterion, safe_to_deploy, safe_to_run, ClosureIsLeast, LedTo, PlacedNamesAreIn, PlacesAreOfNames};
 ghost use Rattle.vet_base.specs.CriteriaChanges.{Answers, Refuses, is_built_in, is_full_for, is_implied, remove_verdict, set_verdict, unknown_beside};
 ghost use Rattle.vet_base.specs.CriteriaTable.{AllIn, IsClosed, IsLeastClosed, LeadsOut, OneOut, by_name};
 ghost use Rattle.vet_base.specs.Defined.{IsListed, defined, table_told};
@@ -30,7 +30,7 @@ pub(crate) const SAFE_TO_DEPLOY: &str = "safe-to-deploy";
 
 /// A table of at most 64 criteria, the built-in ones among them. Each name that a criterion implies is in
 /// the table. Criteria may imply one another in a cycle.
-#[derive(Debug, Drop)]
+#[derive(Drop)]
 pub struct CriteriaTable {
     names: Vec<Name>,
     criteria: Vec<Criterion>,
@@ -58,14 +58,10 @@ impl CriteriaTable {
         ensures table { IfOk result IsTable }
         ensures memory { IfErr result (λ e. e ≡ Refusal.NoMemory) }
     {
-        let mut implied = Names::new(alloc);
-        implied.insert(Name::parse(alloc, SAFE_TO_RUN)?)?;
         let mut names = Vec::new(alloc);
-        names.push(Name::parse(alloc, SAFE_TO_DEPLOY)?)?;
-        names.push(Name::parse(alloc, SAFE_TO_RUN)?)?;
         let mut criteria = Vec::new(alloc);
-        criteria.push(built_in(alloc, SAFE_TO_DEPLOY, implied)?)?;
-        criteria.push(built_in(alloc, SAFE_TO_RUN, Names::new(alloc))?)?;
+        list_names(alloc, &mut names)?;
+        list_built_in(alloc, &mut criteria)?;
         Ok(CriteriaTable { names, criteria })
     }
 
@@ -297,6 +293,30 @@ pub fn places_are_of_names()
 pub fn led_to()
     ensures { LedTo }
 {}
+
+// Lists the names of the built-in criteria, in order.
+fn list_names(alloc: Global, names: &mut Vec<Name>) -> Result<(), Refusal>
+    requires { names.old.items ≡ [] }
+    ensures ok { OnOk result (names.new.items ≡ safe_to_deploy ∷ safe_to_run ∷ []) }
+    ensures memory { IfErr result (λ e. e ≡ Refusal.NoMemory) }
+{
+    names.push(Name::parse(alloc, SAFE_TO_DEPLOY)?)?;
+    names.push(Name::parse(alloc, SAFE_TO_RUN)?)?;
+    Ok(())
+}
+
+// Lists the built-in criteria, in the order of their names.
+fn list_built_in(alloc: Global, criteria: &mut Vec<Criterion>) -> Result<(), Refusal>
+    requires { criteria.old.items ≡ [] }
+    ensures ok { OnOk result (criteria.new.items ≡ deploy_criterion ∷ run_criterion ∷ []) }
+    ensures memory { IfErr result (λ e. e ≡ Refusal.NoMemory) }
+{
+    let mut implied = Names::new(alloc);
+    implied.insert(Name::parse(alloc, SAFE_TO_RUN)?)?;
+    criteria.push(built_in(alloc, SAFE_TO_DEPLOY, implied)?)?;
+    criteria.push(built_in(alloc, SAFE_TO_RUN, Names::new(alloc))?)?;
+    Ok(())
+}
 
 // A criterion of no more than a name and what it implies.
 fn built_in(alloc: Global, name: &str, implies: Names) -> Result<Criterion, Refusal>

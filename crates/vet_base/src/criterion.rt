@@ -9,7 +9,6 @@ use crate::text::Text;
 use std::alloc::AllocError;
 
 /// A criterion: what an audit can say of a package.
-#[derive(Debug, Drop)]
 pub struct Criterion {
     /// Its name.
     pub name: Name,
@@ -19,6 +18,17 @@ pub struct Criterion {
     pub url: Option<Text>,
     /// The criteria that it implies.
     pub implies: Names,
+}
+
+impl Drop for Criterion {
+    fn drop(self) {
+        let Criterion {
+            name: _,
+            description: _,
+            url: _,
+            implies: _,
+        } = self;
+    }
 }
 
 impl Clone for Criterion {

@@ -17,7 +17,7 @@ use std::marker::Model;
 
 /// A day of the proleptic Gregorian calendar, from 0000-01-01 to 9999-12-31. Its text is the ten bytes
 /// `YYYY-MM-DD`. Days are equal, and ordered, by their numbers, where 1970-01-01 is 0.
-#[derive(Clone, Copy, Debug)]
+#[derive(Clone, Copy)]
 pub struct Day {
     year: u16,
     month: u8,

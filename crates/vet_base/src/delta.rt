@@ -13,12 +13,17 @@ use std::hash::{Hash, Hasher};
 
 /// From one version to another; either may be the greater. Its text is `FROM -> TO`, with any number of
 /// spaces around each version (ours).
-#[derive(Debug, Drop)]
 pub struct Delta {
     /// The version that it starts at.
     pub from: VetVersion,
     /// The version that it leads to.
     pub to: VetVersion,
+}
+
+impl Drop for Delta {
+    fn drop(self) {
+        let Delta { from: _, to: _ } = self;
+    }
 }
 
 impl Delta {

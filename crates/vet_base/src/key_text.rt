@@ -11,7 +11,7 @@ use std::marker::Model;
 
 /// A table's path or a key as a refusal tells it: 1 to 200 ASCII characters from `!` to `~`. Any other
 /// path or key is told as `?`.
-#[derive(Clone, Debug, Drop, PartialEq, Eq)]
+#[derive(Clone, Drop, PartialEq, Eq)]
 pub struct KeyText {
     text: Text,
 }

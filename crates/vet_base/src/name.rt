@@ -15,7 +15,7 @@ use std::marker::Model;
 
 /// What a package or a project is called: up to 64 ASCII letters and digits, `-` and `_` among them, and not
 /// none. Two names are the same only where their bytes are, and by these they are ordered.
-#[derive(Clone, Debug, Drop, PartialEq, Eq, PartialOrd, Ord)]
+#[derive(Clone, Drop, PartialEq, Eq, PartialOrd, Ord)]
 pub struct PackageName {
     text: Text,
 }
@@ -89,7 +89,7 @@ impl Hash for PackageName {
 
 /// The name of a criterion, a peer or a member: 1 to 64 ASCII characters from `!` to `~`, ordered by
 /// their bytes.
-#[derive(Clone, Debug, Drop, PartialEq, Eq, PartialOrd, Ord)]
+#[derive(Clone, Drop, PartialEq, Eq, PartialOrd, Ord)]
 pub struct Name {
     text: Text,
 }

@@ -8,7 +8,7 @@ use std::alloc::{AllocError, Global};
 use std::marker::Model;
 
 /// A set of names of packages, in the order of their bytes.
-#[derive(Debug, Drop)]
+#[derive(Drop)]
 pub struct PackageNames {
     names: Vec<PackageName>,
 }

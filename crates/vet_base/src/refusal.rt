@@ -8,7 +8,7 @@ use std::alloc::{AllocError, AllocFailed};
 
 /// Why a call refuses, in the order of the refusals' numbers. What a refusal tells beside its number and
 /// name goes by position.
-#[derive(Debug, Drop, PartialEq, Eq)]
+#[derive(Drop, PartialEq, Eq)]
 pub enum Refusal {
     /// A text is no name.
     BadName,
@@ -77,7 +77,7 @@ pub enum Refusal {
 }
 
 /// What went past its limit, which `limits` gives.
-#[derive(Clone, Copy, Debug, PartialEq, Eq)]
+#[derive(Clone, Copy, PartialEq, Eq)]
 pub enum Limit {
     /// A free text.
     Text,

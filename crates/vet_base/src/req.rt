@@ -18,7 +18,6 @@ use std::marker::Model;
 
 /// A requirement of versions, as Cargo reads it: comparators between commas, at most 256 bytes. It is its
 /// text: two texts that ask the same of every version are two requirements.
-#[derive(Debug, Drop)]
 pub struct Req {
     text: String,
     req: VersionReq,
@@ -33,6 +32,12 @@ impl Model for Req {
     ghost view = { λ r. string_bytes r.text };
 
     ghost invariant = { λ r. IsReq (string_bytes r.text) × IsReadAs (string_bytes r.text) r.req };
+}
+
+impl Drop for Req {
+    fn drop(self) {
+        let Req { text: _, req: _ } = self;
+    }
 }
 
 impl Req {

@@ -9,7 +9,7 @@ use std::hash::{Hash, Hasher};
 use std::marker::Model;
 
 /// A set of texts, in the order of their bytes, each once.
-#[derive(Debug, Drop)]
+#[derive(Drop)]
 pub struct Texts {
     texts: Vec<Text>,
 }

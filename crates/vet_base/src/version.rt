@@ -28,7 +28,7 @@ use std::marker::Model;
 ///
 /// Versions are ordered by the precedence of V (SemVer, 11), then by the bytes of V as printed, then one
 /// without a revision before one with, then by the revision's bytes.
-#[derive(Clone, Debug, Drop)]
+#[derive(Clone)]
 pub struct VetVersion {
     version: Version,
     revision: Option<String>,
@@ -42,6 +42,15 @@ impl Model for VetVersion {
     ghost view = { λ v. value_of (v.version, v.revision) };
 
     ghost invariant = { λ v. IsVersion (value_of (v.version, v.revision)) };
+}
+
+impl Drop for VetVersion {
+    fn drop(self) {
+        let VetVersion {
+            version: _,
+            revision: _,
+        } = self;
+    }
 }
 
 impl VetVersion {

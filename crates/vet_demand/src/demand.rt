@@ -12,7 +12,7 @@ use vet_base::refusal::Refusal;
 use vet_base::version::VetVersion;
 
 /// Pairs that are demanded, each once, in the order of reports: by package, version and criterion.
-#[derive(Debug, Drop)]
+#[derive(Drop)]
 pub struct Demand {
     pairs: Vec<Pair>,
 }

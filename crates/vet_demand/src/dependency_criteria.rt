@@ -11,10 +11,18 @@ use vet_base::names::Names;
 
 /// The criteria that a package passes along its edges to a dependency of this name. An empty set is kept,
 /// and passes nothing.
-#[derive(Debug, Drop)]
 pub struct DependencyItem {
     pub package: PackageName,
     pub criteria: Names,
+}
+
+impl Drop for DependencyItem {
+    fn drop(self) {
+        let DependencyItem {
+            package: _,
+            criteria: _,
+        } = self;
+    }
 }
 
 impl Clone for DependencyItem {
@@ -46,7 +54,7 @@ impl Eq for DependencyItem {
 }
 
 /// Criteria by the names of dependencies, in the order of the names' bytes, each name once.
-#[derive(Debug, Drop)]
+#[derive(Drop)]
 pub struct DependencyCriteria {
     items: Vec<DependencyItem>,
 }

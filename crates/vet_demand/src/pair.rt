@@ -10,11 +10,21 @@ use vet_base::version::VetVersion;
 
 /// A version of a package, and a criterion for which it is to be vetted. Pairs are ordered by package,
 /// version and criterion.
-#[derive(Clone, Debug, Drop)]
+#[derive(Clone)]
 pub struct Pair {
     pub package: PackageName,
     pub version: VetVersion,
     pub criterion: Name,
+}
+
+impl Drop for Pair {
+    fn drop(self) {
+        let Pair {
+            package: _,
+            version: _,
+            criterion: _,
+        } = self;
+    }
 }
 
 impl Pair {

@@ -10,10 +10,15 @@ use std::alloc::{AllocError, Global};
 use std::marker::Model;
 
 /// A policy, and what it is of.
-#[derive(Debug, Drop)]
 pub struct KeyedPolicy {
     pub key: PolicyKey,
     pub policy: Policy,
+}
+
+impl Drop for KeyedPolicy {
+    fn drop(self) {
+        let KeyedPolicy { key: _, policy: _ } = self;
+    }
 }
 
 impl Clone for KeyedPolicy {
@@ -45,7 +50,7 @@ impl Eq for KeyedPolicy {
 }
 
 /// Policies in the order of their keys, no key twice.
-#[derive(Debug, Drop)]
+#[derive(Drop)]
 pub struct Policies {
     policies: Vec<KeyedPolicy>,
 }

@@ -11,7 +11,6 @@ use vet_base::text::Text;
 /// What is asked of a package and of its dependencies, in place of what is asked by default (The Cargo Vet
 /// Book, config). Criteria count with all that they imply. No criteria at all ask for nothing, and differ
 /// from an absent list, with which the default stays.
-#[derive(Debug, Drop)]
 pub struct Policy {
     /// Whether the package, where it is first-party, is audited as the one of its name and version at
     /// crates.io: only with `true` is it demanded itself. `false` and none ask for the same.
@@ -27,6 +26,18 @@ pub struct Policy {
     pub dependency_criteria: DependencyCriteria,
     /// What people wrote of the policy.
     pub notes: Option<Text>,
+}
+
+impl Drop for Policy {
+    fn drop(self) {
+        let Policy {
+            audit_as_crates_io: _,
+            criteria: _,
+            dev_criteria: _,
+            dependency_criteria: _,
+            notes: _,
+        } = self;
+    }
 }
 
 impl Clone for Policy {

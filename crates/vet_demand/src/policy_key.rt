@@ -17,12 +17,20 @@ use vet_base::version::{VetVersion, version_text_reads_back};
 ///
 /// Keys are ordered by the bytes of the package's name, then one without a version before one with, then by
 /// version.
-#[derive(Debug, Drop)]
 pub struct PolicyKey {
     pub package: PackageName,
     /// The only version that the policy is of. Where there is none, it is of each version that has no policy
     /// of its own.
     pub version: Option<VetVersion>,
+}
+
+impl Drop for PolicyKey {
+    fn drop(self) {
+        let PolicyKey {
+            package: _,
+            version: _,
+        } = self;
+    }
 }
 
 impl PolicyKey {

@@ -29,9 +29,13 @@ says_same a b =
 abbrev pub entry_eq : Entry → Entry → Bool
 entry_eq a b = source_eq a.source b.source && says_same a b
 
+-- the entry as one of this organisation
+abbrev pub of_source : Source → Entry → Entry
+of_source source entry = record entry { source = source }
+
 -- the entry as one of one's own
 abbrev pub own : Entry → Entry
-own entry = record entry { source = Own }
+own entry = of_source Own entry
 
 -- ---- each of these words decides whether two are the same
 

@@ -36,15 +36,19 @@ grant_eq a b = same_names a.who b.who && option_eq beq a.renew b.renew
 abbrev pub window_eq : Window → Window → Bool
 window_eq a b = (a.user == b.user) && (same_day a.first b.first && same_day a.last b.last)
 
+-- whether two are of one kind that is no audit, and the same
+abbrev pub grants_same : Kind → Kind → Bool
+grants_same (Wildcard v a) (Wildcard w b) = window_eq v w && grant_eq a b
+grants_same (Trusted v) (Trusted w) = window_eq v w
+grants_same (Exemption v a) (Exemption w b) = version_eq v w && option_eq beq a b
+grants_same _ _ = false
+
 -- whether two entries are of the same kind, and say the same in it
 abbrev pub kind_eq : Kind → Kind → Bool
 kind_eq (Full v a) (Full w b) = version_eq v w && audit_eq a b
 kind_eq (Delta c a) (Delta d b) = delta_eq c d && audit_eq a b
 kind_eq (Violation q a) (Violation r b) = bytes_eq q r && audit_eq a b
-kind_eq (Wildcard v a) (Wildcard w b) = window_eq v w && grant_eq a b
-kind_eq (Trusted v) (Trusted w) = window_eq v w
-kind_eq (Exemption v a) (Exemption w b) = version_eq v w && option_eq beq a b
-kind_eq _ _ = false
+kind_eq a b = grants_same a b
 
 -- ---- each of these words decides whether two are the same
 

@@ -13,7 +13,6 @@ use std::marker::Model;
 use vet_base::name::PackageName;
 
 /// Entries, and beside them their places in the order of packages, in which a package's stand together.
-#[derive(Debug, Drop)]
 pub(crate) struct ByPackage {
     entries: Vec<HeldEntry>,
     order: Vec<usize>,
@@ -34,6 +33,15 @@ impl Model for ByPackage {
     } };
 
     ghost invariant = { λ b. IsByPackage b.entries.items b.order.items };
+}
+
+impl Drop for ByPackage {
+    fn drop(self) {
+        let ByPackage {
+            entries: _,
+            order: _,
+        } = self;
+    }
 }
 
 impl ByPackage {

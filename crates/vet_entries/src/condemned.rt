@@ -51,11 +51,19 @@ fn with_violated(
 }
 
 /// A violation of a package: the versions that it is of, and the criteria for which these are condemned.
-#[derive(Debug, Drop)]
 pub struct Violation {
     pub requirement: Req,
     /// Those that imply in the end one that the violation names, by their places in the table.
     pub criteria: CriteriaSet,
+}
+
+impl Drop for Violation {
+    fn drop(self) {
+        let Violation {
+            requirement: _,
+            criteria: _,
+        } = self;
+    }
 }
 
 /// The violations of a package, by the numbers of the entries. With them each version of the package is

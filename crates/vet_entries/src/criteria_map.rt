@@ -11,12 +11,20 @@ use vet_base::name::Name;
 use vet_base::names::Names;
 
 /// Which criteria of one's own a criterion of a peer stands for.
-#[derive(Debug, Drop)]
 pub struct MappedCriterion {
     /// The peer's criterion.
     pub name: Name,
     /// What it stands for.
     pub criteria: Names,
+}
+
+impl Drop for MappedCriterion {
+    fn drop(self) {
+        let MappedCriterion {
+            name: _,
+            criteria: _,
+        } = self;
+    }
 }
 
 impl Clone for MappedCriterion {
@@ -54,7 +62,7 @@ impl Eq for MappedCriterion {
 
 /// From criteria of a peer to criteria of one's own, in the order of the names' bytes, each name once (The
 /// Cargo Vet Book, config: `criteria-map`).
-#[derive(Debug, Drop)]
+#[derive(Drop)]
 pub struct CriteriaMap {
     items: Vec<MappedCriterion>,
 }

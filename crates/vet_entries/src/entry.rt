@@ -1,6 +1,6 @@
 //! Entries: what somebody vouches for.
 ghost use Rattle.std.specs.Prelude.{◌≡◌, ◌↔◌, IfOk, IsTrue};
-ghost use Rattle.vet_entries.specs.Entry.{entry_eq, own, says_same};
+ghost use Rattle.vet_entries.specs.Entry.{entry_eq, of_source, own, says_same};
 
 use crate::kind::Kind;
 use std::alloc::AllocError;
@@ -10,12 +10,21 @@ use vet_base::names::Names;
 use vet_base::text::Text;
 
 /// Whose an entry is.
-#[derive(Clone, Debug, Drop)]
+#[derive(Clone)]
 pub enum Source {
     /// The organisation's own.
     Own,
     /// That of a peer, from whom it was imported.
     Peer(Name),
+}
+
+impl Drop for Source {
+    fn drop(self) {
+        match self {
+            Source::Own => {}
+            Source::Peer(_) => {}
+        }
+    }
 }
 
 impl PartialEq for Source {
@@ -63,7 +72,6 @@ impl Hash for Source {
 }
 
 /// An entry: a package, what is said of it, and for which criteria.
-#[derive(Debug, Drop)]
 pub struct Entry {
     pub source: Source,
     pub package: PackageName,
@@ -72,13 +80,32 @@ pub struct Entry {
     pub notes: Option<Text>,
 }
 
+impl Drop for Entry {
+    fn drop(self) {
+        let Entry {
+            source: _,
+            package: _,
+            kind: _,
+            criteria: _,
+            notes: _,
+        } = self;
+    }
+}
+
 impl Entry {
     /// A copy as one of one's own.
     pub fn to_own(&self) -> Result<Entry, AllocError>
         ensures { IfOk result (λ e. e ≡ own self.now) }
     {
+        self.copied_for(Source::Own)
+    }
+
+    // A copy whose source is this one.
+    fn copied_for(&self, source: Source) -> Result<Entry, AllocError>
+        ensures { IfOk result (λ e. e ≡ of_source source self.now) }
+    {
         Ok(Entry {
-            source: Source::Own,
+            source,
             package: self.package.clone()?,
             criteria: self.criteria.clone()?,
             notes: notes_copied(&self.notes)?,
@@ -110,9 +137,7 @@ impl Clone for Entry {
     ghost is_clone = { λ a b. b ≡ a };
 
     fn clone(&self) -> Result<Entry, AllocError> {
-        let source = self.source.clone()?;
-        let own = self.to_own()?;
-        Ok(Entry { source, ..own })
+        self.copied_for(self.source.clone()?)
     }
 }
 

@@ -22,22 +22,39 @@ use vet_base::name::{Name, PackageName};
 use vet_base::refusal::Refusal;
 
 /// An entry that is held, and its number.
-#[derive(Debug, Drop)]
 pub struct HeldEntry {
     pub number: u64,
     pub entry: Entry,
 }
 
+impl Drop for HeldEntry {
+    fn drop(self) {
+        let HeldEntry {
+            number: _,
+            entry: _,
+        } = self;
+    }
+}
+
 /// A table of criteria, entries in the order of their numbers, and publisher records by package.
-#[derive(Debug, Drop)]
 pub struct EntryFacts {
     criteria: CriteriaTable,
     entries: ByPackage,
     publishers: PublisherRecords,
 }
 
+impl Drop for EntryFacts {
+    fn drop(self) {
+        let EntryFacts {
+            criteria: _,
+            entries: _,
+            publishers: _,
+        } = self;
+    }
+}
+
 /// A change of what is held, which takes no memory.
-#[derive(Debug, Drop)]
+#[derive(Drop)]
 pub enum Edit {
     /// This table of criteria in place of the one held.
     Criteria(CriteriaTable),

@@ -1,6 +1,6 @@
 //! What an entry says of its package.
 ghost use Rattle.std.specs.Prelude.{◌≡◌};
-ghost use Rattle.vet_entries.specs.Kind.{no_audit};
+ghost use Rattle.vet_entries.specs.Kind.{grants_same, no_audit};
 
 use crate::user::User;
 use std::alloc::{AllocError, Global};
@@ -12,12 +12,20 @@ use vet_base::texts::Texts;
 use vet_base::version::VetVersion;
 
 /// Who made an audit, and whether others may import it (The Cargo Vet Book, audit entries).
-#[derive(Debug, Drop)]
 pub struct Audit {
     /// Who reviewed, in the order of their bytes, each once.
     pub who: Texts,
     /// Whether others may import the entry, where it says so.
     pub importable: Option<bool>,
+}
+
+impl Drop for Audit {
+    fn drop(self) {
+        let Audit {
+            who: _,
+            importable: _,
+        } = self;
+    }
 }
 
 impl Audit {
@@ -82,12 +90,17 @@ impl Hash for Audit {
 
 /// Who vouches for what a user publishes, and whether that is to be renewed (The Cargo Vet Book, wildcard
 /// audits).
-#[derive(Debug, Drop)]
 pub struct Grant {
     /// Who vouches, in the order of their bytes, each once.
     pub who: Texts,
     /// Whether the window is to be renewed, where the entry says so.
     pub renew: Option<bool>,
+}
+
+impl Drop for Grant {
+    fn drop(self) {
+        let Grant { who: _, renew: _ } = self;
+    }
 }
 
 impl Clone for Grant {
@@ -140,7 +153,7 @@ impl Hash for Grant {
 
 /// What a user of crates.io published from a first day to a last, both included (The Cargo Vet Book, wildcard
 /// audits and trusted publishers). A window that ends before it begins has no day.
-#[derive(Debug, Clone, Copy)]
+#[derive(Clone, Copy)]
 pub struct Window {
     pub user: User,
     pub first: Day,
@@ -185,7 +198,6 @@ impl Hash for Window {
 
 /// What an entry says of its package. Each kind holds what goes with it and nothing else: who vouches, and
 /// what it tells tools.
-#[derive(Debug, Drop)]
 pub enum Kind {
     /// This version was reviewed in full (The Cargo Vet Book, audit entries: `version`).
     Full(VetVersion, Audit),
@@ -204,6 +216,45 @@ pub enum Kind {
         /// Whether to suggest a review in its place, where the entry says so.
         suggest: Option<bool>,
     },
+}
+
+impl Drop for Kind {
+    fn drop(self) {
+        match self {
+            Kind::Full(_, _) => {}
+            Kind::Delta(_, _) => {}
+            Kind::Violation(_, _) => {}
+            Kind::Wildcard(_, _) => {}
+            Kind::Trusted(_) => {}
+            Kind::Exemption {
+                version: _,
+                suggest: _,
+            } => {}
+        }
+    }
+}
+
+impl Kind {
+    // Whether both are of one kind that is no audit, and the same.
+    fn grants_the_same(&self, other: &Kind) -> bool
+        ensures { result ≡ grants_same self.now other.now }
+    {
+        match (self, other) {
+            (Kind::Wildcard(v, grant), Kind::Wildcard(w, other)) => v == w && grant == other,
+            (Kind::Trusted(v), Kind::Trusted(w)) => v == w,
+            (
+                Kind::Exemption {
+                    version: v,
+                    suggest,
+                },
+                Kind::Exemption {
+                    version: w,
+                    suggest: other,
+                },
+            ) => v == w && suggest == other,
+            _ => false,
+        }
+    }
 }
 
 impl Clone for Kind {
@@ -239,19 +290,7 @@ impl PartialEq for Kind {
             (Kind::Full(v, audit), Kind::Full(w, other)) => v == w && audit == other,
             (Kind::Delta(c, audit), Kind::Delta(d, other)) => c == d && audit == other,
             (Kind::Violation(q, audit), Kind::Violation(r, other)) => q == r && audit == other,
-            (Kind::Wildcard(v, grant), Kind::Wildcard(w, other)) => v == w && grant == other,
-            (Kind::Trusted(v), Kind::Trusted(w)) => v == w,
-            (
-                Kind::Exemption {
-                    version: v,
-                    suggest,
-                },
-                Kind::Exemption {
-                    version: w,
-                    suggest: other,
-                },
-            ) => v == w && suggest == other,
-            _ => false,
+            _ => self.grants_the_same(other),
         }
     }
 }

@@ -9,7 +9,6 @@ use vet_base::criterion::Criterion;
 /// What the audits file of a peer gives, in the peer's own words: at most 62 criteria, none of them named as a
 /// built-in one, and its entries. Each entry is the peer's own; none is of a kind that is the peer's affair
 /// alone, as exemptions and trusted publishers are, and none is one that others may not import.
-#[derive(Debug, Drop)]
 pub struct PeerContent {
     criteria: Vec<Criterion>,
     entries: Vec<Entry>,
@@ -27,6 +26,15 @@ impl Model for PeerContent {
     ghost view = { λ p. record { criteria = p.criteria.items; entries = p.entries.items } };
 
     ghost invariant = { λ p. IsPeerContent p.criteria.items p.entries.items };
+}
+
+impl Drop for PeerContent {
+    fn drop(self) {
+        let PeerContent {
+            criteria: _,
+            entries: _,
+        } = self;
+    }
 }
 
 impl PeerContent {

@@ -9,7 +9,6 @@ use vet_base::package_names::PackageNames;
 use vet_base::texts::Texts;
 
 /// What a peer is imported with (The Cargo Vet Book, config: `imports`).
-#[derive(Debug, Drop)]
 pub struct PeerSettings {
     /// The peer.
     pub name: Name,
@@ -20,6 +19,17 @@ pub struct PeerSettings {
     pub exclude: PackageNames,
     /// Which criteria of one's own the peer's criteria stand for.
     pub map: CriteriaMap,
+}
+
+impl Drop for PeerSettings {
+    fn drop(self) {
+        let PeerSettings {
+            name: _,
+            url: _,
+            exclude: _,
+            map: _,
+        } = self;
+    }
 }
 
 impl Clone for PeerSettings {

@@ -16,7 +16,6 @@ use vet_base::version::VetVersion;
 /// Says that a user of crates.io published a version of a package on a day (The Cargo Vet Book, wildcard
 /// audits). The package is told by what holds the record. Records are ordered by version, day, user, login
 /// and name, where no login or name stands before one, and texts by their bytes.
-#[derive(Debug, Drop)]
 pub struct Publisher {
     pub version: VetVersion,
     pub user: User,
@@ -25,6 +24,18 @@ pub struct Publisher {
     pub login: Option<Text>,
     /// The user's name in full.
     pub name: Option<Text>,
+}
+
+impl Drop for Publisher {
+    fn drop(self) {
+        let Publisher {
+            version: _,
+            user: _,
+            day: _,
+            login: _,
+            name: _,
+        } = self;
+    }
 }
 
 impl Clone for Publisher {

@@ -13,10 +13,18 @@ use vet_base::name::PackageName;
 use vet_base::refusal::Refusal;
 
 /// A package, and its publisher records.
-#[derive(Debug, Drop)]
 pub struct PackagePublishers {
     pub package: PackageName,
     pub publishers: Publishers,
+}
+
+impl Drop for PackagePublishers {
+    fn drop(self) {
+        let PackagePublishers {
+            package: _,
+            publishers: _,
+        } = self;
+    }
 }
 
 impl Clone for PackagePublishers {
@@ -57,14 +65,22 @@ impl Eq for PackagePublishers {
 }
 
 /// The packages that have publisher records, in the order of their names, with these records.
-#[derive(Debug, Drop)]
 pub struct PublisherRecords {
     packages: Vec<PackagePublishers>,
     total: usize,
 }
 
+impl Drop for PublisherRecords {
+    fn drop(self) {
+        let PublisherRecords {
+            packages: _,
+            total: _,
+        } = self;
+    }
+}
+
 /// A change of publisher records, which takes no memory.
-#[derive(Debug, Drop)]
+#[derive(Drop)]
 pub enum PublishersEdit {
     /// This package with its records at this place among the packages.
     Put(usize, PackagePublishers),

@@ -11,7 +11,7 @@ use std::marker::Model;
 use vet_base::refusal::Refusal;
 
 /// The publisher records of one package, each once, by version, day, user, login and name.
-#[derive(Debug, Drop)]
+#[derive(Drop)]
 pub struct Publishers {
     records: Vec<Publisher>,
 }

@@ -1,7 +1,7 @@
 //! Steps of trust, and those that entries give.
 ghost use Rattle.std.specs.Prelude.{◌≡◌, ◌++◌, ◌∷◌, [], IfOk, IfErr, OnOk, None};
 ghost use Rattle.std.specs.List.{All};
-ghost use Rattle.vet_entries.specs.Step.{HasKnownCriteria, delta_step, entry_steps, first_step, is_covered, steps_of, window_steps};
+ghost use Rattle.vet_entries.specs.Step.{HasKnownCriteria, delta_step, entry_steps, first_step, is_covered, kind_steps, steps_of, window_steps};
 
 use crate::facts::{EntryFacts, HeldEntry};
 use crate::kind::{Kind, Window};
@@ -15,7 +15,6 @@ use vet_base::refusal::Refusal;
 use vet_base::version::VetVersion;
 
 /// A step of trust to a version of a package, from nothing or from another version.
-#[derive(Debug, Drop)]
 pub struct Step {
     /// Where it starts, or nothing.
     pub origin: Option<VetVersion>,
@@ -25,6 +24,17 @@ pub struct Step {
     pub criteria: CriteriaSet,
     /// Whether it comes of an exemption.
     pub exempt: bool,
+}
+
+impl Drop for Step {
+    fn drop(self) {
+        let Step {
+            origin: _,
+            target: _,
+            criteria: _,
+            exempt: _,
+        } = self;
+    }
 }
 
 /// The steps of a package, by the numbers of the entries that give them and, of one entry, in the order of the
@@ -63,14 +73,34 @@ fn add_steps(
     ensures memory { IfErr result (λ e. e ≡ Refusal.NoMemory) }
 {
     let closed = criteria.closure(&held.entry.criteria)?;
-    match &held.entry.kind {
-        Kind::Full(version, _) => steps.push(first_step(version, closed, false)?)?,
-        Kind::Delta(delta, _) => steps.push(delta_step(delta, closed)?)?,
-        Kind::Violation(_, _) => {}
-        Kind::Wildcard(window, _) => add_window(steps, window, records, closed)?,
-        Kind::Trusted(window) => add_window(steps, window, records, closed)?,
-        Kind::Exemption { version, .. } => steps.push(first_step(version, closed, true)?)?,
+    add_kind_steps(steps, &held.entry.kind, records, closed)?;
+    Ok(())
+}
+
+// Adds the steps of a kind.
+fn add_kind_steps(
+    steps: &mut Vec<Step>,
+    kind: &Kind,
+    records: &[Publisher],
+    criteria: CriteriaSet,
+) -> Result<(), AllocError>
+    ensures { OnOk result (steps.new.items ≡ steps.old.items ++ kind_steps criteria records.now kind.now) }
+{
+    match kind {
+        Kind::Full(version, _) => add(steps, first_step(version, criteria, false)?),
+        Kind::Delta(delta, _) => add(steps, delta_step(delta, criteria)?),
+        Kind::Violation(_, _) => Ok(()),
+        Kind::Wildcard(window, _) => add_window(steps, window, records, criteria),
+        Kind::Trusted(window) => add_window(steps, window, records, criteria),
+        Kind::Exemption { version, .. } => add(steps, first_step(version, criteria, true)?),
     }
+}
+
+// Adds a step.
+fn add(steps: &mut Vec<Step>, step: Step) -> Result<(), AllocError>
+    ensures { OnOk result (steps.new.items ≡ steps.old.items ++ step ∷ []) }
+{
+    steps.push(step)?;
     Ok(())
 }
 
@@ -85,7 +115,7 @@ fn add_window(
 {
     for published in records {
         if window.covers(published) {
-            steps.push(first_step(&published.version, criteria, false)?)?;
+            add(steps, first_step(&published.version, criteria, false)?)?;
         }
     }
     Ok(())

@@ -12,7 +12,7 @@ pub const LAST_USER: u64 = 9_223_372_036_854_775_807;
 
 /// A user of crates.io (The Cargo Vet Book, wildcard audits): a number from 0 to 2^63 - 1. Users are equal,
 /// and ordered, by their numbers.
-#[derive(Clone, Copy, Debug)]
+#[derive(Clone, Copy)]
 pub struct User {
     number: u64,
 }

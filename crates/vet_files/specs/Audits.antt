@@ -115,12 +115,16 @@ abbrev pub is_withheld : Whose → Members → Bool
 is_withheld Ours ms = false
 is_withheld Peers ms = is_no (get_member (codes "importable") ms)
 
+-- the audit of a subject for some criteria: who made it, its notes, and whether others may import it
+abbrev pub audit_of_subject : List ℕ → List ℕ → Members → NameSet → Subject → Told (Found (Option Entry))
+audit_of_subject name path ms criteria what =
+    optional texts path (codes "who") ms >>= λ who. optional a_text path (codes "notes") ms >>= λ notes. optional a_flag path (codes "importable") ms >>= λ importable.
+    Ok (one (own_entry name (audit_kind what (record { who = or_none who; importable = importable })) criteria notes) (unknown_keys kind.Audit ms))
+
 abbrev pub audit_of : List ℕ → List ℕ → Members → Option SubjectKey → Told (Found (Option Entry))
 audit_of name path ms None = Ok skipped
 audit_of name path ms (Some key) =
-    required names path (codes "criteria") ms >>= λ criteria. subject_told path ms key >>= λ what.
-    optional texts path (codes "who") ms >>= λ who. optional a_text path (codes "notes") ms >>= λ notes. optional a_flag path (codes "importable") ms >>= λ importable.
-    Ok (one (own_entry name (audit_kind what (record { who = or_none who; importable = importable })) criteria notes) (unknown_keys kind.Audit ms))
+    required names path (codes "criteria") ms >>= λ criteria. subject_told path ms key >>= audit_of_subject name path ms criteria
 
 -- an audit of one of the three kinds that isn't withheld
 abbrev pub audit_told : Whose → Reading Entry
@@ -134,11 +138,15 @@ window_told path ms =
     required a_user path (codes "user-id") ms >>= λ user. required a_day path (codes "start") ms >>= λ first. required a_day path (codes "end") ms >>= λ last.
     Ok (record { user = user; first = first; last = last })
 
-abbrev pub wildcard_of : List ℕ → List ℕ → Members → Told (Found (Option Entry))
-wildcard_of name path ms =
-    required names path (codes "criteria") ms >>= λ criteria. window_told path ms >>= λ window.
+-- the wildcard audit of a window for some criteria: who vouches, whether it is to be renewed, and its notes
+abbrev pub wildcard_of_window : List ℕ → List ℕ → Members → NameSet → Window → Told (Found (Option Entry))
+wildcard_of_window name path ms criteria window =
     optional texts path (codes "who") ms >>= λ who. optional a_flag path (codes "renew") ms >>= λ renew. optional a_text path (codes "notes") ms >>= λ notes.
     Ok (one (own_entry name (entry.Wildcard window (record { who = or_none who; renew = renew })) criteria notes) (unknown_keys kind.Wildcard ms))
+
+abbrev pub wildcard_of : List ℕ → List ℕ → Members → Told (Found (Option Entry))
+wildcard_of name path ms =
+    required names path (codes "criteria") ms >>= λ criteria. window_told path ms >>= wildcard_of_window name path ms criteria
 
 -- a wildcard audit with a user
 abbrev pub wildcard_told : Reading Entry
@@ -177,14 +185,22 @@ entries_of read path prefix key ms = table_at path key ms >>= each_member (next_
 abbrev pub criteria_of : Whose → List ℕ → List ℕ → Members → Told (Found (List Criterion))
 criteria_of whose path prefix ms = table_at path (codes "criteria") ms >>= each_member (next_criterion whose (prefix ++ codes "criteria")) nothing
 
+-- what an audits file holds that has these criteria, and these entries but for its trusted ones
+abbrev pub trusted_entries_told : Whose → List ℕ → List ℕ → Members → Found (List Criterion) → Found (List Entry) → Told (Found AuditsContent)
+trusted_entries_told whose path prefix ms criteria entries =
+    entries_of (trusted_told whose) path prefix (codes "trusted") ms >>= λ trusted.
+    Ok (audits_content criteria (onto entries trusted) (only_keys (unknown_keys kind.AuditsFile ms)))
+
+-- what an audits file holds that has these criteria and audits
+abbrev pub further_entries_told : Whose → List ℕ → List ℕ → Members → Found (List Criterion) → Found (List Entry) → Told (Found AuditsContent)
+further_entries_told whose path prefix ms criteria audits =
+    entries_of wildcard_told path prefix (codes "wildcard-audits") ms >>= λ wildcards. trusted_entries_told whose path prefix ms criteria (onto audits wildcards)
+
 -- what an audits file holds. Its tables stand in one of a path, and their paths begin with a prefix.
 abbrev pub audits_file_told : Whose → List ℕ → List ℕ → Members → Told (Found AuditsContent)
 audits_file_told whose path prefix ms =
     criteria_of whose path prefix ms >>= λ criteria.
-    entries_of (audit_told whose) path prefix (codes "audits") ms >>= λ audits.
-    entries_of wildcard_told path prefix (codes "wildcard-audits") ms >>= λ wildcards.
-    entries_of (trusted_told whose) path prefix (codes "trusted") ms >>= λ trusted.
-    Ok (audits_content criteria (onto (onto audits wildcards) trusted) (only_keys (unknown_keys kind.AuditsFile ms)))
+    entries_of (audit_told whose) path prefix (codes "audits") ms >>= λ audits. further_entries_told whose path prefix ms criteria audits
 
 -- the table of a file: a TOML document in UTF-8
 abbrev pub document_told : List ℕ → Told Members

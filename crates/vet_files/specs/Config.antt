@@ -1,8 +1,9 @@
 -- The tables of a config file (The Cargo Vet Book, config file; what is counted is ours).
-use Rattle.std.specs.Prelude.{ℕ, List, [], codes, Option, Ok, Err, if◌then◌else◌}
+use Rattle.std.specs.Prelude.{ℕ, Bool, List, [], codes, Option, Ok, Err, if◌then◌else◌}
 use Rattle.toml.specs.Data.{Data, Members, as_table}
 use Rattle.vet_base.specs.Gives.{Told, found_or, ◌>>=◌}
 use Rattle.vet_base.specs.Name.{is_name}
+use Rattle.vet_base.specs.Names.{NameSet}
 use Rattle.vet_demand.specs.Policies.{has_policy, with_policy}
 use Rattle.vet_demand.specs.PolicyKey.{read_key}
 use Rattle.vet_demand.specs.declared.policies.KeyedPolicy.{KeyedPolicy}
@@ -15,6 +16,7 @@ use Rattle.vet_files.specs.Audits.{document_told, entries_of, or_none, own_entry
 use Rattle.vet_files.specs.declared.config_file.ConfigContent.{ConfigContent}
 use Rattle.vet_files.specs.declared.found.Found.{Found}
 use Rattle.vet_files.specs.declared.keys.TableKind.TheVariants as kind
+use Rattle.vet_files.specs.declared.notices.Notices.{Notices}
 use Rattle.vet_files.specs.Field.{a_flag, a_text, a_version, fault, names, optional, package_names, required, texts}
 use Rattle.vet_files.specs.Keys.{unknown_keys}
 use Rattle.vet_files.specs.Lists.{Reading, listed, nothing, one, onto, path_below, table_at}
@@ -51,29 +53,38 @@ peers_told ms = table_at (codes "top") (codes "imports") ms >>= each_member next
 
 -- ---- `policy`
 
--- the policy of a table
-abbrev pub policy_told : List ℕ → Members → Told (Found Policy)
-policy_told path ms =
-    optional a_flag path (codes "audit-as-crates-io") ms >>= λ published. optional names path (codes "criteria") ms >>= λ criteria.
-    optional names path (codes "dev-criteria") ms >>= λ dev. optional dependency_criteria path (codes "dependency-criteria") ms >>= λ dependencies.
-    optional a_text path (codes "notes") ms >>= λ notes.
+-- the policy of a table that says this of its own package: what it says of dependencies, and its notes
+abbrev pub dependency_policy_told : List ℕ → Members → Option Bool → Option NameSet → Option NameSet → Told (Found Policy)
+dependency_policy_told path ms published criteria dev =
+    optional dependency_criteria path (codes "dependency-criteria") ms >>= λ dependencies. optional a_text path (codes "notes") ms >>= λ notes.
     Ok (record {
       content = record { audit_as_crates_io = published; criteria = criteria; dev_criteria = dev; dependency_criteria = or_no_dependencies dependencies; notes = notes };
       notices = only_keys (unknown_keys kind.Policy ms);
     })
 
+-- the policy of a table
+abbrev pub policy_told : List ℕ → Members → Told (Found Policy)
+policy_told path ms =
+    optional a_flag path (codes "audit-as-crates-io") ms >>= λ published. optional names path (codes "criteria") ms >>= λ criteria.
+    optional names path (codes "dev-criteria") ms >>= λ dev. dependency_policy_told path ms published criteria dev
+
 -- one more policy, whose key isn't that of an earlier one
 abbrev pub new_key : List ℕ → List KeyedPolicy → PolicyKey → Told PolicyKey
 new_key text held key = if has_policy held key then Err (fault (codes "policy") text) else Ok key
+
+abbrev pub new_key_told : List ℕ → List KeyedPolicy → Told PolicyKey
+new_key_told text held = found_or (fault (codes "policy") text) (read_key text) >>= new_key text held
+
+-- the policy whose table stands at a key
+abbrev pub policy_at : List ℕ → Data → Told (Found Policy)
+policy_at text d = found_or (fault (codes "policy") text) (as_table d) >>= policy_told (path_below (codes "policy") text)
 
 abbrev pub policy_onto : Found (List KeyedPolicy) → PolicyKey → Found Policy → Found (List KeyedPolicy)
 policy_onto found key more = record { content = with_policy found.content key more.content; notices = together found.notices more.notices }
 
 abbrev pub next_policy : Found (List KeyedPolicy) → List ℕ → Data → Told (Found (List KeyedPolicy))
 next_policy found text d =
-    found_or (fault (codes "policy") text) (read_key text) >>= new_key text found.content >>= λ key.
-    found_or (fault (codes "policy") text) (as_table d) >>= policy_told (path_below (codes "policy") text) >>= λ more.
-    Ok (policy_onto found key more)
+    new_key_told text found.content >>= λ key. policy_at text d >>= λ more. Ok (policy_onto found key more)
 
 abbrev pub policies_told : Members → Told (Found (List KeyedPolicy))
 policies_told ms = table_at (codes "top") (codes "policy") ms >>= each_member next_policy (record { content = []; notices = no_notices })
@@ -88,16 +99,21 @@ exemption_told name path ms =
 
 -- ---- the file
 
+-- the lists of a config file, with the rest of its content, and what was passed over in that and among its keys
+abbrev pub config_lists_told : Option (List ℕ) → Option NameSet → Notices → Notices → Members → Told (Found ConfigContent)
+config_lists_told version default settings keys ms =
+    peers_told ms >>= λ peers. policies_told ms >>= λ policies.
+    entries_of exemption_told (codes "top") [] (codes "exemptions") ms >>= λ exemptions.
+    Ok (record {
+      content = record { vet_version = version; default_criteria = default; peers = peers.content; policies = policies.content; exemptions = exemptions.content };
+      notices = together (together (together settings peers.notices) (together policies.notices exemptions.notices)) keys;
+    })
+
 -- what a config file holds
 abbrev pub config_file_told : Members → Told (Found ConfigContent)
 config_file_told ms =
     vet_version_told ms >>= λ version. optional names (codes "top") (codes "default-criteria") ms >>= λ default.
-    peers_told ms >>= λ peers. policies_told ms >>= λ policies.
-    entries_of exemption_told (codes "top") [] (codes "exemptions") ms >>= λ exemptions.
-    Ok (record {
-      content = record { vet_version = version.content; default_criteria = default; peers = peers.content; policies = policies.content; exemptions = exemptions.content };
-      notices = together (together (together version.notices peers.notices) (together policies.notices exemptions.notices)) (only_keys (unknown_keys kind.ConfigFile ms));
-    })
+    config_lists_told version.content default version.notices (only_keys (unknown_keys kind.ConfigFile ms)) ms
 
 -- the content of a config file
 abbrev pub config_told : List ℕ → Told (Found ConfigContent)

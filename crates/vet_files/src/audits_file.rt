@@ -8,7 +8,7 @@ ghost use Rattle.toml.specs.View.{table_view, view};
 ghost use Rattle.vet_base.specs.CriteriaChanges.{is_built_in};
 ghost use Rattle.vet_base.specs.Gives.{Gives};
 ghost use Rattle.vet_entries.specs.Distinct.{distinct};
-ghost use Rattle.vet_files.specs.Audits.{audits_file_told, audits_told, criteria_of, document_told, entries_of, next_package};
+ghost use Rattle.vet_files.specs.Audits.{audits_file_told, audits_told, criteria_of, document_told, entries_of, further_entries_told, next_package, trusted_entries_told};
 ghost use Rattle.vet_files.specs.AuditsTable.{audits_table};
 ghost use Rattle.vet_files.specs.Lists.{each_once, table_at};
 ghost use Rattle.vet_files.specs.ReadAgain.{GivesBack};
@@ -37,7 +37,7 @@ use vet_entries::entry::Entry;
 
 /// What an audits file holds: criteria in the order of their names' bytes, and entries in the order of
 /// reading, each once.
-#[derive(Debug, Drop)]
+#[derive(Drop)]
 pub struct AuditsContent {
     pub criteria: Listed<Criterion>,
     pub entries: Listed<Entry>,
@@ -103,6 +103,21 @@ pub(crate) fn read_audits_file(
 {
     let criteria = read_criteria(alloc, whose, path, prefix, file)?;
     let audits = read_entries(alloc, &ReadAudits { whose }, path, prefix, "audits", file)?;
+    read_further_entries(alloc, whose, path, prefix, file, criteria, audits)
+}
+
+/// What an audits file holds whose criteria and audits were read.
+fn read_further_entries(
+    alloc: Global,
+    whose: Whose,
+    path: &str,
+    prefix: &str,
+    file: &Table,
+    criteria: Found<Listed<Criterion>>,
+    audits: Found<Listed<Entry>>,
+) -> Result<Found<AuditsContent>, Refusal>
+    ensures { Gives (λ f. f) (further_entries_told whose path.now prefix.now (table_view file.now) criteria audits) result }
+{
     let wildcards = read_entries(
         alloc,
         &ReadWildcards {},
@@ -111,15 +126,32 @@ pub(crate) fn read_audits_file(
         "wildcard-audits",
         file,
     )?;
-    let trusted = read_entries(alloc, &ReadTrusted { whose }, path, prefix, "trusted", file)?;
-    let entries = audits.onto(wildcards)?.onto(trusted)?;
+    let entries = audits.onto(wildcards)?;
+    read_trusted_entries(alloc, whose, path, prefix, file, criteria, entries)
+}
+
+/// What an audits file holds whose criteria were read, and whose other entries.
+fn read_trusted_entries(
+    alloc: Global,
+    whose: Whose,
+    path: &str,
+    prefix: &str,
+    file: &Table,
+    criteria: Found<Listed<Criterion>>,
+    entries: Found<Listed<Entry>>,
+) -> Result<Found<AuditsContent>, Refusal>
+    ensures { Gives (λ f. f) (trusted_entries_told whose path.now prefix.now (table_view file.now) criteria entries) result }
+{
     let keys = unknown_keys(TableKind::AuditsFile, file)?;
+    let trusted = read_entries(alloc, &ReadTrusted { whose }, path, prefix, "trusted", file)?;
+    let entries = entries.onto(trusted)?;
+    let notices = criteria.notices.and_both(entries.notices, keys)?;
     Ok(Found {
         content: AuditsContent {
             criteria: criteria.content,
             entries: entries.content,
         },
-        notices: criteria.notices.and(entries.notices)?.and(keys)?,
+        notices,
     })
 }
 

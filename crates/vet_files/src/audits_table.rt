@@ -1,6 +1,6 @@
 //! The table of an audits file.
-ghost use Rattle.std.specs.Prelude.{◌≡◌, IfOk};
-ghost use Rattle.toml.specs.Data.{table};
+ghost use Rattle.std.specs.Prelude.{◌≡◌, IfOk, OnOk};
+ghost use Rattle.toml.specs.Data.{no_members, table};
 ghost use Rattle.toml.specs.View.{table_view};
 ghost use Rattle.vet_files.specs.AuditsTable.{audits_file_table, criterion_table};
 ghost use Rattle.vet_files.specs.ReadAgain.{ReadsAudits, ReadsCriterion};
@@ -47,14 +47,30 @@ pub(crate) fn audits_file_table(
     ensures table { IfOk result (λ t. table_view t ≡ audits_file_table exclude.now criteria.now entries.now) }
     ensures read { IfOk result (λ t. ReadsAudits exclude.now criteria.now entries.now) }
 {
-    let audits = package_lists(alloc, Listing::Audits, exclude, entries)?;
-    let criteria = write_members(alloc, &WriteCriteria {}, criteria)?;
-    let trusted = package_lists(alloc, Listing::Trusted, exclude, entries)?;
-    let wildcards = package_lists(alloc, Listing::WildcardAudits, exclude, entries)?;
     let mut file = Table::new(alloc);
-    put_value(alloc, &mut file, "audits", Value::Table(audits))?;
-    put_unless_empty(alloc, &mut file, "criteria", criteria)?;
-    put_unless_empty(alloc, &mut file, "trusted", trusted)?;
-    put_unless_empty(alloc, &mut file, "wildcard-audits", wildcards)?;
+    fill_audits_file(alloc, &mut file, exclude, criteria, entries)?;
     Ok(file)
+}
+
+/// Puts these criteria and entries into the table of an audits file, less the entries of excluded packages.
+fn fill_audits_file(
+    alloc: Global,
+    file: &mut Table,
+    exclude: &PackageNames,
+    criteria: &[Criterion],
+    entries: &[Entry],
+) -> Result<(), AllocError>
+    requires { table_view file.old ≡ no_members }
+    ensures table { OnOk result (table_view file.new ≡ audits_file_table exclude.now criteria.now entries.now) }
+    ensures read { OnOk result (ReadsAudits exclude.now criteria.now entries.now) }
+{
+    let audits = package_lists(alloc, Listing::Audits, exclude, entries)?;
+    put_value(alloc, file, "audits", Value::Table(audits))?;
+    let criteria = write_members(alloc, &WriteCriteria {}, criteria)?;
+    put_unless_empty(alloc, file, "criteria", criteria)?;
+    let trusted = package_lists(alloc, Listing::Trusted, exclude, entries)?;
+    put_unless_empty(alloc, file, "trusted", trusted)?;
+    let wildcards = package_lists(alloc, Listing::WildcardAudits, exclude, entries)?;
+    put_unless_empty(alloc, file, "wildcard-audits", wildcards)?;
+    Ok(())
 }

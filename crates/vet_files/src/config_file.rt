@@ -3,8 +3,9 @@ ghost use Rattle.std.specs.Prelude.{◌≡◌, IfErr, IfOk, Some, string_bytes};
 ghost use Rattle.toml.specs.Parse.{parse_document};
 ghost use Rattle.toml.specs.View.{table_view};
 ghost use Rattle.vet_base.specs.Gives.{Gives};
-ghost use Rattle.vet_files.specs.Config.{config_file_told, config_told, exemption_told, vet_version_told};
+ghost use Rattle.vet_files.specs.Config.{config_file_told, config_lists_told, config_told, exemption_told, vet_version_told};
 ghost use Rattle.vet_files.specs.ConfigTable.{config_table};
+ghost use Rattle.vet_files.specs.Notices.{together};
 ghost use Rattle.vet_files.specs.ReadAgain.{GivesBack};
 ghost use Rattle.vet_files.specs.SameContent.{IsConfig, SameConfig};
 
@@ -33,7 +34,7 @@ use vet_entries::peer_settings::PeerSettings;
 
 /// What a config file holds: peers in the order of their names' bytes, policies in the order of their keys,
 /// and exemptions in the order of reading, each once.
-#[derive(Debug, Drop)]
+#[derive(Drop)]
 pub struct ConfigContent {
     /// The version of cargo-vet that the file names.
     pub vet_version: Option<Text>,
@@ -74,24 +75,66 @@ pub fn write_config(alloc: Global, content: &ConfigContent) -> Result<String, Re
 fn read_config_file(alloc: Global, file: &Table) -> Result<Found<ConfigContent>, Refusal>
     ensures { Gives (λ f. f) (config_file_told (table_view file.now)) result }
 {
-    let version = read_vet_version(alloc, file)?;
-    let default_criteria = optional(alloc, "top", file, "default-criteria")?;
-    let peers = read_peers(alloc, file)?;
-    let policies = read_policies(alloc, file)?;
-    let exemptions = read_entries(alloc, &ReadExemptions {}, "top", "", "exemptions", file)?;
-    let settings = version.notices.and(peers.notices)?;
-    let rules = policies.notices.and(exemptions.notices)?;
+    let mut content = ConfigContent {
+        vet_version: None,
+        default_criteria: None,
+        peers: Listed::new(alloc),
+        policies: Policies::new(alloc),
+        exemptions: Listed::new(alloc),
+    };
+    let notices = fill_content(alloc, file, &mut content)?;
+    Ok(Found { content, notices })
+}
+
+/// Fills a content with what the table of a config file holds, and tells what is passed over.
+fn fill_content(
+    alloc: Global,
+    file: &Table,
+    content: &mut ConfigContent,
+) -> Result<Notices, Refusal>
+    ensures { Gives (λ notices. record { content = content.new; notices = notices })
+        (config_file_told (table_view file.now)) result }
+{
     let keys = unknown_keys(TableKind::ConfigFile, file)?;
-    Ok(Found {
-        content: ConfigContent {
-            vet_version: version.content,
-            default_criteria,
-            peers: peers.content,
-            policies: policies.content,
-            exemptions: exemptions.content,
-        },
-        notices: settings.and(rules)?.and(keys)?,
-    })
+    let version = read_vet_version(alloc, file)?;
+    content.vet_version = version.content;
+    content.default_criteria = optional(alloc, "top", file, "default-criteria")?;
+    fill_lists(alloc, file, content, version.notices, keys)
+}
+
+/// Fills the lists of a content that has the rest, and tells what is passed over: `settings` and `keys` were before.
+fn fill_lists(
+    alloc: Global,
+    file: &Table,
+    content: &mut ConfigContent,
+    settings: Notices,
+    keys: Notices,
+) -> Result<Notices, Refusal>
+    ensures { Gives (λ notices. record { content = content.new; notices = notices })
+        (config_lists_told content.old.vet_version content.old.default_criteria settings keys (table_view file.now)) result }
+{
+    let peers = read_peers(alloc, file)?;
+    content.peers = peers.content;
+    let policies = read_policies(alloc, file)?;
+    content.policies = policies.content;
+    let exemptions = read_entries(alloc, &ReadExemptions {}, "top", "", "exemptions", file)?;
+    content.exemptions = exemptions.content;
+    let settings = settings.and(peers.notices)?;
+    with_rules(settings, policies.notices, exemptions.notices, keys)
+}
+
+/// What was passed over in the settings, in both kinds of rules, and among the keys.
+fn with_rules(
+    settings: Notices,
+    policies: Notices,
+    exemptions: Notices,
+    keys: Notices,
+) -> Result<Notices, Refusal>
+    ensures ok { IfOk result (λ n. n ≡ together (together settings (together policies exemptions)) keys) }
+    ensures memory { IfErr result (λ e. e ≡ Refusal.NoMemory) }
+{
+    let rules = policies.and(exemptions)?;
+    Ok(settings.and_both(rules, keys)?)
 }
 
 /// The version of cargo-vet that the file names.
@@ -104,10 +147,9 @@ fn read_vet_version(alloc: Global, file: &Table) -> Result<Found<Option<Text>>, 
             notices: Notices::none(),
         });
     };
-    Ok(Found {
-        content: optional(alloc, "cargo-vet", table, "version")?,
-        notices: unknown_keys(TableKind::CargoVet, table)?,
-    })
+    let notices = unknown_keys(TableKind::CargoVet, table)?;
+    let content = optional(alloc, "cargo-vet", table, "version")?;
+    Ok(Found { content, notices })
 }
 
 /// Reads the exemptions of a file.
@@ -126,14 +168,16 @@ impl ReadTable for ReadExemptions {
         path: &str,
         table: &Table,
     ) -> Result<Found<Option<Entry>>, Refusal> {
+        let notices = unknown_keys(TableKind::Exemption, table)?;
         let version = required(alloc, path, table, "version")?;
         let criteria = required(alloc, path, table, "criteria")?;
         let suggest = optional(alloc, path, table, "suggest")?;
         let notes = optional(alloc, path, table, "notes")?;
         let kind = Kind::Exemption { version, suggest };
+        let entry = own_entry(package, kind, criteria, notes)?;
         Ok(Found {
-            notices: unknown_keys(TableKind::Exemption, table)?,
-            content: Some(own_entry(package, kind, criteria, notes)?),
+            content: Some(entry),
+            notices,
         })
     }
 }

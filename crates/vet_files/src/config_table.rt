@@ -3,7 +3,7 @@ ghost use Rattle.std.specs.FinSet as set;
 ghost use Rattle.std.specs.List.{All};
 ghost use Rattle.std.specs.Prelude.{◌≡◌, codes, IfOk, OnOk, option_map};
 ghost use Rattle.std.specs.Option.{IfSome};
-ghost use Rattle.toml.specs.Data.{string, table};
+ghost use Rattle.toml.specs.Data.{no_members, string, table};
 ghost use Rattle.toml.specs.View.{table_view};
 ghost use Rattle.vet_demand.specs.PolicyKey.{key_text};
 ghost use Rattle.vet_files.specs.ConfigTable.{cargo_vet_table, config_table, exemptions_table, peer_table, policy_table};
@@ -73,21 +73,31 @@ pub(crate) fn config_table(alloc: Global, content: &ConfigContent) -> Result<Tab
     ensures table { IfOk result (λ t. table_view t ≡ config_table content.now) }
     ensures read { IfOk result (λ t. ReadsConfig content.now) }
 {
-    let exemptions = exemptions_table(alloc, content.exemptions.as_slice())?;
-    let peers = write_members(alloc, &WritePeers {}, content.peers.as_slice())?;
-    let policies = write_members(alloc, &WritePolicies {}, content.policies.as_slice())?;
     let mut file = Table::new(alloc);
-    put_version(alloc, &mut file, &content.vet_version)?;
+    fill_config(alloc, &mut file, content)?;
+    Ok(file)
+}
+
+/// Puts what a config file holds into its table.
+fn fill_config(alloc: Global, file: &mut Table, content: &ConfigContent) -> Result<(), AllocError>
+    requires { table_view file.old ≡ no_members }
+    ensures table { OnOk result (table_view file.new ≡ config_table content.now) }
+    ensures read { OnOk result (ReadsConfig content.now) }
+{
+    put_version(alloc, file, &content.vet_version)?;
     put_some(
         alloc,
-        &mut file,
+        file,
         "default-criteria",
         content.default_criteria.as_ref(),
     )?;
-    put_unless_empty(alloc, &mut file, "exemptions", exemptions)?;
-    put_unless_empty(alloc, &mut file, "imports", peers)?;
-    put_unless_empty(alloc, &mut file, "policy", policies)?;
-    Ok(file)
+    let exemptions = exemptions_table(alloc, content.exemptions.as_slice())?;
+    put_unless_empty(alloc, file, "exemptions", exemptions)?;
+    let peers = write_members(alloc, &WritePeers {}, content.peers.as_slice())?;
+    put_unless_empty(alloc, file, "imports", peers)?;
+    let policies = write_members(alloc, &WritePolicies {}, content.policies.as_slice())?;
+    put_unless_empty(alloc, file, "policy", policies)?;
+    Ok(())
 }
 
 /// Puts the table `cargo-vet`, where a version is held.

@@ -129,11 +129,12 @@ fn read_criterion(
 ) -> Result<Found<Option<Criterion>>, Refusal>
     ensures { Gives (λ f. f) (criterion_told name path.now (table_view table.now)) result }
 {
+    let notices = unknown_keys(TableKind::Criterion, table)?;
     let description = optional(alloc, path, table, "description")?;
     let url = optional(alloc, path, table, "description-url")?;
     let implies: Option<Names> = optional(alloc, path, table, "implies")?;
     Ok(Found {
-        notices: unknown_keys(TableKind::Criterion, table)?,
+        notices,
         content: Some(Criterion {
             name,
             description,

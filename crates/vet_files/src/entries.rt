@@ -3,7 +3,7 @@ ghost use Rattle.std.specs.Prelude.{◌≡◌, IfOk, Some, option_map};
 ghost use Rattle.toml.specs.View.{table_view, view};
 ghost use Rattle.vet_base.specs.Gives.{Gives};
 ghost use Rattle.vet_files.specs.Lists.{skipped};
-ghost use Rattle.vet_files.specs.Audits.{absent, audit_kind, audit_of, audit_told, first_key, has, is_no, is_withheld, own_entry, subject_told};
+ghost use Rattle.vet_files.specs.Audits.{absent, audit_of, audit_of_subject, audit_told, first_key, has, is_no, is_withheld, own_entry, subject_told};
 
 use crate::field::{fault, optional, required, value_at};
 use crate::found::Found;
@@ -153,6 +153,21 @@ fn read_audit(
 {
     let criteria = required(alloc, path, table, "criteria")?;
     let subject = read_subject(alloc, path, table, key)?;
+    read_audit_of(alloc, package, path, table, criteria, subject)
+}
+
+/// The audit of a table, where its criteria and its subject were read.
+fn read_audit_of(
+    alloc: Global,
+    package: &PackageName,
+    path: &str,
+    table: &Table,
+    criteria: Names,
+    subject: Subject,
+) -> Result<Found<Option<Entry>>, Refusal>
+    ensures { Gives (λ f. f) (audit_of_subject «package».now path.now (table_view table.now) criteria subject) result }
+{
+    let notices = unknown_keys(TableKind::Audit, table)?;
     let who: Option<Texts> = optional(alloc, path, table, "who")?;
     let notes = optional(alloc, path, table, "notes")?;
     let importable = optional(alloc, path, table, "importable")?;
@@ -160,21 +175,11 @@ fn read_audit(
         who: who.unwrap_or(Texts::new(alloc)),
         importable,
     };
+    let entry = own_entry(package, subject.with_audit(audit), criteria, notes)?;
     Ok(Found {
-        notices: unknown_keys(TableKind::Audit, table)?,
-        content: Some(own_entry(package, audit_kind(subject, audit), criteria, notes)?),
+        content: Some(entry),
+        notices,
     })
-}
-
-/// The kind of an audit.
-fn audit_kind(subject: Subject, audit: Audit) -> Kind
-    ensures { result ≡ audit_kind subject audit }
-{
-    match subject {
-        Subject::Full(version) => Kind::Full(version, audit),
-        Subject::Delta(delta) => Kind::Delta(delta, audit),
-        Subject::Violation(req) => Kind::Violation(req, audit),
-    }
 }
 
 /// An entry of the organisation's own.

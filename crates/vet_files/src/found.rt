@@ -7,7 +7,7 @@ use crate::notices::Notices;
 use std::alloc::{AllocError, Global};
 
 /// What was found in a file, and what was passed over.
-#[derive(Debug, Drop)]
+#[derive(Drop)]
 pub struct Found<T> {
     pub content: T,
     pub notices: Notices,

@@ -29,15 +29,23 @@ use vet_entries::peer_settings::PeerSettings;
 use vet_entries::publisher_records::PackagePublishers;
 
 /// What was imported from a peer.
-#[derive(Debug, Drop)]
 pub struct ImportedPeer {
     pub name: Name,
     pub content: PeerContent,
 }
 
+impl Drop for ImportedPeer {
+    fn drop(self) {
+        let ImportedPeer {
+            name: _,
+            content: _,
+        } = self;
+    }
+}
+
 /// What an imports file holds: the publisher records of packages that have some, and what was imported from
 /// peers, both in the order of the names' bytes.
-#[derive(Debug, Drop)]
+#[derive(Drop)]
 pub struct ImportsContent {
     pub publishers: Listed<PackagePublishers>,
     pub peers: Listed<ImportedPeer>,
@@ -94,15 +102,16 @@ pub fn read_peer(alloc: Global, bytes: &[u8]) -> Result<Found<PeerContent>, Refu
 fn read_imports_file(alloc: Global, file: &Table) -> Result<Found<ImportsContent>, Refusal>
     ensures { Gives (λ f. f) (imports_file_told (table_view file.now)) result }
 {
+    let keys = unknown_keys(TableKind::ImportsFile, file)?;
     let publishers = read_publishers(alloc, file)?;
     let peers = read_imported(alloc, file)?;
-    let keys = unknown_keys(TableKind::ImportsFile, file)?;
+    let notices = publishers.notices.and_both(peers.notices, keys)?;
     Ok(Found {
         content: ImportsContent {
             publishers: publishers.content,
             peers: peers.content,
         },
-        notices: publishers.notices.and(peers.notices)?.and(keys)?,
+        notices,
     })
 }
 

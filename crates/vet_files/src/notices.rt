@@ -5,7 +5,7 @@ ghost use Rattle.vet_files.specs.Notices.{no_notices, one_key, one_skipped, only
 use std::alloc::AllocError;
 
 /// How many things a reader passed over in a file.
-#[derive(Clone, Copy, Debug, PartialEq, Eq)]
+#[derive(Clone, Copy, PartialEq, Eq)]
 pub struct Notices {
     /// Keys that are none of the known, each once with all that stands below it.
     pub keys: u64,
@@ -69,6 +69,13 @@ impl Notices {
             skipped: sum(self.skipped, other.skipped)?,
             doubles: sum(self.doubles, other.doubles)?,
         })
+    }
+
+    /// What all three passed over. Refused as `and` is.
+    pub(crate) fn and_both(self, other: Notices, further: Notices) -> Result<Notices, AllocError>
+        ensures { IfOk result (λ n. n ≡ together (together self other) further) }
+    {
+        self.and(other)?.and(further)
     }
 }
 

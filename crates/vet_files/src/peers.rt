@@ -80,11 +80,12 @@ fn read_peer(
 ) -> Result<Found<Option<PeerSettings>>, Refusal>
     ensures { Gives (λ f. f) (peer_told name path.now (table_view table.now)) result }
 {
+    let notices = unknown_keys(TableKind::Peer, table)?;
     let url = required(alloc, path, table, "url")?;
     let exclude: Option<PackageNames> = optional(alloc, path, table, "exclude")?;
     let map: Option<CriteriaMap> = optional(alloc, path, table, "criteria-map")?;
     Ok(Found {
-        notices: unknown_keys(TableKind::Peer, table)?,
+        notices,
         content: Some(PeerSettings {
             name,
             url,

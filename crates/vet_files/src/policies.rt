@@ -1,8 +1,8 @@
 //! The policies of a config file.
 ghost use Rattle.std.specs.Prelude.{Ok};
-ghost use Rattle.toml.specs.View.{table_view};
+ghost use Rattle.toml.specs.View.{table_view, view};
 ghost use Rattle.vet_base.specs.Gives.{Gives};
-ghost use Rattle.vet_files.specs.Config.{next_policy, policies_told, policy_onto, policy_told};
+ghost use Rattle.vet_files.specs.Config.{dependency_policy_told, new_key_told, next_policy, policies_told, policy_at, policy_onto, policy_told};
 
 use crate::audits_file::table_at;
 use crate::field::{fault, optional};
@@ -13,6 +13,7 @@ use crate::notices::Notices;
 use crate::walk::{ReadMember, each_member};
 use std::alloc::Global;
 use toml::{Table, Value};
+use vet_base::names::Names;
 use vet_base::refusal::Refusal;
 use vet_demand::dependency_criteria::DependencyCriteria;
 use vet_demand::policies::Policies;
@@ -49,19 +50,34 @@ impl ReadMember for ReadPolicies {
         key: &str,
         value: &Value,
     ) -> Result<Found<Policies>, Refusal> {
-        let Some(policy_key) = PolicyKey::read(alloc, key)? else {
-            return Err(fault(alloc, "policy", key));
-        };
-        if found.content.has(&policy_key) {
-            return Err(fault(alloc, "policy", key));
-        }
-        let Some(table) = value.as_table() else {
-            return Err(fault(alloc, "policy", key));
-        };
-        let path = path_below(alloc, "policy", key)?;
-        let more = read_policy(alloc, path.as_str(), table)?;
+        let policy_key = new_key(alloc, &found.content, key)?;
+        let more = read_policy_at(alloc, key, value)?;
         with_policy(found, policy_key, more)
     }
+}
+
+/// The key that a text is, where no earlier policy has it.
+fn new_key(alloc: Global, held: &Policies, text: &str) -> Result<PolicyKey, Refusal>
+    ensures { Gives (λ k. k) (new_key_told text.now held.now) result }
+{
+    let Some(key) = PolicyKey::read(alloc, text)? else {
+        return Err(fault(alloc, "policy", text));
+    };
+    if held.has(&key) {
+        return Err(fault(alloc, "policy", text));
+    }
+    Ok(key)
+}
+
+/// The policy whose table stands at a key.
+fn read_policy_at(alloc: Global, key: &str, value: &Value) -> Result<Found<Policy>, Refusal>
+    ensures { Gives (λ f. f) (policy_at key.now (view value.now)) result }
+{
+    let Some(table) = value.as_table() else {
+        return Err(fault(alloc, "policy", key));
+    };
+    let path = path_below(alloc, "policy", key)?;
+    read_policy(alloc, path.as_str(), table)
 }
 
 /// What was found, and one more policy.
@@ -87,6 +103,29 @@ fn read_policy(alloc: Global, path: &str, table: &Table) -> Result<Found<Policy>
     let audit_as_crates_io = optional(alloc, path, table, "audit-as-crates-io")?;
     let criteria = optional(alloc, path, table, "criteria")?;
     let dev_criteria = optional(alloc, path, table, "dev-criteria")?;
+    read_dependency_policy(
+        alloc,
+        path,
+        table,
+        audit_as_crates_io,
+        criteria,
+        dev_criteria,
+    )
+}
+
+/// The policy of a table, where what it says of its own package was read.
+fn read_dependency_policy(
+    alloc: Global,
+    path: &str,
+    table: &Table,
+    audit_as_crates_io: Option<bool>,
+    criteria: Option<Names>,
+    dev_criteria: Option<Names>,
+) -> Result<Found<Policy>, Refusal>
+    ensures { Gives (λ f. f)
+        (dependency_policy_told path.now (table_view table.now) audit_as_crates_io criteria dev_criteria) result }
+{
+    let notices = unknown_keys(TableKind::Policy, table)?;
     let dependencies: Option<DependencyCriteria> = optional(
         alloc,
         path,
@@ -95,7 +134,7 @@ fn read_policy(alloc: Global, path: &str, table: &Table) -> Result<Found<Policy>
     )?;
     let notes = optional(alloc, path, table, "notes")?;
     Ok(Found {
-        notices: unknown_keys(TableKind::Policy, table)?,
+        notices,
         content: Policy {
             audit_as_crates_io,
             criteria,

@@ -130,13 +130,14 @@ fn read_publisher(
 ) -> Result<Found<Option<Publisher>>, Refusal>
     ensures { Gives (λ f. f) (publisher_of path.now (table_view table.now)) result }
 {
+    let notices = unknown_keys(TableKind::Publisher, table)?;
     let version = required(alloc, path, table, "version")?;
     let day = required(alloc, path, table, "when")?;
     let user = required(alloc, path, table, "user-id")?;
     let login = optional(alloc, path, table, "user-login")?;
     let name = optional(alloc, path, table, "user-name")?;
     Ok(Found {
-        notices: unknown_keys(TableKind::Publisher, table)?,
+        notices,
         content: Some(Publisher {
             version,
             user,

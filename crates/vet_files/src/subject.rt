@@ -1,7 +1,11 @@
 //! What an audit is of.
+ghost use Rattle.std.specs.Prelude.{◌≡◌};
+ghost use Rattle.vet_files.specs.Audits.{audit_kind};
+
 use vet_base::delta::Delta;
 use vet_base::req::Req;
 use vet_base::version::VetVersion;
+use vet_entries::kind::{Audit, Kind};
 
 /// The key that says what an audit is of.
 #[derive(Clone, Copy)]
@@ -12,9 +16,31 @@ pub(crate) enum SubjectKey {
 }
 
 /// What an audit is of (The Cargo Vet Book, audit entries).
-#[derive(Drop)]
 pub(crate) enum Subject {
     Full(VetVersion),
     Delta(Delta),
     Violation(Req),
+}
+
+impl Drop for Subject {
+    fn drop(self) {
+        match self {
+            Subject::Full(_) => {}
+            Subject::Delta(_) => {}
+            Subject::Violation(_) => {}
+        }
+    }
+}
+
+impl Subject {
+    /// The kind of an audit of this.
+    pub(crate) fn with_audit(self, audit: Audit) -> Kind
+        ensures { result ≡ audit_kind self audit }
+    {
+        match self {
+            Subject::Full(version) => Kind::Full(version, audit),
+            Subject::Delta(delta) => Kind::Delta(delta, audit),
+            Subject::Violation(req) => Kind::Violation(req, audit),
+        }
+    }
 }

@@ -2,7 +2,7 @@
 ghost use Rattle.std.specs.Prelude.{◌≡◌};
 ghost use Rattle.toml.specs.View.{table_view};
 ghost use Rattle.vet_base.specs.Gives.{Gives};
-ghost use Rattle.vet_files.specs.Audits.{is_trusted, trusted_of, trusted_told, wildcard_of, wildcard_told, window_told};
+ghost use Rattle.vet_files.specs.Audits.{is_trusted, trusted_of, trusted_told, wildcard_of, wildcard_of_window, wildcard_told, window_told};
 
 use crate::entries::{has, own_entry, skipped};
 use crate::field::{optional, required};
@@ -13,6 +13,7 @@ use crate::whose::Whose;
 use std::alloc::Global;
 use toml::Table;
 use vet_base::name::PackageName;
+use vet_base::names::Names;
 use vet_base::refusal::Refusal;
 use vet_base::texts::Texts;
 use vet_entries::entry::Entry;
@@ -97,6 +98,22 @@ fn read_wildcard(
 {
     let criteria = required(alloc, path, table, "criteria")?;
     let window = read_window(alloc, path, table)?;
+    read_wildcard_of(alloc, package, path, table, criteria, window)
+}
+
+/// The wildcard audit of a table, where its criteria and its window were read.
+fn read_wildcard_of(
+    alloc: Global,
+    package: &PackageName,
+    path: &str,
+    table: &Table,
+    criteria: Names,
+    window: Window,
+) -> Result<Found<Option<Entry>>, Refusal>
+    ensures { Gives (λ f. f)
+        (wildcard_of_window «package».now path.now (table_view table.now) criteria window) result }
+{
+    let notices = unknown_keys(TableKind::Wildcard, table)?;
     let who: Option<Texts> = optional(alloc, path, table, "who")?;
     let renew = optional(alloc, path, table, "renew")?;
     let notes = optional(alloc, path, table, "notes")?;
@@ -104,9 +121,10 @@ fn read_wildcard(
         who: who.unwrap_or(Texts::new(alloc)),
         renew,
     };
+    let entry = own_entry(package, Kind::Wildcard(window, grant), criteria, notes)?;
     Ok(Found {
-        notices: unknown_keys(TableKind::Wildcard, table)?,
-        content: Some(own_entry(package, Kind::Wildcard(window, grant), criteria, notes)?),
+        content: Some(entry),
+        notices,
     })
 }
 
@@ -119,11 +137,13 @@ fn read_trusted(
 ) -> Result<Found<Option<Entry>>, Refusal>
     ensures { Gives (λ f. f) (trusted_of «package».now path.now (table_view table.now)) result }
 {
+    let notices = unknown_keys(TableKind::Trusted, table)?;
     let criteria = required(alloc, path, table, "criteria")?;
     let window = read_window(alloc, path, table)?;
     let notes = optional(alloc, path, table, "notes")?;
+    let entry = own_entry(package, Kind::Trusted(window), criteria, notes)?;
     Ok(Found {
-        notices: unknown_keys(TableKind::Trusted, table)?,
-        content: Some(own_entry(package, Kind::Trusted(window), criteria, notes)?),
+        content: Some(entry),
+        notices,
     })
 }

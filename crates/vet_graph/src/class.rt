@@ -14,7 +14,7 @@ use vet_base::refusal::Refusal;
 use vet_base::version::VetVersion;
 
 /// How well a version is vouched for, for one criterion.
-#[derive(Clone, Copy, Debug, PartialEq, Eq)]
+#[derive(Clone, Copy, PartialEq, Eq)]
 pub enum Class {
     /// The version is condemned, and yet some chain leads to it.
     Conflicting,

@@ -4,9 +4,17 @@ use vet_base::criteria_set::CriteriaSet;
 use vet_entries::step::Step;
 
 /// A step, and the criteria for which the version to which it leads is condemned.
-#[derive(Debug, Drop)]
 pub struct GuardedStep {
     pub step: Step,
     /// By their places in the table.
     pub condemned: CriteriaSet,
+}
+
+impl Drop for GuardedStep {
+    fn drop(self) {
+        let GuardedStep {
+            step: _,
+            condemned: _,
+        } = self;
+    }
 }

@@ -22,7 +22,6 @@ use crate::moves::Move;
 use crate::standing::Counts;
 use crate::touched::Touched;
 use std::alloc::Global;
-use std::fmt::Debug;
 use vet_base::name::{Name, PackageName};
 use vet_base::refusal::Refusal;
 use vet_base::version::VetVersion;
@@ -33,9 +32,9 @@ use vet_entries::facts::EntryFacts;
 ///
 /// An implementer says in the ghost members what its values mean, and the clauses of the calls are the
 /// contract that it has to prove and on which every caller rests.
-pub trait Keeper: Debug + Drop {
+pub trait Keeper: Drop {
     /// A planned change: what it makes of the standing, its moves, and the room that `apply` needs.
-    type Update: Debug + Drop;
+    type Update: Drop;
 
     /// The class of each demanded pair, in the order of the pairs.
     ghost standing: { Self → List Stand };

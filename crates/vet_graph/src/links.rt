@@ -13,7 +13,6 @@ use vet_base::refusal::Refusal;
 use vet_base::version::VetVersion;
 
 // Where each version is first led to, and which steps start there: all by the places of steps.
-#[derive(Debug, Drop)]
 pub(crate) struct Links {
     // For each step the first that leads to the same version, its head.
     pub(crate) heads: Vec<usize>,
@@ -23,8 +22,17 @@ pub(crate) struct Links {
     pub(crate) after: Vec<Vec<usize>>,
 }
 
+impl Drop for Links {
+    fn drop(self) {
+        let Links {
+            heads: _,
+            first: _,
+            after: _,
+        } = self;
+    }
+}
+
 /// The steps of one package, with an index by where they start.
-#[derive(Debug, Drop)]
 pub struct LinkedSteps {
     steps: Vec<GuardedStep>,
     links: Links,
@@ -44,6 +52,12 @@ impl Model for LinkedSteps {
     ghost view = { λ l. l.steps.items };
 
     ghost invariant = { λ l. IsLinked l.steps.items l.links };
+}
+
+impl Drop for LinkedSteps {
+    fn drop(self) {
+        let LinkedSteps { steps: _, links: _ } = self;
+    }
 }
 
 impl LinkedSteps {

@@ -12,11 +12,20 @@ use vet_base::refusal::Refusal;
 use vet_demand::pair::Pair;
 
 /// A pair whose class changed, with its class before and after: none where the pair isn't demanded.
-#[derive(Debug, Drop)]
 pub struct Move {
     pub pair: Pair,
     pub before: Option<Class>,
     pub after: Option<Class>,
+}
+
+impl Drop for Move {
+    fn drop(self) {
+        let Move {
+            pair: _,
+            before: _,
+            after: _,
+        } = self;
+    }
 }
 
 impl Clone for Move {

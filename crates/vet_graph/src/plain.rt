@@ -38,7 +38,7 @@ pub fn class_of_pair(alloc: Global, facts: &EntryFacts, pair: &Pair) -> Result<C
 }
 
 /// The class of each demanded pair, in the order of the pairs.
-#[derive(Debug, Drop)]
+#[derive(Drop)]
 pub struct PlainKeeper {
     standing: Vec<Stand>,
 }
@@ -57,7 +57,7 @@ impl Model for PlainKeeper {
 
 /// What other facts or another demand make of the standing, the moves from one to the other, and what was
 /// told is touched.
-#[derive(Debug, Drop)]
+#[derive(Drop)]
 pub struct PlainUpdate {
     standing: Vec<Stand>,
     moves: Vec<Move>,
@@ -154,11 +154,20 @@ impl Keeper for PlainKeeper {
 }
 
 // What is known of one package: its steps, each with what condemns its target, and its violations.
-#[derive(Drop)]
 struct PackageSteps {
     package: PackageName,
     steps: LinkedSteps,
     violations: Vec<Violation>,
+}
+
+impl Drop for PackageSteps {
+    fn drop(self) {
+        let PackageSteps {
+            package: _,
+            steps: _,
+            violations: _,
+        } = self;
+    }
 }
 
 // Each pair of a demand with its class. The pairs of a package stand side by side, so its steps are found once.

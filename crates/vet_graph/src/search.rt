@@ -56,7 +56,7 @@ use vet_base::version::VetVersion;
 use vet_entries::step::Step;
 
 /// Which steps a search skips.
-#[derive(Clone, Copy, Debug)]
+#[derive(Clone, Copy)]
 pub enum Skip<'v> {
     Nothing,
     /// The exempt steps.
@@ -66,7 +66,7 @@ pub enum Skip<'v> {
 }
 
 /// What a search asks of the steps of a chain.
-#[derive(Clone, Copy, Debug)]
+#[derive(Clone, Copy)]
 pub struct Terms<'v> {
     /// The place of the criterion for which each step vouches.
     pub place: usize,

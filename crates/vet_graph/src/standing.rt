@@ -10,14 +10,19 @@ use vet_base::version::VetVersion;
 use vet_demand::pair::Pair;
 
 /// A demanded pair, and the class at which it stands.
-#[derive(Debug, Drop)]
 pub struct Stand {
     pub pair: Pair,
     pub class: Class,
 }
 
+impl Drop for Stand {
+    fn drop(self) {
+        let Stand { pair: _, class: _ } = self;
+    }
+}
+
 /// How many demanded pairs stand in each class.
-#[derive(Clone, Copy, Debug, PartialEq, Eq)]
+#[derive(Clone, Copy, PartialEq, Eq)]
 pub struct Counts {
     pub conflicting: u64,
     pub full: u64,

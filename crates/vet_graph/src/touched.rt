@@ -6,7 +6,7 @@ use std::marker::Model;
 use vet_base::name::PackageName;
 
 /// Some packages, by their names.
-#[derive(Debug, Drop)]
+#[derive(Drop)]
 pub struct PackageList {
     names: Vec<PackageName>,
 }
@@ -47,7 +47,7 @@ impl Clone for PackageList {
 
 /// The packages that a command touches: outside these the steps, the condemned versions and the demanded
 /// pairs stay, and unless it is all of them the criteria stay too.
-#[derive(Debug, Drop)]
+#[derive(Drop)]
 pub enum Touched {
     /// Any package, and the criteria.
     All,

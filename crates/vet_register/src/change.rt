@@ -8,7 +8,7 @@ use vet_graph::keeper::Keeper;
 use vet_graph::touched::Touched;
 
 /// What an accepted command changes: the register that prepared it installs it.
-#[derive(Debug, Drop)]
+#[derive(Drop)]
 pub struct Change<K: Keeper> {
     pub(crate) edit: Edit,
     pub(crate) update: K::Update,
@@ -36,7 +36,7 @@ impl<K: Keeper> Change<K> {
 }
 
 /// What a register answers to a command that nothing refuses.
-#[derive(Debug, Drop)]
+#[derive(Drop)]
 pub enum Prepared<K: Keeper> {
     /// What it sets or adds is held already; an entry, under this number.
     Already(Option<u64>),

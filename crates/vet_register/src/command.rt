@@ -7,14 +7,18 @@ use vet_entries::entry::Entry;
 use vet_entries::publishers::Publishers;
 
 /// A command, and the day on which it is given.
-#[derive(Debug, Drop)]
 pub struct Command {
     pub day: Day,
     pub action: Action,
 }
 
+impl Drop for Command {
+    fn drop(self) {
+        let Command { day: _, action: _ } = self;
+    }
+}
+
 /// What a command asks for.
-#[derive(Debug, Drop)]
 pub enum Action {
     /// Adds a criterion, or puts it in place of the one of its name.
     SetCriterion(Criterion),
@@ -28,8 +32,20 @@ pub enum Action {
     SetPublishers(PackageName, Publishers),
 }
 
+impl Drop for Action {
+    fn drop(self) {
+        match self {
+            Action::SetCriterion(_) => {}
+            Action::RemoveCriterion(_) => {}
+            Action::AddEntry(_) => {}
+            Action::DropEntry(_) => {}
+            Action::SetPublishers(_, _) => {}
+        }
+    }
+}
+
 /// What came of a command that nothing refused.
-#[derive(Clone, Copy, Debug, PartialEq, Eq)]
+#[derive(Clone, Copy, PartialEq, Eq)]
 pub enum Outcome {
     /// It is done.
     Done {

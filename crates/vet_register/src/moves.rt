@@ -8,11 +8,20 @@ use vet_base::refusal::Refusal;
 pub use vet_graph::moves::Move;
 
 /// A move, with the step and the day of the command that made it.
-#[derive(Debug, Drop)]
 pub struct RecordedMove {
     pub step: u64,
     pub day: Day,
     pub change: Move,
+}
+
+impl Drop for RecordedMove {
+    fn drop(self) {
+        let RecordedMove {
+            step: _,
+            day: _,
+            change: _,
+        } = self;
+    }
 }
 
 /// Copies of some moves, with a step and a day. Refused: `NoMemory`.

@@ -50,7 +50,6 @@ use vet_graph::touched::Touched;
 
 /// What an organisation holds, the class of each demanded pair, and how these came about. A keeper keeps the
 /// classes; which one it is changes no answer.
-#[derive(Debug, Drop)]
 pub struct Register<K: Keeper> {
     facts: EntryFacts,
     demand: Demand,
@@ -104,6 +103,21 @@ impl<K: Keeper> Model for Register<K> {
       first = r.first;
       moves = r.moves.items;
     }) };
+}
+
+impl<K: Keeper> Drop for Register<K> {
+    fn drop(self) {
+        let Register {
+            facts: _,
+            demand: _,
+            keeper: _,
+            step: _,
+            next_entry: _,
+            moves_limit: _,
+            first: _,
+            moves: _,
+        } = self;
+    }
 }
 
 impl<K: Keeper> Register<K> {

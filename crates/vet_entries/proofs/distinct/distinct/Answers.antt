@@ -14,14 +14,6 @@ entries-preserved-in-Continue-branch-2 c =
       λ q. c.in_ok-is_new.ensures.seen.0 q ∙ has-new so_far entry q _ (h.3 q),
     )
 
-pub entries-preserved-else-is_new : goal.entries-preserved-else-is_new
-entries-preserved-else-is_new c =
-    let so_far = c.entries.yielded in
-    let entry = c.in-Some.entry in
-    let h = c.entries.invariant in
-    let held : has entry so_far ≡ true = sym (h.3 entry) ∙ c.in_ok-is_new.ensures.new ∙ ap not c.if-is_new.false in
-    (tt, tt, h.2 ∙ sym (distinct-held so_far entry held), λ q. c.in_ok-is_new.ensures.seen.0 q ∙ has-new so_far entry q _ (h.3 q))
-
 pub entries-preserved : goal.entries-preserved
 entries-preserved c =
     let so_far = c.entries.yielded in

@@ -1,25 +1,6 @@
-use Rattle.std.proofs.Common.{◌≡◌, refl, ap}
-use Rattle.toml.specs.Data.{no_members}
-use Rattle.toml.specs.View.{members_view, table_view}
-use Rattle.vet_files.specs.ConfigTable.{config_fields}
-use Rattle.vet_files.proofs.Fields.{fields_built}
+use Rattle.std.proofs.Common.{ap}
+use Rattle.toml.specs.View.{members_view}
 use Rattle.vet_files.proofs.config_table.config_table.Goals as goal
 
-pub returns-clause-table : goal.returns-clause-table
-returns-clause-table c =
-    let start : table_view c.new-file.result ≡ no_members = ap members_view c.new-file.ensures.empty in
-    rw (
-      c.in_ok-put_unless_empty-3.ensures,
-      c.in_ok-put_unless_empty-2.ensures,
-      c.in_ok-put_unless_empty.ensures,
-      c.in_ok-put_some.ensures.put,
-      c.in_ok-put_version.ensures.put,
-      start,
-      c.in_ok-policies.ensures.table,
-      c.in_ok-peers.ensures.table,
-      c.in_ok-exemptions.ensures.table,
-      c.as_slice.ensures,
-      c.as_slice-2.ensures,
-      c.as_slice-3.ensures.value,
-      c.as_ref.ensures.value,
-    ) (fields_built (config_fields c.args.content.now) refl)
+pub fill_config-requires : goal.fill_config-requires
+fill_config-requires c = ap members_view c.new-file.ensures.empty
