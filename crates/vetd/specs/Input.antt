@@ -5,3 +5,8 @@ use Rattle.std.specs.Io.KnownBytes.{Consumes}
 -- no more than so many bytes were read
 abbrev pub TakesAtMost : ℕ → Option (List ℕ) → Option (List ℕ) → Type 0
 TakesAtMost limit known known' = (bytes : List ℕ) × ((length bytes ≤ limit) × Consumes known known' bytes)
+
+-- a reader, and how many reads were made of it
+pub record Counted (R : Type 0) : Type 0 where
+  pub source : R
+  pub made : ℕ

@@ -1,10 +1,11 @@
 pub mod Answer
-pub mod ClassRun
+pub mod Asked
+pub mod ClassLine
 pub mod Counts
 pub mod FileKind
 pub mod Input
 pub mod IoFault
 pub mod Output
-pub mod ReadRun
+pub mod ReadLine
 pub mod RefusalText
 pub mod Words

@@ -43,9 +43,13 @@ bare_app = record (new_app (codes "vetd")) {
   top = record ((new_app (codes "vetd")).top) { subcommand_required = true; no_binary_name = true };
 }
 
+-- with its first subcommand
+abbrev pub class_alone_app : App
+class_alone_app = with_subcommand bare_app class_app.top
+
 -- the program's command line
 abbrev pub top_app : App
-top_app = with_subcommand (with_subcommand bare_app class_app.top) read_app.top
+top_app = with_subcommand class_alone_app read_app.top
 
 -- the matches of a subcommand, where it is the one of this name
 abbrev pub rows_if_named : Text → Option (Text × List Row) → Option (List Row)

@@ -34,6 +34,7 @@ pub fn explain<E: Write>(alloc: Global, error: &Error, errors: &mut E) -> Result
     ensures silent { IfErr result (λ fault. fault ≢ IoFault.Output
         → Keeps (E.contents errors.old) (E.contents errors.new)) }
     ensures faults { IfErr result (λ fault. (fault ≢ IoFault.Input) × (fault ≢ IoFault.Endless)) }
+    ensures memory { kind_of error.now ≡ ErrorKind.OutOfMemory → result ≡ Err IoFault.NoMemory }
 {
     if error.kind() == ErrorKind::OutOfMemory {
         return Err(IoFault::NoMemory);
@@ -46,19 +47,20 @@ pub fn explain<E: Write>(alloc: Global, error: &Error, errors: &mut E) -> Result
 /// Writes the text that was told to the output, or the refusal to the errors. Want of memory is a fault.
 pub fn report<W: Write, E: Write>(
     alloc: Global,
-    told: Result<String, Refusal>,
+    told: &Result<String, Refusal>,
     writer: &mut W,
     errors: &mut E,
 ) -> Result<u8, IoFault>
-    ensures says { IfOk result (λ status. Says (answer_for string_bytes told) status
+    ensures says { IfOk result (λ status. Says (answer_for string_bytes told.now) status
         (W.contents writer.old) (W.contents writer.new)
         (E.contents errors.old) (E.contents errors.new)) }
-    ensures part { IfErr result (λ fault. fault ≡ IoFault.Output → Stops (answer_for string_bytes told)
+    ensures part { IfErr result (λ fault. fault ≡ IoFault.Output → Stops (answer_for string_bytes told.now)
         (W.contents writer.old) (W.contents writer.new)
         (E.contents errors.old) (E.contents errors.new)) }
     ensures silent { IfErr result (λ fault. fault ≢ IoFault.Output
         → Keeps (W.contents writer.old) (W.contents writer.new)
         × Keeps (E.contents errors.old) (E.contents errors.new)) }
+    ensures faults { IfErr result (λ fault. fault ≢ IoFault.Endless) }
 {
     match told {
         Ok(text) => {
@@ -67,7 +69,7 @@ pub fn report<W: Write, E: Write>(
         }
         Err(Refusal::NoMemory) => Err(IoFault::NoMemory),
         Err(refusal) => {
-            let line = refusal_text(alloc, &refusal)?;
+            let line = refusal_text(alloc, refusal)?;
             write_whole(errors, line.as_bytes())?;
             Ok(REFUSED)
         }

@@ -16,20 +16,22 @@
 ghost use Rattle.std.specs.Prelude.{◌≡◌, IfOk};
 
 mod answer;
-mod class_run;
+mod asked;
+mod class_line;
 mod counts;
 mod file_kind;
 mod input;
 mod io_fault;
 mod output;
-mod read_run;
+mod read_line;
 mod refusal_text;
+mod run;
 mod words;
 
 use crate::answer::{EXPLAINED, explain};
-use crate::class_run::class_run;
+use crate::input::CountedReader;
 use crate::io_fault::IoFault;
-use crate::read_run::read_run;
+use crate::run::{class_run, read_run};
 use crate::words::{begins_read, not_text};
 use std::alloc::Global;
 use std::io::Write;
@@ -71,18 +73,19 @@ fn fault_status<R: Eprint>(rt: &R, fault: IoFault) -> u8
 }
 
 fn main(rt: HostRuntime) -> ExitCode {
+    let mut reader = CountedReader::new(rt.reader());
     let run = match words_after_name(&rt) {
         Ok(words) if begins_read(words.as_slice()) => read_run(
             rt.alloc(),
             words.as_slice(),
-            &mut rt.reader(),
+            &mut reader,
             &mut io::writer(&rt),
             &mut rt.stderr(),
         ),
         Ok(words) => class_run(
             rt.alloc(),
             words.as_slice(),
-            &mut rt.reader(),
+            &mut reader,
             &mut io::writer(&rt),
             &mut rt.stderr(),
         ),

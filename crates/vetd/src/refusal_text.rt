@@ -1,9 +1,9 @@
 //! What is printed of a refusal.
-ghost use Rattle.std.specs.Prelude.{◌≡◌, IfOk, string_bytes};
+ghost use Rattle.std.specs.Prelude.{◌≡◌, IfOk, codes, string_bytes};
 ghost use Rattle.vetd.specs.RefusalText.{refusal_details, refusal_line};
 
 use std::alloc::{AllocError, Global};
-use vet_base::refusal::Refusal;
+use vet_base::refusal::{Limit, Refusal};
 
 /// The line of a refusal: `refused`, its number, its name and its details, with one space between, and a
 /// line feed.
@@ -33,42 +33,17 @@ fn details(alloc: Global, refusal: &Refusal) -> Result<String, AllocError>
     }
 }
 
-#[cfg(test)]
-mod tests {
-    use super::refusal_text;
-    use std::test::Fail;
-    use vet_base::key_text::KeyText;
-    use vet_base::name::Name;
-    use vet_base::refusal::{Limit, Refusal};
-
-    #[test]
-    fn lines(rt: HostRuntime) -> Result<(), Fail> {
-        let alloc = rt.alloc();
-        let table = KeyText::told(alloc, "audits.serde[0]")?;
-        let key = KeyText::told(alloc, "version")?;
-        let rows = [
-            (Refusal::BadName, "refused 1 BadName\n"),
-            (
-                Refusal::UnknownCriterion(Name::parse(alloc, "nope")?),
-                "refused 6 UnknownCriterion nope\n",
-            ),
-            (Refusal::UnknownNode(12), "refused 16 UnknownNode 12\n"),
-            (Refusal::TwoParties(3), "refused 17 TwoParties 3\n"),
-            (
-                Refusal::TooLarge(Limit::Input),
-                "refused 18 TooLarge input\n",
-            ),
-            (Refusal::CsvRefused(4), "refused 27 CsvRefused 4\n"),
-            (
-                Refusal::FieldRefused(table, key),
-                "refused 28 FieldRefused audits.serde[0] version\n",
-            ),
-            (Refusal::NoMemory, "refused 29 NoMemory\n"),
-        ];
-        for (refusal, line) in rows {
-            let text = refusal_text(alloc, &refusal)?;
-            assert_eq!(rt; text.as_str(), line);
-        }
-        Ok(())
-    }
+/// The lines by example: a law, since not every refusal can be met in a run of this program.
+pub fn lines_by_example()
+    ensures plain { refusal_line Refusal.BadName ≡ codes "refused 1 BadName\n" }
+    ensures criterion { refusal_line (Refusal.UnknownCriterion (codes "nope"))
+        ≡ codes "refused 6 UnknownCriterion nope\n" }
+    ensures node { refusal_line (Refusal.UnknownNode 12) ≡ codes "refused 16 UnknownNode 12\n" }
+    ensures parties { refusal_line (Refusal.TwoParties 3) ≡ codes "refused 17 TwoParties 3\n" }
+    ensures large { refusal_line (Refusal.TooLarge Limit.Input) ≡ codes "refused 18 TooLarge input\n" }
+    ensures table { refusal_line (Refusal.CsvRefused 4) ≡ codes "refused 27 CsvRefused 4\n" }
+    ensures field { refusal_line (Refusal.FieldRefused (codes "audits.serde[0]") (codes "version"))
+        ≡ codes "refused 28 FieldRefused audits.serde[0] version\n" }
+    ensures memory { refusal_line Refusal.NoMemory ≡ codes "refused 29 NoMemory\n" }
+{
 }

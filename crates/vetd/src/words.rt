@@ -2,9 +2,9 @@
 ghost use Rattle.std.specs.Prelude.{◌≡◌, ◌≢◌, List, IfOk, IfErr, codes, map, option_and_then, option_map};
 ghost use Rattle.clap.specs.Words.{App, Rule, first_of, found_of, kind_of, rows_of, with_rule};
 ghost use Rattle.clap.specs.Words.{subcommand_rows_of, Text};
-ghost use Rattle.vetd.specs.Words.{IsApp, IsRule, asked_of, bare_app, begins_read, class_app, class_given};
-ghost use Rattle.vetd.specs.Words.{given, kind_from, read_app, read_given, rows_if_named, top_app, word_rule};
-ghost use Rattle.vetd.specs.Words.{words_from};
+ghost use Rattle.vetd.specs.Words.{IsApp, IsRule, asked_of, bare_app, begins_read, class_alone_app, class_app};
+ghost use Rattle.vetd.specs.Words.{class_given, given, kind_from, read_app, read_given, rows_if_named, top_app};
+ghost use Rattle.vetd.specs.Words.{word_rule, words_from};
 
 use crate::file_kind::FileKind;
 use clap::error::ErrorKind;
@@ -100,9 +100,16 @@ fn matches_of<'a, S: AsStr>(alloc: Global, words: &'a [S]) -> Result<ArgMatches<
 fn top_command<'a>(alloc: Global) -> Result<Command<'a>, AllocError>
     ensures { IfOk result (IsApp top_app) }
 {
-    let class = class_command(alloc)?;
     let read = read_command(alloc)?;
-    bare_command(alloc)?.subcommand(class)?.subcommand(read)
+    class_alone(alloc)?.subcommand(read)
+}
+
+/// The command line with its first subcommand, apart from the second: so nothing fails behind two commands.
+fn class_alone<'a>(alloc: Global) -> Result<Command<'a>, AllocError>
+    ensures { IfOk result (IsApp class_alone_app) }
+{
+    let class = class_command(alloc)?;
+    bare_command(alloc)?.subcommand(class)
 }
 
 /// The command line before its subcommands.

@@ -1,7 +1,7 @@
 use Rattle.std.proofs.Common.{◌≡◌, ◌∙◌, ap, List, ℕ, Ok, string_bytes, sym}
 use Rattle.vetd.specs.Counts.{counts_line, counts_of_config}
 use Rattle.vetd.specs.declared.counts.Counts.{Counts}
-use Rattle.vetd.proofs.read_run.config_line.Goals as goal
+use Rattle.vetd.proofs.read_line.config_line.Goals as goal
 
 pub returns : goal.returns
 returns c =

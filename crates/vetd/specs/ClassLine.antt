@@ -1,12 +1,11 @@
 -- What `class` prints of an audits file.
-use Rattle.std.specs.Prelude.{ℕ, List, ◌++◌, Option, Ok, codes, option_map}
-use Rattle.clap.specs.Walk.{Text}
+use Rattle.std.specs.Prelude.{ℕ, List, ◌++◌, Ok, codes}
 use Rattle.vet_base.specs.Gives.{◌>>=◌}
 use Rattle.vet_graph.specs.Class.{class_word}
 use Rattle.vet_graph.specs.declared.class.Class.{Class}
 use Rattle.vet_register.specs.ClassOfFile.{class_told}
 use Rattle.vetd.specs.Answer.{Telling}
-use Rattle.vetd.specs.Words.{AskedWords, class_given}
+use Rattle.vetd.specs.Words.{AskedWords}
 
 -- the line of a class: its word
 abbrev pub class_line : Class → List ℕ
@@ -15,7 +14,3 @@ class_line class = class_word class ++ codes "\n"
 -- the line of the class that is asked for
 abbrev pub class_line_told : AskedWords → Telling
 class_line_told w file = class_told file w.package_name w.version w.criterion >>= λ class. Ok (class_line class)
-
--- what the words of a class command ask for
-abbrev pub class_asked : List Text → Option Telling
-class_asked words = option_map class_line_told (class_given words)

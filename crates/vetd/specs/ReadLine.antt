@@ -1,6 +1,5 @@
 -- What `read` prints of a file.
-use Rattle.std.specs.Prelude.{List, Option, Ok, Err, if◌then◌else◌, length, nat_lt, option_map}
-use Rattle.clap.specs.Walk.{Text}
+use Rattle.std.specs.Prelude.{Ok, Err, if◌then◌else◌, length, nat_lt}
 use Rattle.vet_base.specs.Gives.{◌>>=◌}
 use Rattle.vet_base.specs.declared.limits.TheConstants.{MOST_INPUT_BYTES}
 use Rattle.vet_base.specs.declared.refusal.Limit.TheVariants.{Input}
@@ -10,7 +9,6 @@ use Rattle.vet_files.specs.Config.{config_told}
 use Rattle.vet_files.specs.Imports.{imports_told}
 use Rattle.vetd.specs.Answer.{Telling}
 use Rattle.vetd.specs.Counts.{counts_line, counts_of_audits, counts_of_config, counts_of_imports}
-use Rattle.vetd.specs.Words.{read_given}
 use Rattle.vetd.specs.declared.file_kind.FileKind.{FileKind}
 use Rattle.vetd.specs.declared.file_kind.FileKind.TheVariants.{Audits, Config, Imports}
 
@@ -32,7 +30,3 @@ file_line_told Imports file = imports_line_told file
 -- the line of a file that isn't too long
 abbrev pub read_told : FileKind → Telling
 read_told kind file = if nat_lt MOST_INPUT_BYTES (length file) then Err (TooLarge Input) else file_line_told kind file
-
--- what the words of a read command ask for
-abbrev pub read_asked : List Text → Option Telling
-read_asked words = option_map read_told (read_given words)

@@ -1,0 +1,53 @@
+//! What the words of a command line ask for.
+ghost use Rattle.std.specs.Prelude.{◌≡◌, ◌≢◌, IfOk, IfErr, map, string_bytes};
+ghost use Rattle.clap.specs.Words.{kind_of};
+ghost use Rattle.vet_base.specs.Gives.{Gives};
+ghost use Rattle.vetd.specs.Asked.{class_asked, line_told, read_asked};
+
+use crate::class_line::class_line;
+use crate::file_kind::FileKind;
+use crate::read_line::read_line;
+use crate::words::{ClassWords, class_words, read_words};
+use clap::Error;
+use clap::error::ErrorKind;
+use std::alloc::Global;
+use std::convert::AsStr;
+use vet_base::refusal::Refusal;
+
+/// What a command asks for. A command more is a row here and in `line`, and its function.
+#[derive(Clone, Copy)]
+pub enum Asked<'a> {
+    Class(ClassWords<'a>),
+    Read(FileKind),
+}
+
+impl Asked<'_> {
+    /// The line that is told of a file.
+    pub fn line(self, alloc: Global, file: &[u8]) -> Result<String, Refusal>
+        ensures { Gives string_bytes (line_told self.entry file.now) result }
+    {
+        match self {
+            Asked::Class(words) => class_line(alloc, words, file),
+            Asked::Read(kind) => read_line(alloc, kind, file),
+        }
+    }
+}
+
+/// What the words of a class command ask for. Refused as `class_words` refuses them.
+pub fn asked_class<'a, S: AsStr>(alloc: Global, words: &'a [S]) -> Result<Asked<'a>, Error>
+    ensures found { IfOk result (λ asked.
+        class_asked (map S.text words.entry.now) ≡ Some (line_told asked)) }
+    ensures refused { IfErr result (λ error. kind_of error ≢ ErrorKind.OutOfMemory
+        → class_asked (map S.text words.entry.now) ≡ None) }
+{
+    Ok(Asked::Class(class_words(alloc, words)?))
+}
+
+/// What the words of a read command ask for. Refused as `read_words` refuses them.
+pub fn asked_read<S: AsStr>(alloc: Global, words: &[S]) -> Result<Asked<'static>, Error>
+    ensures found { IfOk result (λ asked. read_asked (map S.text words.now) ≡ Some (line_told asked)) }
+    ensures refused { IfErr result (λ error. kind_of error ≢ ErrorKind.OutOfMemory
+        → read_asked (map S.text words.now) ≡ None) }
+{
+    Ok(Asked::Read(read_words(alloc, words)?))
+}
