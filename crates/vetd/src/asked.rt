@@ -14,7 +14,8 @@ use std::alloc::Global;
 use std::convert::AsStr;
 use vet_base::refusal::Refusal;
 
-/// What a command asks for. A command more is a row here and in `line`, and its function.
+/// What a command asks for. A further command is a row here, a row in `line`, and the function that tells its
+/// line.
 #[derive(Clone, Copy)]
 pub enum Asked<'a> {
     Class(ClassWords<'a>),

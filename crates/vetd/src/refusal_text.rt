@@ -45,5 +45,4 @@ pub fn lines_by_example()
     ensures field { refusal_line (Refusal.FieldRefused (codes "audits.serde[0]") (codes "version"))
         ≡ codes "refused 28 FieldRefused audits.serde[0] version\n" }
     ensures memory { refusal_line Refusal.NoMemory ≡ codes "refused 29 NoMemory\n" }
-{
-}
+{}
