@@ -4,7 +4,7 @@ use Rattle.std.specs.Prelude.{option_map}
 use Rattle.clap.specs.Words.{kind_of}
 use Rattle.clap.specs.declared.error.Error.{Error}
 use Rattle.clap.specs.declared.error.kind.ErrorKind.TheVariants.{OutOfMemory}
-use Rattle.vetd.specs.Answer.{Answer, Answers, Says, Stops, Telling}
+use Rattle.vetd.specs.Answer.{Answers, Says, Stops, Telling}
 use Rattle.vetd.specs.Asked.{line_told, telling_of}
 use Rattle.vetd.specs.declared.asked.Asked.{Asked}
 use Rattle.vetd.specs.declared.io_fault.IoFault.{IoFault}
