@@ -1,0 +1,1 @@
+"""What `tests/must_fail` is made of."""

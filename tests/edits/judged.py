@@ -47,7 +47,8 @@ def refusal(function, said, answered, had):
         # with no answers all goals were proved by the prover itself, whatever they are named
         known = failing if not answered else [it for it in failing if it in had(function)]
         if known:
-            return Judged(GOAL, f"{function}: " + ", ".join(f"`{it}`" for it in known[:4]))
+            beside = "; beside it an answer names what is gone" if gone else ""
+            return Judged(GOAL, f"{function}: " + ", ".join(f"`{it}`" for it in known[:4]) + beside)
     if gone:
         return Judged(NAMES, shown(gone))
     if differing:
@@ -64,7 +65,8 @@ def shown(fault):
 def judge(edits, said, answered, had):
     """Which of the edits that were tried together the prover has judged, each with what came of it."""
     edited = set().union(*(edit.functions for edit in edits))
-    beside = [name for name, verdict in said.verdicts.items() if words.is_refusal(verdict) and not is_among(name, edited)]
+    refused = [name for name, verdict in said.verdicts.items() if words.is_refusal(verdict)]
+    beside = [name for name in refused if not is_among(name, edited)]
     judged = {}
     for edit in edits:
         verdicts = {name: it for name, it in said.verdicts.items() if is_among(name, edit.functions)}

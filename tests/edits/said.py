@@ -1,6 +1,7 @@
 """What the prover says of functions: a verdict on each, the goals of its own that were left unproved, and the
 faults of its proof files."""
 
+import itertools
 import re
 
 VERDICT = re.compile(r"^fn (\S+): (.*)$")
@@ -9,7 +10,7 @@ FAULT = re.compile(r"^(?:\./)?(proofs/\S+\.antt):(\d+):\d+: error: (?:`([^`]+)`:
 NO_FUNCTION = re.compile(r"has no function `([^`]+)`|fits several functions.*`([^`]+)`")
 # what a fault says where a proof file names what is not there, and where it rests on such a declaration
 GONE = re.compile(r"has no field `|has no `|is not in scope|was not admitted|has no constructor `|names no ")
-RESTS = re.compile(r"^\d+ declarations? that depends? on .*were? not checked: (.*)$|^\d+ declaration that depends on .*was not checked: (.*)$")
+RESTS = re.compile(r"^\d+ declarations? that depends? on .* (?:was|were) not checked: (.*)$")
 
 
 class Fault:
@@ -20,7 +21,7 @@ class Fault:
         self.text = " ".join(it.strip() for it in lines)
         head = " ".join(it.strip() for it in lines[:2])
         rests = RESTS.search(head)
-        self.resting = re.findall(r"[^\s,]+", (rests[1] or rests[2]) if rests else "")
+        self.resting = re.findall(r"[^\s,]+", rests[1] if rests else "")
         self.is_of_names = bool(GONE.search(head))
         # a declaration that rests on a refused one is refused for that one's sake
         self.is_of_types = not self.is_of_names and not rests
@@ -42,8 +43,8 @@ class Said:
                 self.verdicts[verdict[1]], self.goals[verdict[1]] = verdict[2], goals
                 goals = []
             elif fault:
-                end = next((it for it in range(at + 1, len(lines)) if not lines[it].startswith("  ")), len(lines))
-                self.faults.append(Fault(fault[1], fault[2], [fault[4], *lines[at + 1 : end]]))
+                more = itertools.takewhile(lambda it: it.startswith("  "), lines[at + 1 :])
+                self.faults.append(Fault(fault[1], fault[2], [fault[4], *more]))
 
     def faults_of(self, function):
         """The faults of a function's own proof files."""
@@ -68,4 +69,5 @@ def folder_of(function):
 
 def is_refusal(verdict):
     """Whether a function is refused for its own sake, and not for one that it calls."""
-    return verdict.startswith(("not proved", "no proof")) and "it calls `" not in verdict and "it passes " not in verdict
+    rests = "it calls `" in verdict or "it passes " in verdict
+    return verdict.startswith(("not proved", "no proof")) and not rests

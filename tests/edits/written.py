@@ -5,8 +5,8 @@ import dataclasses
 import os
 import re
 
-TYPE = re.compile(r"\b(?:struct|enum|trait) (\w+)")
-IMPL = re.compile(r"^(?:unsafe )?impl\b(?P<head>[^{]*)", re.M)
+FUNCTION = re.compile(r"^( *)(?:pub(?:\(\w+\))? )?(?:const )?(?:unsafe )?fn (\w+)", re.M)
+OWNER = re.compile(r"^(?:pub(?:\(\w+\))? )?(?:unsafe )?(impl|trait)\b([^{\n]*)", re.M)
 
 
 class BadEdit(Exception):
@@ -62,7 +62,8 @@ class Edit:
         for it in self.changes:
             function = function_at(crate, it, texts)
             if function not in self.functions:
-                raise BadEdit(f"{self.label}: it changes {function or it.path + ' outside of any body'}, which it does not name")
+                what = function or f"{it.path} outside of any body"
+                raise BadEdit(f"{self.label}: it changes {what}, which it does not name")
             changed.add(function)
         for name in sorted(self.functions - changed):
             raise BadEdit(f"{self.label}: it names {name}, which it does not change")
@@ -71,11 +72,13 @@ class Edit:
 def function_at(crate, change, texts):
     """The prover's name of the function in whose body a change lies, or None."""
     text = texts[change.path]
-    above = list(re.finditer(r"^( *)(?:pub(?:\(\w+\))? )?(?:const )?(?:unsafe )?fn (\w+)", text[: change.start], re.M))
+    above = list(FUNCTION.finditer(text[: change.start]))
     if not above:
         return None
     indent, name = above[-1][1], above[-1][2]
-    body = re.compile(rf"^{indent}\{{$|^(?! *(?:requires|ensures|ghost|decreases)\b).*\{{$", re.M).search(text, above[-1].start())
+    # a body begins on a line of its own, or on the first line where the function has no clauses
+    opening = re.compile(rf"^{indent}\{{$|^(?! *(?:requires|ensures|ghost|decreases)\b).*\{{$", re.M)
+    body = opening.search(text, above[-1].start())
     end = re.compile(rf"^{indent}\}}", re.M).search(text, body.end()) if body else None
     if not end or not body.end() <= change.start or not change.end <= end.start():
         return None
@@ -86,7 +89,7 @@ def function_at(crate, change, texts):
 
 def type_above(text):
     """The type of the `impl` or trait in whose items a text ends, and the trait that the `impl` is of."""
-    heads = list(re.finditer(r"^(?:pub(?:\(\w+\))? )?(?:unsafe )?(impl|trait)\b([^{\n]*)", text, re.M))
+    heads = list(OWNER.finditer(text))
     if not heads:
         return ""
     head = heads[-1][2]
