@@ -1,10 +1,12 @@
 //! What a run prints, a line at a time. Printing takes no memory.
 
 use std::io;
+use vet_base::criteria_table::CriteriaTable;
 use vet_base::name::{Name, PackageName};
 use vet_base::refusal::Refusal;
 use vet_entries::facts::HeldEntry;
 use vet_entries::kind::{Kind, Window};
+use vet_entries::publisher_records::PackagePublishers;
 use vet_entries::publishers::Publishers;
 use vet_graph::class::Class;
 use vet_graph::keeper::Keeper;
@@ -34,19 +36,20 @@ pub fn print_outcome(rt: &impl Print, outcome: Outcome) -> io::Result<()> {
 
 /// Prints a refusal: its number, its name, and what it tells beside.
 pub fn print_refusal(rt: &impl Print, refusal: &Refusal) -> io::Result<()> {
-    let number = refusal.number();
-    let name = refusal.name();
+    print!(rt; "refused {} {}", refusal.number(), refusal.name())?;
+    print_details(rt, refusal)?;
+    println!(rt; "")
+}
+
+// What a refusal tells beside its number and its name.
+fn print_details(rt: &impl Print, refusal: &Refusal) -> io::Result<()> {
     match refusal {
-        Refusal::UnknownCriterion(criterion) => {
-            println!(rt; "refused {number} {name} {criterion}")
-        }
+        Refusal::UnknownCriterion(criterion) => print!(rt; " {criterion}"),
         Refusal::UnknownNode(record) | Refusal::TwoParties(record) | Refusal::CsvRefused(record) =>
-            println!(rt; "refused {number} {name} {record}"),
-        Refusal::TooLarge(limit) => println!(rt; "refused {number} {name} {}", limit.word()),
-        Refusal::FieldRefused(table, key) => {
-            println!(rt; "refused {number} {name} {table} {key}")
-        }
-        _ => println!(rt; "refused {number} {name}"),
+            print!(rt; " {record}"),
+        Refusal::TooLarge(limit) => print!(rt; " {}", limit.word()),
+        Refusal::FieldRefused(table, key) => print!(rt; " {table} {key}"),
+        _ => Ok(()),
     }
 }
 
@@ -54,38 +57,29 @@ pub fn print_refusal(rt: &impl Print, refusal: &Refusal) -> io::Result<()> {
 /// recorded moves.
 pub fn print_contents<K: Keeper>(rt: &impl Print, register: &Register<K>) -> io::Result<()> {
     println!(rt; "step {}", register.step())?;
-    print_criteria(rt, register)?;
-    for held in register.entries() {
-        print_entry(rt, held)?;
-    }
-    for listed in register.publishers() {
-        print_publishers(rt, &listed.package, &listed.publishers)?;
-    }
-    for pair in register.demand() {
-        let class = register.class(&pair.package, &pair.version, &pair.criterion);
-        println!(rt;
-            "pair {} {} {} {}",
-            pair.package,
-            pair.version,
-            pair.criterion,
-            class_word(class)
-        )?;
-    }
+    print_criteria(rt, register.criteria())?;
+    print_entries(rt, register.entries())?;
+    print_packages(rt, register.publishers())?;
+    print_pairs(rt, register)?;
     print_counts(rt, "counts", register.counts())?;
     print_counts(rt, "first", register.first_counts())?;
-    for change in register.moves() {
-        print_move(rt, change)?;
+    print_moves(rt, register.moves())
+}
+
+fn print_criteria(rt: &impl Print, criteria: &CriteriaTable) -> io::Result<()> {
+    for name in criteria.names() {
+        print!(rt; "criterion {name}")?;
+        if let Some(criterion) = criteria.get(name) {
+            print_names(rt, criterion.implies.as_slice())?;
+        }
+        println!(rt; "")?;
     }
     Ok(())
 }
 
-fn print_criteria<K: Keeper>(rt: &impl Print, register: &Register<K>) -> io::Result<()> {
-    for name in register.criteria().names() {
-        print!(rt; "criterion {name}")?;
-        if let Some(criterion) = register.criteria().get(name) {
-            print_names(rt, criterion.implies.as_slice())?;
-        }
-        println!(rt; "")?;
+fn print_entries(rt: &impl Print, entries: &[HeldEntry]) -> io::Result<()> {
+    for held in entries {
+        print_entry(rt, held)?;
     }
     Ok(())
 }
@@ -114,6 +108,13 @@ fn print_window(rt: &impl Print, word: &str, window: Window) -> io::Result<()> {
     print!(rt; " {word} {user} {} {}", window.first, window.last)
 }
 
+fn print_packages(rt: &impl Print, packages: &[PackagePublishers]) -> io::Result<()> {
+    for listed in packages {
+        print_publishers(rt, &listed.package, &listed.publishers)?;
+    }
+    Ok(())
+}
+
 fn print_publishers(
     rt: &impl Print,
     package: &PackageName,
@@ -136,11 +137,33 @@ fn print_names(rt: &impl Print, names: &[Name]) -> io::Result<()> {
     Ok(())
 }
 
+// The demanded pairs, each with its class.
+fn print_pairs<K: Keeper>(rt: &impl Print, register: &Register<K>) -> io::Result<()> {
+    for pair in register.demand() {
+        let class = register.class(&pair.package, &pair.version, &pair.criterion);
+        println!(rt;
+            "pair {} {} {} {}",
+            pair.package,
+            pair.version,
+            pair.criterion,
+            class_word(class)
+        )?;
+    }
+    Ok(())
+}
+
 fn print_counts(rt: &impl Print, title: &str, counts: Counts) -> io::Result<()> {
     println!(rt;
         "{title} conflicting {} full {} partial {} exempted {} unvetted {}",
         counts.conflicting, counts.full, counts.partial, counts.exempted, counts.unvetted
     )
+}
+
+fn print_moves(rt: &impl Print, moves: &[RecordedMove]) -> io::Result<()> {
+    for change in moves {
+        print_move(rt, change)?;
+    }
+    Ok(())
 }
 
 fn print_move(rt: &impl Print, recorded: &RecordedMove) -> io::Result<()> {

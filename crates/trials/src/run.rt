@@ -53,21 +53,30 @@ pub fn run<K: Keeper>(
     contents: Contents,
 ) -> io::Result<Ending> {
     match register_of::<K>(alloc, text) {
-        Ok(mut register) => {
-            let ending = give_all(rt, alloc, &mut register, text, contents)?;
-            if let Ending::Line(_) = ending {
-                return Ok(ending);
-            }
-            if has_commands(text) || !register.demand().is_empty() {
-                print_contents(rt, &register)?;
-            }
-            Ok(ending)
-        }
+        Ok(mut register) => run_on(rt, alloc, &mut register, text, contents),
         Err(refusal) => {
             print_refusal(rt, &refusal)?;
             Ok(Ending::Refused)
         }
     }
+}
+
+// A run of an example on its register.
+fn run_on<K: Keeper>(
+    rt: &impl Print,
+    alloc: Global,
+    register: &mut Register<K>,
+    text: &str,
+    contents: Contents,
+) -> io::Result<Ending> {
+    let ending = give_all(rt, alloc, register, text, contents)?;
+    if let Ending::Line(_) = ending {
+        return Ok(ending);
+    }
+    if has_commands(text) || !register.demand().is_empty() {
+        print_contents(rt, register)?;
+    }
+    Ok(ending)
 }
 
 fn has_commands(text: &str) -> bool {

@@ -24,24 +24,55 @@ pub fn value(alloc: Global, table: &CriteriaTable, line: &str) -> Result<String,
     let [word, texts @ ..] = words.as_slice() else {
         return Err(Fault::NotUnderstood);
     };
-    match word.as_str() {
+    value_of(alloc, table, word.as_str(), texts)
+}
+
+// What a line of this word is told.
+fn value_of(
+    alloc: Global,
+    table: &CriteriaTable,
+    word: &str,
+    texts: &[String],
+) -> Result<String, Fault> {
+    match word {
         "name" => name(alloc, texts),
         "package" => package_name(alloc, texts),
         "key" => key(alloc, texts),
         "texts" => set_of_texts(alloc, texts),
         "text-of" => text_of(alloc, texts),
         "closure" => closure(alloc, table, texts),
+        _ => version_value(alloc, word, texts),
+    }
+}
+
+// What a line is told that asks for versions, deltas or requirements.
+fn version_value(alloc: Global, word: &str, texts: &[String]) -> Result<String, Fault> {
+    match word {
         "version" => version(alloc, texts),
         "delta" => delta(alloc, texts),
         "order" => order(alloc, texts),
         "requirement" => requirement(alloc, texts),
         "matches" => matches(alloc, texts),
         "equal" => equal(alloc, texts),
+        _ => day_value(alloc, word, texts),
+    }
+}
+
+// What a line is told that asks for a day.
+fn day_value(alloc: Global, word: &str, texts: &[String]) -> Result<String, Fault> {
+    match word {
         "day" => day(alloc, texts),
         "day-order" => day_order(alloc, texts),
         "day-number" => day_number(alloc, texts),
         "day-of-parts" => day_of_parts(alloc, texts),
         "plus" => plus(alloc, texts),
+        _ => file_value(alloc, word, texts),
+    }
+}
+
+// What a line is told that asks for what stands in a file.
+fn file_value(alloc: Global, word: &str, texts: &[String]) -> Result<String, Fault> {
+    match word {
         "policy-key" => policy_key(alloc, texts),
         "peer-file" => peer_file(alloc, texts),
         "written-audits" => written_audits(alloc, texts),
@@ -68,6 +99,11 @@ fn set_of_texts(alloc: Global, texts: &[String]) -> Result<String, Fault> {
     for text in texts {
         set.insert(Text::parse(alloc, text.as_str())?)?;
     }
+    in_brackets(alloc, &set)
+}
+
+// How many texts a set holds, and each in brackets.
+fn in_brackets(alloc: Global, set: &Texts) -> Result<String, Fault> {
     let mut told = set.len().to_string(alloc)?;
     for text in set.as_slice() {
         told.push_str(" [")?;

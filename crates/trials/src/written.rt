@@ -9,8 +9,8 @@ use crate::fault::Fault;
 use crate::line::{one, two, word_of};
 use std::alloc::Global;
 use vet_entries::peer_settings::PeerSettings;
-use vet_files::audits_file::{read_audits, write_audits};
-use vet_files::config_file::{read_config, write_config};
+use vet_files::audits_file::{AuditsContent, read_audits, write_audits};
+use vet_files::config_file::{ConfigContent, read_config, write_config};
 use vet_files::imports_file::{ImportsContent, read_imports, write_imports};
 use vet_files::notices::Notices;
 
@@ -64,24 +64,40 @@ fn imports_told(alloc: Global, settings: &[PeerSettings], imports: &str) -> Resu
 
 fn write_audits_of(alloc: Global, bytes: &[u8]) -> Result<Written, Fault> {
     let found = read_audits(alloc, bytes)?;
-    let criteria = found.content.criteria.len();
-    let entries = found.content.entries.len();
+    audits_written(alloc, &found.content, found.notices)
+}
+
+fn audits_written(
+    alloc: Global,
+    content: &AuditsContent,
+    notices: Notices,
+) -> Result<Written, Fault> {
+    let criteria = content.criteria.len();
+    let entries = content.entries.len();
     Ok(Written {
-        notices: found.notices,
         held: format!(in alloc; "criteria {criteria} entries {entries}")?,
-        text: write_audits(alloc, &found.content)?,
+        text: write_audits(alloc, content)?,
+        notices,
     })
 }
 
 fn write_config_of(alloc: Global, bytes: &[u8]) -> Result<Written, Fault> {
     let found = read_config(alloc, bytes)?;
-    let entries = found.content.exemptions.len();
-    let policies = found.content.policies.len();
-    let peers = found.content.peers.len();
+    config_written(alloc, &found.content, found.notices)
+}
+
+fn config_written(
+    alloc: Global,
+    content: &ConfigContent,
+    notices: Notices,
+) -> Result<Written, Fault> {
+    let entries = content.exemptions.len();
+    let policies = content.policies.len();
+    let peers = content.peers.len();
     Ok(Written {
-        notices: found.notices,
         held: format!(in alloc; "entries {entries} policies {policies} peers {peers}")?,
-        text: write_config(alloc, &found.content)?,
+        text: write_config(alloc, content)?,
+        notices,
     })
 }
 
