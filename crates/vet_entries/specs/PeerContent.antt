@@ -1,5 +1,5 @@
 -- What the audits file of a peer gives.
-use Rattle.std.specs.Prelude.{◌≡◌, ◌≤◌, ◌&&◌, not, Bool, true, false, List, Option, Some, None, length, refl}
+use Rattle.std.specs.Prelude.{◌≡◌, ◌≤◌, ◌&&◌, Bool, true, false, List, Option, Some, None, length, refl}
 use Rattle.std.specs.List.{All}
 use Rattle.std.specs.Coded.{Coded, code_by, coded×, coded_list}
 use Rattle.vet_base.specs.declared.criterion.Criterion.{Criterion}

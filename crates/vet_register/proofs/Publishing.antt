@@ -1,5 +1,5 @@
 -- What publisher records are after those of a package were set, and windows that end in time.
-use Rattle.std.proofs.Common.{◌≡◌, ℕ, ◌≤◌, Bool, true, false, List, [], ◌∷◌, ◌++◌, Ok, refl, sym, length}
+use Rattle.std.proofs.Common.{◌≡◌, ℕ, false, List, [], ◌∷◌, ◌++◌, Ok, refl}
 use Rattle.std.specs.Prelude.{IfOk, Result, Err}
 use Rattle.std.specs.List.{All, filter}
 use Rattle.std.specs.Ordering.{MatchOrdering, int_cmp, is_lt}
@@ -15,7 +15,6 @@ use Rattle.std.proofs.lemmas.List.Elements.{All-nil, All-cons, All-append, All-f
 use Rattle.vet_base.specs.declared.limits.TheConstants.{MOST_PUBLISHERS}
 use Rattle.vet_base.specs.declared.refusal.Limit.TheVariants as limit
 use Rattle.vet_base.specs.declared.refusal.Refusal.TheVariants.{TooLarge}
-use Rattle.vet_base.specs.Gives.{◌>>=◌}
 use Rattle.vet_entries.specs.declared.publisher.Publisher.{Publisher}
 use Rattle.vet_entries.specs.declared.publisher_records.PackagePublishers.{PackagePublishers}
 use Rattle.vet_entries.specs.PublisherRecords.{IsByName, is_before, is_behind, records_total, with_any, with_records}
