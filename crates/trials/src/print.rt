@@ -57,9 +57,17 @@ fn print_details(rt: &impl Print, refusal: &Refusal) -> io::Result<()> {
 /// recorded moves.
 pub fn print_contents<K: Keeper>(rt: &impl Print, register: &Register<K>) -> io::Result<()> {
     println!(rt; "step {}", register.step())?;
+    print_held(rt, register)?;
+    print_standing(rt, register)
+}
+
+fn print_held<K: Keeper>(rt: &impl Print, register: &Register<K>) -> io::Result<()> {
     print_criteria(rt, register.criteria())?;
     print_entries(rt, register.entries())?;
-    print_packages(rt, register.publishers())?;
+    print_packages(rt, register.publishers())
+}
+
+fn print_standing<K: Keeper>(rt: &impl Print, register: &Register<K>) -> io::Result<()> {
     print_pairs(rt, register)?;
     print_counts(rt, "counts", register.counts())?;
     print_counts(rt, "first", register.first_counts())?;
