@@ -8,12 +8,14 @@ pub mod DeltaLemmas
 pub mod DeltaText
 pub mod Held
 pub mod Kept
+pub mod KeyedLemmas
 pub mod Meeting
 pub mod Missing
 pub mod OrderLemmas
 pub mod ReqLemmas
 pub mod Rising
 pub mod SemverErrors
+pub mod SetsByKey
 pub mod Tables
 pub mod VersionLemmas
 pub mod Walks

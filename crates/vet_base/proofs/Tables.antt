@@ -124,6 +124,10 @@ module _ (names : List (List ℕ)) (criteria : List Criterion) (kept : IsKept na
   pub keys_kept : map.keys (map.from_sorted {R = R} (by_name criteria)) ≡ names
   keys_kept = ap (mapped (λ e. e.0)) entries_kept ∙ keys-by_name criteria ∙ kept.named
 
+  -- a name that a search does not find is not held
+  pub not_held : (table : Criteria) (name : List ℕ) (place : ℕ) → map.from_sorted {R = R} (by_name criteria) ≡ table → Lacks names name place → map.contains_key table name ≡ false
+  not_held table name place is lacks = sym (key_searched table names name (Err place) (ap map.keys (sym is) ∙ keys_kept) lacks)
+
   pub length_kept : length criteria ≡ length names
   length_kept = sym (length-map criteria (λ c. c.name)) ∙ ap length kept.named
 

@@ -9,6 +9,7 @@ pub mod Delta
 pub mod Fed
 pub mod Gives
 pub mod KeyText
+pub mod Keyed
 pub mod Name
 pub mod NameLaws
 pub mod Names

@@ -185,11 +185,13 @@ impl CriteriaTable {
     /// Adds a criterion, or puts it in place of the one of its name. Refused: `TooManyCriteria` for a new
     /// name in a full table, `UnknownCriterion` of the least name that it implies and that is neither in the
     /// table nor its own, `BuiltInCriterion`, and `NoMemory`, which stands in place of no other refusal than
-    /// `UnknownCriterion`. After a refusal the table is as it was.
+    /// `UnknownCriterion`. A name that is held takes no memory. After a refusal the table is as it was.
     pub fn set(&mut self, criterion: Criterion) -> Result<(), Refusal>
         ensures refused { IfSome (set_verdict self.old criterion) (λ e. Refuses e result) }
         ensures memory { set_verdict self.old criterion ≡ None → IfErr result (λ e. e ≡ Refusal.NoMemory) }
         ensures ok { OnOk result (self.new ≡ map.insert self.old criterion.name criterion) }
+        ensures held { set_verdict self.old criterion ≡ None
+            → map.contains_key self.old criterion.name ≡ true → result ≡ Ok tt }
         ensures err { OnErr result (self.new ≡ self.old) }
         ensures table { IsTable self.new }
     {

@@ -1,4 +1,5 @@
-//! The limits of the register, each stated once.
+//! The limits of the register.
+ghost use Rattle.std.specs.Prelude.{◌≡◌};
 
 /// The most bytes of a name.
 pub const MOST_NAME_BYTES: usize = 64;
@@ -77,3 +78,32 @@ pub const FIRST_DAY_NUMBER: i32 = -719_528;
 
 /// The number of 9999-12-31.
 pub const LAST_DAY_NUMBER: i32 = 2_932_896;
+
+/// Each limit is the number that the rules have. It is said here once more, so that a slip in a constant, which most
+/// proofs would bear, is refused. Does nothing.
+pub fn limits_are_as_ruled()
+    ensures name { MOST_NAME_BYTES ≡ 64 }
+    ensures version { MOST_VERSION_BYTES ≡ 256 }
+    ensures requirement { MOST_REQ_BYTES ≡ 256 }
+    ensures revision { REVISION_DIGITS ≡ 40 }
+    ensures text { MOST_TEXT_BYTES ≡ 65536 }
+    ensures key { MOST_KEY_BYTES ≡ 200 }
+    ensures input { MOST_INPUT_BYTES ≡ 8388608 }
+    ensures reads { MOST_READS ≡ 10000000 }
+    ensures criteria { MOST_CRITERIA ≡ 64 }
+    ensures peer_criteria { MOST_PEER_CRITERIA ≡ 62 }
+    ensures peers { MOST_PEERS ≡ 64 }
+    ensures entries { MOST_ENTRIES ≡ 100000 }
+    ensures publishers { MOST_PUBLISHERS ≡ 100000 }
+    ensures window { MOST_WINDOW_DAYS ≡ 366 }
+    ensures policies { MOST_POLICIES ≡ 10000 }
+    ensures projects { MOST_PROJECTS ≡ 64 }
+    ensures nodes { MOST_NODES ≡ 10000 }
+    ensures edges { MOST_EDGES ≡ 100000 }
+    ensures members { MOST_MEMBERS ≡ 1000 }
+    ensures reviews { MOST_REVIEWS ≡ 100000 }
+    ensures moves { MOST_MOVES ≡ 1000000 }
+    ensures step { LAST_STEP ≡ 9223372036854775807 }
+    ensures number { LAST_NUMBER ≡ 9223372036854775806 }
+    ensures year { LAST_YEAR ≡ 9999 }
+{}

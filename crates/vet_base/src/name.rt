@@ -5,6 +5,8 @@ ghost use Rattle.std.specs.List.{list_all};
 ghost use Rattle.vet_base.specs.Gives.{Gives, found_or};
 ghost use Rattle.vet_base.specs.Name.{is_name, is_package_byte, is_package_name, read_name, read_package_name};
 
+use crate::exact::Exact;
+use crate::keyed::HasKey;
 use crate::limits::MOST_NAME_BYTES;
 use crate::refusal::Refusal;
 use crate::text::Text;
@@ -62,6 +64,32 @@ impl PackageName {
     {
         self.text.as_str()
     }
+}
+
+impl Exact for PackageName {
+    ghost use Rattle.std.proofs.Common.{rules};
+    ghost use Rattle.std.specs.FinMap.{nat_cmp-IsAntisymmetric, slice_cmp-IsAntisymmetric};
+
+    ghost only_equal = { slice_cmp-IsAntisymmetric nat_cmp-IsAntisymmetric };
+
+    ghost only_copies = { Prim.search rules };
+}
+
+impl HasKey for PackageName {
+    ghost use Rattle.std.proofs.Common.{rules};
+    ghost use Rattle.std.specs.Cmp.Lexicographic.{bytes_decides};
+
+    type Key = PackageName;
+
+    ghost key_of = { λ n. n };
+
+    fn key(&self) -> &PackageName {
+        self
+    }
+
+    ghost only_copies = { Prim.search rules };
+
+    ghost only_itself = { bytes_decides };
 }
 
 impl fmt::Display for PackageName {
@@ -136,6 +164,32 @@ impl Name {
     {
         self.text.as_str()
     }
+}
+
+impl Exact for Name {
+    ghost use Rattle.std.proofs.Common.{rules};
+    ghost use Rattle.std.specs.FinMap.{nat_cmp-IsAntisymmetric, slice_cmp-IsAntisymmetric};
+
+    ghost only_equal = { slice_cmp-IsAntisymmetric nat_cmp-IsAntisymmetric };
+
+    ghost only_copies = { Prim.search rules };
+}
+
+impl HasKey for Name {
+    ghost use Rattle.std.proofs.Common.{rules};
+    ghost use Rattle.std.specs.Cmp.Lexicographic.{bytes_decides};
+
+    type Key = Name;
+
+    ghost key_of = { λ n. n };
+
+    fn key(&self) -> &Name {
+        self
+    }
+
+    ghost only_copies = { Prim.search rules };
+
+    ghost only_itself = { bytes_decides };
 }
 
 impl fmt::Display for Name {

@@ -1,9 +1,10 @@
 //! Sets of names.
-ghost use Rattle.std.specs.Prelude.{◌≡◌, ◌==◌, ◌↔◌, IsTrue, OnOk, OnErr, IfOk, find, not};
+ghost use Rattle.std.specs.Prelude.{◌≡◌, ◌==◌, ◌↔◌, IsTrue, Ok, OnOk, OnErr, IfOk, find, not, true};
 ghost use Rattle.std.specs.FinSet as set;
 ghost use Rattle.std.specs.Option.{option_copied};
 ghost use Rattle.vet_base.specs.Names.{IsRising, members};
 
+use crate::keyed::Keyed;
 use crate::name::Name;
 use std::alloc::{AllocError, Global};
 use std::hash::{Hash, Hasher};
@@ -12,7 +13,7 @@ use std::marker::Model;
 /// A set of names, in the order of their bytes.
 #[derive(Drop)]
 pub struct Names {
-    names: Vec<Name>,
+    names: Keyed<Name>,
 }
 
 impl Model for Names {
@@ -35,18 +36,26 @@ impl Names {
         ensures { result ≡ set.empty }
     {
         Names {
-            names: Vec::new(alloc),
+            names: Keyed::new(alloc),
         }
     }
 
-    /// Adds a name. Where there is no memory, the set stays.
+    /// The set of some names, in whatever order. Takes a time of n log n.
+    pub fn of(alloc: Global, names: Vec<Name>) -> Result<Names, AllocError>
+        ensures { IfOk result (λ n. n ≡ set.from_list names.items) }
+    {
+        Ok(Names {
+            names: Keyed::of(alloc, names)?,
+        })
+    }
+
+    /// Adds a name. One that is held takes no memory. Where there is none, the set stays.
     pub fn insert(&mut self, name: Name) -> Result<(), AllocError>
         ensures ok { OnOk result (self.new ≡ set.insert self.old name) }
+        ensures held { set.contains self.old name ≡ true → result ≡ Ok tt }
         ensures err { OnErr result (self.new ≡ self.old) }
     {
-        if let Err(place) = self.names.binary_search(&name) {
-            self.names.insert(place, name)?;
-        }
+        self.names.insert(name)?;
         Ok(())
     }
 
@@ -54,7 +63,7 @@ impl Names {
     pub fn contains(&self, name: &Name) -> bool
         ensures { result ≡ set.contains self.now name.now }
     {
-        self.names.binary_search(name).is_ok()
+        self.names.has(name)
     }
 
     /// The least of these names that others lack.
@@ -75,7 +84,7 @@ impl Names {
         ensures rising { IsRising result.now }
         ensures set { self.now ≡ set.from_list result.now }
     {
-        self.names.as_slice()
+        self.names.items()
     }
 
     /// Whether there are no names.

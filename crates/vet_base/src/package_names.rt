@@ -1,8 +1,9 @@
 //! Sets of names of packages.
-ghost use Rattle.std.specs.Prelude.{◌≡◌, ◌==◌, ◌↔◌, IsTrue, OnOk, OnErr, IfOk};
+ghost use Rattle.std.specs.Prelude.{◌≡◌, ◌==◌, ◌↔◌, IsTrue, Ok, OnOk, OnErr, IfOk, true};
 ghost use Rattle.std.specs.FinSet as set;
 ghost use Rattle.vet_base.specs.Names.{IsRising, members};
 
+use crate::keyed::Keyed;
 use crate::name::PackageName;
 use std::alloc::{AllocError, Global};
 use std::marker::Model;
@@ -10,7 +11,7 @@ use std::marker::Model;
 /// A set of names of packages, in the order of their bytes.
 #[derive(Drop)]
 pub struct PackageNames {
-    names: Vec<PackageName>,
+    names: Keyed<PackageName>,
 }
 
 impl Model for PackageNames {
@@ -33,18 +34,26 @@ impl PackageNames {
         ensures { result ≡ set.empty }
     {
         PackageNames {
-            names: Vec::new(alloc),
+            names: Keyed::new(alloc),
         }
     }
 
-    /// Adds a name. Where there is no memory, the set stays.
+    /// The set of some names, in whatever order. Takes a time of n log n.
+    pub fn of(alloc: Global, names: Vec<PackageName>) -> Result<PackageNames, AllocError>
+        ensures { IfOk result (λ s. s ≡ set.from_list names.items) }
+    {
+        Ok(PackageNames {
+            names: Keyed::of(alloc, names)?,
+        })
+    }
+
+    /// Adds a name. One that is held takes no memory. Where there is none, the set stays.
     pub fn insert(&mut self, name: PackageName) -> Result<(), AllocError>
         ensures ok { OnOk result (self.new ≡ set.insert self.old name) }
+        ensures held { set.contains self.old name ≡ true → result ≡ Ok tt }
         ensures err { OnErr result (self.new ≡ self.old) }
     {
-        if let Err(place) = self.names.binary_search(&name) {
-            self.names.insert(place, name)?;
-        }
+        self.names.insert(name)?;
         Ok(())
     }
 
@@ -52,7 +61,7 @@ impl PackageNames {
     pub fn contains(&self, name: &PackageName) -> bool
         ensures { result ≡ set.contains self.now name.now }
     {
-        self.names.binary_search(name).is_ok()
+        self.names.has(name)
     }
 
     /// The names in the order of their bytes, each once.
@@ -61,7 +70,7 @@ impl PackageNames {
         ensures rising { IsRising result.now }
         ensures set { self.now ≡ set.from_list result.now }
     {
-        self.names.as_slice()
+        self.names.items()
     }
 
     /// Whether there are no names.

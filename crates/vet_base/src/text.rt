@@ -1,6 +1,8 @@
 //! Texts, and what names and keys are made of.
 ghost use Rattle.std.specs.Prelude.{◌≡◌, ◌↔◌, ◌≤◌, ◌<◌, length, IfOk, IfErr, Err};
 
+use crate::exact::Exact;
+use crate::keyed::HasKey;
 use crate::limits::MOST_TEXT_BYTES;
 use crate::refusal::{Limit, Refusal};
 use std::alloc::{AllocError, Global};
@@ -58,6 +60,32 @@ impl Text {
     {
         self.text.as_str()
     }
+}
+
+impl Exact for Text {
+    ghost use Rattle.std.proofs.Common.{rules};
+    ghost use Rattle.std.specs.FinMap.{nat_cmp-IsAntisymmetric, slice_cmp-IsAntisymmetric};
+
+    ghost only_equal = { slice_cmp-IsAntisymmetric nat_cmp-IsAntisymmetric };
+
+    ghost only_copies = { Prim.search rules };
+}
+
+impl HasKey for Text {
+    ghost use Rattle.std.proofs.Common.{rules};
+    ghost use Rattle.std.specs.Cmp.Lexicographic.{bytes_decides};
+
+    type Key = Text;
+
+    ghost key_of = { λ n. n };
+
+    fn key(&self) -> &Text {
+        self
+    }
+
+    ghost only_copies = { Prim.search rules };
+
+    ghost only_itself = { bytes_decides };
 }
 
 impl fmt::Display for Text {

@@ -1,8 +1,9 @@
 //! Sets of free texts.
-ghost use Rattle.std.specs.Prelude.{◌≡◌, ◌==◌, ◌↔◌, IsTrue, OnOk, OnErr, IfOk};
+ghost use Rattle.std.specs.Prelude.{◌≡◌, ◌==◌, ◌↔◌, IsTrue, Ok, OnOk, OnErr, IfOk, true};
 ghost use Rattle.std.specs.FinSet as set;
 ghost use Rattle.vet_base.specs.Names.{IsRising, members};
 
+use crate::keyed::Keyed;
 use crate::text::Text;
 use std::alloc::{AllocError, Global};
 use std::hash::{Hash, Hasher};
@@ -11,7 +12,7 @@ use std::marker::Model;
 /// A set of texts, in the order of their bytes, each once.
 #[derive(Drop)]
 pub struct Texts {
-    texts: Vec<Text>,
+    texts: Keyed<Text>,
 }
 
 impl Model for Texts {
@@ -34,18 +35,26 @@ impl Texts {
         ensures { result ≡ set.empty }
     {
         Texts {
-            texts: Vec::new(alloc),
+            texts: Keyed::new(alloc),
         }
     }
 
-    /// Adds a text. Where there is no memory, the set stays.
+    /// The set of some texts, in whatever order. Takes a time of n log n.
+    pub fn of(alloc: Global, texts: Vec<Text>) -> Result<Texts, AllocError>
+        ensures { IfOk result (λ s. s ≡ set.from_list texts.items) }
+    {
+        Ok(Texts {
+            texts: Keyed::of(alloc, texts)?,
+        })
+    }
+
+    /// Adds a text. One that is held takes no memory. Where there is none, the set stays.
     pub fn insert(&mut self, text: Text) -> Result<(), AllocError>
         ensures ok { OnOk result (self.new ≡ set.insert self.old text) }
+        ensures held { set.contains self.old text ≡ true → result ≡ Ok tt }
         ensures err { OnErr result (self.new ≡ self.old) }
     {
-        if let Err(place) = self.texts.binary_search(&text) {
-            self.texts.insert(place, text)?;
-        }
+        self.texts.insert(text)?;
         Ok(())
     }
 
@@ -55,7 +64,7 @@ impl Texts {
         ensures rising { IsRising result.now }
         ensures set { self.now ≡ set.from_list result.now }
     {
-        self.texts.as_slice()
+        self.texts.items()
     }
 
     /// Whether there are no texts.

@@ -1,9 +1,11 @@
 use Rattle.std.proofs.Common.{[], ap, sym, ◌∙◌, Ok, Err}
 use Rattle.std.specs.FinMap as map
+use Rattle.std.proofs.lemmas.Bool.{false≢true}
 use Rattle.std.proofs.lemmas.Result.{err_from_is_err_and, on_ok_weaker}
 use Rattle.vet_base.specs.CriteriaTable.{by_name}
 use Rattle.vet_base.proofs.Rising.{R, searched_in}
 use Rattle.vet_base.proofs.Kept.{no_verdict, told_verdict, may_set, kept_after_set, view_after_set, kept_after_insert, view_after_insert, either_end}
+use Rattle.vet_base.proofs.Tables.{not_held}
 use Rattle.vet_base.proofs.criteria_table.CriteriaTable.set.Goals as goal
 
 pub returns-in_err-check_set-clause-refused : goal.returns-in_err-check_set-clause-refused
@@ -67,3 +69,20 @@ returns-in_ok-name-in-Err-clause-ok c =
     let may = may_set c.args.self.now c.args.criterion (no_verdict _ c.in_ok-check_set.ensures) in
     on_ok_weaker c.put.result (λ a. ap (λ cs. map.from_sorted {R = R} (by_name cs)) a
     ∙ view_after_insert names c.self.inside.criteria.items c.self.invariant c.args.self.now c.self.view_is c.in-Err.place c.args.criterion lacks may) c.put.ensures.criteria
+
+pub returns-in_err-check_set-clause-held : goal.returns-in_err-check_set-clause-held
+returns-in_err-check_set-clause-held c none held = cc (rw none at c.in_err-check_set.ensures)
+
+pub returns-in_err-name-in-Err-clause-held : goal.returns-in_err-name-in-Err-clause-held
+returns-in_err-name-in-Err-clause-held c none held =
+    let names = c.self.inside.names.items in
+    let e = c.in-Err.ensures in
+    let lacks = searched_in names c.deref.result.now c.args.criterion.name (Err c.in-Err.place) c.deref.ensures.value c.self.invariant.rising e.bound e.position in
+    absurd (false≢true (sym (not_held names c.self.inside.criteria.items c.self.invariant c.args.self.now c.args.criterion.name c.in-Err.place c.self.view_is lacks) ∙ held))
+
+pub returns-in_ok-name-in-Err-clause-held : goal.returns-in_ok-name-in-Err-clause-held
+returns-in_ok-name-in-Err-clause-held c none held =
+    let names = c.self.inside.names.items in
+    let e = c.in-Err.ensures in
+    let lacks = searched_in names c.deref.result.now c.args.criterion.name (Err c.in-Err.place) c.deref.ensures.value c.self.invariant.rising e.bound e.position in
+    absurd (false≢true (sym (not_held names c.self.inside.criteria.items c.self.invariant c.args.self.now c.args.criterion.name c.in-Err.place c.self.view_is lacks) ∙ held))

@@ -1,21 +1,19 @@
-use Rattle.std.proofs.Common.{ap, sym, ◌∙◌, Ok, Err}
+use Rattle.std.proofs.Common.{ap, subst, sym, ◌∙◌}
 use Rattle.std.specs.FinSet as set
-use Rattle.vet_base.proofs.Rising.{Lacks, IsRising-insert, searched_in, from_list-insert, insert_held, any_found, contains-in_order}
+use Rattle.std.proofs.lemmas.Cmp.{nat_list_cmp_total}
+use Rattle.vet_base.specs.Names.{IsRising}
+use Rattle.vet_base.proofs.KeyedLemmas.{IsByKey-with_item}
+use Rattle.vet_base.proofs.Rising.{R, only_equal}
+use Rattle.vet_base.proofs.SetsByKey.{contains_is, from_list-with_item, own}
 use Rattle.vet_base.proofs.names.Names.insert.Goals as goal
 
-pub invariant_of-self : goal.invariant_of-self
-invariant_of-self c =
-    let e = c.in-Err.ensures in
-    let lacks : Lacks c.self.inside.names.items c.args.name c.in-Err.place = searched_in _ _ c.args.name (Err c.in-Err.place) c.deref.ensures.value c.self.invariant e.bound e.position in
-    rw c.in_ok-insert.ensures.items (IsRising-insert c.self.inside.names.items c.in-Err.place c.args.name lacks.low lacks.high c.self.invariant)
+pub returns-in_err-insert-clause-held : goal.returns-in_err-insert-clause-held
+returns-in_err-insert-clause-held c held = cc (c.in_err-insert.ensures.held (contains_is c.self.inside.names.items c.args.self.now c.args.name c.self.view_is ∙ held))
 
-pub returns-in_ok-insert-clause-ok : goal.returns-in_ok-insert-clause-ok
-returns-in_ok-insert-clause-ok c =
-    ap set.from_list c.in_ok-insert.ensures.items ∙ from_list-insert c.self.inside.names.items c.in-Err.place c.args.name
-    ∙ ap (λ s. set.insert s c.args.name) c.self.view_is
+pub invariant_of-self-2 : goal.invariant_of-self-2
+invariant_of-self-2 c =
+    subst IsRising (sym c.in_ok-insert.ensures.ok) (IsByKey-with_item R nat_list_cmp_total only_equal own c.self.inside.names.items c.args.name c.self.invariant)
 
-pub returns-in_default-clause-ok : goal.returns-in_default-clause-ok
-returns-in_default-clause-ok c =
-    let e = c.in_default.ensures in
-    let found = searched_in _ _ c.args.name (Ok c.in_default.field-0) c.deref.ensures.value c.self.invariant e.bound e.position in
-    sym (insert_held c.args.self.now c.args.name (sym (contains-in_order _ _ c.args.name c.self.view_is) ∙ any_found c.self.inside.names.items c.args.name c.in_default.field-0 found.0 found.1))
+pub returns-clause-ok : goal.returns-clause-ok
+returns-clause-ok c =
+    ap set.from_list c.in_ok-insert.ensures.ok ∙ from_list-with_item c.self.inside.names.items c.args.name ∙ ap (λ s. set.insert s c.args.name) c.self.view_is

@@ -4,4 +4,4 @@ use Rattle.vet_base.proofs.Rising.{len-from_list}
 use Rattle.vet_base.proofs.names.Names.len.Goals as goal
 
 pub returns : goal.returns
-returns c = c.len.ensures ∙ c.self.inside.names.ok.0 ∙ sym (len-from_list c.self.inside.names.items c.self.invariant) ∙ ap set.len c.self.view_is
+returns c = c.len.ensures ∙ sym (len-from_list c.self.inside.names.items c.self.invariant) ∙ ap set.len c.self.view_is

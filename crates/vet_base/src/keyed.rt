@@ -1,0 +1,251 @@
+//! Lists of items in the order of their keys, no key twice.
+ghost use Rattle.std.specs.Prelude.{◌≡◌, ◌==◌, IfOk, ◌<◌, ◌≤◌, ◌+◌, [], IfSome, IsTrue, OnErr, OnOk, Ok, insert, is_none, is_some, length, vec_capacity, vec_len};
+ghost use Rattle.std.specs.Bool.{Decides};
+ghost use Rattle.std.specs.Option.{option_copied};
+ghost use Rattle.vet_base.specs.Keyed.{Fits, IsByKey, IsPlace, all_set, edited, item_of, room_after, with_item, without_item};
+
+use crate::exact::Exact;
+use std::alloc::{AllocError, Global};
+use std::marker::Model;
+
+/// What stands in a list under a key of its own.
+pub trait HasKey: Clone + Eq + Drop {
+    /// What it is found by.
+    type Key: Exact;
+
+    /// The key of an item.
+    ghost key_of: { Self → Self.Key };
+
+    /// The key. Takes no memory.
+    fn key(&self) -> &Self::Key
+        ensures { result.now ≡ key_of self.now };
+
+    /// A copy is the item itself.
+    ghost only_copies: { (a b : Self) → Self.is_clone a b → b ≡ a };
+
+    /// Only an item itself is equal to it.
+    ghost only_itself: { (a b : Self) → Decides (Self.eq a b) (a ≡ b) };
+}
+
+/// Items in the order of their keys, no key twice.
+#[derive(Drop)]
+pub struct Keyed<T: HasKey> {
+    items: Vec<T>,
+}
+
+/// A change of such a list, which takes no memory.
+#[derive(Drop)]
+pub enum KeyedEdit<T: Drop> {
+    /// This item at this place, where its key belongs.
+    Put(usize, T),
+    /// The item at this place goes.
+    Take(usize),
+    /// This item in place of the one at this place, which has the same key.
+    Swap(usize, T),
+}
+
+impl<T: HasKey> Model for Keyed<T> {
+    ghost use Rattle.std.specs.Prelude.{◌-◌, vec_capacity, vec_len};
+    ghost use Rattle.vet_base.specs.Keyed.{IsByKey, KeyedRoom, keyed_code};
+
+    ghost Value = { KeyedRoom T };
+
+    ghost coded = { keyed_code T.code };
+
+    ghost view = { λ k. record {
+      items = k.items.items;
+      room = vec_capacity k.items - vec_len k.items;
+    } };
+
+    ghost invariant = { λ k. IsByKey T.Key.cmp T.key_of k.items.items };
+}
+
+impl<T: HasKey> Keyed<T> {
+    /// No items. Takes no memory.
+    pub fn new(alloc: Global) -> Keyed<T>
+        ensures { result.items ≡ [] }
+    {
+        Keyed {
+            items: Vec::new(alloc),
+        }
+    }
+
+    /// Some items, in whatever order; of those of one key the last stays. Takes a time of n log n.
+    pub fn of(alloc: Global, mut items: Vec<T>) -> Result<Keyed<T>, AllocError>
+        ensures { IfOk result (λ k. k.items ≡ all_set T.Key.cmp T.key_of [] items.items) }
+    {
+        items.sort_by(|a, b| a.key().cmp(b.key()))?;
+        // each belongs behind those before it, so that none is moved
+        set_one_by_one(alloc, items)
+    }
+
+    /// The items, in the order of their keys. Takes no memory.
+    pub fn items(&self) -> &[T]
+        ensures value { result.now ≡ self.now.items }
+        ensures by_key { IsByKey T.Key.cmp T.key_of self.now.items }
+    {
+        self.items.as_slice()
+    }
+
+    /// How many items there are. Takes no memory.
+    pub fn len(&self) -> usize
+        ensures { result ≡ length self.now.items }
+    {
+        self.items.len()
+    }
+
+    /// Whether there are none. Takes no memory.
+    pub fn is_empty(&self) -> bool
+        ensures { result ≡ (length self.now.items == 0) }
+    {
+        self.items.is_empty()
+    }
+
+    /// The item of a key, if there is one. Takes no memory, and a time of log n.
+    pub fn get(&self, key: &T::Key) -> Option<&T>
+        ensures { option_copied result ≡ item_of T.Key.cmp T.key_of self.now.items key.now }
+    {
+        match self.place_of(key) {
+            Ok(place) => Some(&self.items[place]),
+            Err(_) => None,
+        }
+    }
+
+    /// Whether there is an item of a key. Takes no memory, and a time of log n.
+    pub fn has(&self, key: &T::Key) -> bool
+        ensures { result ≡ is_some (item_of T.Key.cmp T.key_of self.now.items key.now) }
+    {
+        self.place_of(key).is_ok()
+    }
+
+    /// Sets the item of its key: adds it, or puts it in place of the one held, which takes no memory. Costs a
+    /// binary search, and where it adds a move of what stands behind. Where there is no memory, all stays.
+    pub fn insert(&mut self, item: T) -> Result<(), AllocError>
+        ensures ok { OnOk result (self.new.items ≡ with_item T.Key.cmp T.key_of self.old.items item) }
+        ensures held { IsTrue (is_some (item_of T.Key.cmp T.key_of self.old.items (T.key_of item))) → result ≡ Ok tt }
+        ensures err { OnErr result (self.new.items ≡ self.old.items) }
+    {
+        match self.place_of(item.key()) {
+            Ok(place) => {
+                self.items[place] = item;
+                Ok(())
+            }
+            Err(place) => {
+                self.items.insert(place, item)?;
+                Ok(())
+            }
+        }
+    }
+
+    /// Makes room for one more item. Costs nothing where there is room; else a move of all to twice the room.
+    pub fn reserve(&mut self) -> Result<(), AllocError>
+        ensures items { self.new.items ≡ self.old.items }
+        ensures ok { OnOk result (0 < self.new.room) }
+        ensures kept { self.old.room ≤ self.new.room }
+    {
+        self.items.reserve(1)
+    }
+
+    /// The edit that sets the item of its key. Takes no memory, and a time of log n.
+    pub fn edit_setting(&self, item: T) -> KeyedEdit<T>
+        ensures edit { edited result self.now.items ≡ with_item T.Key.cmp T.key_of self.now.items item }
+        ensures fits { 0 < self.now.room → Fits T.Key.cmp T.key_of result self.now }
+    {
+        match self.place_of(item.key()) {
+            Ok(place) => KeyedEdit::Swap(place, item),
+            Err(place) => KeyedEdit::Put(place, item),
+        }
+    }
+
+    /// The edit that drops the item of a key, if there is one. Takes no memory, and a time of log n.
+    pub fn edit_dropping(&self, key: &T::Key) -> Option<KeyedEdit<T>>
+        ensures none { is_none result ≡ is_none (item_of T.Key.cmp T.key_of self.now.items key.now) }
+        ensures edit { IfSome result (λ e.
+            edited e self.now.items ≡ without_item T.Key.cmp T.key_of self.now.items key.now) }
+        ensures fits { IfSome result (λ e. Fits T.Key.cmp T.key_of e self.now) }
+    {
+        match self.place_of(key) {
+            Ok(place) => Some(KeyedEdit::Take(place)),
+            Err(_) => None,
+        }
+    }
+
+    /// Makes an edit that fits, and answers the one that undoes it. Takes no memory. A put or a take moves what
+    /// stands behind its place.
+    pub fn apply(&mut self, edit: KeyedEdit<T>) -> KeyedEdit<T>
+        requires { Fits T.Key.cmp T.key_of edit self.old }
+        ensures items { self.new.items ≡ edited edit self.old.items }
+        ensures room { self.new.room ≡ room_after edit self.old.room }
+        ensures fits { Fits T.Key.cmp T.key_of result self.new }
+        ensures back { edited result self.new.items ≡ self.old.items }
+        ensures room_back { room_after result self.new.room ≡ self.old.room }
+    {
+        match edit {
+            KeyedEdit::Put(place, item) => {
+                put(&mut self.items, place, item);
+                KeyedEdit::Take(place)
+            }
+            KeyedEdit::Take(place) => KeyedEdit::Put(place, self.items.remove(place)),
+            KeyedEdit::Swap(place, item) => {
+                KeyedEdit::Swap(place, std::mem::replace(&mut self.items[place], item))
+            }
+        }
+    }
+
+    // Where the item of a key stands, or belongs.
+    fn place_of(&self, key: &T::Key) -> Result<usize, usize>
+        ensures place { IsPlace T.Key.cmp T.key_of self.now.items key.now result }
+        ensures by_key { IsByKey T.Key.cmp T.key_of self.now.items }
+    {
+        self.items.binary_search_by(|item| item.key().cmp(key))
+    }
+}
+
+impl<T: HasKey> Clone for Keyed<T> {
+    ghost is_clone = { λ a b. b.items ≡ a.items };
+
+    fn clone(&self) -> Result<Keyed<T>, AllocError> {
+        Ok(Keyed {
+            items: self.items.clone()?,
+        })
+    }
+}
+
+impl<T: HasKey> PartialEq for Keyed<T> {
+    ghost use Rattle.std.specs.Cmp.{on_per};
+    ghost use Rattle.std.specs.Cmp.Lexicographic.{lists_per, pointwise};
+    ghost use Rattle.std.specs.Prelude.{IsTrue, ◌↔◌, ◌≡◌};
+
+    ghost eq = { λ a b. pointwise T.eq a.items b.items };
+
+    ghost laws = { on_per (λ k. k.items) (lists_per T.PartialEq.laws) };
+
+    fn eq(&self, other: &Keyed<T>) -> bool
+        ensures value { result ≡ pointwise T.eq self.now.items other.now.items }
+        ensures same { IsTrue result ↔ (self.now.items ≡ other.now.items) }
+    {
+        self.items == other.items
+    }
+}
+
+// Some items, set in the order in which they stand.
+fn set_one_by_one<T: HasKey>(alloc: Global, items: Vec<T>) -> Result<Keyed<T>, AllocError>
+    ensures { IfOk result (λ k. k.items ≡ all_set T.Key.cmp T.key_of [] items.items) }
+{
+    let mut keyed = Keyed::new(alloc);
+    for item in items {
+        keyed.insert(item)?;
+    }
+    Ok(keyed)
+}
+
+// Puts an item in at a place where there is room, which takes no memory.
+fn put<T: Drop>(items: &mut Vec<T>, place: usize, item: T)
+    requires place { place ≤ vec_len items.old }
+    requires room { vec_len items.old < vec_capacity items.old }
+    ensures items { items.new.items ≡ insert items.old.items place item }
+    ensures len { vec_len items.new ≡ vec_len items.old + 1 }
+    ensures capacity { vec_capacity items.new ≡ vec_capacity items.old }
+{
+    let _ = items.insert(place, item);
+}
