@@ -3,12 +3,11 @@ use Rattle.std.specs.Prelude.{ℕ, ◌≡◌, ◌&&◌, Bool, List, Option, Some
 use Rattle.std.specs.Bool.{Decides}
 use Rattle.std.specs.Ordering.{nat_cmp}
 use Rattle.std.specs.Cmp.Lexicographic.{bytes_decides, pointwise, pointwise_decides, slice_cmp}
-use Rattle.std.specs.declared.result.Result.{Result}
 use Rattle.std.proofs.Common.{ap}
 use Rattle.std.proofs.lemmas.Bool.Decides.{Decides-and, Decides-like}
 use Rattle.vet_base.specs.Names.{NameSet, same_names}
 use Rattle.vet_base.specs.NameLaws.{same_names-Decides}
-use Rattle.vet_demand.specs.ByKey.{IsByKey, IsPlace, entry_of, with_entry}
+use Rattle.vet_base.specs.Keyed.{IsByKey, item_of, with_item}
 use Rattle.vet_demand.specs.declared.dependency_criteria.DependencyItem.{DependencyItem}
 
 -- the name at which an item stands
@@ -21,11 +20,11 @@ IsByPackage items = IsByKey (slice_cmp nat_cmp) item_name items
 
 -- the criteria at a name
 abbrev pub criteria_for : List DependencyItem → List ℕ → Option NameSet
-criteria_for items name = option_map (λ i. i.criteria) (entry_of (slice_cmp nat_cmp) item_name items name)
+criteria_for items name = option_map (λ i. i.criteria) (item_of (slice_cmp nat_cmp) item_name items name)
 
 -- the items of lesser names, then these criteria at this name, then the items of greater names
 abbrev pub with_criteria : List DependencyItem → List ℕ → NameSet → List DependencyItem
-with_criteria items name criteria = with_entry (slice_cmp nat_cmp) item_name items (record { «package» = name; criteria = criteria })
+with_criteria items name criteria = with_item (slice_cmp nat_cmp) item_name items (record { «package» = name; criteria = criteria })
 
 -- criteria are found at the name at which they were set, and at each other name what was found there stays
 abbrev pub SetCriteriaAreFound : Type 0
@@ -34,10 +33,6 @@ SetCriteriaAreFound = (items : List DependencyItem) (name : List ℕ) (criteria 
 abbrev pub OtherCriteriaStay : Type 0
 OtherCriteriaStay =
     (items : List DependencyItem) (name other : List ℕ) (criteria : NameSet) → (other ≡ name → ⊥) → criteria_for (with_criteria items name criteria) other ≡ criteria_for items other
-
--- where a name stands, or belongs
-abbrev pub IsDependencyPlace : List DependencyItem → List ℕ → Result ℕ ℕ → Type 0
-IsDependencyPlace items name place = IsPlace (slice_cmp nat_cmp) item_name items name place
 
 -- the same name with the same criteria
 abbrev pub dependency_eq : DependencyItem → DependencyItem → Bool

@@ -1,4 +1,3 @@
-pub mod ByKey
 pub mod Demand
 pub mod DependencyCriteria
 pub mod Pair

@@ -1,11 +1,10 @@
 -- Policies in the order of their keys, no key twice.
-use Rattle.std.specs.Prelude.{◌≡◌, ◌&&◌, Bool, ℕ, List, Option, Some, is_some, option_map}
+use Rattle.std.specs.Prelude.{◌≡◌, ◌&&◌, Bool, List, Option, Some, is_some, option_map}
 use Rattle.std.specs.Bool.{Decides}
 use Rattle.std.specs.Cmp.Lexicographic.{pointwise, pointwise_decides}
-use Rattle.std.specs.declared.result.Result.{Result}
 use Rattle.std.proofs.Common.{ap}
 use Rattle.std.proofs.lemmas.Bool.Decides.{Decides-and, Decides-like}
-use Rattle.vet_demand.specs.ByKey.{IsByKey, IsPlace, entry_of, with_entry}
+use Rattle.vet_base.specs.Keyed.{IsByKey, item_of, with_item}
 use Rattle.vet_demand.specs.Policy.{policy_eq, policy_eq-Decides}
 use Rattle.vet_demand.specs.PolicyKey.{policy_key_cmp, policy_key_eq, policy_key_eq-Decides}
 use Rattle.vet_demand.specs.declared.policy.Policy.{Policy}
@@ -22,15 +21,15 @@ IsInKeyOrder policies = IsByKey policy_key_cmp key_of policies
 
 -- the policy of a key
 abbrev pub policy_of : List KeyedPolicy → PolicyKey → Option Policy
-policy_of policies key = option_map (λ p. p.policy) (entry_of policy_key_cmp key_of policies key)
+policy_of policies key = option_map (λ p. p.policy) (item_of policy_key_cmp key_of policies key)
 
 -- whether there is one
 abbrev pub has_policy : List KeyedPolicy → PolicyKey → Bool
-has_policy policies key = is_some (entry_of policy_key_cmp key_of policies key)
+has_policy policies key = is_some (item_of policy_key_cmp key_of policies key)
 
 -- the policies of lesser keys, then this one of this key, then those of greater keys
 abbrev pub with_policy : List KeyedPolicy → PolicyKey → Policy → List KeyedPolicy
-with_policy policies key policy = with_entry policy_key_cmp key_of policies (record { key = key; policy = policy })
+with_policy policies key policy = with_item policy_key_cmp key_of policies (record { key = key; policy = policy })
 
 -- a policy is found at its key, and at each other key what was found there stays
 abbrev pub SetPolicyIsFound : Type 0
@@ -39,10 +38,6 @@ SetPolicyIsFound = (policies : List KeyedPolicy) (key : PolicyKey) (policy : Pol
 abbrev pub OtherPoliciesStay : Type 0
 OtherPoliciesStay =
     (policies : List KeyedPolicy) (key other : PolicyKey) (policy : Policy) → (other ≡ key → ⊥) → policy_of (with_policy policies key policy) other ≡ policy_of policies other
-
--- where a key stands, or belongs
-abbrev pub IsPolicyPlace : List KeyedPolicy → PolicyKey → Result ℕ ℕ → Type 0
-IsPolicyPlace policies key place = IsPlace policy_key_cmp key_of policies key place
 
 -- the same key with the same policy
 abbrev pub keyed_policy_eq : KeyedPolicy → KeyedPolicy → Bool

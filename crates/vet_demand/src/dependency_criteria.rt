@@ -1,11 +1,12 @@
 //! Criteria for the dependencies of a package.
-ghost use Rattle.std.specs.Prelude.{◌≡◌, ◌↔◌, ◌==◌, [], IsTrue, OnErr, OnOk, length};
+ghost use Rattle.std.specs.Prelude.{◌≡◌, ◌↔◌, ◌==◌, [], IsTrue, OnErr, OnOk, Ok, is_some, length};
 ghost use Rattle.std.specs.Cmp.{decided, partial_equiv_from_equiv};
 ghost use Rattle.std.specs.Option.{option_copied};
-ghost use Rattle.vet_demand.specs.DependencyCriteria.{IsByPackage, IsDependencyPlace, OtherCriteriaStay, SetCriteriaAreFound, criteria_for, dependencies_eq, dependencies_eq-Decides, dependency_eq, dependency_eq-Decides, with_criteria};
+ghost use Rattle.vet_demand.specs.DependencyCriteria.{IsByPackage, OtherCriteriaStay, SetCriteriaAreFound, criteria_for, dependencies_eq, dependencies_eq-Decides, dependency_eq, dependency_eq-Decides, item_name, with_criteria};
 
 use std::alloc::{AllocError, Global};
 use std::marker::Model;
+use vet_base::keyed::{HasKey, Keyed};
 use vet_base::name::PackageName;
 use vet_base::names::Names;
 
@@ -53,16 +54,29 @@ impl Eq for DependencyItem {
     ghost laws = { decided dependency_eq dependency_eq-Decides };
 }
 
+impl HasKey for DependencyItem {
+    type Key = PackageName;
+
+    ghost key_of = { item_name };
+
+    fn key(&self) -> &PackageName {
+        &self.package
+    }
+
+    ghost only_copies = { λ a b h. h };
+
+    ghost only_itself = { dependency_eq-Decides };
+}
+
 /// Criteria by the names of dependencies, in the order of the names' bytes, each name once.
 #[derive(Drop)]
 pub struct DependencyCriteria {
-    items: Vec<DependencyItem>,
+    items: Keyed<DependencyItem>,
 }
 
 impl Model for DependencyCriteria {
     ghost use Rattle.std.specs.Coded.{coded_list};
     ghost use Rattle.std.specs.Prelude.{List};
-    ghost use Rattle.vet_demand.specs.DependencyCriteria.{IsByPackage};
     ghost use Rattle.vet_demand.specs.contracts.dependency_criteria.DependencyItem as item;
     ghost use Rattle.vet_demand.specs.declared.dependency_criteria.DependencyItem.{DependencyItem};
 
@@ -71,8 +85,6 @@ impl Model for DependencyCriteria {
     ghost coded = { coded_list item.the_row.coded };
 
     ghost view = { λ d. d.items.items };
-
-    ghost invariant = { λ d. IsByPackage d.items.items };
 }
 
 impl DependencyCriteria {
@@ -81,7 +93,7 @@ impl DependencyCriteria {
         ensures { result ≡ [] }
     {
         DependencyCriteria {
-            items: Vec::new(alloc),
+            items: Keyed::new(alloc),
         }
     }
 
@@ -89,34 +101,22 @@ impl DependencyCriteria {
     /// there is no memory, all stays.
     pub fn insert(&mut self, name: PackageName, criteria: Names) -> Result<(), AllocError>
         ensures ok { OnOk result (self.new ≡ with_criteria self.old name criteria) }
+        ensures held { IsTrue (is_some (criteria_for self.old name)) → result ≡ Ok tt }
         ensures err { OnErr result (self.new ≡ self.old) }
     {
-        match self.place_of(&name) {
-            Ok(place) => {
-                self.items[place] = DependencyItem {
-                    package: name,
-                    criteria,
-                };
-                Ok(())
-            }
-            Err(place) => {
-                let item = DependencyItem {
-                    package: name,
-                    criteria,
-                };
-                self.items.insert(place, item)?;
-                Ok(())
-            }
-        }
+        self.items.insert(DependencyItem {
+            package: name,
+            criteria,
+        })
     }
 
     /// The criteria at a name, if there are some. Takes no memory, and a time of log n.
     pub fn get(&self, name: &PackageName) -> Option<&Names>
         ensures { option_copied result ≡ criteria_for self.now name.now }
     {
-        match self.place_of(name) {
-            Ok(place) => Some(&self.items[place].criteria),
-            Err(_) => None,
+        match self.items.get(name) {
+            Some(held) => Some(&held.criteria),
+            None => None,
         }
     }
 
@@ -125,7 +125,7 @@ impl DependencyCriteria {
         ensures value { result.now ≡ self.now }
         ensures by_package { IsByPackage self.now }
     {
-        self.items.as_slice()
+        self.items.items()
     }
 
     /// How many names there are.
@@ -140,13 +140,6 @@ impl DependencyCriteria {
         ensures { result ≡ (length self.now == 0) }
     {
         self.items.is_empty()
-    }
-
-    // Where a name stands, or belongs.
-    fn place_of(&self, name: &PackageName) -> Result<usize, usize>
-        ensures { IsDependencyPlace self.now name.now result }
-    {
-        self.items.binary_search_by(|item| item.package.cmp(name))
     }
 }
 

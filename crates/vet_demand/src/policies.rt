@@ -1,13 +1,14 @@
 //! The policies of a project.
-ghost use Rattle.std.specs.Prelude.{◌≡◌, ◌↔◌, ◌==◌, [], IsTrue, OnErr, OnOk, length};
+ghost use Rattle.std.specs.Prelude.{◌≡◌, ◌↔◌, ◌==◌, [], IsTrue, OnErr, OnOk, Ok, length};
 ghost use Rattle.std.specs.Cmp.{decided, partial_equiv_from_equiv};
 ghost use Rattle.std.specs.Option.{option_copied};
-ghost use Rattle.vet_demand.specs.Policies.{IsInKeyOrder, IsPolicyPlace, OtherPoliciesStay, SetPolicyIsFound, has_policy, keyed_policy_eq, keyed_policy_eq-Decides, policies_eq, policies_eq-Decides, policy_of, with_policy};
+ghost use Rattle.vet_demand.specs.Policies.{IsInKeyOrder, OtherPoliciesStay, SetPolicyIsFound, has_policy, key_of, keyed_policy_eq, keyed_policy_eq-Decides, policies_eq, policies_eq-Decides, policy_of, with_policy};
 
 use crate::policy::Policy;
 use crate::policy_key::PolicyKey;
 use std::alloc::{AllocError, Global};
 use std::marker::Model;
+use vet_base::keyed::{HasKey, Keyed};
 
 /// A policy, and what it is of.
 pub struct KeyedPolicy {
@@ -49,16 +50,29 @@ impl Eq for KeyedPolicy {
     ghost laws = { decided keyed_policy_eq keyed_policy_eq-Decides };
 }
 
+impl HasKey for KeyedPolicy {
+    type Key = PolicyKey;
+
+    ghost key_of = { key_of };
+
+    fn key(&self) -> &PolicyKey {
+        &self.key
+    }
+
+    ghost only_copies = { λ a b h. h };
+
+    ghost only_itself = { keyed_policy_eq-Decides };
+}
+
 /// Policies in the order of their keys, no key twice.
 #[derive(Drop)]
 pub struct Policies {
-    policies: Vec<KeyedPolicy>,
+    policies: Keyed<KeyedPolicy>,
 }
 
 impl Model for Policies {
     ghost use Rattle.std.specs.Coded.{coded_list};
     ghost use Rattle.std.specs.Prelude.{List};
-    ghost use Rattle.vet_demand.specs.Policies.{IsInKeyOrder};
     ghost use Rattle.vet_demand.specs.contracts.policies.KeyedPolicy as keyed;
     ghost use Rattle.vet_demand.specs.declared.policies.KeyedPolicy.{KeyedPolicy};
 
@@ -67,8 +81,6 @@ impl Model for Policies {
     ghost coded = { coded_list keyed.the_row.coded };
 
     ghost view = { λ p. p.policies.items };
-
-    ghost invariant = { λ p. IsInKeyOrder p.policies.items };
 }
 
 impl Policies {
@@ -77,7 +89,7 @@ impl Policies {
         ensures { result ≡ [] }
     {
         Policies {
-            policies: Vec::new(alloc),
+            policies: Keyed::new(alloc),
         }
     }
 
@@ -85,35 +97,27 @@ impl Policies {
     pub fn has(&self, key: &PolicyKey) -> bool
         ensures { result ≡ has_policy self.now key.now }
     {
-        self.place_of(key).is_ok()
+        self.policies.has(key)
     }
 
     /// The policy of a key, if there is one. Takes no memory, and a time of log n.
     pub fn get(&self, key: &PolicyKey) -> Option<&Policy>
         ensures { option_copied result ≡ policy_of self.now key.now }
     {
-        match self.place_of(key) {
-            Ok(place) => Some(&self.policies[place].policy),
-            Err(_) => None,
+        match self.policies.get(key) {
+            Some(held) => Some(&held.policy),
+            None => None,
         }
     }
 
-    /// Adds the policy of a key, or puts it in place of the one of this key. Costs a binary search, and moves
+    /// Adds the policy of a key, or puts it in place of the one of this key, which takes no memory. Costs a binary search, and moves
     /// what stands behind the key. Where there is no memory, all stays.
     pub fn insert(&mut self, key: PolicyKey, policy: Policy) -> Result<(), AllocError>
         ensures ok { OnOk result (self.new ≡ with_policy self.old key policy) }
+        ensures held { IsTrue (has_policy self.old key) → result ≡ Ok tt }
         ensures err { OnErr result (self.new ≡ self.old) }
     {
-        match self.place_of(&key) {
-            Ok(place) => {
-                self.policies[place] = KeyedPolicy { key, policy };
-                Ok(())
-            }
-            Err(place) => {
-                self.policies.insert(place, KeyedPolicy { key, policy })?;
-                Ok(())
-            }
-        }
+        self.policies.insert(KeyedPolicy { key, policy })
     }
 
     /// The policies, in the order of their keys.
@@ -121,7 +125,7 @@ impl Policies {
         ensures value { result.now ≡ self.now }
         ensures in_order { IsInKeyOrder self.now }
     {
-        self.policies.as_slice()
+        self.policies.items()
     }
 
     /// How many policies there are.
@@ -136,13 +140,6 @@ impl Policies {
         ensures { result ≡ (length self.now == 0) }
     {
         self.policies.is_empty()
-    }
-
-    // Where a key stands, or belongs.
-    fn place_of(&self, key: &PolicyKey) -> Result<usize, usize>
-        ensures { IsPolicyPlace self.now key.now result }
-    {
-        self.policies.binary_search_by(|held| held.key.cmp(key))
     }
 }
 

@@ -3,11 +3,12 @@ ghost use Rattle.std.specs.Prelude.{◌≡◌, ◌↔◌, IfErr, IfOk, IsTrue, N
 ghost use Rattle.std.specs.Cmp.{eq_by_cmp_equiv, partial_equiv_from_equiv, partial_order_from_total};
 ghost use Rattle.std.specs.Ordering.{as_partial_cmp};
 ghost use Rattle.vet_base.specs.Gives.{Gives};
-ghost use Rattle.vet_demand.specs.PolicyKey.{key_text, key_told, plain_key, policy_key_cmp, policy_key_eq, policy_key_total, read_key, versioned_key, versions_cmp};
+ghost use Rattle.vet_demand.specs.PolicyKey.{key_text, key_told, plain_key, policy_key_cmp, policy_key_cmp-IsAntisymmetric, policy_key_eq, policy_key_total, read_key, versioned_key, versions_cmp};
 
 use std::alloc::{AllocError, Global};
 use std::cmp::Ordering;
 use std::fmt;
+use vet_base::exact::Exact;
 use vet_base::name::PackageName;
 use vet_base::refusal::Refusal;
 use vet_base::version::{VetVersion, version_text_reads_back};
@@ -135,6 +136,12 @@ impl Ord for PolicyKey {
             .cmp(&other.package)
             .then(versions_cmp(&self.version, &other.version))
     }
+}
+
+impl Exact for PolicyKey {
+    ghost only_equal = { policy_key_cmp-IsAntisymmetric };
+
+    ghost only_copies = { λ a b h. h };
 }
 
 // How two versions compare, where none stands before one.

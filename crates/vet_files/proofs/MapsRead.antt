@@ -10,7 +10,7 @@ use Rattle.toml.specs.Data.{Data, Members, member, table}
 use Rattle.vet_base.proofs.Rising.{R, above, rising_entries}
 use Rattle.vet_base.specs.Name.{is_name, is_package_name}
 use Rattle.vet_base.specs.Names.{IsRising, NameSet}
-use Rattle.vet_demand.specs.ByKey.{is_before, is_behind}
+use Rattle.vet_base.specs.Keyed.{is_before, is_behind}
 use Rattle.vet_demand.specs.DependencyCriteria.{IsByPackage, item_name, with_criteria}
 use Rattle.vet_demand.specs.declared.dependency_criteria.DependencyItem.{DependencyItem}
 use Rattle.vet_entries.specs.CriteriaMap.{NamesByName, by_name}

@@ -6,12 +6,12 @@ use Rattle.std.specs.List.{All, AllPairs}
 use Rattle.std.specs.Ordering.{is_eq, is_gt, is_lt, ordering_reverse}
 use Rattle.std.proofs.lemmas.List.Elements.{All-head, All-tail}
 use Rattle.toml.specs.Data.{Data, table}
-use Rattle.vet_demand.specs.ByKey.{IsByKey, entry_of, is_before, is_behind, is_of, with_entry}
+use Rattle.vet_base.specs.Keyed.{IsByKey, all_set, item_of, is_before, is_behind, is_of, with_item}
+use Rattle.vet_base.proofs.KeyedLemmas.{IsByKey-all_set}
 use Rattle.vet_demand.specs.Policies.{IsInKeyOrder, has_policy, key_of}
 use Rattle.vet_demand.specs.PolicyKey.{key_text, read_key, policy_key_cmp, policy_key_cmp-IsAntisymmetric, policy_key_total}
 use Rattle.vet_demand.specs.declared.policies.KeyedPolicy.{KeyedPolicy}
 use Rattle.vet_demand.specs.declared.policy_key.PolicyKey.{PolicyKey}
-use Rattle.vet_demand.proofs.ByKey.{IsByKey-with_entry}
 use Rattle.vet_files.specs.Config.{next_policy}
 use Rattle.vet_files.specs.ConfigTable.{policies_table, policy_table}
 use Rattle.vet_files.specs.ReadAgain.{ReadsPolicy}
@@ -28,16 +28,16 @@ module _ {K E : Type 0} (cmp : K → K → Ordering) (total : IsTotalOrder cmp) 
   abbrev IsNew : List E → E → Type 0
   IsNew found e = (a : E) → IsIn a found → key a ≡ key e → ⊥
 
-  of_with_entry : (found : List E) (e x : E) → IsIn x (with_entry cmp key found e) → (x ≡ e) ⊎ IsIn x found
-  of_with_entry found e x among = elim (IsIn-either x (filter (is_before cmp key (key e)) found) (e ∷ filter (is_behind cmp key (key e)) found) among) [
+  of_with_item : (found : List E) (e x : E) → IsIn x (with_item cmp key found e) → (x ≡ e) ⊎ IsIn x found
+  of_with_item found e x among = elim (IsIn-either x (filter (is_before cmp key (key e)) found) (e ∷ filter (is_behind cmp key (key e)) found) among) [
     | inl front ↦ inr (IsIn-of_filter (is_before cmp key (key e)) x found front).0
     | inr (inl here) ↦ inl here
     | inr (inr back) ↦ inr (IsIn-of_filter (is_behind cmp key (key e)) x found back).0
   ]
 
-  to_with_entry : (found : List E) (e x : E) → IsNew found e → (x ≡ e) ⊎ IsIn x found → IsIn x (with_entry cmp key found e)
-  to_with_entry found e x new (inl here) = IsIn-right x (filter (is_before cmp key (key e)) found) (e ∷ filter (is_behind cmp key (key e)) found) (inl here)
-  to_with_entry found e x new (inr among) = stands (cmp (key x) (key e)) refl
+  to_with_item : (found : List E) (e x : E) → IsNew found e → (x ≡ e) ⊎ IsIn x found → IsIn x (with_item cmp key found e)
+  to_with_item found e x new (inl here) = IsIn-right x (filter (is_before cmp key (key e)) found) (e ∷ filter (is_behind cmp key (key e)) found) (inl here)
+  to_with_item found e x new (inr among) = stands (cmp (key x) (key e)) refl
     where
       front : List E
       front = filter (is_before cmp key (key e)) found
@@ -52,14 +52,10 @@ module _ {K E : Type 0} (cmp : K → K → Ordering) (total : IsTotalOrder cmp) 
 
   -- ---- one after the other
 
-  abbrev with_all : List E → List E → List E
-  with_all found [] = found
-  with_all found (e ∷ rest) = with_all (with_entry cmp key found e) rest
-
   -- none of these has the key of one that was found, or of another of these
   abbrev AreNew : List E → List E → Type 0
   AreNew found [] = Unit {0}
-  AreNew found (e ∷ rest) = IsNew found e × AreNew (with_entry cmp key found e) rest
+  AreNew found (e ∷ rest) = IsNew found e × AreNew (with_item cmp key found e) rest
 
   abbrev KeyedOnce : List E → Type 0
   KeyedOnce es = AllPairs (λ a b. key a ≡ key b → ⊥) es
@@ -69,10 +65,10 @@ module _ {K E : Type 0} (cmp : K → K → Ordering) (total : IsTotalOrder cmp) 
 
   are_new : (found es : List E) → ((e : E) → IsIn e es → IsNew found e) → KeyedOnce es → AreNew found es
   are_new found [] new once = tt
-  are_new found (e ∷ rest) new once = (new e (inl refl), are_new (with_entry cmp key found e) rest later (others_once e rest once))
+  are_new found (e ∷ rest) new once = (new e (inl refl), are_new (with_item cmp key found e) rest later (others_once e rest once))
     where
-      later : (x : E) → IsIn x rest → IsNew (with_entry cmp key found e) x
-      later x among a held same = elim (of_with_entry found e a held) [
+      later : (x : E) → IsIn x rest → IsNew (with_item cmp key found e) x
+      later x among a held same = elim (of_with_item found e a held) [
         | inl here ↦ All-IsIn (λ y. key e ≡ key y → ⊥) x rest (λ k d l. once 0 (suc k) d (omega arith) (omega arith)) among (ap key (sym here) ∙ same)
         | inr before ↦ new x (inr among) a before same
       ]
@@ -80,26 +76,22 @@ module _ {K E : Type 0} (cmp : K → K → Ordering) (total : IsTotalOrder cmp) 
   once-AreNew : (es : List E) → KeyedOnce es → AreNew [] es
   once-AreNew es once = are_new [] es (λ e among a none. absurd none) once
 
-  with_all-IsByKey : (found es : List E) → IsByKey cmp key found → IsByKey cmp key (with_all found es)
-  with_all-IsByKey found [] up = up
-  with_all-IsByKey found (e ∷ rest) up = with_all-IsByKey (with_entry cmp key found e) rest (IsByKey-with_entry cmp total only key found e up)
-
-  of_with_all : (found es : List E) (x : E) → IsIn x (with_all found es) → IsIn x found ⊎ IsIn x es
-  of_with_all found [] x among = inl among
-  of_with_all found (e ∷ rest) x among = elim (of_with_all (with_entry cmp key found e) rest x among) [
-    | inl first ↦ elim (of_with_entry found e x first) [
+  of_all_set : (found es : List E) (x : E) → IsIn x (all_set cmp key found es) → IsIn x found ⊎ IsIn x es
+  of_all_set found [] x among = inl among
+  of_all_set found (e ∷ rest) x among = elim (of_all_set (with_item cmp key found e) rest x among) [
+    | inl first ↦ elim (of_with_item found e x first) [
       | inl here ↦ inr (inl here)
       | inr before ↦ inl before
     ]
     | inr later ↦ inr (inr later)
   ]
 
-  to_with_all : (found es : List E) (x : E) → AreNew found es → IsIn x found ⊎ IsIn x es → IsIn x (with_all found es)
-  to_with_all found [] x new (inl among) = among
-  to_with_all found [] x new (inr none) = absurd none
-  to_with_all found (e ∷ rest) x new (inl among) = to_with_all (with_entry cmp key found e) rest x new.1 (inl (to_with_entry found e x new.0 (inr among)))
-  to_with_all found (e ∷ rest) x new (inr (inl here)) = to_with_all (with_entry cmp key found e) rest x new.1 (inl (to_with_entry found e x new.0 (inl here)))
-  to_with_all found (e ∷ rest) x new (inr (inr later)) = to_with_all (with_entry cmp key found e) rest x new.1 (inr later)
+  to_all_set : (found es : List E) (x : E) → AreNew found es → IsIn x found ⊎ IsIn x es → IsIn x (all_set cmp key found es)
+  to_all_set found [] x new (inl among) = among
+  to_all_set found [] x new (inr none) = absurd none
+  to_all_set found (e ∷ rest) x new (inl among) = to_all_set (with_item cmp key found e) rest x new.1 (inl (to_with_item found e x new.0 (inr among)))
+  to_all_set found (e ∷ rest) x new (inr (inl here)) = to_all_set (with_item cmp key found e) rest x new.1 (inl (to_with_item found e x new.0 (inl here)))
+  to_all_set found (e ∷ rest) x new (inr (inr later)) = to_all_set (with_item cmp key found e) rest x new.1 (inr later)
 
   -- ---- lists in the order of their keys with the same entries are the same
 
@@ -137,18 +129,18 @@ module _ {K E : Type 0} (cmp : K → K → Ordering) (total : IsTotalOrder cmp) 
       λ i. head i ∷ rest i
 
   -- entries that are put in one after the other, whatever their order, are those in the order of their keys
-  with_all-is : (xs es : List E) → IsByKey cmp key xs → SameItems xs es → KeyedOnce es → with_all [] es ≡ xs
-  with_all-is xs es up same once =
-      same_lists (with_all [] es) xs (with_all-IsByKey [] es (λ i j d l m. absurd (omega arith))) up (
-        λ x among. elim (of_with_all [] es x among) [
+  all_set-is : (xs es : List E) → IsByKey cmp key xs → SameItems xs es → KeyedOnce es → all_set cmp key [] es ≡ xs
+  all_set-is xs es up same once =
+      same_lists (all_set cmp key [] es) xs (IsByKey-all_set cmp total only key [] es (λ i j d l m. absurd (omega arith))) up (
+        λ x among. elim (of_all_set [] es x among) [
           | inl none ↦ absurd none
           | inr there ↦ same.1 x there
         ],
-        λ x among. to_with_all [] es x (once-AreNew es once) (inr (same.0 x among)),
+        λ x among. to_all_set [] es x (once-AreNew es once) (inr (same.0 x among)),
       )
 
   -- a key that none has is not found
-  none_found : (found : List E) (e : E) → IsNew found e → is_some (entry_of cmp key found (key e)) ≡ false
+  none_found : (found : List E) (e : E) → IsNew found e → is_some (item_of cmp key found (key e)) ≡ false
   none_found [] e new = refl
   none_found (a ∷ rest) e new = passed (is_of cmp key (key e) a) refl (none_found rest e (λ b among. new b (inr among)))
     where
@@ -172,10 +164,10 @@ table_of_policy p = table (policy_table p.policy)
 
 -- one more policy
 abbrev put_in : List KeyedPolicy → KeyedPolicy → List KeyedPolicy
-put_in found p = with_entry policy_key_cmp key_of found p
+put_in found p = with_item policy_key_cmp key_of found p
 
 abbrev put_all_in : List KeyedPolicy → List KeyedPolicy → List KeyedPolicy
-put_all_in = with_all policy_key_cmp policy_key_total policy_key_cmp-IsAntisymmetric key_of
+put_all_in = all_set policy_key_cmp key_of
 
 abbrev AreNewPolicies : List KeyedPolicy → List KeyedPolicy → Type 0
 AreNewPolicies = AreNew policy_key_cmp policy_key_total policy_key_cmp-IsAntisymmetric key_of
@@ -219,4 +211,4 @@ policies_read policies up reads =
     let same = sorted-SameItems text_of policies (texts_once policies up reads) in
     ap (each_member next_policy (all_of [])) (by_name-sorted text_of table_of_policy policies)
     ∙ policies_walked listed (sorted-All text_of ReadsPolicy policies reads) [] new
-    ∙ ap (λ ps. Ok (all_of ps)) (with_all-is policy_key_cmp policy_key_total policy_key_cmp-IsAntisymmetric key_of policies listed up same once)
+    ∙ ap (λ ps. Ok (all_of ps)) (all_set-is policy_key_cmp policy_key_total policy_key_cmp-IsAntisymmetric key_of policies listed up same once)

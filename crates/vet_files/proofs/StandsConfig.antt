@@ -11,7 +11,7 @@ use Rattle.vet_base.specs.Name.{is_name}
 use Rattle.vet_demand.specs.Policies.{IsInKeyOrder, key_of}
 use Rattle.vet_demand.specs.PolicyKey.{policy_key_cmp, policy_key_cmp-IsAntisymmetric, policy_key_total, read_key}
 use Rattle.vet_demand.specs.declared.policies.KeyedPolicy.{KeyedPolicy}
-use Rattle.vet_demand.proofs.ByKey.{IsByKey-with_entry}
+use Rattle.vet_base.proofs.KeyedLemmas.{IsByKey-with_item}
 use Rattle.vet_entries.specs.PeerContent.{is_own}
 use Rattle.vet_entries.specs.declared.entry.Entry.{Entry}
 use Rattle.vet_entries.specs.declared.peer_settings.PeerSettings.{PeerSettings}
@@ -82,7 +82,7 @@ next_policy-keeps : (found : Found (List KeyedPolicy)) (text : List ℕ) (d : Da
 next_policy-keeps found text d up =
     bind-gives InKeyOrder (found_or (fault (codes "policy") text) (read_key text) >>= new_key text found.content) _ (λ key.
     bind-gives InKeyOrder (found_or (fault (codes "policy") text) (as_table d) >>= policy_told (path_below (codes "policy") text)) _ (λ more.
-    IsByKey-with_entry policy_key_cmp policy_key_total policy_key_cmp-IsAntisymmetric key_of found.content (record { key = key; policy = more.content }) up))
+    IsByKey-with_item policy_key_cmp policy_key_total policy_key_cmp-IsAntisymmetric key_of found.content (record { key = key; policy = more.content }) up))
 
 no-policies : IsInKeyOrder []
 no-policies i j d l m = absurd (omega (arith, m))
