@@ -1,19 +1,19 @@
 -- What the criteria of a peer are in one's own.
-use Rattle.std.specs.Prelude.{ℕ, ◌≡◌, ◌<◌, ◌≤◌, ◌&&◌, Bool, List, length, map as mapped, take, drop, slice_index_or}
+use Rattle.std.specs.Prelude.{ℕ, ◌≡◌, ◌&&◌, Bool, List, map as mapped}
 use Rattle.std.specs.Bool.{Decides}
-use Rattle.std.specs.List.{All}
 use Rattle.std.specs.Ordering.{nat_cmp}
 use Rattle.std.specs.Cmp.Lexicographic.{bytes_decides, pointwise, pointwise_decides, slice_cmp}
 use Rattle.std.specs.FinMap as map
 use Rattle.std.specs.Str.{bytes_eq}
-use Rattle.std.specs.declared.cmp.Ordering.TheVariants.{Less}
-use Rattle.std.specs.declared.result.Result.{Result}
-use Rattle.std.specs.declared.result.Result.TheVariants.{Ok, Err}
 use Rattle.std.proofs.Common.{ap}
 use Rattle.std.proofs.lemmas.Bool.Decides.{Decides-and, Decides-like}
 use Rattle.vet_base.specs.NameLaws.{same_names-Decides}
 use Rattle.vet_base.specs.Names.{NameSet, same_names}
 use Rattle.vet_entries.specs.declared.criteria_map.MappedCriterion.{MappedCriterion}
+
+-- the name at which an item stands
+abbrev pub mapped_name : MappedCriterion → List ℕ
+mapped_name m = m.name
 
 -- the items' names, and the items as entries of a map
 abbrev pub names_of : List MappedCriterion → List (List ℕ)
@@ -25,13 +25,6 @@ by_name items = mapped (λ m. (m.name, m.criteria)) items
 -- names to sets of names, in the order of the names' bytes
 abbrev pub NamesByName : Type 0
 NamesByName = map.FinMap (slice_cmp nat_cmp) NameSet
-
--- where a name stands among items, or belongs: in front are the lesser names, and behind the greater ones
-abbrev pub IsPlaceOf : List MappedCriterion → List ℕ → Result ℕ ℕ → Type 0
-IsPlaceOf items name (Ok i) = (i < length items) × ((d : MappedCriterion) → (slice_index_or items i d).name ≡ name)
-IsPlaceOf items name (Err i) =
-    (i ≤ length items) × All (λ n. slice_cmp nat_cmp n name ≡ Less) (take i (names_of items))
-    × All (λ n. slice_cmp nat_cmp name n ≡ Less) (drop i (names_of items))
 
 -- whether two items are the same
 abbrev pub mapped_eq : MappedCriterion → MappedCriterion → Bool

@@ -1,12 +1,13 @@
 //! What the criteria of a peer are in one's own.
-ghost use Rattle.std.specs.Prelude.{◌≡◌, ◌↔◌, IsTrue, OnOk, OnErr};
+ghost use Rattle.std.specs.Prelude.{◌≡◌, ◌↔◌, IsTrue, Ok, OnOk, OnErr};
 ghost use Rattle.std.specs.FinMap as map;
 ghost use Rattle.std.specs.Option.{option_copied};
 ghost use Rattle.vet_base.specs.Names.{IsRising};
-ghost use Rattle.vet_entries.specs.CriteriaMap.{IsPlaceOf, by_name, map_eq, mapped_eq, names_of};
+ghost use Rattle.vet_entries.specs.CriteriaMap.{by_name, names_of};
 
 use std::alloc::{AllocError, Global};
 use std::marker::Model;
+use vet_base::keyed::{HasKey, Keyed};
 use vet_base::name::Name;
 use vet_base::names::Names;
 
@@ -60,19 +61,37 @@ impl Eq for MappedCriterion {
     ghost laws = { decided mapped_eq mapped_eq-Decides };
 }
 
+impl HasKey for MappedCriterion {
+    ghost use Rattle.vet_entries.specs.CriteriaMap.{mapped_eq-Decides, mapped_name};
+
+    type Key = Name;
+
+    ghost key_of = { mapped_name };
+
+    fn key(&self) -> &Name {
+        &self.name
+    }
+
+    ghost only_copies = { λ a b h. h };
+
+    ghost only_itself = { mapped_eq-Decides };
+}
+
 /// From criteria of a peer to criteria of one's own, in the order of the names' bytes, each name once (The
 /// Cargo Vet Book, config: `criteria-map`).
 #[derive(Drop)]
 pub struct CriteriaMap {
-    items: Vec<MappedCriterion>,
+    items: Keyed<MappedCriterion>,
 }
 
 impl Model for CriteriaMap {
     ghost use Rattle.std.specs.Coded.{coded_list, coded_ℕ};
     ghost use Rattle.std.specs.FinMap as map;
     ghost use Rattle.std.specs.FinSet as set;
-    ghost use Rattle.vet_base.specs.Names.{IsRising};
-    ghost use Rattle.vet_entries.specs.CriteriaMap.{NamesByName, by_name, names_of};
+    ghost use Rattle.std.specs.Ordering.{nat_cmp};
+    ghost use Rattle.std.specs.Cmp.Lexicographic.{slice_cmp};
+    ghost use Rattle.vet_base.specs.Keyed.{IsByKey};
+    ghost use Rattle.vet_entries.specs.CriteriaMap.{NamesByName, by_name, mapped_name};
 
     ghost Value = { NamesByName };
 
@@ -80,7 +99,7 @@ impl Model for CriteriaMap {
 
     ghost view = { λ m. map.from_sorted (by_name m.items.items) };
 
-    ghost invariant = { λ m. IsRising (names_of m.items.items) };
+    ghost invariant = { λ m. IsByKey (slice_cmp nat_cmp) mapped_name m.items.items };
 }
 
 impl CriteriaMap {
@@ -89,23 +108,18 @@ impl CriteriaMap {
         ensures { result ≡ map.empty }
     {
         CriteriaMap {
-            items: Vec::new(alloc),
+            items: Keyed::new(alloc),
         }
     }
 
-    /// Puts what a criterion of the peer stands for, in place of what it stood for. Where there is no
-    /// memory, the map stays.
+    /// Puts what a criterion of the peer stands for, in place of what it stood for, which takes
+    /// no memory. Where there is no memory, the map stays.
     pub fn insert(&mut self, name: Name, criteria: Names) -> Result<(), AllocError>
         ensures ok { OnOk result (self.new ≡ map.insert self.old name criteria) }
+        ensures held { IsTrue (map.contains_key self.old name) → result ≡ Ok tt }
         ensures err { OnErr result (self.new ≡ self.old) }
     {
-        match place_of(self.items.as_slice(), &name) {
-            Ok(place) => self.items[place] = MappedCriterion { name, criteria },
-            Err(place) => {
-                self.items
-                    .insert(place, MappedCriterion { name, criteria })?;
-            }
-        }
+        self.items.insert(MappedCriterion { name, criteria })?;
         Ok(())
     }
 
@@ -113,9 +127,9 @@ impl CriteriaMap {
     pub fn get(&self, name: &Name) -> Option<&Names>
         ensures { option_copied result ≡ map.get self.now name.now }
     {
-        match place_of(self.items.as_slice(), name) {
-            Ok(place) => Some(&self.items[place].criteria),
-            Err(_) => None,
+        match self.items.get(name) {
+            Some(held) => Some(&held.criteria),
+            None => None,
         }
     }
 
@@ -125,7 +139,7 @@ impl CriteriaMap {
         ensures rising { IsRising (names_of result.now) }
         ensures map { self.now ≡ map.from_sorted (by_name result.now) }
     {
-        self.items.as_slice()
+        self.items.items()
     }
 
     /// How many of the peer's criteria stand for others.
@@ -177,12 +191,4 @@ impl Eq for CriteriaMap {
     ghost use Rattle.vet_entries.specs.CriteriaMap.{map_eq, map_eq-Decides};
 
     ghost laws = { decided map_eq map_eq-Decides };
-}
-
-// Where a name stands among items, or belongs.
-fn place_of(items: &[MappedCriterion], name: &Name) -> Result<usize, usize>
-    requires { IsRising (names_of items.now) }
-    ensures { IsPlaceOf items.now name.now result }
-{
-    items.binary_search_by(|item| item.name.cmp(name))
 }

@@ -5,7 +5,7 @@ use Rattle.vet_entries.proofs.criteria_map.CriteriaMapPartialEq.eq.Goals as goal
 
 pub returns-clause-value : goal.returns-clause-value
 returns-clause-value c =
-    c.eq.ensures ∙ map_eq-tells c.self.inside.items.items c.other.inside.items.items c.args.self.now c.args.other.now
+    c.eq.ensures.value ∙ map_eq-tells c.self.inside.items.items c.other.inside.items.items c.args.self.now c.args.other.now
     (entries_are c.self.inside.items.items c.args.self.now c.self.invariant c.self.view_is)
     (entries_are c.other.inside.items.items c.args.other.now c.other.invariant c.other.view_is)
 
