@@ -1,6 +1,6 @@
 //! A keeper of the classes of demanded pairs, which finds every class anew.
-ghost use Rattle.std.specs.Prelude.{◌≡◌, IfOk, IfErr, IfSome};
-ghost use Rattle.vet_entries.specs.Facts.{no_facts};
+ghost use Rattle.std.specs.Prelude.{◌≡◌, [], IfOk, IfErr, IfSome, IsOk};
+ghost use Rattle.vet_entries.specs.Facts.{Facts, no_facts};
 ghost use Rattle.vet_entries.specs.Condemned.{condemned_by};
 ghost use Rattle.vet_graph.specs.Plain.{AreStepsOf};
 ghost use Rattle.vet_graph.specs.Search.{AreGuarded, steps_in};
@@ -97,7 +97,12 @@ impl Keeper for PlainKeeper {
     ghost is_ready = { λ k u. Unit {0} };
 
     /// Nothing is demanded. Never refused.
-    fn empty(alloc: Global) -> Result<PlainKeeper, Refusal> {
+    fn empty(alloc: Global) -> Result<PlainKeeper, Refusal>
+        ensures standing { IfOk result (λ k. k ≡ []) }
+        ensures keeps { IfOk result (λ k. (facts : Facts) → GiveNothing facts → k ≡ standing_of facts []) }
+        ensures memory { IfErr result (λ e. e ≡ Refusal.NoMemory) }
+        ensures never_refused { IsOk result }
+    {
         Ok(PlainKeeper {
             standing: Vec::new(alloc),
         })
