@@ -1,20 +1,22 @@
 -- How a changed table is kept, and what its verdicts say.
-use Rattle.std.proofs.Common.{◌≡◌, ℕ, ◌<◌, Bool, true, false, ◌&&◌, not, nat_le, List, [], length, get_or, set as setn, Option, Some, None, IfSome, Result, Ok, Err, OnOk, OnErr, Less, refl, sym, ap, subst, ◌∙◌, arith, inl, inr}
+use Rattle.std.proofs.Common.{◌≡◌, ℕ, ◌<◌, Bool, true, false, ◌&&◌, not, nat_le, List, [], length, get_or, set as setn, Option, Some, None, IfErr, Result, Ok, Err, OnOk, OnErr, Less, refl, sym, ap, subst, ◌∙◌, arith, inl, inr}
 use Rattle.std.specs.List.{insert, remove}
 use Rattle.std.specs.FinMap as map
-use Rattle.std.proofs.lemmas.Bool.{leb-false, cond-true, cond-false, false≢true}
+use Rattle.std.proofs.lemmas.Bool.{leb-false, false≢true}
 use Rattle.std.proofs.lemmas.List.Quantifiers.{all_pairs_remove}
 use Rattle.vet_base.specs.declared.limits.TheConstants.{MOST_CRITERIA}
 use Rattle.vet_base.specs.declared.criterion.Criterion.{Criterion}
 use Rattle.vet_base.specs.declared.refusal.Refusal.{Refusal}
-use Rattle.vet_base.specs.declared.refusal.Refusal.TheVariants.{UnknownCriterion, CriterionInUse, TooManyCriteria}
+use Rattle.vet_base.specs.declared.refusal.Refusal.TheVariants.{BuiltInCriterion, UnknownCriterion, CriterionInUse, TooManyCriteria}
 use Rattle.vet_base.specs.Names.{IsRising}
 use Rattle.vet_base.specs.Criteria.{Criteria, IsTable}
-use Rattle.vet_base.specs.CriteriaChanges.{Answers, Refuses, is_built_in, is_full_for, is_implied, unknown_beside, unknown_then, set_verdict, remove_verdict}
+use Rattle.vet_base.specs.CriteriaChanges.{is_built_in, is_full_for, is_implied, known, remove_verdict, set_limits, set_references, set_rules, set_verdict, unknown_beside}
 use Rattle.vet_base.specs.CriteriaTable.{by_name, IsKept}
 use Rattle.vet_base.proofs.Rising.{R, Lacks, IsRising-insert}
+use Rattle.vet_base.specs.Gives.{Answers, Refuses, Told, refuse_if, ◌>>=◌}
 use Rattle.vet_base.proofs.Tables.{length_kept}
-use Rattle.vet_base.proofs.Changes.{names_of, find-set, find-insert, find-remove, names-set, names-insert, names-remove, view_insert, view_remove, table_insert, table_remove, MaySet, no_first}
+use Rattle.vet_base.proofs.Telling.{all_known, not_refused, then_told}
+use Rattle.vet_base.proofs.Changes.{names_of, find-set, find-insert, find-remove, names-set, names-insert, names-remove, view_insert, view_remove, table_insert, table_remove, MaySet}
 
 module _ (names : List (List ℕ)) (cs : List Criterion) (kept : IsKept names cs) (table : Criteria) (is : map.from_sorted {R = R} (by_name cs) ≡ table) where
   rising : IsRising (names_of cs)
@@ -65,57 +67,53 @@ module _ (names : List (List ℕ)) (cs : List Criterion) (kept : IsKept names cs
 -- ---- verdicts
 
 -- a refusal is no answer of a call that is done
-refuses_no_done : (e : Refusal) → Refuses e (Ok tt) → ⊥
+refuses_no_done : (e : Refusal) → Refuses {A = Unit {0}} e (Ok tt) → ⊥
 refuses_no_done (UnknownCriterion n) (inl h) = cc h
 refuses_no_done (UnknownCriterion n) (inr h) = cc h
 refuses_no_done e h = cc h
 
--- where nothing refuses, there is no verdict
-pub no_verdict : (v : Option Refusal) → Answers v (Ok tt) → v ≡ None
-no_verdict None h = refl
-no_verdict (Some e) h = absurd (refuses_no_done e h)
+-- where nothing refuses, none is told
+pub no_verdict : (v : Told (Unit {0})) → Answers v (Ok tt) → v ≡ Ok tt
+no_verdict (Ok u) h = refl
+no_verdict (Err e) h = absurd (refuses_no_done e h)
 
 -- an answer tells the verdict
-pub told_verdict : (v : Option Refusal) (r : Result (Unit {0}) Refusal) → Answers v r → IfSome v (λ e. Refuses e r)
-told_verdict None r h = tt
-told_verdict (Some e) r h = h
-
-none_unknown : (o : Option (List ℕ)) (b : Bool) → unknown_then o b ≡ None → (o ≡ None) × (b ≡ false)
-none_unknown (Some n) b h = cc h
-none_unknown None true h = cc h
-none_unknown None false h = (refl, refl)
+pub told_verdict : (v : Told (Unit {0})) (r : Result (Unit {0}) Refusal) → Answers v r → IfErr v (λ e. Refuses e r)
+told_verdict (Ok u) r h = tt
+told_verdict (Err e) r h = h
 
 room_for : (key full : Bool) → (not key && full) ≡ false → key ≡ false → full ≡ false
 room_for true full h e = absurd (false≢true (sym e))
 room_for false full h e = h
 
-pub may_set : (table : Criteria) (c : Criterion) → set_verdict table c ≡ None → MaySet table c
+pub may_set : (table : Criteria) (c : Criterion) → set_verdict table c ≡ Ok tt → MaySet table c
 may_set table c h =
-    let parts = no_first (is_full_for table c.name) TooManyCriteria (unknown_then (unknown_beside table c) (is_built_in c.name)) h in
-    let rest = none_unknown (unknown_beside table c) (is_built_in c.name) parts.1 in
+    let limited = then_told (set_limits table c.name) (λ _. set_references table c >>= λ _. set_rules c.name) tt h in
+    let referred = then_told (set_references table c) (λ _. set_rules c.name) tt limited.1 in
+    let free = not_refused (is_full_for table c.name) TooManyCriteria limited.0 in
     record {
-      room = λ new. leb-false MOST_CRITERIA (map.len table) (room_for (map.contains_key table c.name) (nat_le MOST_CRITERIA (map.len table)) parts.0 new);
-      known = rest.0;
-      own = rest.1;
+      room = λ new. leb-false MOST_CRITERIA (map.len table) (room_for (map.contains_key table c.name) (nat_le MOST_CRITERIA (map.len table)) free new);
+      known = all_known (unknown_beside table c) referred.0;
+      own = not_refused (is_built_in c.name) BuiltInCriterion referred.1;
     }
 
 -- the verdict of each answer of a removal
 module _ (table : Criteria) (n : List ℕ) where
-  pub verdict_unknown : map.contains_key table n ≡ false → remove_verdict table n ≡ Some (UnknownCriterion n)
+  pub verdict_unknown : map.contains_key table n ≡ false → remove_verdict table n ≡ Err (UnknownCriterion n)
   verdict_unknown lacks = rw lacks refl
 
-  pub verdict_used : map.contains_key table n ≡ true → is_built_in n ≡ false → is_implied table n ≡ true → remove_verdict table n ≡ Some CriterionInUse
+  pub verdict_used : map.contains_key table n ≡ true → is_built_in n ≡ false → is_implied table n ≡ true → remove_verdict table n ≡ Err CriterionInUse
   verdict_used held own used = rw (held, own, used) refl
 
-  pub verdict_free : map.contains_key table n ≡ true → is_built_in n ≡ false → is_implied table n ≡ false → remove_verdict table n ≡ None
+  pub verdict_free : map.contains_key table n ≡ true → is_built_in n ≡ false → is_implied table n ≡ false → remove_verdict table n ≡ Ok tt
   verdict_free held own free = rw (held, own, free) refl
 
 -- the verdict where there is room, and where there is none
-pub verdict_full : (table : Criteria) (c : Criterion) → is_full_for table c.name ≡ true → set_verdict table c ≡ Some TooManyCriteria
-verdict_full table c h = cond-true (is_full_for table c.name) (Some TooManyCriteria) (unknown_then (unknown_beside table c) (is_built_in c.name)) h
+pub verdict_full : (table : Criteria) (c : Criterion) → is_full_for table c.name ≡ true → set_verdict table c ≡ Err TooManyCriteria
+verdict_full table c h = ap (λ b. refuse_if b TooManyCriteria >>= λ _. set_references table c >>= λ _. set_rules c.name) h
 
-pub verdict_room : (table : Criteria) (c : Criterion) → is_full_for table c.name ≡ false → set_verdict table c ≡ unknown_then (unknown_beside table c) (is_built_in c.name)
-verdict_room table c h = cond-false (is_full_for table c.name) (Some TooManyCriteria) (unknown_then (unknown_beside table c) (is_built_in c.name)) h
+pub verdict_room : (table : Criteria) (c : Criterion) → is_full_for table c.name ≡ false → set_verdict table c ≡ (set_references table c >>= λ _. set_rules c.name)
+verdict_room table c h = ap (λ b. refuse_if b TooManyCriteria >>= λ _. set_references table c >>= λ _. set_rules c.name) h
 
 -- what follows from either end of a call
 pub either_end : (r : Result (Unit {0}) Refusal) {A B C D P : Type 0} → OnOk r A → OnOk r B → OnErr r C → OnErr r D → (A → B → P) → (C → D → P) → P

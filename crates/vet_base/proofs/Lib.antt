@@ -17,5 +17,6 @@ pub mod Rising
 pub mod SemverErrors
 pub mod SetsByKey
 pub mod Tables
+pub mod Telling
 pub mod VersionLemmas
 pub mod Walks

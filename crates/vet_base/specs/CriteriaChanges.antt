@@ -1,5 +1,5 @@
 -- What refuses a change of a table of criteria.
-use Rattle.std.specs.Prelude.{ℕ, ◌≡◌, ◌⊎◌, ◌&&◌, ◌||◌, not, nat_le, nat_eq, true, false, Bool, List, Option, Some, None, Result, Ok, Err, if◌then◌else◌}
+use Rattle.std.specs.Prelude.{ℕ, ◌&&◌, ◌||◌, not, nat_le, nat_eq, true, false, Bool, List, Option, Some, None, Ok, Err}
 use Rattle.std.specs.List.{list_any}
 use Rattle.std.specs.Cmp.Lexicographic.{pointwise}
 use Rattle.std.specs.FinSet as set
@@ -7,8 +7,9 @@ use Rattle.std.specs.FinMap as map
 use Rattle.vet_base.specs.declared.limits.TheConstants.{MOST_CRITERIA}
 use Rattle.vet_base.specs.declared.criterion.Criterion.{Criterion}
 use Rattle.vet_base.specs.declared.refusal.Refusal.{Refusal}
-use Rattle.vet_base.specs.declared.refusal.Refusal.TheVariants.{UnknownCriterion, BuiltInCriterion, CriterionInUse, TooManyCriteria, NoMemory}
+use Rattle.vet_base.specs.declared.refusal.Refusal.TheVariants.{UnknownCriterion, BuiltInCriterion, CriterionInUse, TooManyCriteria}
 use Rattle.vet_base.specs.Criteria.{Criteria, least_unknown, safe_to_run, safe_to_deploy}
+use Rattle.vet_base.specs.Gives.{Told, refuse_if, ◌>>=◌}
 
 -- whether a name is new to a full table
 abbrev pub is_full_for : Criteria → List ℕ → Bool
@@ -22,17 +23,26 @@ unknown_beside table c = least_unknown (map.insert table c.name c) c.implies
 abbrev pub is_built_in : List ℕ → Bool
 is_built_in name = pointwise nat_eq name safe_to_run || pointwise nat_eq name safe_to_deploy
 
--- an unknown name comes before a built-in one
-abbrev pub unknown_then : Option (List ℕ) → Bool → Option Refusal
-unknown_then (Some n) built_in = Some (UnknownCriterion n)
-unknown_then None true = Some BuiltInCriterion
-unknown_then None false = None
+-- a name that is unknown is refused
+abbrev pub known : Option (List ℕ) → Told (Unit {0})
+known None = Ok tt
+known (Some name) = Err (UnknownCriterion name)
 
--- what refuses a criterion: one too many, then what it implies beside itself, then that it is built in
-abbrev pub set_verdict : Criteria → Criterion → Option Refusal
-set_verdict table c =
-    if is_full_for table c.name then Some TooManyCriteria
-    else unknown_then (unknown_beside table c) (is_built_in c.name)
+-- one criterion more is not too many
+abbrev pub set_limits : Criteria → List ℕ → Told (Unit {0})
+set_limits table name = refuse_if (is_full_for table name) TooManyCriteria
+
+-- what a criterion implies beside itself is in the table
+abbrev pub set_references : Criteria → Criterion → Told (Unit {0})
+set_references table c = known (unknown_beside table c)
+
+-- a built-in criterion is not set
+abbrev pub set_rules : List ℕ → Told (Unit {0})
+set_rules name = refuse_if (is_built_in name) BuiltInCriterion
+
+-- what refuses a criterion: limits, then what it refers to, then rules
+abbrev pub set_verdict : Criteria → Criterion → Told (Unit {0})
+set_verdict table c = set_limits table c.name >>= λ _. set_references table c >>= λ _. set_rules c.name
 
 -- whether a criterion is another one, and implies a name
 abbrev pub is_user : List ℕ → Criterion → Bool
@@ -42,19 +52,14 @@ is_user name c = not (pointwise nat_eq c.name name) && set.contains c.implies na
 abbrev pub is_implied : Criteria → List ℕ → Bool
 is_implied table name = list_any (is_user name) (map.values table)
 
--- what refuses to remove a name: that it is unknown, then that it is built in, then that it is implied
-abbrev pub remove_verdict : Criteria → List ℕ → Option Refusal
-remove_verdict table name =
-    if not (map.contains_key table name) then Some (UnknownCriterion name)
-    else if is_built_in name then Some BuiltInCriterion
-    else if is_implied table name then Some CriterionInUse else None
+-- a name that is removed is in the table
+abbrev pub remove_references : Criteria → List ℕ → Told (Unit {0})
+remove_references table name = refuse_if (not (map.contains_key table name)) (UnknownCriterion name)
 
--- the refusal is told; an unknown name is copied for it, so there memory may be wanting
-abbrev pub Refuses : Refusal → Result (Unit {0}) Refusal → Type 0
-Refuses (UnknownCriterion n) result = (result ≡ Err (UnknownCriterion n)) ⊎ (result ≡ Err NoMemory)
-Refuses e result = result ≡ Err e
+-- it is not built in, and no other criterion implies it
+abbrev pub remove_rules : Criteria → List ℕ → Told (Unit {0})
+remove_rules table name = refuse_if (is_built_in name) BuiltInCriterion >>= λ _. refuse_if (is_implied table name) CriterionInUse
 
--- an answer is a refusal where there is one
-abbrev pub Answers : Option Refusal → Result (Unit {0}) Refusal → Type 0
-Answers None result = result ≡ Ok tt
-Answers (Some e) result = Refuses e result
+-- what refuses to remove a name: what it refers to, then rules
+abbrev pub remove_verdict : Criteria → List ℕ → Told (Unit {0})
+remove_verdict table name = remove_references table name >>= λ _. remove_rules table name

@@ -7,10 +7,10 @@ ghost use Rattle.std.specs.FinSet as set;
 ghost use Rattle.std.specs.FinMap as map;
 ghost use Rattle.vet_base.specs.Name.{is_name};
 ghost use Rattle.vet_base.specs.Criteria.{Criteria, IsTable, built_in_criteria, closure_at, closure_of, is_in, leading_to, least_unknown, place_of, placed, deploy_criterion, run_criterion, safe_to_deploy, safe_to_run, ClosureIsLeast, LedTo, PlacedNamesAreIn, PlacesAreOfNames};
-ghost use Rattle.vet_base.specs.CriteriaChanges.{Answers, Refuses, is_built_in, is_full_for, is_implied, remove_verdict, set_verdict, unknown_beside};
+ghost use Rattle.vet_base.specs.CriteriaChanges.{is_built_in, is_full_for, is_implied, remove_verdict, set_verdict, unknown_beside};
 ghost use Rattle.vet_base.specs.CriteriaTable.{AllIn, IsClosed, IsLeastClosed, LeadsOut, OneOut, by_name};
 ghost use Rattle.vet_base.specs.Defined.{IsListed, defined, table_told};
-ghost use Rattle.vet_base.specs.Gives.{Gives};
+ghost use Rattle.vet_base.specs.Gives.{Answers, Gives, Refuses};
 
 use crate::criteria_set::CriteriaSet;
 use crate::criterion::Criterion;
@@ -187,10 +187,10 @@ impl CriteriaTable {
     /// table nor its own, `BuiltInCriterion`, and `NoMemory`, which stands in place of no other refusal than
     /// `UnknownCriterion`. A name that is held takes no memory. After a refusal the table is as it was.
     pub fn set(&mut self, criterion: Criterion) -> Result<(), Refusal>
-        ensures refused { IfSome (set_verdict self.old criterion) (λ e. Refuses e result) }
-        ensures memory { set_verdict self.old criterion ≡ None → IfErr result (λ e. e ≡ Refusal.NoMemory) }
+        ensures refused { IfErr (set_verdict self.old criterion) (λ e. Refuses e result) }
+        ensures memory { set_verdict self.old criterion ≡ Ok tt → IfErr result (λ e. e ≡ Refusal.NoMemory) }
         ensures ok { OnOk result (self.new ≡ map.insert self.old criterion.name criterion) }
-        ensures held { set_verdict self.old criterion ≡ None
+        ensures held { set_verdict self.old criterion ≡ Ok tt
             → map.contains_key self.old criterion.name ≡ true → result ≡ Ok tt }
         ensures err { OnErr result (self.new ≡ self.old) }
         ensures table { IsTable self.new }
@@ -224,8 +224,8 @@ impl CriteriaTable {
     /// `BuiltInCriterion`, and `CriterionInUse` where another criterion implies it. After a refusal the table
     /// is as it was. It takes no memory.
     pub fn remove(&mut self, name: Name) -> Result<(), Refusal>
-        ensures refused { IfSome (remove_verdict self.old name) (λ e. result ≡ Err e) }
-        ensures done { remove_verdict self.old name ≡ None → result ≡ Ok tt }
+        ensures refused { IfErr (remove_verdict self.old name) (λ e. result ≡ Err e) }
+        ensures done { remove_verdict self.old name ≡ Ok tt → result ≡ Ok tt }
         ensures ok { OnOk result (self.new ≡ map.remove self.old name) }
         ensures err { OnErr result (self.new ≡ self.old) }
         ensures table { IsTable self.new }

@@ -2,6 +2,7 @@ pub mod Chain
 pub mod Class
 pub mod ClassAt
 pub mod Decisions
+pub mod Keeping
 pub mod Links
 pub mod Moves
 pub mod Plain

@@ -1,7 +1,8 @@
 -- What stays outside the packages that a command touches (ours).
 use Rattle.std.specs.Prelude.{◌≡◌, ℕ, false, List, [], filter}
-use Rattle.std.specs.List.{Contains}
+use Rattle.std.specs.FinSet as set
 use Rattle.std.specs.Str.{bytes_eq}
+use Rattle.vet_base.specs.Names.{NameSet}
 use Rattle.vet_base.specs.Version.{VersionValue}
 use Rattle.vet_demand.specs.declared.pair.Pair.{Pair}
 use Rattle.vet_entries.specs.Facts.{Facts}
@@ -21,9 +22,9 @@ pub record IsSameAt (name : List ℕ) (old_facts : Facts) (old_demand : List Pai
   pub pairs : pairs_at name old_demand ≡ pairs_at name demand
 
 -- the criteria are the same, and so is each package that isn't named
-pub record IsSameBeside (names : List (List ℕ)) (old_facts : Facts) (old_demand : List Pair) (facts : Facts) (demand : List Pair) : Type 0 where
+pub record IsSameBeside (names : NameSet) (old_facts : Facts) (old_demand : List Pair) (facts : Facts) (demand : List Pair) : Type 0 where
   pub criteria : old_facts.criteria ≡ facts.criteria
-  pub packages : (name : List ℕ) → ¬ Contains names name → IsSameAt name old_facts old_demand facts demand
+  pub packages : (name : List ℕ) → set.contains names name ≡ false → IsSameAt name old_facts old_demand facts demand
 
 -- some facts give no package a step, and condemn no version
 pub record GiveNothing (facts : Facts) : Type 0 where

@@ -9,9 +9,7 @@
 ghost use Rattle.std.specs.Prelude.{◌≡◌, [], List, IfOk, IfErr};
 ghost use Rattle.vet_demand.specs.declared.pair.Pair.{Pair};
 ghost use Rattle.vet_entries.specs.Facts.{Facts};
-ghost use Rattle.vet_graph.specs.declared.moves.Move.{Move};
-ghost use Rattle.vet_graph.specs.declared.standing.Stand.{Stand};
-ghost use Rattle.vet_graph.specs.declared.touched.Touched.{Touched};
+ghost use Rattle.vet_graph.specs.Keeping.{Keeping};
 ghost use Rattle.vet_graph.specs.Moves.{moves_between};
 ghost use Rattle.vet_graph.specs.Standing.{IsStanding, class_in, counts_of};
 ghost use Rattle.vet_graph.specs.StandingOf.{AreKnown, HasDemanded, standing_of};
@@ -30,39 +28,21 @@ use vet_entries::facts::EntryFacts;
 
 /// Keeps the class of each demanded pair.
 ///
-/// An implementer says in the ghost members what its values mean, and the clauses of the calls are the
-/// contract that it has to prove and on which every caller rests.
+/// An implementer says in the ghost member what its values mean, and the clauses of the calls are the contract
+/// that it has to prove and on which every caller rests.
 pub trait Keeper: Drop {
     /// A planned change: what it makes of the standing, its moves, and the room that `apply` needs.
     type Update: Drop;
 
-    /// The class of each demanded pair, in the order of the pairs.
-    ghost standing: { Self → List Stand };
-
-    /// What the keeper holds is what these facts and this demand give. A keeper that finds all anew holds
-    /// the standing alone; one that remembers more says here what.
-    ghost keeps: { Self → Facts → List Pair → Type 0 };
-
-    /// The standing that an update brings.
-    ghost planned: { Self.Update → List Stand };
-
-    /// What an update brings is what these facts and this demand give.
-    ghost plans: { Self.Update → Facts → List Pair → Type 0 };
-
-    /// The moves of an update.
-    ghost moves_of: { Self.Update → List Move };
-
-    /// The packages that an update was told are touched.
-    ghost touched_of: { Self.Update → Touched };
-
-    /// This keeper planned the update on the standing that it has, and still holds the room for it.
-    ghost is_ready: { Self → Self.Update → Type 0 };
+    /// What the values of the keeper and of its updates mean. One that finds all anew holds the standing alone;
+    /// one that remembers more says here of which facts and demand that is.
+    ghost keeping: { Keeping Self Self.Update };
 
     /// A keeper of which nothing is demanded. It holds what any facts give that have no steps and condemn
     /// nothing. Refused: `NoMemory`.
     fn empty(alloc: Global) -> Result<Self, Refusal>
-        ensures standing { IfOk result (λ k. standing k ≡ []) }
-        ensures keeps { IfOk result (λ k. (facts : Facts) → GiveNothing facts → keeps k facts []) }
+        ensures standing { IfOk result (λ k. keeping.standing k ≡ []) }
+        ensures keeps { IfOk result (λ k. (facts : Facts) → GiveNothing facts → keeping.keeps k facts []) }
         ensures memory { IfErr result (λ e. e ≡ Refusal.NoMemory) };
 
     /// Plans the standing of a demand by some facts. Asks that the criteria of each entry, and each demanded
@@ -79,45 +59,45 @@ pub trait Keeper: Drop {
     ) -> Result<Self::Update, Refusal>
         requires known { AreKnown facts.now.content }
         requires demanded { HasDemanded facts.now.content.criteria demand.now }
-        requires outside { (old_facts : Facts) × (old_demand : List Pair) × keeps self.old old_facts old_demand
+        requires outside { (old_facts : Facts) × (old_demand : List Pair) × keeping.keeps self.old old_facts old_demand
             × SameOutside touched.now old_facts old_demand facts.now.content demand.now }
-        ensures planned { IfOk result (λ u. planned u ≡ standing_of facts.now.content demand.now) }
-        ensures plans { IfOk result (λ u. plans u facts.now.content demand.now) }
-        ensures moves { IfOk result (λ u. moves_of u
-            ≡ moves_between (standing self.old) (standing_of facts.now.content demand.now)) }
-        ensures touched { IfOk result (λ u. touched_of u ≡ touched.now) }
-        ensures ready { IfOk result (is_ready self.new) }
+        ensures planned { IfOk result (λ u. keeping.planned u ≡ standing_of facts.now.content demand.now) }
+        ensures plans { IfOk result (λ u. keeping.plans u facts.now.content demand.now) }
+        ensures moves { IfOk result (λ u. keeping.moves_of u
+            ≡ moves_between (keeping.standing self.old) (standing_of facts.now.content demand.now)) }
+        ensures touched { IfOk result (λ u. keeping.touched_of u ≡ touched.now) }
+        ensures ready { IfOk result (keeping.is_ready self.new) }
         ensures memory { IfErr result (λ e. e ≡ Refusal.NoMemory) }
-        ensures standing { standing self.new ≡ standing self.old }
+        ensures standing { keeping.standing self.new ≡ keeping.standing self.old }
         ensures keeps { (facts : Facts) (demand : List Pair)
-            → keeps self.old facts demand → keeps self.new facts demand }
-        ensures stays_ready { (u : Self.Update) → is_ready self.old u → is_ready self.new u };
+            → keeping.keeps self.old facts demand → keeping.keeps self.new facts demand }
+        ensures stays_ready { (u : Self.Update) → keeping.is_ready self.old u → keeping.is_ready self.new u };
 
     /// The moves from the standing on which an update was planned: each pair whose class differs, once, in
     /// the order of the pairs. Takes no memory.
     fn moves(update: &Self::Update) -> &[Move]
-        ensures { result.now ≡ moves_of update.now };
+        ensures { result.now ≡ keeping.moves_of update.now };
 
     /// The packages that an update was told are touched. Takes no memory.
     fn touched(update: &Self::Update) -> &Touched
-        ensures { result.now ≡ touched_of update.now };
+        ensures { result.now ≡ keeping.touched_of update.now };
 
     /// Makes what was planned the standing. Asks that this keeper planned the update on the standing that it
     /// has, and still holds the room for it. Takes no memory.
     fn apply(&mut self, update: Self::Update)
-        requires { is_ready self.old update }
-        ensures standing { standing self.new ≡ planned update }
+        requires { keeping.is_ready self.old update }
+        ensures standing { keeping.standing self.new ≡ keeping.planned update }
         ensures keeps { (facts : Facts) (demand : List Pair)
-            → plans update facts demand → keeps self.new facts demand };
+            → keeping.plans update facts demand → keeping.keeps self.new facts demand };
 
     /// The class at which a pair stands, or none where it isn't demanded. Takes no memory.
     fn class(&self, package: &PackageName, version: &VetVersion, criterion: &Name) -> Option<Class>
-        ensures value { result ≡ class_in (standing self.now)
+        ensures value { result ≡ class_in (keeping.standing self.now)
             (record { «package» = «package».now; version = version.now; criterion = criterion.now }) }
-        ensures in_order { IsStanding (standing self.now) };
+        ensures in_order { IsStanding (keeping.standing self.now) };
 
     /// How many pairs stand in each class. Takes no memory.
     fn counts(&self) -> Counts
-        ensures value { result ≡ counts_of (standing self.now) }
-        ensures in_order { IsStanding (standing self.now) };
+        ensures value { result ≡ counts_of (keeping.standing self.now) }
+        ensures in_order { IsStanding (keeping.standing self.now) };
 }

@@ -66,9 +66,14 @@ pub struct PlainUpdate {
 
 impl Model for PlainUpdate {
     ghost use Rattle.vet_graph.specs.Standing.{IsStanding};
-    ghost use Rattle.vet_graph.specs.Plain.{UpdateView};
+    ghost use Rattle.vet_graph.specs.Plain.{UpdateView, update_code};
+    ghost use Rattle.vet_graph.specs.contracts.moves.Move as change;
+    ghost use Rattle.vet_graph.specs.contracts.standing.Stand as stand;
+    ghost use Rattle.vet_graph.specs.contracts.touched.Touched as told;
 
     ghost Value = { UpdateView };
+
+    ghost coded = { update_code stand.the_row.coded change.the_row.coded told.the_row.coded };
 
     ghost view = { λ u. record {
       standing = u.standing.items;
@@ -82,19 +87,15 @@ impl Model for PlainUpdate {
 impl Keeper for PlainKeeper {
     type Update = PlainUpdate;
 
-    ghost standing = { λ k. k };
-
-    ghost keeps = { λ k facts demand. k ≡ standing_of facts demand };
-
-    ghost planned = { λ u. u.standing };
-
-    ghost plans = { λ u facts demand. u.standing ≡ standing_of facts demand };
-
-    ghost moves_of = { λ u. u.moves };
-
-    ghost touched_of = { λ u. u.touched };
-
-    ghost is_ready = { λ k u. Unit {0} };
+    ghost keeping = { record {
+      standing = λ k. k;
+      keeps = λ k facts demand. k ≡ standing_of facts demand;
+      planned = λ u. u.standing;
+      plans = λ u facts demand. u.standing ≡ standing_of facts demand;
+      moves_of = λ u. u.moves;
+      touched_of = λ u. u.touched;
+      is_ready = λ k u. Unit {0};
+    } };
 
     /// Nothing is demanded. Never refused.
     fn empty(alloc: Global) -> Result<PlainKeeper, Refusal>
