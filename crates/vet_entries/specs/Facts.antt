@@ -20,24 +20,28 @@ pub record Facts : Type 0 where
   pub entries : List HeldEntry
   pub publishers : List PackagePublishers
 
--- facts, and for how many more entries and packages with records there is room
+-- for how many more entries and packages with records there is room
+pub record Room : Type 0 where
+  pub entries : ℕ
+  pub packages : ℕ
+
+-- facts, and their room
 pub record FactsRoom : Type 0 where
   pub content : Facts
-  pub entry_room : ℕ
-  pub package_room : ℕ
+  pub room : Room
 
--- facts are stored as the tuple of the table, the entries, the records and the rooms
+-- facts are stored as the tuple of the table, the entries, the records and the room for entries and for packages
 abbrev pub facts_room_code : Coded HeldEntry → Coded PackagePublishers → Coded FactsRoom
 facts_room_code held_code publishers_code =
     code_by (Criteria × (List HeldEntry × (List PackagePublishers × (ℕ × ℕ))))
     (coded× (map.code (coded_list coded_ℕ) criterion_code) (coded× (coded_list held_code) (coded× (coded_list publishers_code) (coded× coded_ℕ coded_ℕ))))
-    (λ f. (f.content.criteria, (f.content.entries, (f.content.publishers, (f.entry_room, f.package_room)))))
-    (λ p. record { content = record { criteria = p.0; entries = p.1.0; publishers = p.1.1.0 }; entry_room = p.1.1.1.0; package_room = p.1.1.1.1 })
+    (λ f. (f.content.criteria, (f.content.entries, (f.content.publishers, (f.room.entries, f.room.packages)))))
+    (λ p. record { content = record { criteria = p.0; entries = p.1.0; publishers = p.1.1.0 }; room = record { entries = p.1.1.1.0; packages = p.1.1.1.1 } })
     (λ _. refl)
 
 -- the publisher records, and for how many more packages there is room
 abbrev pub publishers_room : FactsRoom → PublishersRoom
-publishers_room facts = record { packages = facts.content.publishers; room = facts.package_room }
+publishers_room facts = record { packages = facts.content.publishers; room = facts.room.packages }
 
 -- nothing but the built-in criteria
 abbrev pub no_facts : Facts
@@ -76,18 +80,29 @@ edited (edit.Publishers change) facts = record facts { publishers = edited_publi
 -- an edit can be made, and takes no memory
 abbrev pub Fits : Edit → FactsRoom → Type 0
 Fits (edit.Criteria table) facts = Unit {0}
-Fits (edit.Insert place held) facts = (place ≤ length facts.content.entries) × (0 < facts.entry_room)
+Fits (edit.Insert place held) facts = (place ≤ length facts.content.entries) × (0 < facts.room.entries)
 Fits (edit.Remove place) facts = place < length facts.content.entries
 Fits (edit.Publishers change) facts = FitsPublishers change (publishers_room facts)
 
--- the room for entries after an edit
-abbrev pub entry_room_after : Edit → ℕ → ℕ
-entry_room_after (edit.Criteria table) room = room
-entry_room_after (edit.Insert place held) room = room - 1
-entry_room_after (edit.Remove place) room = room + 1
-entry_room_after (edit.Publishers change) room = room
+-- the room after an edit
+abbrev pub room_after : Edit → Room → Room
+room_after (edit.Criteria table) room = room
+room_after (edit.Insert place held) room = record room { entries = room.entries - 1 }
+room_after (edit.Remove place) room = record room { entries = room.entries + 1 }
+room_after (edit.Publishers change) room = record room { packages = publishers_room_after change room.packages }
 
--- the room for packages with records after an edit
-abbrev pub package_room_after : Edit → ℕ → ℕ
-package_room_after (edit.Publishers change) room = publishers_room_after change room
-package_room_after _ room = room
+-- where there is room for something in the old, there is in the new
+abbrev pub HoldsRoomOf : Room → Room → Type 0
+HoldsRoomOf old new = (old.entries ≤ new.entries) × (old.packages ≤ new.packages)
+
+-- an edit that fits still does where the facts are the same, and no room is lost
+abbrev pub FitsWithMoreRoom : Type 0
+FitsWithMoreRoom = (e : Edit) (facts : Facts) (old new : Room) → HoldsRoomOf old new → Fits e (record { content = facts; room = old }) → Fits e (record { content = facts; room = new })
+
+-- no room is lost where nothing happens
+abbrev pub RoomHoldsItself : Type 0
+RoomHoldsItself = (room : Room) → HoldsRoomOf room room
+
+-- nor by one thing after another, each of which loses none
+abbrev pub RoomHoldsOnward : Type 0
+RoomHoldsOnward = (a b c : Room) → HoldsRoomOf a b → HoldsRoomOf b c → HoldsRoomOf a c

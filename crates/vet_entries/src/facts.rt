@@ -1,9 +1,9 @@
 //! What is held of packages.
-ghost use Rattle.std.specs.Prelude.{◌≡◌, ◌<◌, ◌≤◌, ◌+◌, ◌^◌, [], IfOk, IfErr, OnOk, OnErr, Ok, filter, length, nat_lt};
+ghost use Rattle.std.specs.Prelude.{◌≡◌, ◌<◌, ◌^◌, ◌++◌, ◌∷◌, [], IfOk, IfErr, IsOk, OnErr, filter, length, nat_lt, remove};
 ghost use Rattle.std.specs.List.{All, list_any};
 ghost use Rattle.vet_base.specs.Criteria.{IsTable};
 ghost use Rattle.vet_entries.specs.ByPackage.{gathered};
-ghost use Rattle.vet_entries.specs.Facts.{Fits, edited, entry_room_after, is_named_by, no_facts, number_of, numbered, package_room_after, place_of, publishers_room};
+ghost use Rattle.vet_entries.specs.Facts.{Fits, FitsWithMoreRoom, HoldsRoomOf, RoomHoldsItself, RoomHoldsOnward, edited, is_named_by, no_facts, number_of, numbered, place_of, publishers_room, room_after};
 ghost use Rattle.vet_entries.specs.PublisherRecords.{IsByName, records_of, records_total, with_records};
 ghost use Rattle.vet_entries.specs.Publishers.{IsInOrder};
 ghost use Rattle.vet_entries.specs.Step.{is_of};
@@ -81,8 +81,10 @@ impl Model for EntryFacts {
         entries = f.entries.entries;
         publishers = f.publishers.packages;
       };
-      entry_room = f.entries.room;
-      package_room = f.publishers.room;
+      room = record {
+        entries = f.entries.room;
+        packages = f.publishers.room;
+      };
     } };
 }
 
@@ -196,21 +198,6 @@ impl EntryFacts {
             .any(|held| held.entry.criteria.contains(name))
     }
 
-    /// Makes room for one more entry. Costs nothing where there is room; else a move of all entries to twice
-    /// the room. Refused: `NoMemory`.
-    pub fn reserve(&mut self) -> Result<(), Refusal>
-        ensures content { self.new.content ≡ self.old.content }
-        ensures ok { OnOk result (0 < self.new.entry_room) }
-        ensures kept { self.old.entry_room ≤ self.new.entry_room }
-        ensures packages { self.new.package_room ≡ self.old.package_room }
-        ensures err { OnErr result (self.new.entry_room ≡ self.old.entry_room) }
-        ensures succeeds { 0 < self.old.entry_room → result ≡ Ok tt }
-        ensures memory { IfErr result (λ e. e ≡ Refusal.NoMemory) }
-    {
-        self.entries.reserve()?;
-        Ok(())
-    }
-
     /// Whether there would be more publisher records than this, if these were set for a package. Costs a binary
     /// search among the packages that have some.
     pub fn records_would_pass(
@@ -240,6 +227,43 @@ impl EntryFacts {
         let _ = publishers.as_slice();
     }
 
+    /// The edit that puts an entry with this number behind all others, and room for it. Costs nothing where
+    /// there is room; else a move of all entries to twice the room. Refused: `NoMemory`.
+    pub fn edit_adding(&mut self, number: u64, entry: Entry) -> Result<Edit, Refusal>
+        ensures edit { IfOk result (λ e. edited e self.old.content ≡ record self.old.content {
+          entries = self.old.content.entries ++ (record { number = number; entry = entry }) ∷ [];
+        }) }
+        ensures fits { IfOk result (λ e. Fits e self.new) }
+        ensures content { self.new.content ≡ self.old.content }
+        ensures kept { HoldsRoomOf self.old.room self.new.room }
+        ensures err { OnErr result (self.new.room ≡ self.old.room) }
+        ensures succeeds { 0 < self.old.room.entries → IsOk result }
+        ensures memory { IfErr result (λ e. e ≡ Refusal.NoMemory) }
+    {
+        self.entries.reserve()?;
+        let place = self.entries.entries().len();
+        Ok(Edit::Insert(place, HeldEntry { number, entry }))
+    }
+
+    /// The edit by which the entry at a place goes. Asks that there is one. Takes no memory.
+    pub fn edit_dropping(&self, at: usize) -> Edit
+        requires { at < length self.now.content.entries }
+        ensures edit { edited result self.now.content ≡ record self.now.content {
+          entries = remove self.now.content.entries at;
+        } }
+        ensures fits { Fits result self.now }
+    {
+        Edit::Remove(at)
+    }
+
+    /// The edit that puts a table of criteria in place of the one held. Takes no memory.
+    pub fn edit_of_criteria(&self, criteria: CriteriaTable) -> Edit
+        ensures edit { edited result self.now.content ≡ record self.now.content { criteria = criteria } }
+        ensures fits { Fits result self.now }
+    {
+        Edit::Criteria(criteria)
+    }
+
     /// The edit that puts these publisher records in place of those of a package, and room for it. Asks that
     /// there are some in one or the other, and that all records together can be counted. Costs a binary search
     /// among the packages that have records, and a copy of these; for a new package at times a move of all
@@ -258,8 +282,7 @@ impl EntryFacts {
         }) }
         ensures fits { IfOk result (λ e. Fits e self.new) }
         ensures content { self.new.content ≡ self.old.content }
-        ensures entries { self.new.entry_room ≡ self.old.entry_room }
-        ensures kept { self.old.package_room ≤ self.new.package_room }
+        ensures kept { HoldsRoomOf self.old.room self.new.room }
         ensures memory { IfErr result (λ e. e ≡ Refusal.NoMemory) }
     {
         let change = self.publishers.edit_for(package, publishers)?;
@@ -273,12 +296,10 @@ impl EntryFacts {
     pub fn apply(&mut self, edit: Edit) -> Edit
         requires { Fits edit self.old }
         ensures content { self.new.content ≡ edited edit self.old.content }
-        ensures room { self.new.entry_room ≡ entry_room_after edit self.old.entry_room }
-        ensures packages { self.new.package_room ≡ package_room_after edit self.old.package_room }
+        ensures room { self.new.room ≡ room_after edit self.old.room }
         ensures fits { Fits result self.new }
         ensures back { edited result self.new.content ≡ self.old.content }
-        ensures room_back { entry_room_after result self.new.entry_room ≡ self.old.entry_room }
-        ensures packages_back { package_room_after result self.new.package_room ≡ self.old.package_room }
+        ensures room_back { room_after result self.new.room ≡ self.old.room }
     {
         match edit {
             Edit::Criteria(table) => Edit::Criteria(std::mem::replace(&mut self.criteria, table)),
@@ -291,6 +312,14 @@ impl EntryFacts {
         }
     }
 }
+
+/// An edit that fits still does where the facts are the same and no room is lost. None is lost where nothing
+/// happens, nor by one thing after another that each lose none. Does nothing.
+pub fn edits_fit_with_more_room()
+    ensures fits { FitsWithMoreRoom }
+    ensures itself { RoomHoldsItself }
+    ensures onward { RoomHoldsOnward }
+{}
 
 // Some entries with the numbers from one on.
 fn numbered(alloc: Global, entries: Vec<Entry>) -> Result<ByPackage, Refusal>
