@@ -142,14 +142,18 @@ impl<T: HasKey> Keyed<T> {
         ensures items { self.new.items ≡ self.old.items }
         ensures ok { OnOk result (0 < self.new.room) }
         ensures kept { self.old.room ≤ self.new.room }
+        ensures succeeds { 0 < self.old.room → result ≡ Ok tt }
     {
         self.items.reserve(1)
     }
 
-    /// The edit that sets the item of its key. Takes no memory, and a time of log n.
+    /// The edit that sets the item of its key; where the key is held it needs no room. Takes no memory, and a
+    /// time of log n.
     pub fn edit_setting(&self, item: T) -> KeyedEdit<T>
         ensures edit { edited result self.now.items ≡ with_item T.Key.cmp T.key_of self.now.items item }
         ensures fits { 0 < self.now.room → Fits T.Key.cmp T.key_of result self.now }
+        ensures held { IsTrue (is_some (item_of T.Key.cmp T.key_of self.now.items (T.key_of item)))
+            → Fits T.Key.cmp T.key_of result self.now }
     {
         match self.place_of(item.key()) {
             Ok(place) => KeyedEdit::Swap(place, item),
