@@ -2,7 +2,7 @@
 use Rattle.std.specs.Prelude.{◌≡◌, ℕ, Bool, true, false, not, ◌&&◌, List, [], None, map, get_or}
 use Rattle.std.specs.List.{All, Contains}
 use Rattle.std.specs.FinSet as set
-use Rattle.vet_base.specs.CriteriaSet.{has}
+use Rattle.vet_base.specs.CriteriaSet.{has, Places}
 use Rattle.vet_base.specs.Version.{VersionValue}
 use Rattle.vet_base.specs.VersionOrder.{version_eq}
 use Rattle.vet_entries.specs.declared.step.Step.{Step}
@@ -19,6 +19,10 @@ steps_in guarded = map (λ g. g.step) guarded
 -- each step carries the criteria for which its target is condemned
 abbrev pub AreGuarded : Condemned → List GuardedStep → Type 0
 AreGuarded condemned guarded = All (λ g. (c : ℕ) → has c g.condemned ≡ condemned c g.step.target) guarded
+
+-- these versions are condemned as the steps carry it, and v is so for the criteria at these places
+abbrev pub Agrees : List GuardedStep → Places → VersionValue → Condemned → Type 0
+Agrees guarded places v condemned = AreGuarded condemned guarded × ((c : ℕ) → has c places ≡ condemned c v)
 
 -- whether a search takes a step, if it skips these
 abbrev pub may_take : Skip → Step → Bool

@@ -2,9 +2,9 @@
 ghost use Rattle.std.specs.Prelude.{◌≡◌, ◌↔◌, ℕ, IsTrue, IfOk, IfErr};
 ghost use Rattle.vet_base.specs.CriteriaSet.{has};
 ghost use Rattle.vet_graph.specs.Chain.{Condemned};
-ghost use Rattle.vet_graph.specs.Class.{IsConflicting, IsExempted, IsFull, IsPartial, class_word};
+ghost use Rattle.vet_graph.specs.Class.{IsClass, IsConflicting, IsExempted, IsFull, IsPartial, class_word};
 ghost use Rattle.vet_graph.specs.ClassAt.{ClassHolds, ClassIsOnly, class_at};
-ghost use Rattle.vet_graph.specs.Search.{AreGuarded, IsReached, steps_in};
+ghost use Rattle.vet_graph.specs.Search.{Agrees, AreGuarded, IsReached, steps_in};
 
 use crate::links::LinkedSteps;
 use crate::search::{Skip, Terms, leads_to, search};
@@ -45,8 +45,8 @@ impl Class {
 
 /// The class of a version for the criterion at a place, by these steps, where these are the criteria for which
 /// the version is condemned (ours): that of the definition, for any versions that are condemned as the steps
-/// and the version say. Costs at most four searches, each of which looks at each step at most once. Refused:
-/// `NoMemory`.
+/// and the version say. Asks that there are such: steps to one version say the same, and so does the version.
+/// Costs at most four searches, each of which looks at each step at most once. Refused: `NoMemory`.
 pub fn class_of(
     alloc: Global,
     steps: &LinkedSteps,
@@ -54,8 +54,10 @@ pub fn class_of(
     place: usize,
     version: &VetVersion,
 ) -> Result<Class, Refusal>
-    ensures class { (condemned_for : Condemned) → AreGuarded condemned_for steps.now
-        → ((c : ℕ) → has c condemned.now ≡ condemned_for c version.now)
+    requires { (condemned_for : Condemned) × Agrees steps.now condemned.now version.now condemned_for }
+    ensures is { (condemned_for : Condemned) → Agrees steps.now condemned.now version.now condemned_for
+        → IfOk result (IsClass (steps_in steps.now) condemned_for place version.now) }
+    ensures class { (condemned_for : Condemned) → Agrees steps.now condemned.now version.now condemned_for
         → IfOk result (λ class. class ≡ class_at (steps_in steps.now) condemned_for place version.now) }
     ensures memory { IfErr result (λ e. e ≡ Refusal.NoMemory) }
 {
