@@ -1,5 +1,6 @@
 -- The standing of a demand, pair by pair, and what no steps give.
-use Rattle.std.proofs.Common.{◌≡◌, ℕ, List, [], ◌∷◌, Option, Some, None, refl, sym, ap, ◌∙◌, ◌<◌, ◌+◌, ◌++◌, length, take, get_or, arith}
+use Rattle.std.proofs.Common.{◌≡◌, ℕ, Bool, true, false, cond, inl, inr, List, [], ◌∷◌, Option, Some, None, refl, sym, ap, ◌∙◌, ◌<◌, ◌+◌, ◌++◌, length, take, get_or, arith}
+use Rattle.std.specs.Prelude.{MatchOption}
 use Rattle.std.specs.List.{Contains}
 use Rattle.std.specs.Option.{option_map_or}
 use Rattle.std.proofs.lemmas.List.{map-append, take_more}
@@ -10,11 +11,15 @@ use Rattle.vet_entries.specs.declared.step.Step.{Step}
 use Rattle.vet_entries.specs.Facts.{Facts, no_facts}
 use Rattle.vet_graph.specs.declared.class.Class.TheVariants.{Unvetted}
 use Rattle.vet_graph.specs.Chain.{Condemned, IsChain}
-use Rattle.vet_graph.specs.ClassAt.{class_at, class_at-unique}
-use Rattle.vet_demand.specs.Pair.{IsInOrder}
-use Rattle.vet_graph.specs.Standing.{IsStanding, pairs_of}
+use Rattle.vet_graph.specs.ClassAt.{class_at, class_at-is, class_at-unique}
+use Rattle.vet_graph.specs.Class.{IsClass, IsClassOfPair}
+use Rattle.vet_graph.specs.Decisions.{Contains-cons_cases, Contains-here, Contains-later}
+use Rattle.std.proofs.lemmas.Bool.{false≢true}
+use Rattle.vet_graph.specs.declared.class.Class.{Class}
+use Rattle.vet_demand.specs.Pair.{IsInOrder, pair_eq, pair_eq-Decides}
+use Rattle.vet_graph.specs.Standing.{IsStanding, class_in, pairs_of}
 use Rattle.vet_graph.specs.Plain.{AreStepsOf}
-use Rattle.vet_graph.specs.StandingOf.{class_of_pair, condemned_of, standing_of}
+use Rattle.vet_graph.specs.StandingOf.{PairClassHolds, PairClassIsOnly, PairsStandAtTheirClass, class_of_pair, condemned_of, standing_of}
 use Rattle.vet_entries.specs.declared.condemned.Violation.{Violation}
 use Rattle.vet_entries.specs.Condemned.{ViolationsCondemn, condemned_by, violations_of}
 use Rattle.vet_graph.specs.declared.guarded.GuardedStep.{GuardedStep}
@@ -35,6 +40,39 @@ unvetted condemned c v =
 unvetted_by : (condemned : Condemned) (place : Option ℕ) (v : VersionValue) → option_map_or (λ c. class_at [] condemned c v) place Unvetted ≡ Unvetted
 unvetted_by condemned None v = refl
 unvetted_by condemned (Some c) v = unvetted condemned c v
+
+-- a class by a place is that of the definition, and no other is
+class_by-is : (steps : List Step) (condemned : Condemned) (place : Option ℕ) (v : VersionValue)
+    → MatchOption place (option_map_or (λ c. class_at steps condemned c v) place Unvetted ≡ Unvetted) (λ c. IsClass steps condemned c v (option_map_or (λ c. class_at steps condemned c v) place Unvetted))
+class_by-is steps condemned None v = refl
+class_by-is steps condemned (Some c) v = class_at-is steps condemned c v
+
+class_by-unique : (steps : List Step) (condemned : Condemned) (place : Option ℕ) (v : VersionValue) (k : Class)
+    → MatchOption place (k ≡ Unvetted) (λ c. IsClass steps condemned c v k) → k ≡ option_map_or (λ c. class_at steps condemned c v) place Unvetted
+class_by-unique steps condemned None v k h = h
+class_by-unique steps condemned (Some c) v k h = class_at-unique steps condemned c v k h
+
+pub pair_class_holds : PairClassHolds
+pair_class_holds facts p = class_by-is (steps_of facts p.«package») (condemned_of facts p.«package») (place_of facts.criteria p.criterion) p.version
+
+pub pair_class_is_only : PairClassIsOnly
+pair_class_is_only facts p k = class_by-unique (steps_of facts p.«package») (condemned_of facts p.«package») (place_of facts.criteria p.criterion) p.version k
+
+-- the class at which a pair stands, where the pairs after the first have it as they should
+stands_next : (facts : Facts) (q : Pair) (demand : List Pair) (p : Pair) (b : Bool) → pair_eq q p ≡ b → (rest : Option Class)
+    → MatchOption rest (Contains demand p → ⊥) (λ class. Contains demand p × IsClassOfPair facts p class)
+    → MatchOption (cond b (Some (class_of_pair facts q)) rest) (Contains (q ∷ demand) p → ⊥) (λ class. Contains (q ∷ demand) p × IsClassOfPair facts p class)
+stands_next facts q demand p true e rest h =
+    let same : q ≡ p = (pair_eq-Decides q p).0 e in
+    rw same (Contains-here p demand, pair_class_holds facts p)
+stands_next facts q demand p false e None h =
+    λ within. elim (Contains-cons_cases q demand p within) [ inl same ↦ false≢true (sym e ∙ (pair_eq-Decides q p).1 same) | inr later ↦ h later ]
+stands_next facts q demand p false e (Some class) h = (Contains-later q p demand h.0, h.1)
+
+pub pairs_stand_at_their_class : PairsStandAtTheirClass
+pairs_stand_at_their_class facts [] p = λ within. absurd (omega (arith, within.1))
+pairs_stand_at_their_class facts (q ∷ demand) p =
+    stands_next facts q demand p (pair_eq q p) refl (class_in (standing_of facts demand) p) (pairs_stand_at_their_class facts demand p)
 
 pub none_is_vetted : (p : Pair) → class_of_pair no_facts p ≡ Unvetted
 none_is_vetted p = unvetted_by (condemned_of no_facts p.«package») _ p.version

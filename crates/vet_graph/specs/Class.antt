@@ -1,6 +1,11 @@
 -- The class of a version for a criterion (ours): the first of five that holds.
-use Rattle.std.specs.Prelude.{◌≡◌, ℕ, true, List, codes}
+use Rattle.std.specs.Prelude.{◌≡◌, ℕ, true, List, MatchOption, codes}
+use Rattle.vet_base.specs.Criteria.{place_of}
 use Rattle.vet_base.specs.Version.{VersionValue}
+use Rattle.vet_demand.specs.declared.pair.Pair.{Pair}
+use Rattle.vet_entries.specs.Condemned.{is_condemned}
+use Rattle.vet_entries.specs.Facts.{Facts}
+use Rattle.vet_entries.specs.Step.{steps_of}
 use Rattle.vet_entries.specs.declared.step.Step.{Step}
 use Rattle.vet_graph.specs.declared.class.Class.{Class}
 use Rattle.vet_graph.specs.declared.class.Class.TheVariants.{Conflicting, Full, Partial, Exempted, Unvetted}
@@ -32,6 +37,13 @@ IsClass steps condemned c v Exempted =
     ¬ IsConflicting steps condemned c v × ¬ IsFull steps condemned c v × ¬ IsPartial steps condemned c v × IsExempted steps condemned c v
 IsClass steps condemned c v Unvetted =
     ¬ IsConflicting steps condemned c v × ¬ IsFull steps condemned c v × ¬ IsPartial steps condemned c v × ¬ IsExempted steps condemned c v
+
+-- the class of a pair by these facts: what its package's steps and condemned versions give its version at the place of its
+-- criterion; nothing vouches for a criterion that has no place in the table
+abbrev pub IsClassOfPair : Facts → Pair → Class → Type 0
+IsClassOfPair facts p class =
+    MatchOption (place_of facts.criteria p.criterion) (class ≡ Unvetted)
+    (λ place. IsClass (steps_of facts p.«package») (is_condemned facts p.«package») place p.version class)
 
 -- the word of a class: its name in small letters
 abbrev pub class_word : Class → List ℕ

@@ -1,8 +1,8 @@
 -- The class of each demanded pair, as chains of the entries' steps give it (ours).
-use Rattle.std.specs.Prelude.{◌≡◌, ℕ, true, List, map}
+use Rattle.std.specs.Prelude.{◌≡◌, ℕ, true, List, MatchOption, map}
 use Rattle.std.specs.FinMap as table
 use Rattle.std.specs.Option.{option_map_or}
-use Rattle.std.specs.List.{All}
+use Rattle.std.specs.List.{All, Contains}
 use Rattle.vet_base.specs.Criteria.{Criteria, place_of}
 use Rattle.vet_demand.specs.declared.pair.Pair.{Pair}
 use Rattle.vet_entries.specs.Condemned.{is_condemned}
@@ -10,7 +10,9 @@ use Rattle.vet_entries.specs.Facts.{Facts}
 use Rattle.vet_entries.specs.declared.step.Step.{Step}
 use Rattle.vet_entries.specs.Step.{HasKnownCriteria, steps_of}
 use Rattle.vet_graph.specs.Chain.{Condemned}
+use Rattle.vet_graph.specs.Class.{IsClassOfPair}
 use Rattle.vet_graph.specs.ClassAt.{class_at}
+use Rattle.vet_graph.specs.Standing.{class_in}
 use Rattle.vet_graph.specs.declared.class.Class.{Class}
 use Rattle.vet_graph.specs.declared.class.Class.TheVariants.{Unvetted}
 use Rattle.vet_graph.specs.declared.standing.Stand.{Stand}
@@ -42,3 +44,16 @@ HasDemanded criteria demand = All (λ p. table.contains_key criteria p.criterion
 -- nothing is held, so each class is the last
 abbrev pub NoneIsVetted : Facts → Type 0
 NoneIsVetted facts = (p : Pair) → class_of_pair facts p ≡ Unvetted
+
+-- the class of each pair by any facts holds
+abbrev pub PairClassHolds : Type 0
+PairClassHolds = (facts : Facts) (p : Pair) → IsClassOfPair facts p (class_of_pair facts p)
+
+-- no other class of a pair does so
+abbrev pub PairClassIsOnly : Type 0
+PairClassIsOnly = (facts : Facts) (p : Pair) (k : Class) → IsClassOfPair facts p k → k ≡ class_of_pair facts p
+
+-- a pair that stands in the standing of a demand is demanded, and stands at its class
+abbrev pub PairsStandAtTheirClass : Type 0
+PairsStandAtTheirClass = (facts : Facts) (demand : List Pair) (p : Pair)
+    → MatchOption (class_in (standing_of facts demand) p) (¬ Contains demand p) (λ class. Contains demand p × IsClassOfPair facts p class)

@@ -2,9 +2,10 @@
 ghost use Rattle.std.specs.Prelude.{◌≡◌, [], IfOk, IfErr, IfSome, IsOk};
 ghost use Rattle.vet_entries.specs.Facts.{Facts, no_facts};
 ghost use Rattle.vet_entries.specs.Condemned.{condemned_by};
+ghost use Rattle.vet_graph.specs.Class.{IsClassOfPair};
 ghost use Rattle.vet_graph.specs.Plain.{AreStepsOf};
 ghost use Rattle.vet_graph.specs.Search.{AreGuarded, steps_in};
-ghost use Rattle.vet_graph.specs.StandingOf.{AreKnown, NoneIsVetted, class_of_pair, standing_of};
+ghost use Rattle.vet_graph.specs.StandingOf.{AreKnown, NoneIsVetted, PairClassHolds, PairClassIsOnly, PairsStandAtTheirClass, class_of_pair, standing_of};
 ghost use Rattle.vet_graph.specs.Touched.{GiveNothing};
 
 use crate::class::{Class, class_of};
@@ -25,10 +26,12 @@ use vet_entries::condemned::{Violation, condemned_by, violations_condemn, violat
 use vet_entries::facts::EntryFacts;
 use vet_entries::step::{Step, steps_of};
 
-/// The class of a pair by these facts. Asks that each criterion that an entry names is in the table. Finds the
-/// steps of the package, and searches them at most four times. Refused: `NoMemory`.
+/// The class of a pair by these facts: `Unvetted` where the table lacks its criterion. Asks that each criterion
+/// that an entry names is in the table. Finds the steps of the package, and searches them at most four times.
+/// Refused: `NoMemory`.
 pub fn class_of_pair(alloc: Global, facts: &EntryFacts, pair: &Pair) -> Result<Class, Refusal>
     requires { AreKnown facts.now.content }
+    ensures is { IfOk result (IsClassOfPair facts.now.content pair.now) }
     ensures ok { IfOk result (λ class. class ≡ class_of_pair facts.now.content pair.now) }
     ensures memory { IfErr result (λ e. e ≡ Refusal.NoMemory) }
 {
@@ -299,6 +302,14 @@ fn class_by(
     let condemned = condemned_by(violations, &pair.version);
     class_of(alloc, steps, &condemned, place, &pair.version)
 }
+
+/// The class of each pair by any facts is the first that holds, and no other one is. In the standing of a
+/// demand just the pairs demanded stand, each at its class.
+pub fn each_pair_has_its_class()
+    ensures holds { PairClassHolds }
+    ensures only { PairClassIsOnly }
+    ensures stands { PairsStandAtTheirClass }
+{}
 
 /// Where nothing is held, there are no steps, no version is condemned, and no pair is vetted.
 pub fn nothing_vets_nothing()
