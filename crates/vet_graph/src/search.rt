@@ -41,8 +41,8 @@
 //! it starts. So a version in the list knows its steps, and whether a version is in the list is one look at a mark.
 //! A version is taken from the list once, so a search looks at each step at most once, and a package of s steps
 //! costs the order of s log s for the index, and of s for each search.
-ghost use Rattle.std.specs.Prelude.{◌≡◌, ◌<◌, ◌↔◌, IsTrue, IfOk, IfErr, false, length, replicate, take};
-ghost use Rattle.std.specs.List.{All, Contains};
+ghost use Rattle.std.specs.Prelude.{◌≡◌, ◌≢◌, ◌<◌, ◌↔◌, IsTrue, IfOk, IfErr, false, length, replicate, take};
+ghost use Rattle.std.specs.List.{All, AllPairs, Contains};
 ghost use Rattle.vet_base.specs.Version.{VersionValue};
 ghost use Rattle.vet_graph.specs.Links.{IsLinked};
 ghost use Rattle.vet_graph.specs.Search.{IsReached, is_open, may_take, versions_at};
@@ -107,12 +107,13 @@ pub fn leads_to(steps: &[GuardedStep], places: &[usize], version: &VetVersion) -
     false
 }
 
-/// The versions to which a chain leads on these terms: for each, the place of a step to it. Looks at each
-/// step at most once. Refused: `NoMemory`.
+/// The versions to which a chain leads on these terms: for each, once, the place of a step to it. Looks at
+/// each step at most once. Refused: `NoMemory`.
 pub fn search(alloc: Global, linked: &LinkedSteps, terms: &Terms<'_>) -> Result<Vec<usize>, Refusal>
     ensures within { IfOk result (λ reached. All (λ p. p < length linked.now) reached.items) }
     ensures reached { IfOk result (λ reached. (v : VersionValue)
         → Contains (versions_at linked.now reached.items) v ↔ IsReached linked.now terms.now v) }
+    ensures once { IfOk result (λ reached. AllPairs (λ v w. v ≢ w) (versions_at linked.now reached.items)) }
     ensures memory { IfErr result (λ e. e ≡ Refusal.NoMemory) }
 {
     reach(alloc, linked.steps(), linked.links(), terms)
@@ -136,6 +137,7 @@ fn reach(
     ensures within { IfOk result (λ reached. All (λ p. p < length steps.now) reached.items) }
     ensures reached { IfOk result (λ reached. (v : VersionValue)
         → Contains (versions_at steps.now reached.items) v ↔ IsReached steps.now terms.now v) }
+    ensures once { IfOk result (λ reached. AllPairs (λ v w. v ≢ w) (versions_at steps.now reached.items)) }
     ensures memory { IfErr result (λ e. e ≡ Refusal.NoMemory) }
 {
     let mut reached = Reached {
