@@ -1,5 +1,5 @@
 -- The class of a pair where one audits file is all that is held, or the first fault.
-use Rattle.std.specs.Prelude.{ℕ, Bool, not, List, [], Option, Some, None, Ok, Err, if◌then◌else◌, length, nat_lt, find, fold}
+use Rattle.std.specs.Prelude.{◌≡◌, ℕ, Bool, not, List, [], Option, Some, None, Ok, Err, if◌then◌else◌, length, nat_lt, find, fold}
 use Rattle.std.specs.FinMap as map
 use Rattle.vet_base.specs.Criteria.{Criteria}
 use Rattle.vet_base.specs.Defined.{defined, least_undefined, lesser}
@@ -15,6 +15,7 @@ use Rattle.vet_entries.specs.declared.entry.Entry.{Entry}
 use Rattle.vet_entries.specs.Facts.{Facts, numbered}
 use Rattle.vet_files.specs.Audits.{audits_told}
 use Rattle.vet_files.specs.declared.audits_file.AuditsContent.{AuditsContent}
+use Rattle.vet_graph.specs.Class.{IsClassOfPair}
 use Rattle.vet_graph.specs.StandingOf.{class_of_pair}
 use Rattle.vet_graph.specs.declared.class.Class.{Class}
 use Rattle.vet_register.specs.Verdict.{known}
@@ -63,3 +64,11 @@ pair_told name version criterion =
 abbrev pub class_told : List ℕ → List ℕ → List ℕ → List ℕ → Told Class
 class_told file name version criterion =
     pair_told name version criterion >>= λ p. content_told file >>= λ content. class_in content p
+
+-- the words name a pair, the file tells its content, and this is the pair's class by all that is held then
+pub record IsClassOfFile (file name version criterion : List ℕ) (class : Class) : Type 0 where
+  pub pair : Pair
+  pub content : AuditsContent
+  pub named : pair_told name version criterion ≡ Ok pair
+  pub read : content_told file ≡ Ok content
+  pub is : IsClassOfPair (facts_of content) pair class

@@ -8,7 +8,8 @@ ghost use Rattle.vet_base.specs.CriteriaChanges.{is_built_in};
 ghost use Rattle.vet_base.specs.Defined.{defined, table_told};
 ghost use Rattle.vet_base.specs.Gives.{Gives};
 ghost use Rattle.vet_files.specs.declared.audits_file.AuditsContent.{AuditsContent};
-ghost use Rattle.vet_register.specs.ClassOfFile.{checked, class_in, class_told, content_told, pair_told, unknown_in, unknown_name, unknown_of_entries};
+ghost use Rattle.vet_graph.specs.Class.{IsClassOfPair};
+ghost use Rattle.vet_register.specs.ClassOfFile.{IsClassOfFile, checked, class_in, class_told, content_told, facts_of, pair_told, unknown_in, unknown_name, unknown_of_entries};
 
 use std::alloc::Global;
 use vet_base::criteria_table::CriteriaTable;
@@ -40,7 +41,8 @@ pub fn class_of_file(
     version: &str,
     criterion: &str,
 ) -> Result<Class, Refusal>
-    ensures { Gives (λ class. class)
+    ensures is { IfOk result (IsClassOfFile file.now «package».now version.now criterion.now) }
+    ensures told { Gives (λ class. class)
         (class_told file.now «package».now version.now criterion.now) result }
 {
     let pair = read_pair(alloc, package, version, criterion)?;
@@ -74,7 +76,8 @@ fn read_content(alloc: Global, file: &[u8]) -> Result<AuditsContent, Refusal>
 // The class by a file's content, where there are not too many criteria and each that is named is known.
 fn class_in(alloc: Global, content: AuditsContent, pair: &Pair) -> Result<Class, Refusal>
     requires { All (λ c. is_built_in c.name ≡ false) content.criteria }
-    ensures { Gives (λ class. class) (class_in content pair.now) result }
+    ensures is { IfOk result (IsClassOfPair (facts_of content) pair.now) }
+    ensures told { Gives (λ class. class) (class_in content pair.now) result }
 {
     check_criteria(alloc, &pair.criterion, &content)?;
     let criteria = defined_table(alloc, content.criteria.into_vec())?;

@@ -14,8 +14,11 @@ class_of_pair-requires c =
     rw (c.in_ok-facts.ensures.ok, c.in_ok-criteria.ensures.ok, c.into_vec.ensures, c.into_vec-2.ensures)
     (entries_passed c.args.pair.now.criterion c.args.content c.in_ok-check_criteria.ensures)
 
-pub returns : goal.returns
-returns c =
+pub returns-clause-is : goal.returns-clause-is
+returns-clause-is c = rw (c.in_ok-facts.ensures.ok, c.in_ok-criteria.ensures.ok, c.into_vec.ensures, c.into_vec-2.ensures) at c.class_of_pair.ensures.is
+
+pub returns-clause-told : goal.returns-clause-told
+returns-clause-told c =
     let told : class_in c.args.content c.args.pair.now ≡ Ok (class_of_pair (facts_of c.args.content) c.args.pair.now) = rw c.in_ok-check_criteria.ensures refl in
     let found = rw (c.in_ok-facts.ensures.ok, c.in_ok-criteria.ensures.ok, c.into_vec.ensures, c.into_vec-2.ensures) at c.class_of_pair.ensures.ok in
     answered c.class_of_pair.result (class_of_pair (facts_of c.args.content) c.args.pair.now) (class_in c.args.content c.args.pair.now) told found c.class_of_pair.ensures.memory
