@@ -16,7 +16,7 @@ use Rattle.vet_graph.specs.declared.search.Skip.TheVariants.{Nothing, Exempt, Ex
 use Rattle.vet_graph.specs.declared.search.Terms.{Terms}
 use Rattle.vet_graph.specs.Chain.{Condemned, EndsReviewed, HasChain, HasCleanChain, HasNoExempt, IsAny, IsChain, IsClean, Leads}
 use Rattle.vet_graph.specs.Class.{IsConflicting, IsExempted, IsFull, IsPartial}
-use Rattle.vet_graph.specs.Search.{AreGuarded, IsReached, may_take, steps_in}
+use Rattle.vet_graph.specs.Search.{AreGuardedAt, IsReached, may_take, steps_in}
 use Rattle.vet_graph.proofs.Reach.{All-unmapped, Contains-unmapped}
 
 -- each chain is one of guarded steps
@@ -28,22 +28,22 @@ guarded_chain guarded (s ∷ chain) h =
     (first.0 ∷ rest.0, All-cons (Contains guarded) first.0 rest.0 first.1 rest.1, λ i. first.2 i ∷ rest.2 i)
 
 -- what is clean isn't barred, and the other way round
-unbarred-from_clean : (guarded : List GuardedStep) (condemned : Condemned) (c : ℕ) (chain : List GuardedStep) → AreGuarded condemned guarded → All (Contains guarded) chain → IsClean condemned c (steps_in chain) → All (λ g. has c g.condemned ≡ false) chain
+unbarred-from_clean : (guarded : List GuardedStep) (condemned : Condemned) (c : ℕ) (chain : List GuardedStep) → AreGuardedAt c condemned guarded → All (Contains guarded) chain → IsClean condemned c (steps_in chain) → All (λ g. has c g.condemned ≡ false) chain
 unbarred-from_clean guarded condemned c chain are among clean k d l =
-    All-contains (λ g. (e : ℕ) → has e g.condemned ≡ condemned e g.step.target) guarded (get_or chain k d) are (among k d l) c
+    All-contains (λ g. has c g.condemned ≡ condemned c g.step.target) guarded (get_or chain k d) are (among k d l)
     ∙ All-unmapped (λ s. condemned c s.target ≡ false) (λ g. g.step) chain clean k d l
 
-clean-from_unbarred : (guarded : List GuardedStep) (condemned : Condemned) (c : ℕ) (chain : List GuardedStep) → AreGuarded condemned guarded → All (Contains guarded) chain → All (λ g. has c g.condemned ≡ false) chain → IsClean condemned c (steps_in chain)
+clean-from_unbarred : (guarded : List GuardedStep) (condemned : Condemned) (c : ℕ) (chain : List GuardedStep) → AreGuardedAt c condemned guarded → All (Contains guarded) chain → All (λ g. has c g.condemned ≡ false) chain → IsClean condemned c (steps_in chain)
 clean-from_unbarred guarded condemned c chain are among unbarred =
     All-map (λ s. condemned c s.target ≡ false) (λ g. g.step) chain
-    (λ k d l. sym (All-contains (λ g. (e : ℕ) → has e g.condemned ≡ condemned e g.step.target) guarded (get_or chain k d) are (among k d l) c) ∙ unbarred k d l)
+    (λ k d l. sym (All-contains (λ g. has c g.condemned ≡ condemned c g.step.target) guarded (get_or chain k d) are (among k d l)) ∙ unbarred k d l)
 
 -- the terms of each search
 abbrev on_terms : ℕ → Bool → Skip → Terms
 on_terms c barred skip = record { place = c; barred = barred; skip = skip }
 
 -- a search on these terms finds the clean chains that take no skipped step
-clean-iff : (guarded : List GuardedStep) (condemned : Condemned) (c : ℕ) (skip : Skip) (v : VersionValue) (P : List Step → Type 0) → AreGuarded condemned guarded
+clean-iff : (guarded : List GuardedStep) (condemned : Condemned) (c : ℕ) (skip : Skip) (v : VersionValue) (P : List Step → Type 0) → AreGuardedAt c condemned guarded
     → ((chain : List Step) → IsChain (steps_in guarded) c v chain → All (λ s. may_take skip s ≡ true) chain ↔ P chain)
     → IsReached guarded (on_terms c true skip) v ↔ HasCleanChain (steps_in guarded) condemned c v P
 clean-iff guarded condemned c skip v P are same = (
@@ -68,10 +68,10 @@ chain-iff guarded c v = (
 pub conflicting-iff : (guarded : List GuardedStep) (condemned : Condemned) (c : ℕ) (v : VersionValue) → condemned c v ≡ true → IsReached guarded (on_terms c false Nothing) v ↔ IsConflicting (steps_in guarded) condemned c v
 conflicting-iff guarded condemned c v e = (λ r. (e, (chain-iff guarded c v).0 r), λ h. (chain-iff guarded c v).1 h.1)
 
-pub exempted-iff : (guarded : List GuardedStep) (condemned : Condemned) (c : ℕ) (v : VersionValue) → AreGuarded condemned guarded → IsReached guarded (on_terms c true Nothing) v ↔ IsExempted (steps_in guarded) condemned c v
+pub exempted-iff : (guarded : List GuardedStep) (condemned : Condemned) (c : ℕ) (v : VersionValue) → AreGuardedAt c condemned guarded → IsReached guarded (on_terms c true Nothing) v ↔ IsExempted (steps_in guarded) condemned c v
 exempted-iff guarded condemned c v are = clean-iff guarded condemned c Nothing v IsAny are (λ chain h. (λ m. tt, λ p. λ k d l. refl))
 
-pub full-iff : (guarded : List GuardedStep) (condemned : Condemned) (c : ℕ) (v : VersionValue) → AreGuarded condemned guarded → IsReached guarded (on_terms c true Exempt) v ↔ IsFull (steps_in guarded) condemned c v
+pub full-iff : (guarded : List GuardedStep) (condemned : Condemned) (c : ℕ) (v : VersionValue) → AreGuardedAt c condemned guarded → IsReached guarded (on_terms c true Exempt) v ↔ IsFull (steps_in guarded) condemned c v
 full-iff guarded condemned c v are = clean-iff guarded condemned c Exempt v HasNoExempt are (λ chain h. (λ m. λ k d l. not-true _ (m k d l), λ p. λ k d l. not_from_false _ (p k d l)))
 
 -- a walk of some steps has a last one, which leads to where the walk does
@@ -120,7 +120,7 @@ taken-from_reviewed steps c v front s h e =
     (All-weaker (λ t. t.target ≢ s.target) (λ t. may_take (ExemptTo v) t ≡ true) (λ t n. taken-elsewhere v t (rw at at n)) front (All-elsewhere front s h.once))
     (taken-reviewed v s e)
 
-pub partial-iff : (guarded : List GuardedStep) (condemned : Condemned) (c : ℕ) (v : Bor VersionValue) → AreGuarded condemned guarded → IsReached guarded (on_terms c true (ExemptTo v)) v.now ↔ IsPartial (steps_in guarded) condemned c v.now
+pub partial-iff : (guarded : List GuardedStep) (condemned : Condemned) (c : ℕ) (v : Bor VersionValue) → AreGuardedAt c condemned guarded → IsReached guarded (on_terms c true (ExemptTo v)) v.now ↔ IsPartial (steps_in guarded) condemned c v.now
 partial-iff guarded condemned c v are =
     clean-iff guarded condemned c (ExemptTo v) v.now EndsReviewed are
     (λ chain h. (reviewed-from_reached (steps_in guarded) c v chain h, λ e. rw e.2 (taken-from_reviewed (steps_in guarded) c v e.0 e.1 (rw e.2 at h) e.3)))

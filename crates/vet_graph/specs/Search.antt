@@ -20,9 +20,13 @@ steps_in guarded = map (λ g. g.step) guarded
 abbrev pub AreGuarded : Condemned → List GuardedStep → Type 0
 AreGuarded condemned guarded = All (λ g. (c : ℕ) → has c g.condemned ≡ condemned c g.step.target) guarded
 
--- these versions are condemned as the steps carry it, and v is so for the criteria at these places
-abbrev pub Agrees : List GuardedStep → Places → VersionValue → Condemned → Type 0
-Agrees guarded places v condemned = AreGuarded condemned guarded × ((c : ℕ) → has c places ≡ condemned c v)
+-- each step carries whether its target is condemned for c
+abbrev pub AreGuardedAt : ℕ → Condemned → List GuardedStep → Type 0
+AreGuardedAt c condemned guarded = All (λ g. has c g.condemned ≡ condemned c g.step.target) guarded
+
+-- these versions are condemned for c as the steps carry it, and v is so where c is among these places
+abbrev pub Agrees : List GuardedStep → Places → ℕ → VersionValue → Condemned → Type 0
+Agrees guarded places c v condemned = AreGuardedAt c condemned guarded × (has c places ≡ condemned c v)
 
 -- whether a search takes a step, if it skips these
 abbrev pub may_take : Skip → Step → Bool

@@ -4,7 +4,7 @@ ghost use Rattle.vet_base.specs.CriteriaSet.{has};
 ghost use Rattle.vet_graph.specs.Chain.{Condemned};
 ghost use Rattle.vet_graph.specs.Class.{IsClass, IsConflicting, IsExempted, IsFull, IsPartial, class_word};
 ghost use Rattle.vet_graph.specs.ClassAt.{ClassHolds, ClassIsOnly, class_at};
-ghost use Rattle.vet_graph.specs.Search.{Agrees, AreGuarded, IsReached, steps_in};
+ghost use Rattle.vet_graph.specs.Search.{Agrees, AreGuardedAt, IsReached, steps_in};
 
 use crate::links::LinkedSteps;
 use crate::search::{Skip, Terms, leads_to, search};
@@ -45,7 +45,8 @@ impl Class {
 
 /// The class of a version for the criterion at a place, by these steps, where these are the criteria for which
 /// the version is condemned (ours): that of the definition, for any versions that are condemned as the steps
-/// and the version say. Asks that there are such: steps to one version say the same, and so does the version.
+/// and the version say. Asks that there are such: steps to one version say the same of this criterion, and so
+/// does the version.
 /// Costs at most four searches, each of which looks at each step at most once. Refused: `NoMemory`.
 pub fn class_of(
     alloc: Global,
@@ -54,10 +55,10 @@ pub fn class_of(
     place: usize,
     version: &VetVersion,
 ) -> Result<Class, Refusal>
-    requires { (condemned_for : Condemned) × Agrees steps.now condemned.now version.now condemned_for }
-    ensures is { (condemned_for : Condemned) → Agrees steps.now condemned.now version.now condemned_for
+    requires { (condemned_for : Condemned) × Agrees steps.now condemned.now place version.now condemned_for }
+    ensures is { (condemned_for : Condemned) → Agrees steps.now condemned.now place version.now condemned_for
         → IfOk result (IsClass (steps_in steps.now) condemned_for place version.now) }
-    ensures class { (condemned_for : Condemned) → Agrees steps.now condemned.now version.now condemned_for
+    ensures class { (condemned_for : Condemned) → Agrees steps.now condemned.now place version.now condemned_for
         → IfOk result (λ class. class ≡ class_at (steps_in steps.now) condemned_for place version.now) }
     ensures memory { IfErr result (λ e. e ≡ Refusal.NoMemory) }
 {
@@ -84,7 +85,7 @@ fn is_conflicting(
     place: usize,
     version: &VetVersion,
 ) -> Result<bool, Refusal>
-    ensures ok { (condemned_for : Condemned) → ((c : ℕ) → has c condemned.now ≡ condemned_for c version.now)
+    ensures ok { (condemned_for : Condemned) → has place condemned.now ≡ condemned_for place version.now
         → IfOk result (λ b. IsTrue b ↔ IsConflicting (steps_in steps.now) condemned_for place version.now) }
     ensures memory { IfErr result (λ e. e ≡ Refusal.NoMemory) }
 {
@@ -106,7 +107,7 @@ fn is_fully_vetted(
     place: usize,
     version: &VetVersion,
 ) -> Result<bool, Refusal>
-    ensures ok { (condemned_for : Condemned) → AreGuarded condemned_for steps.now
+    ensures ok { (condemned_for : Condemned) → AreGuardedAt place condemned_for steps.now
         → IfOk result (λ b. IsTrue b ↔ IsFull (steps_in steps.now) condemned_for place version.now) }
     ensures memory { IfErr result (λ e. e ≡ Refusal.NoMemory) }
 {
@@ -125,7 +126,7 @@ fn is_partly_vetted(
     place: usize,
     version: &VetVersion,
 ) -> Result<bool, Refusal>
-    ensures ok { (condemned_for : Condemned) → AreGuarded condemned_for steps.now
+    ensures ok { (condemned_for : Condemned) → AreGuardedAt place condemned_for steps.now
         → IfOk result (λ b. IsTrue b ↔ IsPartial (steps_in steps.now) condemned_for place version.now) }
     ensures memory { IfErr result (λ e. e ≡ Refusal.NoMemory) }
 {
@@ -145,7 +146,7 @@ fn is_vouched_for(
     place: usize,
     version: &VetVersion,
 ) -> Result<bool, Refusal>
-    ensures ok { (condemned_for : Condemned) → AreGuarded condemned_for steps.now
+    ensures ok { (condemned_for : Condemned) → AreGuardedAt place condemned_for steps.now
         → IfOk result (λ b. IsTrue b ↔ IsExempted (steps_in steps.now) condemned_for place version.now) }
     ensures memory { IfErr result (λ e. e ≡ Refusal.NoMemory) }
 {
