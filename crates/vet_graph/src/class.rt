@@ -46,8 +46,8 @@ impl Class {
 /// The class of a version for the criterion at a place, by these steps, where these are the criteria for which
 /// the version is condemned (ours): that of the definition, for any versions that are condemned as the steps
 /// and the version say. Asks that there are such: steps to one version say the same of this criterion, and so
-/// does the version.
-/// Costs at most four searches, each of which looks at each step at most once. Refused: `NoMemory`.
+/// does the version. Costs at most four searches, each of which looks at each step at most once. Refused:
+/// `NoMemory`.
 pub fn class_of(
     alloc: Global,
     steps: &LinkedSteps,
