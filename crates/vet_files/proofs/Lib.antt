@@ -8,6 +8,7 @@ pub mod Depths
 pub mod EntriesRead
 pub mod Fields
 pub mod FurtherCriteria
+pub mod Gathered
 pub mod Grouped
 pub mod ImportsReadBack
 pub mod KeysRead

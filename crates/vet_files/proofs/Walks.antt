@@ -1,8 +1,10 @@
 -- What walks keep.
-use Rattle.std.proofs.Common.{ℕ, ◌+◌, List, IfOk}
+use Rattle.std.proofs.Common.{◌≡◌, ◌⊎◌, ℕ, ◌+◌, List, IfOk, refl, sym, ap, ◌∙◌, inl, inr}
 use Rattle.std.specs.Prelude.{Ok, Err}
 use Rattle.toml.specs.Data.{Data, Items, no_items, item, Members, no_members, member}
 use Rattle.vet_base.specs.Gives.{Told, ◌>>=◌}
+use Rattle.vet_base.specs.declared.refusal.Refusal.{Refusal}
+use Rattle.vet_base.specs.declared.refusal.Refusal.TheVariants.{NoMemory}
 use Rattle.vet_files.specs.Walk.{each_item, each_member}
 
 -- what the second step makes of each value that the first tells
@@ -31,3 +33,36 @@ each_item-keeps P read step found place no_items h = h
 each_item-keeps P read step found place (item d rest) h =
     bind-keeps P P (read found place d) (λ more. each_item read more (place + 1) rest) (step found place d h)
     (λ more held. each_item-keeps P read step more (place + 1) rest held)
+
+-- ---- what is told, as it is seen
+
+-- the value that is told, as it is seen
+abbrev pub seen : {S T : Type 0} → (S → T) → Told S → Told T
+seen see told = told >>= λ x. Ok (see x)
+
+pub seen-bind : {A S T : Type 0} (see : S → T) (r : Told A) (f : A → Told S) → seen see (r >>= f) ≡ (r >>= λ a. seen see (f a))
+seen-bind see (Ok a) f = refl
+seen-bind see (Err refusal) f = refl
+
+-- what is seen of a value that was told, and of a refusal in its place
+pub given-seen : {S T : Type 0} (see : S → T) (told : Told S) (next : Told T) (x : S) (y : T) → seen see told ≡ next → told ≡ Ok x → y ≡ see x → next ≡ Ok y
+given-seen see told next x y is given same = sym is ∙ ap (seen see) given ∙ ap Ok (sym same)
+
+pub refused-seen : {S T : Type 0} (see : S → T) (told : Told S) (next : Told T) (e : Refusal) → seen see told ≡ next
+    → (e ≡ NoMemory) ⊎ (told ≡ Err e) → (e ≡ NoMemory) ⊎ (next ≡ Err e)
+refused-seen see told next e is (inl memory) = inl memory
+refused-seen see told next e is (inr refused) = inr (sym is ∙ ap (seen see) refused)
+
+-- where each step is seen as a step from what was found, as it is seen, all that is told of a list is seen so
+pub each_item-seen : {S T : Type 0} (see : S → T) (read : S → ℕ → Data → Told S) (next : T → ℕ → Data → Told T)
+    → ((found : S) (place : ℕ) (d : Data) → seen see (read found place d) ≡ next (see found) place d)
+    → (found : S) (place : ℕ) (ds : Items) → seen see (each_item read found place ds) ≡ each_item next (see found) place ds
+each_item-seen see read next step found place no_items = refl
+each_item-seen {S} {T} see read next step found place (item d rest) =
+    go (λ more. each_item-seen see read next step more (place + 1) rest) (read found place d) (step found place d)
+  where
+    go : ((more : S) → seen see (each_item read more (place + 1) rest) ≡ each_item next (see more) (place + 1) rest)
+        → (r : Told S) → seen see r ≡ next (see found) place d
+        → seen see (r >>= λ more. each_item read more (place + 1) rest) ≡ (next (see found) place d >>= λ more. each_item next more (place + 1) rest)
+    go later (Ok more) is = later more ∙ ap (λ r. r >>= λ more. each_item next more (place + 1) rest) is
+    go later (Err refusal) is = ap (λ r. r >>= λ more. each_item next more (place + 1) rest) is

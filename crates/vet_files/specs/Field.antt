@@ -1,5 +1,5 @@
 -- What stands at a key of a table, by its type (The Cargo Vet Book, the three files; the faults are ours).
-use Rattle.std.specs.Prelude.{ℕ, Bool, List, ℤ, pos, negsuc, Option, Some, None, Ok, Err, if◌then◌else◌, length, nat_le, nat_lt, option_and_then}
+use Rattle.std.specs.Prelude.{ℕ, Bool, List, [], ◌∷◌, ◌++◌, ℤ, pos, negsuc, Option, Some, None, Ok, Err, if◌then◌else◌, length, nat_le, nat_lt, option_and_then}
 use Rattle.std.specs.FinSet as set
 use Rattle.toml.specs.Data.{Data, string, array, Items, no_items, item, Members, get_member, as_str, as_bool, as_integer, as_datetime, as_array}
 use Rattle.toml_datetime.specs.declared.datetime.Date.{Date}
@@ -97,7 +97,18 @@ items_of (string t) = Some (item (string t) no_items)
 items_of (array ds) = Some ds
 items_of _ = None
 
--- the set of what these items read as; the first item at fault tells it
+-- what these items read as, in their order; the first item at fault tells it
+abbrev pub next_item : {A : Type 0} → (Data → Told A) → List A → ℕ → Data → Told (List A)
+next_item read found place d = read d >>= λ x. Ok (found ++ x ∷ [])
+
+abbrev pub items_told : {A : Type 0} → (Data → Told A) → Items → Told (List A)
+items_told read = each_item (next_item read) [] 0
+
+-- the same of a value: a text, or a list
+abbrev pub one_or_list_told : {A : Type 0} → (List ℕ → List ℕ → Data → Told A) → List ℕ → List ℕ → Data → Told (List A)
+one_or_list_told read path key d = found_or (fault path key) (items_of d) >>= items_told (read path key)
+
+-- the set of what these items read as
 abbrev pub with_item : (Data → Told (List ℕ)) → NameSet → ℕ → Data → Told NameSet
 with_item read found place d = read d >>= λ text. Ok (set.insert found text)
 

@@ -1,23 +1,55 @@
 //! Sets of names and of texts.
 ghost use Rattle.std.specs.Prelude.{◌≡◌, All, IfOk, map};
-ghost use Rattle.std.specs.FinSet as set;
 ghost use Rattle.vet_base.specs.Gives.{Gives};
 ghost use Rattle.toml.specs.View.{array_view, items_of, view};
-ghost use Rattle.vet_files.specs.Field.{a_name, a_package, a_text, names, package_names, texts, with_item};
+ghost use Rattle.vet_files.specs.Field.{items_told, names, one_or_list_told, package_names, texts};
 ghost use Rattle.vet_files.specs.ReadAgain.{IsReadAs};
 ghost use Rattle.vet_files.specs.Tables.{list_data, set_data};
 
 use crate::field::{Field, fault};
-use crate::walk::{ReadItem, each_item};
 use std::alloc::{AllocError, Global};
 use toml::Value;
 use toml::value::Array;
-use vet_base::name::{Name, PackageName};
 use vet_base::names::Names;
 use vet_base::package_names::PackageNames;
 use vet_base::refusal::Refusal;
-use vet_base::text::Text;
 use vet_base::texts::Texts;
+
+/// Reads each item of a list that stands in the table of a path at a key, in its order.
+fn read_items<V: Field>(
+    alloc: Global,
+    path: &str,
+    key: &str,
+    items: &Array,
+) -> Result<Vec<V>, Refusal>
+    ensures { Gives (λ vs. vs.items) (items_told (V.told path.now key.now) (array_view items.now)) result }
+{
+    let mut values = Vec::new(alloc);
+    'items: for item in items.iter() {
+        values.push(V::read(alloc, path, key, item)?)?;
+    }
+    Ok(values)
+}
+
+/// Reads a text alone, or each item of a list.
+fn read_one_or_list<V: Field>(
+    alloc: Global,
+    path: &str,
+    key: &str,
+    value: &Value,
+) -> Result<Vec<V>, Refusal>
+    ensures { Gives (λ vs. vs.items) (one_or_list_told V.told path.now key.now (view value.now)) result }
+{
+    match value {
+        Value::String(_) => {
+            let mut values = Vec::new(alloc);
+            values.push(V::read(alloc, path, key, value)?)?;
+            Ok(values)
+        }
+        Value::Array(items) => read_items(alloc, path, key, items),
+        _ => Err(fault(alloc, path, key)),
+    }
+}
 
 /// Writes a list, of which each item is read again.
 fn write_items<V: Field>(alloc: Global, items: &[V]) -> Result<Array, AllocError>
@@ -31,44 +63,14 @@ fn write_items<V: Field>(alloc: Global, items: &[V]) -> Result<Array, AllocError
     Ok(values)
 }
 
-/// Reads the names of a list that stands in the table of a path at a key.
-#[derive(Drop)]
-struct ReadNames<'a> {
-    path: &'a str,
-    key: &'a str,
-}
-
-impl ReadItem for ReadNames<'_> {
-    type Found = Names;
-
-    ghost told = { λ r. with_item (a_name r.path.now r.key.now) };
-
-    fn read(
-        &self,
-        alloc: Global,
-        found: Names,
-        _place: usize,
-        value: &Value,
-    ) -> Result<Names, Refusal> {
-        let name: Name = Field::read(alloc, self.path, self.key, value)?;
-        let mut found = found;
-        found.insert(name)?;
-        Ok(found)
-    }
-}
-
 impl Field for Names {
     ghost told = { names };
 
     ghost written = { set_data };
 
     fn read(alloc: Global, path: &str, key: &str, value: &Value) -> Result<Names, Refusal> {
-        let reader = ReadNames { path, key };
-        match value {
-            Value::String(_) => reader.read(alloc, Names::new(alloc), 0, value),
-            Value::Array(items) => each_item(alloc, &reader, Names::new(alloc), items),
-            _ => Err(fault(alloc, path, key)),
-        }
+        let names = read_one_or_list(alloc, path, key, value)?;
+        Ok(Names::of(alloc, names)?)
     }
 
     fn write(&self, alloc: Global) -> Result<Value, AllocError> {
@@ -80,44 +82,14 @@ impl Field for Names {
     }
 }
 
-/// Reads the texts of a list that stands in the table of a path at a key.
-#[derive(Drop)]
-struct ReadTexts<'a> {
-    path: &'a str,
-    key: &'a str,
-}
-
-impl ReadItem for ReadTexts<'_> {
-    type Found = Texts;
-
-    ghost told = { λ r. with_item (a_text r.path.now r.key.now) };
-
-    fn read(
-        &self,
-        alloc: Global,
-        found: Texts,
-        _place: usize,
-        value: &Value,
-    ) -> Result<Texts, Refusal> {
-        let text: Text = Field::read(alloc, self.path, self.key, value)?;
-        let mut found = found;
-        found.insert(text)?;
-        Ok(found)
-    }
-}
-
 impl Field for Texts {
     ghost told = { texts };
 
     ghost written = { set_data };
 
     fn read(alloc: Global, path: &str, key: &str, value: &Value) -> Result<Texts, Refusal> {
-        let reader = ReadTexts { path, key };
-        match value {
-            Value::String(_) => reader.read(alloc, Texts::new(alloc), 0, value),
-            Value::Array(items) => each_item(alloc, &reader, Texts::new(alloc), items),
-            _ => Err(fault(alloc, path, key)),
-        }
+        let texts = read_one_or_list(alloc, path, key, value)?;
+        Ok(Texts::of(alloc, texts)?)
     }
 
     fn write(&self, alloc: Global) -> Result<Value, AllocError> {
@@ -129,43 +101,17 @@ impl Field for Texts {
     }
 }
 
-/// Reads the packages' names of a list that stands in the table of a path at a key.
-#[derive(Drop)]
-struct ReadPackageNames<'a> {
-    path: &'a str,
-    key: &'a str,
-}
-
-impl ReadItem for ReadPackageNames<'_> {
-    type Found = PackageNames;
-
-    ghost told = { λ r. with_item (a_package r.path.now r.key.now) };
-
-    fn read(
-        &self,
-        alloc: Global,
-        found: PackageNames,
-        _place: usize,
-        value: &Value,
-    ) -> Result<PackageNames, Refusal> {
-        let name: PackageName = Field::read(alloc, self.path, self.key, value)?;
-        let mut found = found;
-        found.insert(name)?;
-        Ok(found)
-    }
-}
-
 impl Field for PackageNames {
     ghost told = { package_names };
 
     ghost written = { list_data };
 
     fn read(alloc: Global, path: &str, key: &str, value: &Value) -> Result<PackageNames, Refusal> {
-        let reader = ReadPackageNames { path, key };
-        match value.as_array() {
-            Some(items) => each_item(alloc, &reader, PackageNames::new(alloc), items),
-            None => Err(fault(alloc, path, key)),
-        }
+        let Some(items) = value.as_array() else {
+            return Err(fault(alloc, path, key));
+        };
+        let names = read_items(alloc, path, key, items)?;
+        Ok(PackageNames::of(alloc, names)?)
     }
 
     fn write(&self, alloc: Global) -> Result<Value, AllocError> {
