@@ -1,10 +1,10 @@
 -- Policies in the order of their keys, no key twice.
-use Rattle.std.specs.Prelude.{◌≡◌, ◌&&◌, Bool, List, Option, Some, is_some, option_map}
+use Rattle.std.specs.Prelude.{◌≡◌, ◌&&◌, Bool, List, [], Option, Some, is_some, option_map}
 use Rattle.std.specs.Bool.{Decides}
 use Rattle.std.specs.Cmp.Lexicographic.{pointwise, pointwise_decides}
 use Rattle.std.proofs.Common.{ap}
 use Rattle.std.proofs.lemmas.Bool.Decides.{Decides-and, Decides-like}
-use Rattle.vet_base.specs.Keyed.{IsByKey, item_of, with_item}
+use Rattle.vet_base.specs.Keyed.{IsByKey, all_set, item_of, with_item}
 use Rattle.vet_demand.specs.Policy.{policy_eq, policy_eq-Decides}
 use Rattle.vet_demand.specs.PolicyKey.{policy_key_cmp, policy_key_eq, policy_key_eq-Decides}
 use Rattle.vet_demand.specs.declared.policy.Policy.{Policy}
@@ -30,6 +30,10 @@ has_policy policies key = is_some (item_of policy_key_cmp key_of policies key)
 -- the policies of lesser keys, then this one of this key, then those of greater keys
 abbrev pub with_policy : List KeyedPolicy → PolicyKey → Policy → List KeyedPolicy
 with_policy policies key policy = with_item policy_key_cmp key_of policies (record { key = key; policy = policy })
+
+-- policies set one after another, so that of those of one key the last stays
+abbrev pub in_key_order : List KeyedPolicy → List KeyedPolicy
+in_key_order policies = all_set policy_key_cmp key_of [] policies
 
 -- a policy is found at its key, and at each other key what was found there stays
 abbrev pub SetPolicyIsFound : Type 0

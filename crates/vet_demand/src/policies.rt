@@ -1,8 +1,8 @@
 //! The policies of a project.
-ghost use Rattle.std.specs.Prelude.{◌≡◌, ◌↔◌, ◌==◌, [], IsTrue, OnErr, OnOk, Ok, length};
+ghost use Rattle.std.specs.Prelude.{◌≡◌, ◌↔◌, ◌==◌, [], IfOk, IsTrue, OnErr, OnOk, Ok, length};
 ghost use Rattle.std.specs.Cmp.{decided, partial_equiv_from_equiv};
 ghost use Rattle.std.specs.Option.{option_copied};
-ghost use Rattle.vet_demand.specs.Policies.{IsInKeyOrder, OtherPoliciesStay, SetPolicyIsFound, has_policy, key_of, keyed_policy_eq, keyed_policy_eq-Decides, policies_eq, policies_eq-Decides, policy_of, with_policy};
+ghost use Rattle.vet_demand.specs.Policies.{IsInKeyOrder, OtherPoliciesStay, SetPolicyIsFound, has_policy, in_key_order, key_of, keyed_policy_eq, keyed_policy_eq-Decides, policies_eq, policies_eq-Decides, policy_of, with_policy};
 
 use crate::policy::Policy;
 use crate::policy_key::PolicyKey;
@@ -91,6 +91,15 @@ impl Policies {
         Policies {
             policies: Keyed::new(alloc),
         }
+    }
+
+    /// Some policies, in whatever order; of those of one key the last stays. Takes a time of n log n.
+    pub fn of(alloc: Global, policies: Vec<KeyedPolicy>) -> Result<Policies, AllocError>
+        ensures { IfOk result (λ p. p ≡ in_key_order policies.items) }
+    {
+        Ok(Policies {
+            policies: Keyed::of(alloc, policies)?,
+        })
     }
 
     /// Whether there is a policy of a key. Takes no memory, and a time of log n.

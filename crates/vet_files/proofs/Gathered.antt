@@ -1,8 +1,8 @@
 -- What is gathered in the order of a file, and then made a set, is what one put into the set after the other gives.
-use Rattle.std.proofs.Common.{◌≡◌, ℕ, List, [], ◌∷◌, ◌++◌, Ok, Err, refl, sym, ap, ◌∙◌}
+use Rattle.std.proofs.Common.{◌≡◌, ℕ, List, [], ◌∷◌, ◌++◌, Ok, Err, refl, ap, ◌∙◌}
 use Rattle.std.proofs.lemmas.Cmp.{nat_list_cmp_total}
 use Rattle.std.specs.FinSet as set
-use Rattle.toml.specs.Data.{Data, Items, as_array}
+use Rattle.toml.specs.Data.{Data, Items}
 use Rattle.vet_base.proofs.Rising.{R, only_equal}
 use Rattle.vet_base.specs.Gives.{Told, found_or, ◌>>=◌}
 use Rattle.vet_base.specs.Names.{NameSet}

@@ -19,6 +19,7 @@ pub mod Ordered
 pub mod PackageEntries
 pub mod PackagesRead
 pub mod PeerLemmas
+pub mod PoliciesGathered
 pub mod PoliciesRead
 pub mod Printed
 pub mod PublishersRead

@@ -66,3 +66,17 @@ each_item-seen {S} {T} see read next step found place (item d rest) =
         → seen see (r >>= λ more. each_item read more (place + 1) rest) ≡ (next (see found) place d >>= λ more. each_item next more (place + 1) rest)
     go later (Ok more) is = later more ∙ ap (λ r. r >>= λ more. each_item next more (place + 1) rest) is
     go later (Err refusal) is = ap (λ r. r >>= λ more. each_item next more (place + 1) rest) is
+
+-- and all that is told of a table
+pub each_member-seen : {S T : Type 0} (see : S → T) (read : S → List ℕ → Data → Told S) (next : T → List ℕ → Data → Told T)
+    → ((found : S) (key : List ℕ) (d : Data) → seen see (read found key d) ≡ next (see found) key d)
+    → (found : S) (ms : Members) → seen see (each_member read found ms) ≡ each_member next (see found) ms
+each_member-seen see read next step found no_members = refl
+each_member-seen {S} {T} see read next step found (member key d rest) =
+    go (λ more. each_member-seen see read next step more rest) (read found key d) (step found key d)
+  where
+    go : ((more : S) → seen see (each_member read more rest) ≡ each_member next (see more) rest)
+        → (r : Told S) → seen see r ≡ next (see found) key d
+        → seen see (r >>= λ more. each_member read more rest) ≡ (next (see found) key d >>= λ more. each_member next more rest)
+    go later (Ok more) is = later more ∙ ap (λ r. r >>= λ more. each_member next more rest) is
+    go later (Err refusal) is = ap (λ r. r >>= λ more. each_member next more rest) is

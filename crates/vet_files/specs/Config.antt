@@ -86,8 +86,12 @@ abbrev pub next_policy : Found (List KeyedPolicy) → List ℕ → Data → Told
 next_policy found text d =
     new_key_told text found.content >>= λ key. policy_at text d >>= λ more. Ok (policy_onto found key more)
 
+-- all policies of a table
+abbrev pub all_policies_told : Members → Told (Found (List KeyedPolicy))
+all_policies_told = each_member next_policy (record { content = []; notices = no_notices })
+
 abbrev pub policies_told : Members → Told (Found (List KeyedPolicy))
-policies_told ms = table_at (codes "top") (codes "policy") ms >>= each_member next_policy (record { content = []; notices = no_notices })
+policies_told ms = table_at (codes "top") (codes "policy") ms >>= all_policies_told
 
 -- ---- `exemptions`
 

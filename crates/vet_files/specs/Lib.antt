@@ -4,6 +4,7 @@ pub mod Config
 pub mod ConfigTable
 pub mod EntryTables
 pub mod Field
+pub mod GatheredPolicies
 pub mod Imports
 pub mod ImportsTable
 pub mod Keys

@@ -20,6 +20,7 @@ mod entries;
 mod entry_tables;
 mod field;
 pub mod found;
+mod gathered_policies;
 pub mod imports_file;
 mod imports_table;
 mod keys;

@@ -2,11 +2,14 @@
 ghost use Rattle.std.specs.Prelude.{Ok};
 ghost use Rattle.toml.specs.View.{table_view, view};
 ghost use Rattle.vet_base.specs.Gives.{Gives};
-ghost use Rattle.vet_files.specs.Config.{dependency_policy_told, new_key_told, next_policy, policies_told, policy_at, policy_onto, policy_told};
+ghost use Rattle.vet_demand.specs.Policies.{in_key_order};
+ghost use Rattle.vet_files.specs.Config.{all_policies_told, dependency_policy_told, new_key_told, policies_told, policy_at, policy_told};
+ghost use Rattle.vet_files.specs.GatheredPolicies.{next_gathered, policy_behind};
 
 use crate::audits_file::table_at;
 use crate::field::{fault, optional};
 use crate::found::Found;
+use crate::gathered_policies::GatheredPolicies;
 use crate::keys::{TableKind, unknown_keys};
 use crate::lists::path_below;
 use crate::notices::Notices;
@@ -24,14 +27,28 @@ use vet_demand::policy_key::PolicyKey;
 pub(crate) fn read_policies(alloc: Global, file: &Table) -> Result<Found<Policies>, Refusal>
     ensures { Gives (λ f. f) (policies_told (table_view file.now)) result }
 {
+    match table_at(alloc, "top", file, "policy")? {
+        Some(table) => read_all(alloc, table),
+        None => Ok(Found {
+            content: Policies::new(alloc),
+            notices: Notices::none(),
+        }),
+    }
+}
+
+/// The policies of a table: gathered in the order of the keys' texts, and then put in that of the keys.
+fn read_all(alloc: Global, table: &Table) -> Result<Found<Policies>, Refusal>
+    ensures { Gives (λ f. f) (all_policies_told (table_view table.now)) result }
+{
     let none = Found {
-        content: Policies::new(alloc),
+        content: GatheredPolicies::new(alloc),
         notices: Notices::none(),
     };
-    match table_at(alloc, "top", file, "policy")? {
-        Some(table) => each_member(alloc, &ReadPolicies {}, none, table),
-        None => Ok(none),
-    }
+    let found = each_member(alloc, &ReadPolicies {}, none, table)?;
+    Ok(Found {
+        content: found.content.in_key_order(alloc)?,
+        notices: found.notices,
+    })
 }
 
 /// Reads the policies of a file, one after the other.
@@ -39,17 +56,17 @@ pub(crate) fn read_policies(alloc: Global, file: &Table) -> Result<Found<Policie
 struct ReadPolicies {}
 
 impl ReadMember for ReadPolicies {
-    type Found = Found<Policies>;
+    type Found = Found<GatheredPolicies>;
 
-    ghost told = { λ r. next_policy };
+    ghost told = { λ r. next_gathered };
 
     fn read(
         &self,
         alloc: Global,
-        found: Found<Policies>,
+        found: Found<GatheredPolicies>,
         key: &str,
         value: &Value,
-    ) -> Result<Found<Policies>, Refusal> {
+    ) -> Result<Found<GatheredPolicies>, Refusal> {
         let policy_key = new_key(alloc, &found.content, key)?;
         let more = read_policy_at(alloc, key, value)?;
         with_policy(found, policy_key, more)
@@ -57,8 +74,8 @@ impl ReadMember for ReadPolicies {
 }
 
 /// The key that a text is, where no earlier policy has it.
-fn new_key(alloc: Global, held: &Policies, text: &str) -> Result<PolicyKey, Refusal>
-    ensures { Gives (λ k. k) (new_key_told text.now held.now) result }
+fn new_key(alloc: Global, held: &GatheredPolicies, text: &str) -> Result<PolicyKey, Refusal>
+    ensures { Gives (λ k. k) (new_key_told text.now (in_key_order held.now)) result }
 {
     let Some(key) = PolicyKey::read(alloc, text)? else {
         return Err(fault(alloc, "policy", text));
@@ -82,16 +99,14 @@ fn read_policy_at(alloc: Global, key: &str, value: &Value) -> Result<Found<Polic
 
 /// What was found, and one more policy.
 fn with_policy(
-    found: Found<Policies>,
+    found: Found<GatheredPolicies>,
     key: PolicyKey,
     more: Found<Policy>,
-) -> Result<Found<Policies>, Refusal>
-    ensures { Gives (λ f. f) (Ok (policy_onto found key more)) result }
+) -> Result<Found<GatheredPolicies>, Refusal>
+    ensures { Gives (λ f. f) (Ok (policy_behind found key more)) result }
 {
-    let mut policies = found.content;
-    policies.insert(key, more.content)?;
     Ok(Found {
-        content: policies,
+        content: found.content.with(key, more.content)?,
         notices: found.notices.and(more.notices)?,
     })
 }
