@@ -20,13 +20,13 @@ use Rattle.vet_base.specs.Keyed.{IsByKey, IsPlace, all_set, item_of, is_before, 
 
 -- ---- what a filter keeps that turns at a place
 
-filter_keeps : {X : Type 0} (p : X → Bool) (xs : List X) → All (λ x. p x ≡ true) xs → filter p xs ≡ xs
+pub filter_keeps : {X : Type 0} (p : X → Bool) (xs : List X) → All (λ x. p x ≡ true) xs → filter p xs ≡ xs
 filter_keeps p [] h = refl
 filter_keeps {X} p (x ∷ xs) h =
     ap (λ b. cond b (x ∷ filter p xs) (filter p xs)) (All-head (λ x. p x ≡ true) x xs h)
     ∙ ap (λ (ys : List X). x ∷ ys) (filter_keeps p xs (All-tail (λ x. p x ≡ true) x xs h))
 
-filter_drops : {X : Type 0} (p : X → Bool) (xs : List X) → All (λ x. p x ≡ false) xs → filter p xs ≡ []
+pub filter_drops : {X : Type 0} (p : X → Bool) (xs : List X) → All (λ x. p x ≡ false) xs → filter p xs ≡ []
 filter_drops p [] h = refl
 filter_drops p (x ∷ xs) h =
     ap (λ b. cond b (x ∷ filter p xs) (filter p xs)) (All-head (λ x. p x ≡ false) x xs h)
@@ -137,17 +137,17 @@ any_found p [] i d l h = absurd (omega arith)
 any_found {X} p (x ∷ xs) zero d l h = ap (λ t. is_some (let o : Option X = cond t (Some x) (find p xs) in o)) h
 any_found p (x ∷ xs) (suc i) d l h = first_or_later (p x) x (find p xs) (any_found p xs i d (omega (arith, l)) h)
 
-is_false : (b : Bool) → (b ≡ true → ⊥) → b ≡ false
+pub is_false : (b : Bool) → (b ≡ true → ⊥) → b ≡ false
 is_false true h = absurd (h refl)
 is_false false h = refl
 
-equal : (r : Ordering) → is_eq r ≡ true → r ≡ Equal
+pub equal : (r : Ordering) → is_eq r ≡ true → r ≡ Equal
 equal Less e = cc e
 equal Equal e = refl
 equal Greater e = cc e
 
 -- what passes a test is found also among what a filter leaves that keeps all that pass
-find_kept : {X : Type 0} (p q : X → Bool) → ((x : X) → p x ≡ true → q x ≡ true) → (xs : List X) → find p (filter q xs) ≡ find p xs
+pub find_kept : {X : Type 0} (p q : X → Bool) → ((x : X) → p x ≡ true → q x ≡ true) → (xs : List X) → find p (filter q xs) ≡ find p xs
 find_kept p q h [] = refl
 find_kept {X} p q h (x ∷ xs) = step (find_kept p q h xs) (p x) (q x) refl refl
   where
@@ -158,7 +158,7 @@ find_kept {X} p q h (x ∷ xs) = step (find_kept p q h xs) (p x) (q x) refl refl
     step more false false e f = more
 
 -- and is not found among what one leaves that drops them
-find_dropped : {X : Type 0} (p q : X → Bool) → ((x : X) → p x ≡ true → q x ≡ false) → (xs : List X) → find p (filter q xs) ≡ None
+pub find_dropped : {X : Type 0} (p q : X → Bool) → ((x : X) → p x ≡ true → q x ≡ false) → (xs : List X) → find p (filter q xs) ≡ None
 find_dropped {X} p q h xs = find_absent p (filter q xs) (λ k d l. is_false _ (λ e. false≢true (sym (h _ e) ∙ filter_passes q xs k d l)))
 
 or_none : {X : Type 0} (o : Option X) → option_or o None ≡ o
@@ -188,7 +188,7 @@ told same r a b seen_a seen_b test view_a view_b = (
 -- ---- items by keys in a total order, in which only equals tie
 
 module _ {K E : Type 0} (cmp : K → K → Ordering) (total : IsTotalOrder cmp) (only : (a b : K) → cmp a b ≡ Equal → a ≡ b) (key : E → K) where
-  above : (a b : K) → cmp a b ≡ Less → cmp b a ≡ Greater
+  pub above : (a b : K) → cmp a b ≡ Less → cmp b a ≡ Greater
   above a b h = total.antisymm b a ∙ ap ordering_reverse h
 
   below : (a b : K) → cmp a b ≡ Greater → cmp b a ≡ Less
@@ -418,13 +418,13 @@ module _ {K E : Type 0} (cmp : K → K → Ordering) (total : IsTotalOrder cmp) 
   after_head x xs k h = ap (λ t. cond t (Some x) (item_of cmp key xs k)) h
 
   -- the keys behind the first are greater than it, and than each lesser one
-  greater_behind : (x : E) (xs : List E) → IsByKey cmp key (x ∷ xs) → All (λ y. cmp (key x) (key y) ≡ Less) xs
+  pub greater_behind : (x : E) (xs : List E) → IsByKey cmp key (x ∷ xs) → All (λ y. cmp (key x) (key y) ≡ Less) xs
   greater_behind x xs up i d l = up 0 (suc i) d (omega arith) (omega (arith, l))
 
   behind_lesser : (k : K) (x : E) (xs : List E) → IsByKey cmp key (x ∷ xs) → cmp k (key x) ≡ Less → All (λ y. cmp k (key y) ≡ Less) (x ∷ xs)
   behind_lesser k x xs up h = All-cons (λ y. cmp k (key y) ≡ Less) x xs h (λ i d l. total.trans k (key x) _ h (greater_behind x xs up i d l))
 
-  rest_by_key : (x : E) (xs : List E) → IsByKey cmp key (x ∷ xs) → IsByKey cmp key xs
+  pub rest_by_key : (x : E) (xs : List E) → IsByKey cmp key (x ∷ xs) → IsByKey cmp key xs
   rest_by_key x xs up i j d l m = up (suc i) (suc j) d (omega (arith, l)) (omega (arith, m))
 
   -- the first of one has no lesser key than the first of the other

@@ -9,6 +9,7 @@ pub mod DeltaText
 pub mod Held
 pub mod Kept
 pub mod KeyedLemmas
+pub mod KeyedParts
 pub mod Meeting
 pub mod Missing
 pub mod OrderLemmas

@@ -12,7 +12,8 @@ use Rattle.std.proofs.lemmas.List.Edits.{split_between, length-insert, length-be
 use Rattle.std.proofs.lemmas.List.Sorted.{IsNonDecreasingBy-insert}
 use Rattle.vet_entries.specs.declared.facts.HeldEntry.{HeldEntry}
 use Rattle.vet_entries.specs.ByPackage.{IsByPackage, IsRange, IsSlot, stand, is_at, places_of, up}
-use Rattle.vet_entries.proofs.Places.{cut_alike, filter-map, filter_front, filter_drops, filter_keeps, in_range, map_range, range_around, range_cut, up_above, up_below, up_within}
+use Rattle.vet_base.proofs.KeyedLemmas.{filter_drops, filter_keeps}
+use Rattle.vet_entries.proofs.Places.{cut_alike, filter-map, filter_front, in_range, map_range, range_around, range_cut, up_above, up_below, up_within}
 use Rattle.vet_entries.proofs.Standing.{R, same_name, stand_up, stand_new, stands_to_new}
 
 -- ---- a package's range

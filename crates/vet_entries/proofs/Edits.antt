@@ -1,12 +1,6 @@
 -- What an edit of a list leaves, and what undoes it.
-use Rattle.std.proofs.Common.{◌≡◌, ℕ, zero, suc, ◌<◌, ◌≤◌, List, [], ◌∷◌, length, get_or, refl, ap, arith}
+use Rattle.std.proofs.Common.{◌≡◌, ℕ, zero, suc, ◌<◌, List, [], ◌∷◌, length, get_or, ap, arith}
 use Rattle.std.specs.List.{insert, remove}
-
--- an element put in and taken out again leaves the list
-pub remove-insert : {X : Type 0} (xs : List X) (i : ℕ) (x : X) → i ≤ length xs → remove (insert xs i x) i ≡ xs
-remove-insert xs zero x within = refl
-remove-insert [] (suc i) x within = absurd (omega arith)
-remove-insert (y ∷ ys) (suc i) x within = ap (λ rest. y ∷ rest) (remove-insert ys i x (omega arith))
 
 -- an element taken out and put in again leaves the list
 pub insert-remove : {X : Type 0} (xs : List X) (i : ℕ) (x : X) → i < length xs → x ≡ get_or xs i x → insert (remove xs i) i x ≡ xs

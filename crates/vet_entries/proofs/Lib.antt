@@ -4,11 +4,9 @@ pub mod Firsts
 pub mod Gathered
 pub mod MappedCriteria
 pub mod Numbers
-pub mod PackageRecords
 pub mod Places
 pub mod PublisherLaws
 pub mod Records
 pub mod Removed
-pub mod SetRecords
 pub mod Standing
 pub mod Violations

@@ -4,6 +4,7 @@ use Rattle.std.specs.List.{All, filter, range_with_len}
 use Rattle.std.proofs.lemmas.List.{append-nil}
 use Rattle.std.proofs.lemmas.List.Elements.{All-head, All-tail, filter-append}
 use Rattle.std.proofs.lemmas.List.FromFn.{length-range_with_len, get_or-range_with_len}
+use Rattle.vet_base.proofs.KeyedLemmas.{filter_drops, filter_keeps}
 use Rattle.vet_entries.specs.ByPackage.{up, down}
 
 -- ---- filters
@@ -42,18 +43,6 @@ and_swap false false = refl
 pub filter_swap : {X : Type 0} (p q : X → Bool) (xs : List X) → filter p (filter q xs) ≡ filter q (filter p xs)
 filter_swap p q xs =
     filter-filter p q xs ∙ filter_same (λ x. q x && p x) (λ x. p x && q x) xs (λ k d l. and_swap (q (get_or xs k d)) (p (get_or xs k d))) ∙ sym (filter-filter q p xs)
-
-pub filter_keeps : {X : Type 0} (p : X → Bool) (xs : List X) → All (λ x. p x ≡ true) xs → filter p xs ≡ xs
-filter_keeps p [] h = refl
-filter_keeps {X} p (x ∷ xs) h =
-    ap (λ b. cond b (x ∷ filter p xs) (filter p xs)) (All-head (λ x. p x ≡ true) x xs h)
-    ∙ ap (λ (ys : List X). x ∷ ys) (filter_keeps p xs (All-tail (λ x. p x ≡ true) x xs h))
-
-pub filter_drops : {X : Type 0} (p : X → Bool) (xs : List X) → All (λ x. p x ≡ false) xs → filter p xs ≡ []
-filter_drops p [] h = refl
-filter_drops p (x ∷ xs) h =
-    ap (λ b. cond b (x ∷ filter p xs) (filter p xs)) (All-head (λ x. p x ≡ false) x xs h)
-    ∙ filter_drops p xs (All-tail (λ x. p x ≡ false) x xs h)
 
 -- what a test keeps of a list cut where the test turns
 pub filter_front : {X : Type 0} (p : X → Bool) (xs ys : List X) → All (λ x. p x ≡ true) xs → All (λ x. p x ≡ false) ys → filter p (xs ++ ys) ≡ xs

@@ -1,12 +1,10 @@
 -- How publisher records come to be in order.
-use Rattle.std.proofs.Common.{◌≡◌, ◌⊎◌, ℕ, zero, suc, Bool, List, [], ◌∷◌, length, refl, sym, ap, ◌∙◌, ◌++◌, take, drop, Less, inl, inr, arith}
-use Rattle.std.specs.Bool.{Decides}
+use Rattle.std.proofs.Common.{◌≡◌, ◌⊎◌, ℕ, zero, suc, List, [], ◌∷◌, length, refl, sym, ap, ◌∙◌, ◌++◌, take, drop, Less, inl, inr, arith}
 use Rattle.std.specs.List.{Contains, dedup}
 use Rattle.std.specs.List.Retain.{DiffersFromLast, IsFiltered}
 use Rattle.std.specs.List.Sorted.{IsPermutation, IsSorted}
 use Rattle.std.specs.Cmp.{eq_by_cmp_equiv, tied_itself}
 use Rattle.std.specs.Ordering.{ordering_reverse}
-use Rattle.std.specs.Cmp.Lexicographic.{pointwise, pointwise_decides}
 use Rattle.std.proofs.Math.Seq.{take-append_seam}
 use Rattle.std.proofs.lemmas.List.Filters.{dedup_is}
 use Rattle.std.proofs.lemmas.List.Kept.{Contains-dedup, Contains-from_dedup, IsStrictlySortedBy-dedup}
@@ -38,14 +36,6 @@ are_the_records_lent n given lent sorted records all long moved up left =
     let rest = drop (length sorted) given in
     let back : take n (sorted ++ rest) ≡ sorted = ap (λ m. take m (sorted ++ rest)) (sym long) ∙ take-append_seam sorted rest in
     are_the_records given sorted records (rw all at moved) up (rw back at left)
-
--- a test of two lists tells whether what these are seen as is the same
-pub told : {X : Type 0} {E : X → X → Bool} → ((x y : X) → Decides (E x y) (x ≡ y)) → (r : Bool) (a b seen_a seen_b : List X) → r ≡ pointwise E a b
-    → a ≡ seen_a → b ≡ seen_b → Decides r (seen_a ≡ seen_b)
-told same r a b seen_a seen_b test view_a view_b = (
-  λ tied. sym view_a ∙ (pointwise_decides same a b).0 (sym test ∙ tied) ∙ view_b,
-  λ e. test ∙ (pointwise_decides same a b).1 (view_a ∙ e ∙ sym view_b),
-)
 
 -- ---- lists in order with the same records are the same
 

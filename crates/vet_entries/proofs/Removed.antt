@@ -12,7 +12,8 @@ use Rattle.std.proofs.lemmas.List.Filters.{length-filter_both}
 use Rattle.std.proofs.lemmas.List.Kept.{IsNonDecreasingBy-filter}
 use Rattle.vet_entries.specs.declared.facts.HeldEntry.{HeldEntry}
 use Rattle.vet_entries.specs.ByPackage.{IsByPackage, stand, is_at, down}
-use Rattle.vet_entries.proofs.Places.{down_above, down_below, filter-filter, filter-map, filter_drops, filter_keeps, filter_same, filter_swap, in_range, map_range, range_around, range_cut}
+use Rattle.vet_base.proofs.KeyedLemmas.{filter_drops, filter_keeps}
+use Rattle.vet_entries.proofs.Places.{down_above, down_below, filter-filter, filter-map, filter_same, filter_swap, in_range, map_range, range_around, range_cut}
 use Rattle.vet_entries.proofs.Standing.{stand_down}
 
 -- a place is not the one of the entry that goes

@@ -12,7 +12,9 @@ use Rattle.vet_entries.specs.declared.facts.Edit.TheVariants as edit
 use Rattle.vet_entries.specs.declared.facts.HeldEntry.{HeldEntry}
 use Rattle.vet_entries.specs.declared.publisher_records.PackagePublishers.{PackagePublishers}
 use Rattle.vet_entries.specs.Entry.{entry_eq, own}
-use Rattle.vet_entries.specs.PublisherRecords.{FitsPublishers, PublishersRoom, edited_publishers, publishers_room_after}
+use Rattle.vet_base.specs.Keyed as keyed
+use Rattle.vet_base.specs.Keyed.{KeyedRoom}
+use Rattle.vet_entries.specs.PublisherRecords.{FitsPublishers}
 
 -- the criteria, the entries in the order of their numbers, and the publisher records of packages in the order of their names
 pub record Facts : Type 0 where
@@ -40,8 +42,8 @@ facts_room_code held_code publishers_code =
     (λ _. refl)
 
 -- the publisher records, and for how many more packages there is room
-abbrev pub publishers_room : FactsRoom → PublishersRoom
-publishers_room facts = record { packages = facts.content.publishers; room = facts.room.packages }
+abbrev pub publishers_room : FactsRoom → KeyedRoom PackagePublishers
+publishers_room facts = record { items = facts.content.publishers; room = facts.room.packages }
 
 -- nothing but the built-in criteria
 abbrev pub no_facts : Facts
@@ -75,7 +77,7 @@ abbrev pub edited : Edit → Facts → Facts
 edited (edit.Criteria table) facts = record facts { criteria = table }
 edited (edit.Insert place held) facts = record facts { entries = insert facts.entries place held }
 edited (edit.Remove place) facts = record facts { entries = remove facts.entries place }
-edited (edit.Publishers change) facts = record facts { publishers = edited_publishers change facts.publishers }
+edited (edit.Publishers change) facts = record facts { publishers = keyed.edited change facts.publishers }
 
 -- an edit can be made, and takes no memory
 abbrev pub Fits : Edit → FactsRoom → Type 0
@@ -89,7 +91,7 @@ abbrev pub room_after : Edit → Room → Room
 room_after (edit.Criteria table) room = room
 room_after (edit.Insert place held) room = record room { entries = room.entries - 1 }
 room_after (edit.Remove place) room = record room { entries = room.entries + 1 }
-room_after (edit.Publishers change) room = record room { packages = publishers_room_after change room.packages }
+room_after (edit.Publishers change) room = record room { packages = keyed.room_after change room.packages }
 
 -- where there is room for something in the old, there is in the new
 abbrev pub HoldsRoomOf : Room → Room → Type 0

@@ -11,13 +11,12 @@ ghost use Rattle.vet_entries.specs.Step.{is_of};
 use crate::by_package::ByPackage;
 use crate::entry::Entry;
 use crate::publisher::Publisher;
-use crate::publisher_records::{
-    PackagePublishers, PublisherRecords, PublishersEdit, records_after_setting,
-};
+use crate::publisher_records::{PackagePublishers, PublisherRecords, records_after_setting};
 use crate::publishers::Publishers;
 use std::alloc::Global;
 use std::marker::Model;
 use vet_base::criteria_table::CriteriaTable;
+use vet_base::keyed::KeyedEdit;
 use vet_base::name::{Name, PackageName};
 use vet_base::refusal::Refusal;
 
@@ -63,7 +62,7 @@ pub enum Edit {
     /// The entry at this place goes.
     Remove(usize),
     /// The publisher records of a package change.
-    Publishers(PublishersEdit),
+    Publishers(KeyedEdit<PackagePublishers>),
 }
 
 impl Model for EntryFacts {
@@ -79,7 +78,7 @@ impl Model for EntryFacts {
       content = record {
         criteria = f.criteria;
         entries = f.entries.entries;
-        publishers = f.publishers.packages;
+        publishers = f.publishers.items;
       };
       room = record {
         entries = f.entries.room;

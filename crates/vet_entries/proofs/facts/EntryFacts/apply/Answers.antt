@@ -1,7 +1,8 @@
 use Rattle.std.proofs.Common.{◌≡◌, ◌<◌, length, arith, ap, ◌∙◌}
 use Rattle.std.specs.List.{insert, remove}
 use Rattle.vet_entries.specs.Facts.{Facts}
-use Rattle.vet_entries.proofs.Edits.{insert-remove, remove-insert}
+use Rattle.vet_base.proofs.KeyedLemmas.{remove-insert}
+use Rattle.vet_entries.proofs.Edits.{insert-remove}
 use Rattle.vet_entries.proofs.facts.EntryFacts.apply.Goals as goal
 
 pub returns-in-Insert-clause-back : goal.returns-in-Insert-clause-back
@@ -11,8 +12,8 @@ returns-in-Insert-clause-back c =
     let fits = rw c.in-Insert.is at c.requires in
     let held : items ≡ c.args.self.now.content.entries = ap (λ f. f.content.entries) c.self.view_is in
     let undone = ap (λ es. remove es place) c.insert.ensures.entries ∙ remove-insert items place c.in-Insert.held (omega (arith, fits.0, ap length held)) in
-    let back : ◌≡◌ {A = Facts} (record { criteria = c.self.inside.criteria; entries = remove c.insert.new.self.entries place; publishers = c.self.inside.publishers.packages }) (record { criteria = c.self.inside.criteria; entries = items; publishers = c.self.inside.publishers.packages }) =
-    λ i. record { criteria = c.self.inside.criteria; entries = undone i; publishers = c.self.inside.publishers.packages } in
+    let back : ◌≡◌ {A = Facts} (record { criteria = c.self.inside.criteria; entries = remove c.insert.new.self.entries place; publishers = c.self.inside.publishers.items }) (record { criteria = c.self.inside.criteria; entries = items; publishers = c.self.inside.publishers.items }) =
+    λ i. record { criteria = c.self.inside.criteria; entries = undone i; publishers = c.self.inside.publishers.items } in
     back ∙ ap (λ f. f.content) c.self.view_is
 
 pub returns-in-Remove-clause-back : goal.returns-in-Remove-clause-back
@@ -22,6 +23,6 @@ returns-in-Remove-clause-back c =
     let fits : place < length c.args.self.now.content.entries = rw c.in-Remove.is at c.requires in
     let held : items ≡ c.args.self.now.content.entries = ap (λ f. f.content.entries) c.self.view_is in
     let undone = ap (λ es. insert es place c.remove.result) c.remove.ensures.entries ∙ insert-remove items place c.remove.result (omega (arith, fits, ap length held)) c.remove.ensures.value in
-    let back : ◌≡◌ {A = Facts} (record { criteria = c.self.inside.criteria; entries = insert c.remove.new.self.entries place c.remove.result; publishers = c.self.inside.publishers.packages }) (record { criteria = c.self.inside.criteria; entries = items; publishers = c.self.inside.publishers.packages }) =
-    λ i. record { criteria = c.self.inside.criteria; entries = undone i; publishers = c.self.inside.publishers.packages } in
+    let back : ◌≡◌ {A = Facts} (record { criteria = c.self.inside.criteria; entries = insert c.remove.new.self.entries place c.remove.result; publishers = c.self.inside.publishers.items }) (record { criteria = c.self.inside.criteria; entries = items; publishers = c.self.inside.publishers.items }) =
+    λ i. record { criteria = c.self.inside.criteria; entries = undone i; publishers = c.self.inside.publishers.items } in
     back ∙ ap (λ f. f.content) c.self.view_is
