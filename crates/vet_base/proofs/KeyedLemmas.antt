@@ -488,7 +488,7 @@ module _ {K E : Type 0} (cmp : K → K → Ordering) (total : IsTotalOrder cmp) 
       subst (λ p. filter p sorted ≡ filter p items) alike (stable x)
 
   -- a stable sort keeps the items of each key, in their order
-  kept : (items sorted : List E) → IsStableBy less_key items sorted → (k : K) → filter (is_of cmp key k) sorted ≡ filter (is_of cmp key k) items
+  pub kept : (items sorted : List E) → IsStableBy less_key items sorted → (k : K) → filter (is_of cmp key k) sorted ≡ filter (is_of cmp key k) items
   kept items sorted stable k = among (filter (is_of cmp key k) sorted) (filter (is_of cmp key k) items) refl refl
     where
       Passes : List E → Type 0

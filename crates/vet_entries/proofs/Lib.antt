@@ -8,5 +8,6 @@ pub mod Places
 pub mod PublisherLaws
 pub mod Records
 pub mod Removed
+pub mod SortedPlaces
 pub mod Standing
 pub mod Violations

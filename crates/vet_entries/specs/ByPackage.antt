@@ -34,6 +34,12 @@ stand [] name place = Greater
 stand (held ∷ entries) name zero = slice_cmp nat_cmp held.entry.«package» name
 stand (held ∷ entries) name (suc place) = stand entries name place
 
+-- the package of the entry at a place; where there is no entry, no text
+abbrev pub package_at : List HeldEntry → ℕ → List ℕ
+package_at [] place = []
+package_at (held ∷ entries) zero = held.entry.«package»
+package_at (held ∷ entries) (suc place) = package_at entries place
+
 -- the entry at a place is of a package
 abbrev pub is_at : List HeldEntry → List ℕ → ℕ → Bool
 is_at entries name place = is_eq (stand entries name place)

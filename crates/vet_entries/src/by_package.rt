@@ -1,9 +1,9 @@
 //! Entries that are found by their packages.
-ghost use Rattle.std.specs.Prelude.{◌≡◌, ◌<◌, ◌≤◌, ◌+◌, ◌-◌, ◌++◌, ◌∷◌, [], IsOk, OnOk, OnErr, filter, insert, length, map, remove, slice_index_or, true, false, vec_capacity, vec_len};
-ghost use Rattle.std.specs.List.{All};
+ghost use Rattle.std.specs.Prelude.{◌≡◌, ◌<◌, ◌≤◌, ◌+◌, ◌-◌, [], IfOk, IsOk, OnOk, OnErr, filter, insert, length, map, remove, slice_index_or, true, false, vec_capacity, vec_len};
+ghost use Rattle.std.specs.List.{All, range_with_len};
 ghost use Rattle.std.specs.List.Sorted.{IsNonDecreasingBy, IsPartitionPoint};
 ghost use Rattle.std.specs.Ordering.{is_le, is_lt, ordering_index};
-ghost use Rattle.vet_entries.specs.ByPackage.{IsByPackage, IsRange, IsSlot, down, gathered, places_of, stand, up};
+ghost use Rattle.vet_entries.specs.ByPackage.{IsByPackage, IsRange, IsSlot, down, gathered, package_at, places_of, stand, up};
 ghost use Rattle.vet_entries.specs.Step.{is_of};
 
 use crate::facts::HeldEntry;
@@ -55,6 +55,14 @@ impl ByPackage {
         }
     }
 
+    /// Some entries, one after another. Takes a time of n log n.
+    pub(crate) fn of(alloc: Global, entries: Vec<HeldEntry>) -> Result<ByPackage, AllocError>
+        ensures { IfOk result (λ b. b.entries ≡ entries.items) }
+    {
+        let order = sorted_places(alloc, entries.as_slice())?;
+        Ok(ByPackage { entries, order })
+    }
+
     /// The entries, one after another. Costs nothing.
     pub(crate) fn entries(&self) -> &[HeldEntry]
         ensures { result.now ≡ self.now.entries }
@@ -104,17 +112,6 @@ impl ByPackage {
         put(&mut self.entries, place, held);
     }
 
-    /// Puts an entry behind all others. Costs what `insert` costs there, and at times a move of all entries and
-    /// places to more room.
-    pub(crate) fn push(&mut self, held: HeldEntry) -> Result<(), AllocError>
-        ensures { OnOk result (self.new.entries ≡ self.old.entries ++ held ∷ []) }
-    {
-        self.reserve()?;
-        let place = self.entries.len();
-        self.insert(place, held);
-        Ok(())
-    }
-
     /// Takes out the entry at a place. Costs two passes over all places, and a move of the entries behind it.
     pub(crate) fn remove(&mut self, place: usize) -> HeldEntry
         requires { place < length self.old.entries }
@@ -125,6 +122,36 @@ impl ByPackage {
         self.order.retain(|other| *other != place);
         close_gap(&mut self.order, place);
         self.entries.remove(place)
+    }
+}
+
+// The places of all entries in the order of packages and, within a package, in rising order.
+fn sorted_places(alloc: Global, entries: &[HeldEntry]) -> Result<Vec<usize>, AllocError>
+    ensures { IfOk result (λ order. IsByPackage entries.now order.items) }
+{
+    let mut order = places_below(alloc, entries.len())?;
+    order.sort_by(|a, b| package_at(entries, *a).cmp(package_at(entries, *b)))?;
+    Ok(order)
+}
+
+// The places below a length.
+fn places_below(alloc: Global, len: usize) -> Result<Vec<usize>, AllocError>
+    ensures { IfOk result (λ places. places.items ≡ range_with_len 0 len) }
+{
+    let mut places = Vec::new(alloc);
+    for place in 0..len {
+        places.push(place)?;
+    }
+    Ok(places)
+}
+
+// The package of the entry at a place; where there is no entry, no text.
+fn package_at(entries: &[HeldEntry], place: usize) -> &str
+    ensures { result.now ≡ package_at entries.now place }
+{
+    match entries.get(place) {
+        Some(held) => held.entry.package.as_str(),
+        None => "",
     }
 }
 

@@ -13,7 +13,7 @@ use crate::entry::Entry;
 use crate::publisher::Publisher;
 use crate::publisher_records::{PackagePublishers, PublisherRecords, records_after_setting};
 use crate::publishers::Publishers;
-use std::alloc::Global;
+use std::alloc::{AllocError, Global};
 use std::marker::Model;
 use vet_base::criteria_table::CriteriaTable;
 use vet_base::keyed::KeyedEdit;
@@ -114,7 +114,7 @@ impl EntryFacts {
     {
         Ok(EntryFacts {
             criteria,
-            entries: numbered(alloc, entries)?,
+            entries: ByPackage::of(alloc, numbered(alloc, entries)?)?,
             publishers: PublisherRecords::new(alloc),
         })
     }
@@ -321,11 +321,10 @@ pub fn edits_fit_with_more_room()
 {}
 
 // Some entries with the numbers from one on.
-fn numbered(alloc: Global, entries: Vec<Entry>) -> Result<ByPackage, Refusal>
-    ensures ok { IfOk result (λ held. held.entries ≡ numbered 1 entries.items) }
-    ensures memory { IfErr result (λ e. e ≡ Refusal.NoMemory) }
+fn numbered(alloc: Global, entries: Vec<Entry>) -> Result<Vec<HeldEntry>, AllocError>
+    ensures { IfOk result (λ held. held.items ≡ numbered 1 entries.items) }
 {
-    let mut held = ByPackage::new(alloc);
+    let mut held = Vec::new(alloc);
     let mut number = 0;
     for entry in entries {
         number += 1;

@@ -7,5 +7,5 @@ abbrev pub invariant-loop-entry : goal.invariant-loop-entry
 invariant-loop-entry l =
     (goal.iterator-loop-entry).can_next l.entry-iterator
     × (goal.iterator-loop-entry).is_finite l.entry-iterator
-    × (l.held.entries ≡ numbered 1 l.yielded)
+    × (l.held.items ≡ numbered 1 l.yielded)
     × (l.number ≡ length l.yielded)

@@ -1,0 +1,7 @@
+-- The places so far.
+use Rattle.std.proofs.Common.{◌≡◌}
+use Rattle.std.specs.List.{range_with_len}
+use Rattle.vet_entries.proofs.by_package.places_below.Given as goal
+
+abbrev pub invariant-loop-place : goal.invariant-loop-place
+invariant-loop-place l = l.places.items ≡ range_with_len 0 l.place
