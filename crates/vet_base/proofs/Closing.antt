@@ -14,7 +14,7 @@ use Rattle.vet_base.specs.Criteria.{Criteria, implied_by, InClosure, reached_by,
 use Rattle.vet_base.specs.Criteria.InClosure.{named, implied}
 use Rattle.vet_base.proofs.Rising.{R, eq-itself, equal-from_eq, above, IsRising-head, IsRising-tail, rising_entries}
 
-abbrev Entries : Type 0
+abbrev pub Entries : Type 0
 Entries = List (List ℕ × Criterion)
 
 -- the same by a list of criteria
@@ -42,11 +42,11 @@ after name c es names at n (first h) = next c at (Contains-here (name, c) es) h
 after name c es names at n (next {m = m} d r in_es h) = next d (after name c es names at m r) (Contains-later (m, d) (name, c) es in_es) h
 
 module _ (name : List ℕ) (c : Criterion) (es : Entries) (names : NameSet) where
-  grown : set.contains (reached_by es names) name ≡ true → reached_by ((name, c) ∷ es) names ≡ set.union (reached_by es names) (reached_by es c.implies)
+  pub grown : set.contains (reached_by es names) name ≡ true → reached_by ((name, c) ∷ es) names ≡ set.union (reached_by es names) (reached_by es c.implies)
   unfolding reached_by
   grown h = cond-true (set.contains (reached_by es names) name) (set.union (reached_by es names) (reached_by es c.implies)) (reached_by es names) h
 
-  stayed : set.contains (reached_by es names) name ≡ false → reached_by ((name, c) ∷ es) names ≡ reached_by es names
+  pub stayed : set.contains (reached_by es names) name ≡ false → reached_by ((name, c) ∷ es) names ≡ reached_by es names
   unfolding reached_by
   stayed h = cond-false (set.contains (reached_by es names) name) (set.union (reached_by es names) (reached_by es c.implies)) (reached_by es names) h
 
@@ -96,6 +96,36 @@ closed ((name, c) ∷ es) names m n d in_es reached h = elim (cases_Bool (set.co
 complete : (es : Entries) (names : NameSet) (n : List ℕ) → Reached es names n → set.contains (reached_by es names) n ≡ true
 complete es names n (first h) = holds es names n h
 complete es names n (next {m = m} c r at h) = closed es names m n c at (complete es names m r) h
+
+-- ---- what one name alone reaches
+
+abbrev pub alone : List ℕ → NameSet
+alone m = set.insert set.empty m
+
+pub in_alone : (m : List ℕ) → set.contains (alone m) m ≡ true
+in_alone m = set.contains-insert nat_list_cmp_total set.empty m m ∙ or_left (eq_by_cmp R m m) (set.contains set.empty m) (eq-itself m)
+
+pub only_alone : (m x : List ℕ) → set.contains (alone m) x ≡ true → x ≡ m
+only_alone m x h = elim (or_cases (eq_by_cmp R x m) (set.contains set.empty x) (sym (set.contains-insert nat_list_cmp_total set.empty m x) ∙ h)) [
+  | inl same ↦ equal-from_eq x m same
+  | inr none ↦ absurd (false≢true (sym (set.contains-empty R x) ∙ none))
+]
+
+seeded : (es : Entries) (names : NameSet) (n : List ℕ) → Reached es names n → (m : List ℕ) × (set.contains names m ≡ true) × Reached es (alone m) n
+seeded es names n (first h) = (n, h, first (in_alone n))
+seeded es names n (next {m = k} c r at h) = (let s = seeded es names k r in (s.0, s.1, next c s.2 at h))
+
+spread : (es : Entries) (names : NameSet) (m n : List ℕ) → set.contains names m ≡ true → Reached es (alone m) n → Reached es names n
+spread es names m n held (first h) = first (ap (set.contains names) (only_alone m n h) ∙ held)
+spread es names m n held (next {m = k} c r at h) = next c (spread es names m k held r) at h
+
+-- what some names reach is what each of them reaches alone
+pub from_one : (es : Entries) (names : NameSet) (n : List ℕ) → set.contains (reached_by es names) n ≡ true
+    → (m : List ℕ) × (set.contains names m ≡ true) × (set.contains (reached_by es (alone m)) n ≡ true)
+from_one es names n h = (let s = seeded es names n (sound es names n h) in (s.0, s.1, complete es (alone s.0) n s.2))
+
+pub for_all : (es : Entries) (names : NameSet) (m n : List ℕ) → set.contains names m ≡ true → set.contains (reached_by es (alone m)) n ≡ true → set.contains (reached_by es names) n ≡ true
+for_all es names m n held h = complete es names n (spread es names m n held (sound es (alone m) n h))
 
 -- ---- the criteria of a table
 

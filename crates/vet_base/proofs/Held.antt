@@ -14,13 +14,14 @@ use Rattle.vet_base.specs.PlaceLaws.{contains-true_places, same_places}
 pub tells : (held : List Bool) (s : FinSet nat_cmp) (q : ℕ) → true_places held ≡ s → set.contains s q ≡ get_or held q false
 tells held s q e = ap (λ t. set.contains t q) (sym e) ∙ contains-true_places held q
 
-get_or-replicate_false : (n q : ℕ) → get_or (replicate n false) q false ≡ false
-get_or-replicate_false zero q = refl
-get_or-replicate_false (suc n) zero = refl
-get_or-replicate_false (suc n) (suc q) = get_or-replicate_false n q
+-- copies of one value are that value everywhere, and past their end too
+pub all_alike : {X : Type 0} (x : X) (n q : ℕ) → get_or (replicate n x) q x ≡ x
+all_alike x zero q = refl
+all_alike x (suc n) zero = refl
+all_alike x (suc n) (suc q) = all_alike x n q
 
 pub no_places : (n : ℕ) → true_places (replicate n false) ≡ set.empty
-no_places n = same_places _ _ (λ q. contains-true_places (replicate n false) q ∙ get_or-replicate_false n q ∙ sym (set.contains-empty nat_cmp q))
+no_places n = same_places _ _ (λ q. contains-true_places (replicate n false) q ∙ all_alike false n q ∙ sym (set.contains-empty nat_cmp q))
 
 pub empty_truth : (held : List Bool) (s : FinSet nat_cmp) → true_places held ≡ s → ((q : ℕ) → get_or held q false ≡ false) → s ≡ set.empty
 empty_truth held s e h = same_places _ _ (λ q. tells held s q e ∙ h q ∙ sym (set.contains-empty nat_cmp q))

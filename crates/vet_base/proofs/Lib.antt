@@ -1,5 +1,6 @@
 pub mod BuiltIn
 pub mod Changes
+pub mod Closed
 pub mod Closing
 pub mod DayLemmas
 pub mod DefinedTables
@@ -11,7 +12,6 @@ pub mod Kept
 pub mod KeyedLemmas
 pub mod KeyedParts
 pub mod Meeting
-pub mod Missing
 pub mod OrderLemmas
 pub mod ReqLemmas
 pub mod Rising

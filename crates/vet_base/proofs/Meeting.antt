@@ -1,5 +1,5 @@
 -- Sets of places that meet, and the places that lead to a set.
-use Rattle.std.proofs.Common.{◌≡◌, ℕ, ◌<◌, ◌+◌, ◌≤◌, ◌↔◌, Bool, true, false, ◌||◌, ◌&&◌, ◌==◌, List, [], ◌∷◌, length, get_or, nat_lt, refl, sym, ap, ◌∙◌, arith, inl, inr, eqb-true, eq-eqb, lt-ltb}
+use Rattle.std.proofs.Common.{◌≡◌, ℕ, ◌+◌, ◌≤◌, ◌↔◌, Bool, true, false, ◌||◌, ◌&&◌, ◌==◌, List, [], ◌∷◌, get_or, nat_lt, refl, sym, ap, ◌∙◌, arith, inl, inr, eqb-true, eq-eqb, lt-ltb}
 use Rattle.std.specs.List.{list_any}
 use Rattle.std.specs.Ordering.{nat_cmp, eq_by_cmp}
 use Rattle.std.specs.Option.{option_map_or}
@@ -9,13 +9,12 @@ use Rattle.std.specs.FinMap as map
 use Rattle.std.proofs.lemmas.Bool.{cases_lt, cases_order, ne_eqb, false≢true, le-ltb, and_right}
 use Rattle.std.proofs.lemmas.List.{get_or_default}
 use Rattle.std.proofs.lemmas.List.Folds.{list_any_at, Any-from_list_any}
-use Rattle.std.proofs.lemmas.Option.{slice_get-get_or, slice_get_past}
+use Rattle.std.proofs.lemmas.Option.{slice_get_past}
 use Rattle.vet_base.specs.CriteriaSet.{Places, meet, places_below}
 use Rattle.vet_base.specs.PlaceLaws.{contains-places_below, same_nat, same_places}
 use Rattle.vet_base.specs.Criteria.{Criteria, placed, closure_of, closure_at, leads_to, leading_to}
-use Rattle.vet_base.specs.CriteriaTable.{IsLeastClosed}
-use Rattle.vet_base.proofs.Tables.{len-keys, place_at, placed-empty, placed-insert_held}
-use Rattle.vet_base.proofs.Walks.{least_is_closure, one_more_is}
+use Rattle.vet_base.proofs.Tables.{len-keys}
+use Rattle.vet_base.proofs.Walks.{one_more_is}
 
 any_either : (f g h : ℕ → Bool) → ((x : ℕ) → f x ≡ (g x || h x)) → (xs : List ℕ) → list_any f xs ≡ (list_any g xs || list_any h xs)
 any_either f g h each [] = refl
@@ -113,15 +112,9 @@ module _ (table : Criteria) where
         | inr high ↦ ap (λ b. b && leads_to table places p) (le-ltb p (map.len table) high) ∙ sym (ap (λ s. meet s places) (closure_past p high) ∙ empty-meet places)
       ]
 
-  pub leading-empty : leading_to table set.empty ≡ set.empty
-  leading-empty = same_places _ _ (λ p. contains-leading set.empty p ∙ meet-empty (closure_at table p) ∙ sym (set.contains-empty nat_cmp p))
-
-  -- the least closed set that holds one place is the closure there
-  pub closure_found : (p : ℕ) (places : Places) → p < map.len table → IsLeastClosed table (set.insert set.empty p) places → places ≡ closure_at table p
-  closure_found p places low least =
-      let n = get_or (map.keys table) p [] in
-      let within : p < length (map.keys table) = omega (arith, low, len-keys table) in
-      let start : placed table (set.insert set.empty n) ≡ set.insert set.empty p = placed-insert_held table set.empty n p (place_at table n p within refl) ∙ ap (λ s. set.insert s p) (placed-empty table) in
-      let found : closure_at table p ≡ placed table (closure_of table (set.insert set.empty n)) =
-      ap (λ o. option_map_or (λ m. placed table (closure_of table (set.insert set.empty m))) o set.empty) (slice_get-get_or (map.keys table) p [] within) in
-      least_is_closure table (set.insert set.empty n) places (rw start least) ∙ sym found
+  -- where the closures are empty past a number, all that lead to a set stand below it
+  pub leading_all : (places : Places) (n : ℕ) → ((p : ℕ) → n ≤ p → closure_at table p ≡ set.empty) → leading_below table places n ≡ leading_to table places
+  leading_all places n none = same_places _ _ (λ p. contains-leading_below table places n p ∙ elim (cases_lt p n) [
+    | inl low ↦ ap (λ b. b && leads_to table places p) (lt-ltb p n low)
+    | inr high ↦ ap (λ b. b && leads_to table places p) (le-ltb p n high) ∙ sym (ap (λ s. meet s places) (none p high) ∙ empty-meet places)
+  ] ∙ sym (contains-leading places p))

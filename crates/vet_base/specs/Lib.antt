@@ -1,3 +1,4 @@
+pub mod Closures
 pub mod Criteria
 pub mod CriteriaChanges
 pub mod CriteriaSet

@@ -69,9 +69,7 @@ impl CriteriaSet {
     {
         let mut held = self.held;
         for place in 0..MOST_CRITERIA {
-            if other.held[place] {
-                held[place] = true;
-            }
+            held[place] = held[place] | other.held[place];
         }
         CriteriaSet { held }
     }
@@ -81,12 +79,11 @@ impl CriteriaSet {
         ensures value { result ≡ meet self.now other.now }
         ensures both { IsTrue result ↔ ((p : ℕ) × (set.contains self.now p ≡ true) × (set.contains other.now p ≡ true)) }
     {
+        let mut met = false;
         for place in 0..MOST_CRITERIA {
-            if self.held[place] && other.held[place] {
-                return true;
-            }
+            met = met | (self.held[place] & other.held[place]);
         }
-        false
+        met
     }
 
     /// Whether there are no criteria.

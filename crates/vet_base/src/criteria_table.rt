@@ -6,12 +6,14 @@ ghost use Rattle.std.specs.Option.{option_copied};
 ghost use Rattle.std.specs.FinSet as set;
 ghost use Rattle.std.specs.FinMap as map;
 ghost use Rattle.vet_base.specs.Name.{is_name};
-ghost use Rattle.vet_base.specs.Criteria.{Criteria, IsTable, built_in_criteria, closure_at, closure_of, is_in, leading_to, least_unknown, place_of, placed, deploy_criterion, run_criterion, safe_to_deploy, safe_to_run, ClosureIsLeast, LedTo, PlacedNamesAreIn, PlacesAreOfNames};
+ghost use Rattle.vet_base.specs.Criteria.{Criteria, IsTable, built_in_criteria, closure_of, is_in, leading_to, least_unknown, place_of, placed, deploy_criterion, run_criterion, safe_to_deploy, safe_to_run, ClosureIsLeast, LedTo, PlacedNamesAreIn, PlacesAreOfNames};
 ghost use Rattle.vet_base.specs.CriteriaChanges.{is_built_in, is_full_for, is_implied, remove_verdict, set_verdict, unknown_beside};
-ghost use Rattle.vet_base.specs.CriteriaTable.{AllIn, IsClosed, IsLeastClosed, LeadsOut, OneOut, by_name};
+ghost use Rattle.vet_base.specs.Closures.{AreClosures};
+ghost use Rattle.vet_base.specs.CriteriaTable.{by_name};
 ghost use Rattle.vet_base.specs.Defined.{IsListed, defined, table_told};
 ghost use Rattle.vet_base.specs.Gives.{Answers, Gives, Refuses};
 
+use crate::closures::Closures;
 use crate::criteria_set::CriteriaSet;
 use crate::criterion::Criterion;
 use crate::defined::check_defined;
@@ -144,23 +146,29 @@ impl CriteriaTable {
         if let Some(name) = self.least_unknown(names) {
             return Err(Refusal::UnknownCriterion(name.clone()?));
         }
-        Ok(self.close(self.set_of(names)))
+        Ok(self.closures().close(&self.set_of(names)))
     }
 
-    /// The criteria that are in the set or imply in the end one that is.
+    /// The criteria that are in the set or imply in the end one that is. Costs what `closures` does.
     pub fn leading_to(&self, set: &CriteriaSet) -> CriteriaSet
         ensures { result ≡ leading_to self.now set.now }
     {
-        let mut leading = CriteriaSet::empty();
-        if set.is_empty() {
-            return leading;
+        self.closures().leading_to(set)
+    }
+
+    /// The closures of all its criteria, for many looks.
+    pub fn closures(&self) -> Closures
+        ensures { AreClosures self.now result }
+    {
+        let mut place = self.criteria.len();
+        let mut closures = Closures::apart(place);
+        'places: while place > 0 {
+            place -= 1;
+            let implied = self.set_of(&self.criteria[place].implies);
+            let reached = closures.joined(&implied);
+            closures.lead_on(place, &reached);
         }
-        for place in 0..self.names().len() {
-            if self.closure_at(place).meets(set) {
-                leading = leading.with(place);
-            }
-        }
-        leading
+        closures
     }
 
     /// Whether a name is new and the table is full.
@@ -347,58 +355,6 @@ impl CriteriaTable {
             }
         }
         places
-    }
-
-    // What the criterion at a place implies in the end, and it itself.
-    fn closure_at(&self, place: usize) -> CriteriaSet
-        requires within { place < map.len self.now }
-        requires few { place < MOST_CRITERIA }
-        ensures { result ≡ closure_at self.now place }
-    {
-        self.close(CriteriaSet::empty().with(place))
-    }
-
-    // Adds to a set what its names imply, until nothing is missing.
-    fn close(&self, start: CriteriaSet) -> CriteriaSet
-        ensures { IsLeastClosed self.now start result }
-    {
-        let mut places = start;
-        'rounds: while let Some(place) = self.next(&places) {
-            places = places.with(place);
-        }
-        places
-    }
-
-    // A place that a name in the set leads to, and that is not in it.
-    fn next(&self, places: &CriteriaSet) -> Option<usize>
-        ensures some { IfSome result (LeadsOut self.now places.now) }
-        ensures none { IfNone result (IsClosed self.now places.now) }
-    {
-        for place in 0..self.criteria.len() {
-            if places.has(place) {
-                let implied = self.criteria[place].implies.as_slice();
-                if let Some(out) = self.first_out(implied, places) {
-                    return Some(out);
-                }
-            }
-        }
-        None
-    }
-
-    // The place of the first of some names that is not in the set.
-    fn first_out(&self, names: &[Name], places: &CriteriaSet) -> Option<usize>
-        ensures some { IfSome result (OneOut self.now places.now names.now) }
-        ensures within { IfSome result (λ p. p < MOST_CRITERIA) }
-        ensures none { IfNone result (AllIn self.now places.now names.now) }
-    {
-        for name in names {
-            if let Some(place) = self.place(name) {
-                if !places.has(place) {
-                    return Some(place);
-                }
-            }
-        }
-        None
     }
 
     // Whether a criterion may be set.

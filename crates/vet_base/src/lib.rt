@@ -8,6 +8,7 @@
 //! Scope of this crate: values alone. What an entry, a project or a class is stands in the crates above.
 #![tactic(auto)]
 
+pub mod closures;
 pub mod criteria_set;
 pub mod criteria_table;
 pub mod criterion;
