@@ -1,5 +1,6 @@
 //! What violations condemn.
 ghost use Rattle.std.specs.Prelude.{◌≡◌, ◌||◌, ◌&&◌, ◌++◌, ℕ, IfOk, IfErr, OnOk};
+ghost use Rattle.vet_base.specs.Closures.{AreClosures};
 ghost use Rattle.vet_base.specs.Criteria.{leads_to};
 ghost use Rattle.vet_base.specs.CriteriaSet.{has};
 ghost use Rattle.vet_base.specs.Req.{req_matches};
@@ -8,6 +9,7 @@ ghost use Rattle.vet_entries.specs.Condemned.{ViolationsCondemn, condemned_by, c
 use crate::facts::{EntryFacts, HeldEntry};
 use crate::kind::Kind;
 use std::alloc::{AllocError, Global};
+use vet_base::closures::Closures;
 use vet_base::criteria_set::{CriteriaSet, meet_of_nothing, meet_of_unions};
 use vet_base::criteria_table::{CriteriaTable, led_to};
 use vet_base::name::PackageName;
@@ -18,7 +20,7 @@ use vet_base::version::VetVersion;
 /// The criteria for which a version of a package is condemned: those that imply in the end one that a
 /// violation of the package names, where its requirement matches the version. What the violation names is
 /// not closed. Takes no memory. Costs two binary searches among all entries, a look at each of the package's,
-/// and where a violation matches the closure of each criterion of the table.
+/// and the closures of the table once.
 pub fn condemned(package: &PackageName, version: &VetVersion, facts: &EntryFacts) -> CriteriaSet
     ensures { (c : ℕ) → has c result ≡ is_condemned facts.now.content «package».now c version.now }
 {
@@ -67,8 +69,8 @@ impl Drop for Violation {
 }
 
 /// The violations of a package, by the numbers of the entries. With them each version of the package is
-/// judged without a further look at its entries (`violations_condemn`). Costs what `condemned` does, with the
-/// closures for each violation. Refused: `NoMemory`.
+/// judged without a further look at its entries (`violations_condemn`). Costs what `condemned` does, with a
+/// look at each closure for each violation. Refused: `NoMemory`.
 pub fn violations_of(
     alloc: Global,
     package: &PackageName,
@@ -79,9 +81,10 @@ pub fn violations_of(
 {
     let mut violations = Vec::new(alloc);
     let criteria = facts.criteria();
+    let closures = criteria.closures();
     let entries = facts.entries();
     for place in facts.places_of(package) {
-        add_violation(&mut violations, &entries[*place], criteria)?;
+        add_violation(&mut violations, &entries[*place], criteria, &closures)?;
     }
     Ok(violations)
 }
@@ -110,14 +113,16 @@ fn add_violation(
     violations: &mut Vec<Violation>,
     held: &HeldEntry,
     criteria: &CriteriaTable,
+    closures: &Closures,
 ) -> Result<(), AllocError>
+    requires { AreClosures criteria.now closures.now }
     ensures { OnOk result (violations.new.items
         ≡ violations.old.items ++ violation_in criteria.now held.now) }
 {
     if let Kind::Violation(requirement, _) = &held.entry.kind {
         violations.push(Violation {
             requirement: requirement.clone()?,
-            criteria: criteria.leading_to(&criteria.set_of(&held.entry.criteria)),
+            criteria: closures.leading_to(&criteria.set_of(&held.entry.criteria)),
         })?;
     }
     Ok(())

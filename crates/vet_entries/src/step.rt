@@ -1,12 +1,14 @@
 //! Steps of trust, and those that entries give.
 ghost use Rattle.std.specs.Prelude.{◌≡◌, ◌++◌, ◌∷◌, [], IfOk, IfErr, OnOk, None};
 ghost use Rattle.std.specs.List.{All};
+ghost use Rattle.vet_base.specs.Closures.{AreClosures};
 ghost use Rattle.vet_entries.specs.Step.{HasKnownCriteria, delta_step, entry_steps, first_step, is_covered, kind_steps, steps_of, window_steps};
 
 use crate::facts::{EntryFacts, HeldEntry};
 use crate::kind::{Kind, Window};
 use crate::publisher::Publisher;
 use std::alloc::{AllocError, Global};
+use vet_base::closures::Closures;
 use vet_base::criteria_set::CriteriaSet;
 use vet_base::criteria_table::CriteriaTable;
 use vet_base::delta::Delta;
@@ -38,9 +40,9 @@ impl Drop for Step {
 }
 
 /// The steps of a package, by the numbers of the entries that give them and, of one entry, in the order of the
-/// publisher records. Asks that the criteria of each entry are in the table. Costs two binary searches among
-/// all entries, and a look at each of the package's, whose criteria it closes; for each window among them a
-/// look at each of the package's publisher records. Refused: `NoMemory`.
+/// publisher records. Asks that the criteria of each entry are in the table. Costs the closures of the table
+/// once, two binary searches among all entries, and a look at each of the package's; for each window among
+/// them a look at each of the package's publisher records. Refused: `NoMemory`.
 pub fn steps_of(
     alloc: Global,
     package: &PackageName,
@@ -52,10 +54,11 @@ pub fn steps_of(
 {
     let mut steps = Vec::new(alloc);
     let criteria = facts.criteria();
+    let closures = criteria.closures();
     let records = facts.records_of(package);
     let entries = facts.entries();
     for place in facts.places_of(package) {
-        add_steps(&mut steps, &entries[*place], records, criteria)?;
+        add_steps(&mut steps, &entries[*place], records, criteria, &closures)?;
     }
     Ok(steps)
 }
@@ -66,15 +69,15 @@ fn add_steps(
     held: &HeldEntry,
     records: &[Publisher],
     criteria: &CriteriaTable,
-) -> Result<(), Refusal>
-    requires { HasKnownCriteria criteria.now held.now }
-    ensures ok { OnOk result (steps.new.items
+    closures: &Closures,
+) -> Result<(), AllocError>
+    requires known { HasKnownCriteria criteria.now held.now }
+    requires closures { AreClosures criteria.now closures.now }
+    ensures { OnOk result (steps.new.items
         ≡ steps.old.items ++ entry_steps criteria.now records.now held.now) }
-    ensures memory { IfErr result (λ e. e ≡ Refusal.NoMemory) }
 {
-    let closed = criteria.closure(&held.entry.criteria)?;
-    add_kind_steps(steps, &held.entry.kind, records, closed)?;
-    Ok(())
+    let closed = closures.close(&criteria.set_of(&held.entry.criteria));
+    add_kind_steps(steps, &held.entry.kind, records, closed)
 }
 
 // Adds the steps of a kind.

@@ -15,7 +15,7 @@ loop-place-preserved c =
     let held = c.index-entries-place.result in
     let give = entry_steps c.criteria-criteria.result.now c.records_of-records.result.now in
     let within : get_or places i 0 < length entries = omega (arith, c.places_of-place-items.ensures.within i 0 c.loop-place-test.true, ap length c.entries-entries.ensures) in
-    c.in_ok-add_steps.ensures.ok
+    c.in_ok-add_steps.ensures
     ∙ ap (λ steps. steps ++ give held) c.loop-place.invariant
     ∙ ap (λ more. flat_map give (gathered entries (take i places)) ++ more) (sym (append-nil (give held)))
     ∙ sym (flat_map-append give (gathered entries (take i places)) (held ∷ []))
