@@ -12,6 +12,7 @@ use crate::refusal::Refusal;
 use crate::version::{VetVersion, is_memory};
 use semver::VersionReq;
 use std::alloc::{AllocError, Global};
+use std::cmp::Ordering;
 use std::fmt;
 use std::hash::{Hash, Hasher};
 use std::marker::Model;
@@ -115,6 +116,39 @@ impl PartialEq for Req {
 
 impl Eq for Req {
     ghost laws = { nat_list_eq_equiv };
+}
+
+impl PartialOrd for Req {
+    ghost use Rattle.std.specs.Cmp.{po};
+    ghost use Rattle.std.specs.Cmp.Lexicographic.{slice_cmp, nat_list_cmp_total, texts_ties};
+    ghost use Rattle.std.specs.Ordering.{as_partial_cmp, nat_cmp};
+
+    ghost partial_cmp = { as_partial_cmp (slice_cmp nat_cmp) };
+
+    ghost laws = { po nat_list_cmp_total texts_ties };
+
+    fn partial_cmp(&self, other: &Req) -> Option<Ordering> {
+        Some(self.cmp(other))
+    }
+}
+
+impl Ord for Req {
+    ghost use Rattle.std.specs.Cmp.Lexicographic.{slice_cmp, nat_list_cmp_total, texts_ties};
+    ghost use Rattle.std.specs.Ordering.{nat_cmp};
+    ghost use Rattle.std.specs.Prelude.{refl};
+
+    ghost cmp = { slice_cmp nat_cmp };
+
+    ghost total = { nat_list_cmp_total };
+
+    ghost matches_partial_cmp = { λ a b. refl };
+
+    ghost matches_eq = { texts_ties };
+
+    // By the bytes of their texts.
+    fn cmp(&self, other: &Req) -> Ordering {
+        self.text.as_str().cmp(other.text.as_str())
+    }
 }
 
 impl Hash for Req {
