@@ -2,6 +2,7 @@ pub mod ByPackage
 pub mod Edits
 pub mod Firsts
 pub mod Gathered
+pub mod Judging
 pub mod MappedCriteria
 pub mod Numbers
 pub mod Places

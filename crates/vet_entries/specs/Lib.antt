@@ -5,6 +5,7 @@ pub mod Distinct
 pub mod Entry
 pub mod Facts
 pub mod Fed
+pub mod Judge
 pub mod Kind
 pub mod PeerContent
 pub mod PeerSettings

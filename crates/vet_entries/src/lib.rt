@@ -13,6 +13,7 @@ pub mod criteria_map;
 pub mod distinct;
 pub mod entry;
 pub mod facts;
+pub mod judge;
 pub mod kind;
 pub mod peer_content;
 pub mod peer_settings;

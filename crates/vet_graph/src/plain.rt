@@ -16,6 +16,7 @@ use crate::moves::{Move, differences};
 use crate::standing::{Counts, Stand, class_in, counts_of};
 use crate::touched::Touched;
 use std::alloc::Global;
+use std::collections::BTreeMap;
 use std::marker::Model;
 use vet_base::name::{Name, PackageName};
 use vet_base::refusal::Refusal;
@@ -24,6 +25,7 @@ use vet_demand::demand::Demand;
 use vet_demand::pair::Pair;
 use vet_entries::condemned::{Violation, condemned_by, violations_condemn, violations_of};
 use vet_entries::facts::EntryFacts;
+use vet_entries::judge::{judge, merged};
 use vet_entries::step::{Step, steps_of};
 
 /// The class of a pair by these facts: `Unvetted` where the table lacks its criterion. Asks that each criterion
@@ -245,7 +247,8 @@ fn found_steps(
     })
 }
 
-// Steps, each with the criteria for which these violations condemn its target.
+// Steps, each with the criteria for which these violations condemn its target. Each different version is judged
+// once, by each different requirement.
 fn guarded(
     alloc: Global,
     steps: Vec<Step>,
@@ -255,9 +258,11 @@ fn guarded(
     ensures guards { IfOk result (λ guarded. AreGuarded (condemned_by violations.now) guarded.items) }
     ensures memory { IfErr result (λ e. e ≡ Refusal.NoMemory) }
 {
+    let merged = merged(alloc, violations)?;
+    let mut judged = BTreeMap::new(alloc);
     let mut guarded = Vec::new(alloc);
     'steps: for step in steps {
-        let condemned = condemned_by(violations, &step.target);
+        let condemned = judge(&mut judged, merged.as_slice(), &step.target)?;
         guarded.push(GuardedStep { step, condemned })?;
     }
     Ok(guarded)

@@ -1,6 +1,9 @@
--- The steps so far, with what condemns their targets.
+-- The steps so far, with what condemns their targets, and the versions that have been judged.
 use Rattle.std.proofs.Common.{◌≡◌}
+use Rattle.std.specs.BTreeMap.{get}
+use Rattle.vet_base.specs.VersionOrder.{version_cmp}
 use Rattle.vet_entries.specs.Condemned.{condemned_by}
+use Rattle.vet_entries.specs.Judge.{AreJudged}
 use Rattle.vet_graph.specs.Search.{AreGuarded, steps_in}
 use Rattle.vet_graph.proofs.plain.guarded.Given as goal
 
@@ -10,3 +13,4 @@ invariant-steps l =
     × (goal.iterator-steps).is_finite l.step-iterator
     × (steps_in l.guarded.items ≡ l.yielded)
     × AreGuarded (condemned_by l.violations) l.guarded.items
+    × AreJudged l.merged.items (get version_cmp l.judged)

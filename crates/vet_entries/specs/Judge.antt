@@ -1,0 +1,14 @@
+-- What is known while a package's violations judge its versions (ours).
+use Rattle.std.specs.Prelude.{◌≡◌, ℕ, ◌<◌, List, Option, Some, get_or, length}
+use Rattle.vet_base.specs.CriteriaSet.{Places, has}
+use Rattle.vet_base.specs.Version.{VersionValue}
+use Rattle.vet_entries.specs.Condemned.{condemned_by}
+use Rattle.vet_entries.specs.declared.condemned.Violation.{Violation}
+
+-- of each version that is known, what some violations condemn it for
+abbrev pub AreJudged : List Violation → (VersionValue → Option Places) → Type 0
+AreJudged violations judged = (v : VersionValue) (condemned : Places) → judged v ≡ Some condemned → (c : ℕ) → has c condemned ≡ condemned_by violations c v
+
+-- of each requirement that is known, the place of a violation that has it
+abbrev pub ArePlaced : List Violation → (List ℕ → Option ℕ) → Type 0
+ArePlaced violations places = (r : List ℕ) (p : ℕ) → places r ≡ Some p → (p < length violations) × ((d : Violation) → (get_or violations p d).requirement ≡ r)
