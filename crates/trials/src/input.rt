@@ -4,13 +4,13 @@ use std::alloc::Global;
 use std::io::{ErrorKind, Read};
 
 /// The most bytes of an input.
-pub const MOST_EXAMPLE_BYTES: usize = 1_048_576;
+pub const MOST_EXAMPLE_BYTES: usize = 8_388_608;
 
 /// What stands on the input.
 pub enum Input {
     /// This text.
     Text(String),
-    /// More than 1,048,576 bytes, or bytes that are no text or can't be read.
+    /// More than 8,388,608 bytes, or bytes that are no text or can't be read.
     Other,
     /// There was no memory to read it.
     NoMemory,

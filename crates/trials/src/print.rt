@@ -192,8 +192,8 @@ fn print_move(rt: &impl Print, recorded: &RecordedMove) -> io::Result<()> {
     )
 }
 
-// A class's word, or `undemanded` for none.
-fn class_word(class: Option<Class>) -> &'static str {
+/// A class's word, or `undemanded` for none.
+pub fn class_word(class: Option<Class>) -> &'static str {
     match class {
         Some(class) => class.word(),
         None => "undemanded",

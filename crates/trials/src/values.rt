@@ -9,6 +9,8 @@ use crate::days::{day, day_number, day_of_parts, day_order, plus};
 use crate::fault::Fault;
 use crate::files::{peer_file, policy_key};
 use crate::line::{one, words_of};
+use crate::lists::{edited, names_of, packages_of, texts_of, touched};
+use crate::tables::{moves, table, table_of};
 use crate::versions::{delta, equal, matches, order, requirement, version};
 use crate::written::{written_audits, written_config, written_imports};
 use std::alloc::Global;
@@ -78,6 +80,21 @@ fn file_value(alloc: Global, word: &str, texts: &[String]) -> Result<String, Fau
         "written-audits" => written_audits(alloc, texts),
         "written-config" => written_config(alloc, texts),
         "written-imports" => written_imports(alloc, texts),
+        _ => list_value(alloc, word, texts),
+    }
+}
+
+// What a line is told that asks for lists, tables or moves.
+fn list_value(alloc: Global, word: &str, texts: &[String]) -> Result<String, Fault> {
+    match word {
+        "names-of" => names_of(alloc, texts),
+        "packages-of" => packages_of(alloc, texts),
+        "texts-of" => texts_of(alloc, texts),
+        "edited" => edited(alloc, texts),
+        "touched" => touched(alloc, texts),
+        "table-of" => table_of(alloc, texts),
+        "table" => table(alloc, texts),
+        "moves" => moves(alloc, texts),
         _ => Err(Fault::NotUnderstood),
     }
 }

@@ -12,6 +12,7 @@ use vet_entries::peer_settings::PeerSettings;
 use vet_files::audits_file::{AuditsContent, read_audits, write_audits};
 use vet_files::config_file::{ConfigContent, read_config, write_config};
 use vet_files::imports_file::{ImportsContent, read_imports, write_imports};
+use vet_files::listed::Listed;
 use vet_files::notices::Notices;
 
 // A file that was read and written.
@@ -83,7 +84,18 @@ fn audits_written(
 
 fn write_config_of(alloc: Global, bytes: &[u8]) -> Result<Written, Fault> {
     let found = read_config(alloc, bytes)?;
-    config_written(alloc, &found.content, found.notices)
+    config_written(alloc, &copied_config(alloc, &found.content)?, found.notices)
+}
+
+// A copy of what a config file holds, so that what is written tells of copies too.
+fn copied_config(alloc: Global, content: &ConfigContent) -> Result<ConfigContent, Fault> {
+    Ok(ConfigContent {
+        vet_version: content.vet_version.clone()?,
+        default_criteria: content.default_criteria.clone()?,
+        peers: Listed::of(content.peers.as_slice().to_vec(alloc)?),
+        policies: content.policies.clone()?,
+        exemptions: Listed::of(content.exemptions.as_slice().to_vec(alloc)?),
+    })
 }
 
 fn config_written(
@@ -107,10 +119,21 @@ fn write_imports_of(
     bytes: &[u8],
 ) -> Result<Written, Fault> {
     let found = read_imports(alloc, bytes)?;
+    let notices = found.notices;
+    let content = with_copied_records(alloc, found.content)?;
     Ok(Written {
-        notices: found.notices,
-        held: held_of_imports(alloc, &found.content)?,
-        text: write_imports(alloc, settings, &found.content)?,
+        notices,
+        held: held_of_imports(alloc, &content)?,
+        text: write_imports(alloc, settings, &content)?,
+    })
+}
+
+// The same with a copy of the publisher records in their place.
+fn with_copied_records(alloc: Global, content: ImportsContent) -> Result<ImportsContent, Fault> {
+    let publishers = Listed::of(content.publishers.as_slice().to_vec(alloc)?);
+    Ok(ImportsContent {
+        publishers,
+        peers: content.peers,
     })
 }
 

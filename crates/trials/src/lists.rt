@@ -1,0 +1,123 @@
+//! Lines that ask for lists of names and texts that are made at once, or by edits.
+//!
+//! `names-of [NAME ..]`, `packages-of [NAME ..]` and `texts-of [TEXT ..]` make the set of what stands there in
+//! whatever order, and tell its members, each in brackets. `edited [+NAME ..] [-NAME ..]` sets and drops names
+//! one by one, each by an edit that is made, undone and made again, and tells the names that are left.
+//! `touched [NAME ..]` tells the packages of a copy of a list of touched ones.
+
+ghost use Rattle.vet_base.specs.Keyed.{Fits};
+
+use crate::fault::Fault;
+use std::alloc::Global;
+use vet_base::keyed::{HasKey, Keyed, KeyedEdit};
+use vet_base::name::{Name, PackageName};
+use vet_base::names::Names;
+use vet_base::package_names::PackageNames;
+use vet_base::text::Text;
+use vet_base::texts::Texts;
+use vet_graph::touched::{PackageList, Touched};
+
+/// The set of some names. Refused: `BadName`, and `NoMemory`.
+pub fn names_of(alloc: Global, texts: &[String]) -> Result<String, Fault> {
+    let mut names = Vec::new(alloc);
+    for text in texts {
+        names.push(Name::parse(alloc, text.as_str())?)?;
+    }
+    told_names(alloc, Names::of(alloc, names)?.as_slice())
+}
+
+/// The set of some packages' names. Refused: `BadName`, and `NoMemory`.
+pub fn packages_of(alloc: Global, texts: &[String]) -> Result<String, Fault> {
+    let names = packages(alloc, texts)?;
+    told_packages(alloc, PackageNames::of(alloc, names)?.as_slice())
+}
+
+/// The set of some texts. Refused: `TooLarge`, and `NoMemory`.
+pub fn texts_of(alloc: Global, texts: &[String]) -> Result<String, Fault> {
+    let mut items = Vec::new(alloc);
+    for text in texts {
+        items.push(Text::parse(alloc, text.as_str())?)?;
+    }
+    let mut told = String::new(alloc);
+    for text in Texts::of(alloc, items)?.as_slice() {
+        push(&mut told, text.as_str())?;
+    }
+    Ok(told)
+}
+
+/// What edits leave of a list of names. Refused: `BadName`, and `NoMemory`.
+pub fn edited(alloc: Global, texts: &[String]) -> Result<String, Fault> {
+    let mut names = Keyed::new(alloc);
+    for text in texts {
+        edit(alloc, &mut names, text.as_str())?;
+    }
+    told_names(alloc, names.items())
+}
+
+/// The packages of a copy of a list of touched ones. Refused: `BadName`, and `NoMemory`.
+pub fn touched(alloc: Global, texts: &[String]) -> Result<String, Fault> {
+    let touched = Touched::Packages(PackageList::of(packages(alloc, texts)?));
+    match &touched.clone()? {
+        Touched::All => Err(Fault::NotUnderstood),
+        Touched::Packages(names) => told_packages(alloc, names.names()),
+    }
+}
+
+fn packages(alloc: Global, texts: &[String]) -> Result<Vec<PackageName>, Fault> {
+    let mut names = Vec::new(alloc);
+    for text in texts {
+        names.push(PackageName::parse(alloc, text.as_str())?)?;
+    }
+    Ok(names)
+}
+
+// Sets or drops a name.
+fn edit(alloc: Global, names: &mut Keyed<Name>, text: &str) -> Result<(), Fault> {
+    if let Some(name) = text.strip_prefix("+") {
+        let name = Name::parse(alloc, name)?;
+        names.reserve()?;
+        let edit = names.edit_setting(name);
+        make_twice(names, edit);
+        return Ok(());
+    }
+    let Some(name) = text.strip_prefix("-") else {
+        return Err(Fault::NotUnderstood);
+    };
+    let name = Name::parse(alloc, name)?;
+    if let Some(edit) = names.edit_dropping(&name) {
+        make_twice(names, edit);
+    }
+    Ok(())
+}
+
+// Makes an edit, undoes it, and makes it again.
+fn make_twice<T: HasKey>(items: &mut Keyed<T>, edit: KeyedEdit<T>)
+    requires { Fits T.Key.cmp T.key_of edit items.old }
+{
+    let undo = items.apply(edit);
+    let again = items.apply(undo);
+    let _ = items.apply(again);
+}
+
+fn told_names(alloc: Global, names: &[Name]) -> Result<String, Fault> {
+    let mut told = String::new(alloc);
+    for name in names {
+        push(&mut told, name.as_str())?;
+    }
+    Ok(told)
+}
+
+fn told_packages(alloc: Global, names: &[PackageName]) -> Result<String, Fault> {
+    let mut told = String::new(alloc);
+    for name in names {
+        push(&mut told, name.as_str())?;
+    }
+    Ok(told)
+}
+
+fn push(told: &mut String, text: &str) -> Result<(), Fault> {
+    told.push_str("[")?;
+    told.push_str(text)?;
+    told.push_str("]")?;
+    Ok(())
+}
