@@ -1,17 +1,18 @@
 -- Items in the order of their keys: what they are without one, and what numbers of each sum up to.
-use Rattle.std.proofs.Common.{◌≡◌, ℕ, ◌+◌, Bool, true, false, List, [], ◌∷◌, Option, Some, None, cond, is_some, get_or, not, refl, sym, ap, subst, ◌∙◌, arith}
+use Rattle.std.proofs.Common.{◌≡◌, ℕ, ◌+◌, ◌-◌, ◌<◌, Bool, true, false, List, [], ◌∷◌, Option, Some, None, cond, is_some, get_or, length, slice_get, Err, not, inl, inr, refl, sym, ap, subst, ◌∙◌, arith}
 use Rattle.std.specs.Cmp.{IsTotalOrder}
 use Rattle.std.specs.List.{All, filter, sum_by}
 use Rattle.std.specs.Option.{unwrap_or}
 use Rattle.std.specs.Ordering.{is_eq, is_gt, is_lt}
 use Rattle.std.specs.declared.cmp.Ordering.{Ordering}
 use Rattle.std.specs.declared.cmp.Ordering.TheVariants.{Less, Equal, Greater}
-use Rattle.std.proofs.lemmas.Bool.{false≢true}
+use Rattle.std.proofs.lemmas.Bool.{cases_lt, false≢true}
+use Rattle.std.proofs.lemmas.Option.{get_or_from_slice_get, slice_get_within}
 use Rattle.std.proofs.lemmas.List.Elements.{All-append, All-cons, All-filter, All-head, All-tail}
 use Rattle.std.proofs.lemmas.List.Filters.{sum_by-filter_both}
 use Rattle.std.proofs.lemmas.List.Kept.{AllPairs-filter}
 use Rattle.std.proofs.lemmas.List.Sums.{sum_by-append, sum_by-cons}
-use Rattle.vet_base.specs.Keyed.{IsByKey, item_of, is_before, is_behind, is_of, with_item, without_item}
+use Rattle.vet_base.specs.Keyed.{IsByKey, IsPlace, item_of, is_before, is_behind, is_of, with_item, without_item}
 use Rattle.vet_base.proofs.KeyedLemmas.{IsByKey-with_item, above, equal, filter_drops, find_dropped, find_kept, greater_behind, is_false, item_of-after, rest_by_key, same_items}
 
 -- what an item adds to a sum, if there is one
@@ -128,3 +129,29 @@ module _ {K E : Type 0} (cmp : K → K → Ordering) (total : IsTotalOrder cmp) 
       let front = filter (is_before cmp key (key e)) items in
       let back = filter (is_behind cmp key (key e)) items in
       omega (arith, sum_by-append f front (e ∷ back), sum_by-cons f e back, sides cmp key f items (key e), sum_without f items (key e) up)
+
+-- ---- a key behind all
+
+pub less : (r : Ordering) → is_lt r ≡ true → r ≡ Less
+less Less h = refl
+less Equal h = cc h
+less Greater h = cc h
+
+module _ {K E : Type 0} (cmp : K → K → Ordering) (total : IsTotalOrder cmp) (key : E → K) where
+  -- a key that is greater than that of the last item belongs behind all
+  pub behind_last : (items : List E) (k : K) (last : E) → IsByKey cmp key items → slice_get items (length items - 1) ≡ Some last → cmp (key last) k ≡ Less
+      → IsPlace cmp key items k (Err (length items))
+  behind_last items k last up at less = (omega arith, ((λ j d l m. in_front j d m), (λ j d l m. absurd (omega (arith, l, m)))))
+    where
+      end : ℕ
+      end = length items - 1
+
+      is_last : (d : E) → get_or items end d ≡ last
+      is_last d = get_or_from_slice_get items end last d at
+
+      in_front : (j : ℕ) (d : E) → j < length items → is_before cmp key k (get_or items j d) ≡ true
+      in_front j d m = elim (cases_lt j end) [
+        | inl h ↦ ap is_lt (total.trans (key (get_or items j d)) (key last) k
+            (subst (λ x. cmp (key (get_or items j d)) (key x) ≡ Less) (is_last d) (up j end d h (slice_get_within items end last at))) less)
+        | inr h ↦ (let same : j ≡ end = omega (arith, m, h) in ap is_lt (ap (λ x. cmp (key x) k) (ap (λ n. get_or items n d) same ∙ is_last d) ∙ less))
+      ]

@@ -1,5 +1,5 @@
 //! Lists of items in the order of their keys, no key twice.
-ghost use Rattle.std.specs.Prelude.{◌≡◌, ◌==◌, IfOk, ◌<◌, ◌≤◌, ◌+◌, [], IfSome, IsTrue, OnErr, OnOk, Ok, insert, is_none, is_some, length, vec_capacity, vec_len};
+ghost use Rattle.std.specs.Prelude.{◌≡◌, ◌==◌, Err, IfOk, ◌<◌, ◌≤◌, ◌+◌, [], IfSome, IsTrue, OnErr, OnOk, Ok, insert, is_none, is_some, length, vec_capacity, vec_len};
 ghost use Rattle.std.specs.Bool.{Decides};
 ghost use Rattle.std.specs.Option.{option_copied};
 ghost use Rattle.vet_base.specs.Keyed.{Fits, IsByKey, IsPlace, all_set, edited, item_of, room_after, with_item, without_item};
@@ -201,7 +201,21 @@ impl<T: HasKey> Keyed<T> {
         ensures place { IsPlace T.Key.cmp T.key_of self.now.items key.now result }
         ensures by_key { IsByKey T.Key.cmp T.key_of self.now.items }
     {
+        // keys often come in their order
+        if self.is_behind_all(key) {
+            return Err(self.items.len());
+        }
         self.items.binary_search_by(|item| item.key().cmp(key))
+    }
+
+    // Whether a key is greater than that of the last item.
+    fn is_behind_all(&self, key: &T::Key) -> bool
+        ensures { IsTrue result → IsPlace T.Key.cmp T.key_of self.now.items key.now (Err (length self.now.items)) }
+    {
+        match self.items.last() {
+            Some(last) => last.key().cmp(key).is_lt(),
+            None => false,
+        }
     }
 }
 
