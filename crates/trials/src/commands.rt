@@ -63,7 +63,8 @@ fn apply<K: Keeper>(
     }
 }
 
-fn command(alloc: Global, line: &str) -> Result<Command, Fault> {
+/// The command of a line. Refused: what the line's texts are refused for, and `NoMemory`.
+pub fn command(alloc: Global, line: &str) -> Result<Command, Fault> {
     let words = words_of(alloc, line)?;
     let [day, word, texts @ ..] = words.as_slice() else {
         return Err(Fault::NotUnderstood);

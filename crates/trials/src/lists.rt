@@ -3,7 +3,7 @@
 //! `names-of [NAME ..]`, `packages-of [NAME ..]` and `texts-of [TEXT ..]` make the set of what stands there in
 //! whatever order, and tell its members, each in brackets. `edited [+NAME ..] [-NAME ..]` sets and drops names
 //! one by one, each by an edit that is made, undone and made again, and tells the names that are left.
-//! `touched [NAME ..]` tells the packages of a copy of a list of touched ones.
+//! `touched [NAME ..]` tells the packages of a copy of those touched.
 
 ghost use Rattle.vet_base.specs.Keyed.{Fits};
 
@@ -15,7 +15,7 @@ use vet_base::names::Names;
 use vet_base::package_names::PackageNames;
 use vet_base::text::Text;
 use vet_base::texts::Texts;
-use vet_graph::touched::{PackageList, Touched};
+use vet_graph::touched::Touched;
 
 /// The set of some names. Refused: `BadName`, and `NoMemory`.
 pub fn names_of(alloc: Global, texts: &[String]) -> Result<String, Fault> {
@@ -54,12 +54,13 @@ pub fn edited(alloc: Global, texts: &[String]) -> Result<String, Fault> {
     told_names(alloc, names.items())
 }
 
-/// The packages of a copy of a list of touched ones. Refused: `BadName`, and `NoMemory`.
+/// The packages of a copy of those touched. Refused: `BadName`, and `NoMemory`.
 pub fn touched(alloc: Global, texts: &[String]) -> Result<String, Fault> {
-    let touched = Touched::Packages(PackageList::of(packages(alloc, texts)?));
+    let names = packages(alloc, texts)?;
+    let touched = Touched::Packages(PackageNames::of(alloc, names)?);
     match &touched.clone()? {
         Touched::All => Err(Fault::NotUnderstood),
-        Touched::Packages(names) => told_packages(alloc, names.names()),
+        Touched::Packages(names) => told_packages(alloc, names.as_slice()),
     }
 }
 

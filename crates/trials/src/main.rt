@@ -4,7 +4,8 @@
 //! `trials` reads an example on standard input, gives its lines in their order, and prints each
 //! answer and, where there is a command or a demand, in the end what the register holds.
 //! `trials --contents` prints also before each command what it holds. `trials --relay` does as
-//! `trials`, with a keeper that hands all on to the plain one. What lines there are stands in `line`,
+//! `trials`, with a keeper that hands all on to the plain one, and `trials --together` gives the commands as
+//! lists. What lines there are stands in `line`,
 //! `setting`, `commands`, `values`, `versions`, `days`, `files`, `written`, `lists` and `tables`. Where memory is wanting,
 //! the run ends with that refusal and what the register holds then, and with status 1, as it does where
 //! the demand is refused. At other words, an input that can't be read, or a line that isn't understood,
@@ -23,6 +24,7 @@ mod relay;
 mod run;
 mod setting;
 mod tables;
+mod together;
 mod values;
 mod versions;
 mod words;
@@ -34,6 +36,7 @@ use relay::RelayKeeper;
 use run::{Contents, Ending, run};
 use std::io;
 use std::process::ExitCode;
+use together::run_together;
 use vet_base::refusal::Refusal;
 use vet_graph::keeper::Keeper;
 use vet_graph::plain::PlainKeeper;
@@ -51,7 +54,7 @@ fn main(rt: HostRuntime) -> io::Result<ExitCode> {
             Ok(ExitCode::from(NOT_UNDERSTOOD))
         }
         Ending::Words => {
-            eprintln!(rt; "trials takes no words but --contents or --relay")?;
+            eprintln!(rt; "trials takes no words but --contents, --relay or --together")?;
             Ok(ExitCode::from(NOT_UNDERSTOOD))
         }
         Ending::Input => {
@@ -65,8 +68,17 @@ fn run_whole(rt: &HostRuntime) -> io::Result<Ending> {
     match read_words(rt) {
         Words::Contents(contents) => run_input::<PlainKeeper>(rt, contents),
         Words::Relay => run_input::<RelayKeeper>(rt, Contents::AtEnd),
+        Words::Together => run_input_together(rt),
         Words::Other => Ok(Ending::Words),
         Words::NoMemory => ended_for_memory(rt),
+    }
+}
+
+fn run_input_together(rt: &HostRuntime) -> io::Result<Ending> {
+    match read_input(rt.alloc(), &mut rt.reader()) {
+        Input::Text(text) => run_together::<PlainKeeper>(rt, rt.alloc(), text.as_str()),
+        Input::Other => Ok(Ending::Input),
+        Input::NoMemory => ended_for_memory(rt),
     }
 }
 

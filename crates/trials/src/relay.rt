@@ -32,19 +32,15 @@ impl Keeper for RelayKeeper {
 
     type Update = RelayUpdate;
 
-    ghost standing = { λ k. k.plain };
-
-    ghost keeps = { λ k facts demand. k.plain ≡ standing_of facts demand };
-
-    ghost planned = { λ u. u.plain.standing };
-
-    ghost plans = { λ u facts demand. u.plain.standing ≡ standing_of facts demand };
-
-    ghost moves_of = { λ u. u.plain.moves };
-
-    ghost touched_of = { λ u. u.plain.touched };
-
-    ghost is_ready = { λ k u. Unit {0} };
+    ghost keeping = { record {
+      standing = λ k. k.plain;
+      keeps = λ k facts demand. k.plain ≡ standing_of facts demand;
+      planned = λ u. u.plain.standing;
+      plans = λ u facts demand. u.plain.standing ≡ standing_of facts demand;
+      moves_of = λ u. u.plain.moves;
+      touched_of = λ u. u.plain.touched;
+      is_ready = λ k u. Unit {0};
+    } };
 
     fn empty(alloc: Global) -> Result<RelayKeeper, Refusal> {
         Ok(RelayKeeper {

@@ -36,11 +36,14 @@ pub enum Ending {
     Input,
 }
 
-// What came of a line.
+/// What came of a line.
 #[derive(Clone, Copy)]
-enum Told {
+pub enum Told {
+    /// It was answered.
     Answer,
+    /// Memory was wanting.
     NoMemory,
+    /// It was not understood.
     Nothing,
 }
 
@@ -147,7 +150,8 @@ fn give_command<K: Keeper>(
     }
 }
 
-fn tell_fault(rt: &impl Print, fault: &Fault) -> io::Result<Told> {
+/// Prints a refusal; of a line that is not understood nothing.
+pub fn tell_fault(rt: &impl Print, fault: &Fault) -> io::Result<Told> {
     match fault {
         Fault::NotUnderstood => Ok(Told::Nothing),
         Fault::Refused(refusal) => {

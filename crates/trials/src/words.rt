@@ -11,6 +11,8 @@ pub enum Words {
     Contents(Contents),
     /// A run with another keeper of the classes, that prints in the end what the register holds.
     Relay,
+    /// A run that gives the commands as lists.
+    Together,
     /// Anything else.
     Other,
     /// There was no memory to read them.
@@ -41,6 +43,9 @@ fn meaning(words: Args) -> Words {
             }
             if flag.as_str() == "--relay" {
                 return Words::Relay;
+            }
+            if flag.as_str() == "--together" {
+                return Words::Together;
             }
             Words::Other
         }

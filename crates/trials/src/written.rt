@@ -84,17 +84,34 @@ fn audits_written(
 
 fn write_config_of(alloc: Global, bytes: &[u8]) -> Result<Written, Fault> {
     let found = read_config(alloc, bytes)?;
-    config_written(alloc, &copied_config(alloc, &found.content)?, found.notices)
+    let notices = found.notices;
+    let content = with_copied_policies(found.content)?;
+    let content = with_copied_lists(alloc, content)?;
+    config_written(alloc, &content, notices)
 }
 
-// A copy of what a config file holds, so that what is written tells of copies too.
-fn copied_config(alloc: Global, content: &ConfigContent) -> Result<ConfigContent, Fault> {
+// The same with a copy of the policies in their place, so that what is written tells of copies too.
+fn with_copied_policies(content: ConfigContent) -> Result<ConfigContent, Fault> {
+    let policies = content.policies.clone()?;
     Ok(ConfigContent {
-        vet_version: content.vet_version.clone()?,
-        default_criteria: content.default_criteria.clone()?,
-        peers: Listed::of(content.peers.as_slice().to_vec(alloc)?),
-        policies: content.policies.clone()?,
-        exemptions: Listed::of(content.exemptions.as_slice().to_vec(alloc)?),
+        vet_version: content.vet_version,
+        default_criteria: content.default_criteria,
+        peers: content.peers,
+        policies,
+        exemptions: content.exemptions,
+    })
+}
+
+// The same with copies of the peers' settings and the exemptions in their place.
+fn with_copied_lists(alloc: Global, content: ConfigContent) -> Result<ConfigContent, Fault> {
+    let peers = Listed::of(content.peers.as_slice().to_vec(alloc)?);
+    let exemptions = Listed::of(content.exemptions.as_slice().to_vec(alloc)?);
+    Ok(ConfigContent {
+        vet_version: content.vet_version,
+        default_criteria: content.default_criteria,
+        peers,
+        policies: content.policies,
+        exemptions,
     })
 }
 

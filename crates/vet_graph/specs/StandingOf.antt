@@ -1,5 +1,5 @@
 -- The class of each demanded pair, as chains of the entries' steps give it (ours).
-use Rattle.std.specs.Prelude.{◌≡◌, ℕ, true, List, MatchOption, map}
+use Rattle.std.specs.Prelude.{◌≡◌, ℕ, true, List, MatchOption, Option, map}
 use Rattle.std.specs.FinMap as table
 use Rattle.std.specs.Option.{option_map_or}
 use Rattle.std.specs.List.{All, Contains}
@@ -53,7 +53,10 @@ PairClassHolds = (facts : Facts) (p : Pair) → IsClassOfPair facts p (class_of_
 abbrev pub PairClassIsOnly : Type 0
 PairClassIsOnly = (facts : Facts) (p : Pair) (k : Class) → IsClassOfPair facts p k → k ≡ class_of_pair facts p
 
--- a pair that stands in the standing of a demand is demanded, and stands at its class
+-- a pair is answered the class at which it stands, or none where it is not demanded
+abbrev pub StandsAt : Facts → List Pair → Pair → Option Class → Type 0
+StandsAt facts demand p answer = MatchOption answer (¬ Contains demand p) (λ class. Contains demand p × IsClassOfPair facts p class)
+
+-- each pair is found in the standing of a demand at the class at which it stands
 abbrev pub PairsStandAtTheirClass : Type 0
-PairsStandAtTheirClass = (facts : Facts) (demand : List Pair) (p : Pair)
-    → MatchOption (class_in (standing_of facts demand) p) (¬ Contains demand p) (λ class. Contains demand p × IsClassOfPair facts p class)
+PairsStandAtTheirClass = (facts : Facts) (demand : List Pair) (p : Pair) → StandsAt facts demand p (class_in (standing_of facts demand) p)

@@ -16,9 +16,8 @@ use Rattle.vet_graph.specs.declared.class.Class.TheVariants.{Conflicting, Full, 
 use Rattle.vet_graph.specs.declared.standing.Stand.{Stand}
 use Rattle.vet_graph.specs.Standing.{ClassesAddUp, count_in, count_of, counts_of, same_class, total_of}
 use Rattle.vet_graph.specs.StandingOf.{NoneIsVetted, class_of_pair, standing_of}
-use Rattle.vet_register.specs.RegisterView.{all_unvetted}
 use Rattle.vet_register.specs.Sound.{IsSound}
-use Rattle.vet_register.specs.State.{start}
+use Rattle.vet_register.specs.State.{all_unvetted, start}
 
 -- the count of a class among the five
 pub count_in_counts : (class : Class) (standing : List Stand) → count_in class (counts_of standing) ≡ count_of class standing
@@ -65,11 +64,13 @@ start_is_sound limit demand t l d k = record {
   facts = record {
     criteria = t;
     known = All-nil _;
-    own = All-nil _;
-    different = λ i j x a b. absurd (omega arith);
-    numbers_rise = λ i j x a b. absurd (omega arith);
-    numbers_given = All-nil _;
-    few = omega arith;
+    entries = record {
+      own = All-nil _;
+      different = λ i j x a b. absurd (omega arith);
+      numbers_rise = λ i j x a b. absurd (omega arith);
+      numbers_given = All-nil _;
+      few = omega arith;
+    };
     publishers = record {
       by_name = record { rising = λ i j x a b. absurd (omega arith); filled = All-nil _ };
       in_order = All-nil _;
@@ -77,8 +78,7 @@ start_is_sound limit demand t l d k = record {
     };
   };
   next_number = omega arith;
-  demanded_once = d;
-  demanded_known = k;
+  demand = record { once = d; built_in = k };
   last_step = omega arith;
   limit = l;
   moves = record { in_order = λ i j x a b. absurd (omega arith); steps = All-nil _; few = omega arith };

@@ -5,7 +5,6 @@ use Rattle.std.specs.declared.result.Result.{Result}
 use Rattle.vet_base.specs.Gives.{Gives, Told}
 use Rattle.vet_base.specs.declared.refusal.Refusal.{Refusal}
 use Rattle.vet_base.specs.declared.refusal.Refusal.TheVariants.{NoMemory}
-use Rattle.vet_register.specs.Verdict.{known}
 use Rattle.std.proofs.lemmas.Bool.{cases_Bool}
 use Rattle.std.proofs.lemmas.List.Elements.{All-cons, All-head, All-nil, All-tail}
 use Rattle.std.specs.Cmp.Lexicographic.{slice_cmp}
@@ -14,7 +13,7 @@ use Rattle.std.specs.List.{All, list_any}
 use Rattle.std.specs.Ordering.{is_lt, nat_cmp}
 use Rattle.std.specs.Prelude.{nat_lt}
 use Rattle.vet_base.specs.Criteria.{Criteria, least_unknown}
-use Rattle.vet_base.specs.CriteriaChanges.{is_built_in}
+use Rattle.vet_base.specs.CriteriaChanges.{is_built_in, known}
 use Rattle.vet_base.specs.declared.criterion.Criterion.{Criterion}
 use Rattle.vet_base.specs.declared.limits.TheConstants.{MOST_CRITERIA}
 use Rattle.vet_base.specs.Defined.{defined, least_undefined, lesser, table_told}

@@ -1,11 +1,19 @@
 -- An entry that is dropped is the one at its number's place.
-use Rattle.std.proofs.Common.{◌≡◌, ℕ, suc, ◌<◌, ◌≤◌, Bool, true, false, not, cond, ltb, is_some, List, [], ◌∷◌, length, filter, Some, None, refl, sym, ap, ◌∙◌, arith, eqb-true, inl, inr}
+use Rattle.std.proofs.Common.{◌≡◌, ℕ, suc, ◌<◌, ◌≤◌, Bool, true, false, not, cond, ltb, is_some, List, [], ◌∷◌, length, filter, Some, None, IfErr, Ok, Err, refl, sym, ap, subst, ◌∙◌, arith, eqb-true, inl, inr}
 use Rattle.std.specs.List.{All, AllPairs, list_any, position, position_or_len, remove}
-use Rattle.std.proofs.lemmas.Bool.{cases_Bool, lt-ltb, le-ltb, ltb-true}
+use Rattle.std.proofs.lemmas.Bool.{cases_Bool, false≢true, lt-ltb, le-ltb, ltb-true}
 use Rattle.std.proofs.lemmas.List.Elements.{All-head, All-tail}
 use Rattle.vet_entries.specs.declared.facts.HeldEntry.{HeldEntry}
 use Rattle.vet_entries.specs.Facts.{has_number, place_of}
+use Rattle.vet_base.specs.Day.{DayValue}
+use Rattle.vet_base.specs.Gives.{Refuses, Told, ◌>>=◌}
+use Rattle.vet_base.specs.declared.refusal.Refusal.TheVariants.{UnknownEntry}
+use Rattle.vet_base.proofs.Telling.{not_refused, then_told}
+use Rattle.vet_register.specs.declared.command.Action.TheVariants.{DropEntry}
 use Rattle.vet_register.specs.Sound.{Rise}
+use Rattle.vet_register.specs.State.{State}
+use Rattle.vet_register.specs.Verdict.{checked, references, rules, step_limit}
+use Rattle.vet_register.proofs.Asking.{never_refuses}
 use Rattle.vet_register.proofs.Lists.{AllPairs-head, AllPairs-tail}
 
 module _ {X : Type 0} (p : X → Bool) where
@@ -64,3 +72,32 @@ pub dropped : (n place : ℕ) (entries : List HeldEntry) → AllPairs Rise entri
 dropped n place entries rise e =
     let at = some_place (has_number n) (ltb (position_or_len (has_number n) entries) (length entries)) (position_or_len (has_number n) entries) place e in
     ap (remove entries) (sym at.1) ∙ dropped_at n entries rise (ltb-true (position_or_len (has_number n) entries) (length entries) at.0)
+
+-- ---- what a command that drops an entry is told
+
+-- an entry of a number is held where the number has a place
+pub placed : (entries : List HeldEntry) (n place : ℕ) → place_of entries n ≡ Some place → list_any (has_number n) entries ≡ true
+placed entries n place at = sym (some-position (has_number n) entries) ∙ ap is_some at
+
+unplaced : (entries : List HeldEntry) (n : ℕ) → place_of entries n ≡ None → list_any (has_number n) entries ≡ false
+unplaced entries n at = sym (some-position (has_number n) entries) ∙ ap is_some at
+
+-- the place of a number lies within the entries
+pub place_within : (entries : List HeldEntry) (n place : ℕ) → place_of entries n ≡ Some place → place < length entries
+place_within entries n place e =
+    let at = some_place (has_number n) (ltb (position_or_len (has_number n) entries) (length entries)) (position_or_len (has_number n) entries) place e in
+    subst (λ k. k < length entries) at.1 (ltb-true (position_or_len (has_number n) entries) (length entries) at.0)
+
+pub drop_passes : (s : State) (day : DayValue) (n place : ℕ) → step_limit s ≡ Ok tt → place_of s.facts.entries n ≡ Some place → checked s day (DropEntry n) ≡ Ok tt
+drop_passes s day n place step at = rw (step, placed s.facts.entries n place at) refl
+
+pub drop_refused : (s : State) (day : DayValue) (n : ℕ) → place_of s.facts.entries n ≡ None → checked s day (DropEntry n) ≡ Ok tt → ⊥
+drop_refused s day n at told =
+    let r = then_told (step_limit s) (λ _. references s (DropEntry n) >>= λ _. rules s day (DropEntry n)) tt told in
+    let held = not_refused (not (list_any (has_number n) s.facts.entries)) UnknownEntry (then_told (references s (DropEntry n)) (λ _. rules s day (DropEntry n)) tt r.1).0 in
+    false≢true (sym held ∙ ap not (unplaced s.facts.entries n at))
+
+-- what is answered without a refusal passed
+pub passes : {A : Type 0} (t : Told (Unit {0})) (x : A) → IfErr t (λ e. Refuses e (Ok x)) → t ≡ Ok tt
+passes (Ok u) x h = refl
+passes (Err e) x h = absurd (never_refuses e x h)

@@ -1,8 +1,11 @@
+pub mod Asking
 pub mod Beginnings
 pub mod ClassOfFileLemmas
 pub mod Demanded
 pub mod Drops
+pub mod Effects
 pub mod Lists
 pub mod Prepared
 pub mod Publishing
 pub mod Soundness
+pub mod Turns

@@ -1,62 +1,58 @@
--- What was prepared stays prepared while the state stays, and neither the register nor its keeper loses room.
-use Rattle.std.proofs.Common.{◌≡◌, ℕ, ◌≤◌, ◌+◌, List, Ok, sym, subst, arith}
-use Rattle.vet_base.specs.Criteria.{IsTable}
-use Rattle.vet_demand.specs.declared.pair.Pair.{Pair}
-use Rattle.vet_entries.specs.declared.facts.Edit.{Edit}
-use Rattle.vet_entries.specs.declared.facts.Edit.TheVariants as edit
-use Rattle.vet_entries.specs.declared.publisher_records.PackagePublishers.{PackagePublishers}
-use Rattle.vet_entries.specs.declared.publisher_records.PublishersEdit.{PublishersEdit}
-use Rattle.vet_entries.specs.declared.publisher_records.PublishersEdit.TheVariants as change
-use Rattle.vet_entries.specs.Facts.{Facts, FactsRoom, Fits, edited}
-use Rattle.vet_entries.specs.PublisherRecords.{HasPlace}
-use Rattle.vet_graph.specs.declared.standing.Stand.{Stand}
-use Rattle.vet_graph.specs.declared.touched.Touched.{Touched}
-use Rattle.vet_graph.specs.StandingOf.{standing_of}
+-- What is prepared for a command.
+use Rattle.std.proofs.Common.{◌≡◌, ◌+◌, ◌++◌, None, Ok, ap, ◌∙◌}
+use Rattle.vet_base.specs.Gives.{◌>>=◌}
+use Rattle.vet_graph.specs.Keeping.{Keeping}
 use Rattle.vet_register.specs.declared.change.Change.{Change}
 use Rattle.vet_register.specs.declared.command.Command.{Command}
-use Rattle.vet_register.specs.Machine.{facts_after, number_after, outcome_of, records_of}
-use Rattle.vet_register.specs.RegisterView.{IsPrepared, KeepsReady, KeepsRoom, RegisterView, Rooms, touched_by}
-use Rattle.vet_register.specs.Sound.{ArePublishers}
+use Rattle.vet_graph.specs.StandingOf.{standing_of}
+use Rattle.vet_register.specs.declared.command.Action.{Action}
+use Rattle.vet_register.specs.declared.verdict.Answer.TheVariants.{Accepted}
+use Rattle.vet_register.specs.Changes.{changed, demand_by, facts_by, first_by, moves_by}
+use Rattle.vet_register.specs.Machine.{facts_after, next, number_after, outcome_of, records_of, touched_by}
+use Rattle.vet_register.specs.RegisterView.{IsStep}
+use Rattle.vet_register.specs.Sound.{AreSound, IsSound}
 use Rattle.vet_register.specs.State.{State}
-use Rattle.vet_register.specs.Verdict.{accepted, verdict}
+use Rattle.vet_register.specs.Verdict.{fitting, judged, moves_fit}
+use Rattle.vet_register.proofs.Soundness.{MoveLaws, sound_after}
 
--- publisher records that fit still do with more room
-place_more : (e : PublishersEdit) (packages : List PackagePublishers) (m n : ℕ) → m ≤ n → HasPlace e (record { packages = packages; room = m })
-    → HasPlace e (record { packages = packages; room = n })
-place_more (change.Put place held) packages m n l f = (f.0, omega (arith, l, f.1))
-place_more (change.Take place) packages m n l f = f
-place_more (change.Swap place records) packages m n l f = f
+-- what the parts of a change are in a state, but for its edit and its update
+pub record AreParts {K U : Type 0} (s : State) (c : Command) (change : Change K U) : Type 0 where
+  pub fit : moves_fit s c.action ≡ Ok tt
+  pub demand : change.demand ≡ None
+  pub moves : moves_by change.recording s.moves ≡ s.moves ++ records_of s c
+  pub first : first_by change.recording s.first ≡ s.first
+  pub step : change.step ≡ s.step + 1
+  pub next_entry : change.next_entry ≡ number_after s c.action
+  pub outcome : change.outcome ≡ outcome_of s c
 
--- facts, and their rooms
-abbrev with_rooms : Facts → Rooms → FactsRoom
-with_rooms facts room = record { content = facts; entry_room = room.entries; package_room = room.packages }
+-- what its update is
+pub record IsUpdate {K U : Type 0} (keeping : Keeping K U) (s : State) (a : Action) (u : U) : Type 0 where
+  pub standing : keeping.planned u ≡ standing_of (facts_after s a) s.demand
+  pub basis : keeping.plans u (facts_after s a) s.demand
+  pub touches : keeping.touched_of u ≡ touched_by s a
 
--- an edit that fits still does with more room
-fits_more : (e : Edit) (facts : Facts) (m n : Rooms) → m.entries ≤ n.entries → m.packages ≤ n.packages → Fits e (with_rooms facts m) → Fits e (with_rooms facts n)
-fits_more (edit.Criteria table) facts m n l k f = f
-fits_more (edit.Insert place held) facts m n l k f = (f.0, omega (arith, l, f.1))
-fits_more (edit.Remove place) facts m n l k f = f
-fits_more (edit.Publishers e) facts m n l k f = record { place = place_more e facts.publishers m.packages n.packages k f.place; by_name = f.by_name; counted = f.counted }
+becomes_next : {K U : Type 0} (s : State) (c : Command) (change : Change K U) → AreParts s c change → facts_by change.edit s.facts ≡ facts_after s c.action
+    → changed change s ≡ next s c
+becomes_next s c change parts facts = λ i. record {
+  facts = facts i;
+  demand = ap (λ d. demand_by d s.demand) parts.demand i;
+  step = parts.step i;
+  next_entry = parts.next_entry i;
+  moves_limit = s.moves_limit;
+  first = parts.first i;
+  moves = parts.moves i;
+}
 
-pub prepared_stays : {K U : Type 0} (is_ready : K → U → Type 0) (planned : U → List Stand) (plans : U → Facts → List Pair → Type 0) (touched_of : U → Touched)
-    (old new : RegisterView K) (c : Command) (change : Change K U) → new.state ≡ old.state → KeepsRoom old new → KeepsReady is_ready old new
-    → IsPrepared is_ready planned plans touched_of old c change → IsPrepared is_ready planned plans touched_of new c change
-prepared_stays is_ready planned plans touched_of old new c change same room ready p =
-    let is : old.state ≡ new.state = sym same in
-    record {
-      accepts = subst (λ (s : State). verdict s c ≡ Ok accepted) is p.accepts;
-      fits = fits_more change.edit new.state.facts old.room new.room room.0 room.1.0
-          (subst (λ (s : State). Fits change.edit (with_rooms s.facts old.room)) is p.fits);
-      facts = subst (λ (s : State). edited change.edit s.facts ≡ facts_after s c.action) is p.facts;
-      table = subst (λ (s : State). IsTable (facts_after s c.action).criteria) is p.table;
-      publishers = subst (λ (s : State). ArePublishers (facts_after s c.action).publishers) is p.publishers;
-      standing = subst (λ (s : State). planned change.update ≡ standing_of (facts_after s c.action) s.demand) is p.standing;
-      basis = subst (λ (s : State). plans change.update (facts_after s c.action) s.demand) is p.basis;
-      touches = subst (λ (s : State). touched_of change.update ≡ touched_by s c.action) is p.touches;
-      ready = ready change.update p.ready;
-      records = subst (λ (s : State). change.records.items ≡ records_of s c) is p.records;
-      move_room = omega (arith, p.move_room, room.1.1);
-      step = subst (λ (s : State). change.step ≡ s.step + 1) is p.step;
-      next_entry = subst (λ (s : State). change.next_entry ≡ number_after s.next_entry c.action) is p.next_entry;
-      outcome = subst (λ (s : State). change.outcome ≡ outcome_of s c) is p.outcome;
-    }
+-- a change of these parts is the step of a command that is accepted
+pub is_step : {K U : Type 0} → MoveLaws → (keeping : Keeping K U) (s : State) (c : Command) (change : Change K U) → IsSound s
+    → judged s c.day c.action ≡ Ok Accepted → AreSound (facts_after s c.action) (number_after s c.action) → AreParts s c change
+    → facts_by change.edit s.facts ≡ facts_after s c.action → IsUpdate keeping s c.action change.update → IsStep keeping s c change
+is_step laws keeping s c change sound told facts parts by update = record {
+  accepts = ap (λ t. t >>= fitting s c.action) told ∙ ap (λ t. t >>= λ _. Ok Accepted) parts.fit;
+  becomes = becomes_next s c change parts by;
+  sound = sound_after laws s c sound told parts.fit facts;
+  standing = update.standing;
+  basis = update.basis;
+  touches = update.touches;
+  outcome = parts.outcome;
+}

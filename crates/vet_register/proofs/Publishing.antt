@@ -1,7 +1,6 @@
 -- What publisher records are after those of a package were set, and windows that end in time.
-use Rattle.std.proofs.Common.{◌≡◌, ℕ, false, List, [], ◌∷◌, ◌++◌, Ok, refl}
+use Rattle.std.proofs.Common.{◌≡◌, ℕ, false, List, Ok, refl}
 use Rattle.std.specs.Prelude.{IfOk, Result, Err}
-use Rattle.std.specs.List.{All, filter}
 use Rattle.std.specs.Ordering.{MatchOrdering, int_cmp, is_lt}
 use Rattle.std.specs.Cmp.{int_ranks}
 use Rattle.std.specs.Int.Signed.{◌<ℤ◌, ◌≤ℤ◌}
@@ -11,18 +10,18 @@ use Rattle.std.specs.Prelude.{ℤ}
 use Rattle.std.specs.declared.cmp.Ordering.{Ordering}
 use Rattle.std.specs.declared.cmp.Ordering.TheVariants.{Less, Equal, Greater}
 use Rattle.std.proofs.lemmas.Bool.{ltb-false}
-use Rattle.std.proofs.lemmas.List.Elements.{All-nil, All-cons, All-append, All-filter}
 use Rattle.vet_base.specs.declared.limits.TheConstants.{MOST_PUBLISHERS}
 use Rattle.vet_base.specs.declared.refusal.Limit.TheVariants as limit
 use Rattle.vet_base.specs.declared.refusal.Refusal.TheVariants.{TooLarge}
 use Rattle.vet_entries.specs.declared.publisher.Publisher.{Publisher}
 use Rattle.vet_entries.specs.declared.publisher_records.PackagePublishers.{PackagePublishers}
-use Rattle.vet_entries.specs.PublisherRecords.{IsByName, is_before, is_behind, records_total, with_any, with_records}
+use Rattle.vet_entries.specs.PublisherRecords.{IsByName, records_total, with_records}
 use Rattle.vet_entries.specs.Publishers as Publishers
+use Rattle.vet_entries.proofs.PublisherLaws.{All-with_records}
 use Rattle.vet_register.specs.Sound.{ArePublishers}
 use Rattle.vet_register.specs.State.{State}
 use Rattle.vet_register.specs.Verdict.{publisher_limit}
-use Rattle.vet_register.proofs.Soundness.{not_refused}
+use Rattle.vet_base.proofs.Telling.{not_refused}
 
 -- what holds of every result holds of this one
 pub whatever : {A E : Type 0} (r : Result A E) (P : Type 0) → P → IfOk r (λ _. P)
@@ -32,10 +31,6 @@ whatever (Err e) P p = tt
 abbrev InOrder : PackagePublishers → Type 0
 InOrder held = Publishers.IsInOrder held.publishers
 
-any_in_order : (name : List ℕ) (records : List Publisher) → Publishers.IsInOrder records → All InOrder (with_any name records)
-any_in_order name [] h = All-nil _
-any_in_order name (first ∷ rest) h = All-cons InOrder (record { «package» = name; publishers = first ∷ rest }) [] h (All-nil _)
-
 -- publisher records that were set are in order and within the limit
 pub are_publishers : (s : State) (name : List ℕ) (records : List Publisher) → ArePublishers s.facts.publishers → Publishers.IsInOrder records
     → IsByName (with_records name records s.facts.publishers) → publisher_limit s name records ≡ Ok tt → ArePublishers (with_records name records s.facts.publishers)
@@ -43,9 +38,7 @@ are_publishers s name records are ordered named limited =
     let packages = s.facts.publishers in
     record {
       by_name = named;
-      in_order = All-append InOrder (filter (is_before name) packages) (with_any name records ++ filter (is_behind name) packages)
-          (All-filter (is_before name) InOrder packages are.in_order)
-          (All-append InOrder (with_any name records) (filter (is_behind name) packages) (any_in_order name records ordered) (All-filter (is_behind name) InOrder packages are.in_order));
+      in_order = All-with_records InOrder name records packages are.in_order (λ some. ordered);
       few = ltb-false MOST_PUBLISHERS (records_total (with_records name records packages)) (not_refused _ (TooLarge limit.Publishers) limited);
     }
 

@@ -1,6 +1,7 @@
 -- The class of a pair where one audits file is all that is held, or the first fault.
 use Rattle.std.specs.Prelude.{◌≡◌, ℕ, Bool, not, List, [], Option, Some, None, Ok, Err, if◌then◌else◌, length, nat_lt, find, fold}
 use Rattle.std.specs.FinMap as map
+use Rattle.vet_base.specs.CriteriaChanges.{known}
 use Rattle.vet_base.specs.Criteria.{Criteria}
 use Rattle.vet_base.specs.Defined.{defined, least_undefined, lesser}
 use Rattle.vet_base.specs.Gives.{Told, found_or, ◌>>=◌}
@@ -18,7 +19,6 @@ use Rattle.vet_files.specs.declared.audits_file.AuditsContent.{AuditsContent}
 use Rattle.vet_graph.specs.Class.{IsClassOfPair}
 use Rattle.vet_graph.specs.StandingOf.{class_of_pair}
 use Rattle.vet_graph.specs.declared.class.Class.{Class}
-use Rattle.vet_register.specs.Verdict.{known}
 
 -- a name that isn't known
 abbrev pub unknown_in : (List ℕ → Bool) → List ℕ → Option (List ℕ)

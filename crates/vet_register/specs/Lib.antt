@@ -1,6 +1,8 @@
+pub mod Changes
 pub mod ClassOfFile
 pub mod Machine
 pub mod RegisterView
+pub mod Runs
 pub mod Sound
 pub mod State
 pub mod Verdict

@@ -6,6 +6,8 @@ use Rattle.vet_entries.specs.Entry.{own}
 use Rattle.vet_entries.specs.Facts.{Facts, has_number}
 use Rattle.vet_entries.specs.PublisherRecords.{with_records}
 use Rattle.vet_graph.specs.declared.moves.Move.{Move}
+use Rattle.vet_graph.specs.declared.touched.Touched.{Touched}
+use Rattle.vet_graph.specs.declared.touched.Touched.TheVariants as touched
 use Rattle.vet_graph.specs.Moves.{moves_between}
 use Rattle.vet_graph.specs.StandingOf.{standing_of}
 use Rattle.vet_register.specs.declared.command.Action.{Action}
@@ -39,14 +41,23 @@ facts_after s action = effect s.next_entry action s.facts
 abbrev pub moves_of : State → Action → List Move
 moves_of s action = moves_between (standing s) (standing_of (facts_after s action) s.demand)
 
--- the number that a command gives, and the number after it
-abbrev pub number_given : ℕ → Action → Option ℕ
-number_given number (AddEntry entry) = Some number
-number_given number _ = None
+-- the packages that a command touches: today all
+abbrev pub touched_by : State → Action → Touched
+touched_by s action = touched.All
 
-abbrev pub number_after : ℕ → Action → ℕ
-number_after number (AddEntry entry) = number + 1
-number_after number _ = number
+-- the number that a command gives
+abbrev pub number_given : State → Action → Option ℕ
+number_given s (AddEntry entry) = Some s.next_entry
+number_given s _ = None
+
+-- the next number, where this was the next one and that one was given, if any
+abbrev pub number_by : ℕ → Option ℕ → ℕ
+number_by next None = next
+number_by next (Some given) = given + 1
+
+-- the next number after a command
+abbrev pub number_after : State → Action → ℕ
+number_after s action = number_by s.next_entry (number_given s action)
 
 -- a move as it is recorded
 abbrev pub recorded : ℕ → DayValue → Move → RecordedMove
@@ -61,10 +72,10 @@ abbrev pub next : State → Command → State
 next s c = record s {
   facts = facts_after s c.action;
   step = s.step + 1;
-  next_entry = number_after s.next_entry c.action;
+  next_entry = number_after s c.action;
   moves = s.moves ++ records_of s c;
 }
 
 -- what an accepted command is told: its step, the number that it gave, and how many moves it made
 abbrev pub outcome_of : State → Command → Outcome
-outcome_of s c = Done (s.step + 1) (number_given s.next_entry c.action) (length (moves_of s c.action))
+outcome_of s c = Done (s.step + 1) (number_given s c.action) (length (moves_of s c.action))

@@ -1,30 +1,35 @@
--- What a register is seen as, and what was prepared for it. This module alone of the machine's knows of room, edits and keepers.
-use Rattle.std.specs.Prelude.{◌≡◌, ℕ, ◌+◌, ◌≤◌, List, Ok, length}
+-- What a register is seen as, and what was prepared for it. This module alone of the machine's knows of room and keepers.
+use Rattle.std.specs.Prelude.{◌≡◌, ℕ, ◌≤◌, List, Result, Ok, Err, MatchResult}
 use Rattle.std.specs.Coded.{Coded, code_by, coded×, coded_list, coded_ℕ}
 use Rattle.std.proofs.Common.{refl}
-use Rattle.vet_base.specs.Criteria.{IsTable}
+use Rattle.vet_base.specs.Gives.{Refuses, Told}
+use Rattle.vet_base.specs.declared.refusal.Refusal.{Refusal}
+use Rattle.vet_base.specs.declared.refusal.Refusal.TheVariants.{NoMemory}
 use Rattle.vet_demand.specs.declared.pair.Pair.{Pair}
-use Rattle.vet_entries.specs.Facts.{Facts, FactsRoom, Fits, edited}
+use Rattle.vet_entries.specs.Facts.{Facts, FactsRoom, Fits, HoldsRoomOf, Room, edited}
 use Rattle.vet_graph.specs.declared.standing.Counts.{Counts}
-use Rattle.vet_graph.specs.declared.standing.Stand.{Stand}
-use Rattle.vet_graph.specs.declared.touched.Touched.{Touched}
-use Rattle.vet_graph.specs.declared.touched.Touched.TheVariants as touched
+use Rattle.vet_graph.specs.Keeping.{Keeping}
 use Rattle.vet_graph.specs.StandingOf.{standing_of}
 use Rattle.vet_register.specs.declared.change.Change.{Change}
 use Rattle.vet_register.specs.declared.change.Prepared.{Prepared}
 use Rattle.vet_register.specs.declared.change.Prepared.TheVariants as prepared
 use Rattle.vet_register.specs.declared.command.Action.{Action}
 use Rattle.vet_register.specs.declared.command.Command.{Command}
+use Rattle.vet_register.specs.declared.edits.Asked.{Asked}
+use Rattle.vet_register.specs.declared.edits.Asked.TheVariants as asked
+use Rattle.vet_register.specs.declared.edits.Effect.{Effect}
 use Rattle.vet_register.specs.declared.moves.RecordedMove.{RecordedMove}
-use Rattle.vet_register.specs.Machine.{facts_after, number_after, outcome_of, records_of}
-use Rattle.vet_register.specs.Sound.{ArePublishers}
-use Rattle.vet_register.specs.State.{State}
-use Rattle.vet_register.specs.Verdict.{Answer, accepted, already, verdict}
+use Rattle.vet_register.specs.declared.verdict.Answer.{Answer}
+use Rattle.vet_register.specs.declared.verdict.Answer.TheVariants.{Already, Accepted}
+use Rattle.vet_register.specs.Changes.{FitsFacts, FitsMoves, changed}
+use Rattle.vet_register.specs.Machine.{facts_after, next, number_after, number_given, outcome_of, touched_by}
+use Rattle.vet_register.specs.Sound.{AreSound, IsSound}
+use Rattle.vet_register.specs.State.{State, standing}
+use Rattle.vet_register.specs.Verdict.{verdict}
 
--- for how many more entries, packages with publisher records and recorded moves there is room
+-- for how much more of what is held, and for how many more recorded moves, there is room
 pub record Rooms : Type 0 where
-  pub entries : ℕ
-  pub packages : ℕ
+  pub facts : Room
   pub moves : ℕ
 
 -- a register: its state, what keeps the classes, and its rooms
@@ -35,63 +40,75 @@ pub record RegisterView (K : Type 0) : Type 0 where
 
 -- its facts, with their room
 abbrev pub facts_room : {K : Type 0} → RegisterView K → FactsRoom
-facts_room r = record { content = r.state.facts; entry_room = r.room.entries; package_room = r.room.packages }
+facts_room r = record { content = r.state.facts; room = r.room.facts }
 
 -- no room is lost, so that what was prepared before can still be installed
 abbrev pub KeepsRoom : {K : Type 0} → RegisterView K → RegisterView K → Type 0
-KeepsRoom old new =
-    (old.room.entries ≤ new.room.entries) × ((old.room.packages ≤ new.room.packages) × (old.room.moves ≤ new.room.moves))
+KeepsRoom old new = HoldsRoomOf old.room.facts new.room.facts × (old.room.moves ≤ new.room.moves)
 
--- a keeper has kept what these facts and this demand give, and its standing is theirs; the first two say what it keeps (`Keeper`)
-abbrev pub HasKept : {K : Type 0} → (K → Facts → List Pair → Type 0) → (K → List Stand) → K → Facts → List Pair → Type 0
-HasKept keeps standing keeper facts demand = keeps keeper facts demand × (standing keeper ≡ standing_of facts demand)
+-- a keeper has kept what these facts and this demand give, and its standing is theirs
+abbrev pub HasKept : {K U : Type 0} → Keeping K U → K → Facts → List Pair → Type 0
+HasKept keeping keeper facts demand = keeping.keeps keeper facts demand × (keeping.standing keeper ≡ standing_of facts demand)
 
 -- each update that was ready still is
-abbrev pub KeepsReady : {K U : Type 0} → (K → U → Type 0) → RegisterView K → RegisterView K → Type 0
-KeepsReady {K} {U} is_ready old new = (u : U) → is_ready old.keeper u → is_ready new.keeper u
+abbrev pub KeepsReady : {K U : Type 0} → Keeping K U → RegisterView K → RegisterView K → Type 0
+KeepsReady {K} {U} keeping old new = (u : U) → keeping.is_ready old.keeper u → keeping.is_ready new.keeper u
 
--- the packages that a command touches, as the keeper is told: today all
-abbrev pub touched_by : State → Action → Touched
-touched_by s action = touched.All
+-- a change is that of a command in a state, which accepts it: it leads to the next state, which is sound, and its update to
+-- the standing there
+pub record IsStep {K U : Type 0} (keeping : Keeping K U) (s : State) (c : Command) (change : Change K U) : Type 0 where
+  pub accepts : verdict s c ≡ Ok Accepted
+  pub becomes : changed change s ≡ next s c
+  pub sound : IsSound (next s c)
+  pub standing : keeping.planned change.update ≡ standing (next s c)
+  pub basis : keeping.plans change.update (next s c).facts (next s c).demand
+  pub touches : keeping.touched_of change.update ≡ touched_by s c.action
+  pub outcome : change.outcome ≡ outcome_of s c
 
--- this register prepared the change for the command on this state, and it and its keeper still hold the room for it;
--- the first four say what the keeper's updates are (`Keeper`)
-pub record IsPrepared {K U : Type 0} (is_ready : K → U → Type 0) (planned : U → List Stand) (plans : U → Facts → List Pair → Type 0) (touched_of : U → Touched) (r : RegisterView K) (c : Command) (change : Change K U) : Type 0 where
-  pub accepts : verdict r.state c ≡ Ok accepted
-  pub fits : Fits change.edit (facts_room r)
-  pub facts : edited change.edit r.state.facts ≡ facts_after r.state c.action
-  pub table : IsTable (facts_after r.state c.action).criteria
-  pub publishers : ArePublishers (facts_after r.state c.action).publishers
-  pub standing : planned change.update ≡ standing_of (facts_after r.state c.action) r.state.demand
-  pub basis : plans change.update (facts_after r.state c.action) r.state.demand
-  pub touches : touched_of change.update ≡ touched_by r.state c.action
-  pub ready : is_ready r.keeper change.update
-  pub records : change.records.items ≡ records_of r.state c
-  pub move_room : length change.records.items ≤ r.room.moves
-  pub step : change.step ≡ r.state.step + 1
-  pub next_entry : change.next_entry ≡ number_after r.state.next_entry c.action
-  pub outcome : change.outcome ≡ outcome_of r.state c
+-- this register prepared the change for the command on this state, and it and its keeper still hold the room for it
+pub record IsPrepared {K U : Type 0} (keeping : Keeping K U) (r : RegisterView K) (c : Command) (change : Change K U) : Type 0 where
+  pub step : IsStep keeping r.state c change
+  pub fits : FitsFacts change.edit (facts_room r)
+  pub move_room : FitsMoves change.recording r.room.moves
+  pub ready : keeping.is_ready r.keeper change.update
 
 -- what was prepared on the old register is prepared on the new one
-abbrev pub KeepsPrepared : {K U : Type 0} → (K → U → Type 0) → (U → List Stand) → (U → Facts → List Pair → Type 0) → (U → Touched)
-    → RegisterView K → RegisterView K → Type 0
-KeepsPrepared {K} {U} is_ready planned plans touched_of old new = (c : Command) (change : Change K U)
-    → IsPrepared is_ready planned plans touched_of old c change → IsPrepared is_ready planned plans touched_of new c change
+abbrev pub KeepsPrepared : {K U : Type 0} → Keeping K U → RegisterView K → RegisterView K → Type 0
+KeepsPrepared {K} {U} keeping old new = (c : Command) (change : Change K U) → IsPrepared keeping old c change → IsPrepared keeping new c change
 
 -- what an answer tells
 abbrev pub answer_of : {K U : Type 0} → Prepared K U → Answer
-answer_of (prepared.Already number) = already number
-answer_of (prepared.Change change) = accepted
+answer_of (prepared.Already number) = Already number
+answer_of (prepared.Change change) = Accepted
 
 -- a change that is answered was prepared for the command on this state
-abbrev pub IsAnswer : {K U : Type 0} → (K → U → Type 0) → (U → List Stand) → (U → Facts → List Pair → Type 0) → (U → Touched)
-    → RegisterView K → Command → Prepared K U → Type 0
-IsAnswer is_ready planned plans touched_of r c (prepared.Already number) = Unit {0}
-IsAnswer is_ready planned plans touched_of r c (prepared.Change change) = IsPrepared is_ready planned plans touched_of r c change
+abbrev pub IsAnswer : {K U : Type 0} → Keeping K U → RegisterView K → Command → Prepared K U → Type 0
+IsAnswer keeping r c (prepared.Already number) = Unit {0}
+IsAnswer keeping r c (prepared.Change change) = IsPrepared keeping r c change
 
--- so many pairs, none of them vetted
-abbrev pub all_unvetted : ℕ → Counts
-all_unvetted n = record { conflicting = 0; full = 0; partial = 0; exempted = 0; unvetted = n }
+-- before moves are known, the answer is the verdict, and wants memory for nothing but the name of a refusal
+abbrev pub IsExact : {K U : Type 0} → Told Answer → Result (Prepared K U) Refusal → Type 0
+IsExact (Err e) answer = Refuses e answer
+IsExact (Ok (Already number)) answer = answer ≡ Ok (prepared.Already number)
+IsExact (Ok Accepted) answer = Unit {0}
+
+-- an effect is that of a command which was checked: its edit fits, and the facts after it are sound
+pub record IsEffect {K : Type 0} (r : RegisterView K) (action : Action) (e : Effect) : Type 0 where
+  pub facts : edited e.edit r.state.facts ≡ facts_after r.state action
+  pub number : e.number ≡ number_given r.state action
+  pub sound : AreSound (facts_after r.state action) (number_after r.state action)
+  pub fits : Fits e.edit (facts_room r)
+
+-- what is asked by an action that is accepted is its effect
+abbrev pub IsEffectOf : {K : Type 0} → RegisterView K → Action → Asked → Type 0
+IsEffectOf r action (asked.Already number) = ⊥
+IsEffectOf r action (asked.Effect e) = IsEffect r action e
+
+-- the answer to an action: what is judged of it, and where that accepts it, its effect
+abbrev pub Asks : {K : Type 0} → RegisterView K → Action → Told Answer → Result Asked Refusal → Type 0
+Asks r action (Err e) answer = Refuses e answer
+Asks r action (Ok (Already number)) answer = answer ≡ Ok (asked.Already number)
+Asks r action (Ok Accepted) answer = MatchResult answer (IsEffectOf r action) (λ e. e ≡ NoMemory)
 
 -- a register is stored as the tuple of its keeper, the parts of its state, and its rooms
 abbrev pub register_code : {K : Type 0} → Coded K → Coded FactsRoom → Coded Pair → Coded Counts → Coded RecordedMove → Coded (RegisterView K)
@@ -111,6 +128,6 @@ register_code {K} keeper_code facts_code pair_code counts_code move_code =
         first = p.1.1.1.1.1.1.0;
         moves = p.1.1.1.1.1.1.1.0;
       };
-      room = record { entries = p.1.0.entry_room; packages = p.1.0.package_room; moves = p.1.1.1.1.1.1.1.1 };
+      room = record { facts = p.1.0.room; moves = p.1.1.1.1.1.1.1.1 };
     })
     (λ _. refl)

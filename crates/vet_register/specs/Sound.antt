@@ -1,10 +1,11 @@
--- What holds of each state that the machine reaches (ours).
+-- What holds of each state that the machine reaches (ours), one record for each thing that is held.
 use Rattle.std.specs.Prelude.{◌≡◌, ◌≢◌, ◌⊎◌, ℕ, ◌+◌, ◌<◌, ◌≤◌, true, List, length}
 use Rattle.std.specs.List.{All, AllPairs}
 use Rattle.std.specs.declared.cmp.Ordering.TheVariants.{Less}
 use Rattle.vet_base.specs.declared.limits.TheConstants.{MOST_ENTRIES, MOST_MOVES, MOST_PUBLISHERS, LAST_STEP, LAST_NUMBER}
 use Rattle.vet_base.specs.Criteria.{IsTable}
 use Rattle.vet_base.specs.CriteriaChanges.{is_built_in}
+use Rattle.vet_demand.specs.declared.pair.Pair.{Pair}
 use Rattle.vet_demand.specs.Pair.{IsInOrder, pair_cmp}
 use Rattle.vet_entries.specs.declared.entry.Source.TheVariants.{Own}
 use Rattle.vet_entries.specs.declared.facts.HeldEntry.{HeldEntry}
@@ -12,10 +13,10 @@ use Rattle.vet_entries.specs.Facts.{Facts}
 use Rattle.vet_entries.specs.declared.publisher_records.PackagePublishers.{PackagePublishers}
 use Rattle.vet_entries.specs.PublisherRecords.{IsByName, records_total}
 use Rattle.vet_entries.specs.Publishers as Publishers
-use Rattle.vet_entries.specs.Step.{HasKnownCriteria}
 use Rattle.vet_graph.specs.declared.class.Class.{Class}
 use Rattle.vet_graph.specs.Moves.{arrivals_of, departures_of}
 use Rattle.vet_graph.specs.Standing.{count_in, count_of}
+use Rattle.vet_graph.specs.StandingOf.{AreKnown}
 use Rattle.vet_register.specs.declared.moves.RecordedMove.{RecordedMove}
 use Rattle.vet_register.specs.State.{State, changes_of, standing}
 
@@ -48,23 +49,31 @@ IsGiven next h = h.number < next
 abbrev pub IsBy : ℕ → RecordedMove → Type 0
 IsBy step m = m.step ≤ step
 
+-- each entry is one's own, and no two are the same; their numbers rise, below the next one; and they are within the limit
+pub record AreEntries (entries : List HeldEntry) (next : ℕ) : Type 0 where
+  pub own : All IsOwn entries
+  pub different : AllPairs Differ entries
+  pub numbers_rise : AllPairs Rise entries
+  pub numbers_given : All (IsGiven next) entries
+  pub few : length entries ≤ MOST_ENTRIES
+
 -- publisher records are in order, of each package each once, and within the limit
 pub record ArePublishers (publishers : List PackagePublishers) : Type 0 where
   pub by_name : IsByName publishers
   pub in_order : All (λ held. Publishers.IsInOrder held.publishers) publishers
   pub few : records_total publishers ≤ MOST_PUBLISHERS
 
--- the criteria are a table, and entries name no others; each entry is one's own, and no two are the same; their numbers
--- rise; publisher records are in order
+-- the criteria are a table, and entries name no others; entries and publisher records are sound
 pub record AreSound (facts : Facts) (next : ℕ) : Type 0 where
   pub criteria : IsTable facts.criteria
-  pub known : All (HasKnownCriteria facts.criteria) facts.entries
-  pub own : All IsOwn facts.entries
-  pub different : AllPairs Differ facts.entries
-  pub numbers_rise : AllPairs Rise facts.entries
-  pub numbers_given : All (IsGiven next) facts.entries
-  pub few : length facts.entries ≤ MOST_ENTRIES
+  pub known : AreKnown facts
+  pub entries : AreEntries facts.entries next
   pub publishers : ArePublishers facts.publishers
+
+-- pairs are demanded once each, in order, and for built-in criteria
+pub record AreDemanded (demand : List Pair) : Type 0 where
+  pub once : IsInOrder demand
+  pub built_in : All (λ p. is_built_in p.criterion ≡ true) demand
 
 -- moves stand in the order in which they were recorded, none of a later step than the last, and within the limit
 pub record AreInOrder (moves : List RecordedMove) (step limit : ℕ) : Type 0 where
@@ -72,12 +81,11 @@ pub record AreInOrder (moves : List RecordedMove) (step limit : ℕ) : Type 0 wh
   pub steps : All (IsBy step) moves
   pub few : length moves ≤ limit
 
--- what is held is sound, as are the moves, within the limits, and the counts are balanced
+-- what is held, what is demanded and the moves are sound, numbers are within the limits, and the counts are balanced
 pub record IsSound (s : State) : Type 0 where
   pub facts : AreSound s.facts s.next_entry
   pub next_number : s.next_entry ≤ LAST_NUMBER + 1
-  pub demanded_once : IsInOrder s.demand
-  pub demanded_known : All (λ p. is_built_in p.criterion ≡ true) s.demand
+  pub demand : AreDemanded s.demand
   pub last_step : s.step ≤ LAST_STEP
   pub limit : (0 < s.moves_limit) × (s.moves_limit ≤ MOST_MOVES)
   pub moves : AreInOrder s.moves s.step s.moves_limit

@@ -38,3 +38,7 @@ start limit demand = record {
 -- the moves as they were when they were made
 abbrev pub changes_of : List RecordedMove → List Move
 changes_of moves = map (λ m. m.change) moves
+
+-- so many pairs, none of them vetted
+abbrev pub all_unvetted : ℕ → Counts
+all_unvetted n = record { conflicting = 0; full = 0; partial = 0; exempted = 0; unvetted = n }

@@ -2,7 +2,8 @@
 ghost use Rattle.std.specs.Prelude.{◌≡◌};
 
 use crate::command::Outcome;
-use crate::moves::RecordedMove;
+use crate::moves::Recording;
+use vet_demand::demand::Demand;
 use vet_entries::facts::Edit;
 use vet_graph::keeper::Keeper;
 use vet_graph::touched::Touched;
@@ -10,9 +11,12 @@ use vet_graph::touched::Touched;
 /// What an accepted command changes: the register that prepared it installs it.
 #[derive(Drop)]
 pub struct Change<K: Keeper> {
-    pub(crate) edit: Edit,
+    // an edit of what is held, unless that stays
+    pub(crate) edit: Option<Edit>,
+    // another demand, unless it stays
+    pub(crate) demand: Option<Demand>,
     pub(crate) update: K::Update,
-    pub(crate) records: Vec<RecordedMove>,
+    pub(crate) recording: Recording,
     pub(crate) step: u64,
     pub(crate) next_entry: u64,
     pub(crate) outcome: Outcome,
@@ -29,7 +33,7 @@ impl<K: Keeper> Change<K> {
 
     /// The packages that the command touches, as the keeper was told. Takes no memory.
     pub fn touched(&self) -> &Touched
-        ensures { result.now ≡ K.touched_of self.now.update }
+        ensures { result.now ≡ K.keeping.touched_of self.now.update }
     {
         K::touched(&self.update)
     }

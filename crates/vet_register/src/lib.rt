@@ -10,11 +10,14 @@
 pub mod change;
 pub mod class_of_file;
 pub mod command;
+mod edits;
 pub mod moves;
 pub mod register;
+mod verdict;
 
 pub use vet_base::{
-    criteria_table, criterion, day, delta, limits, name, names, refusal, req, text, texts, version,
+    criteria_table, criterion, day, delta, limits, name, names, package_names, refusal, req, text,
+    texts, version,
 };
 pub use vet_demand::{demand, dependency_criteria, pair, policies, policy, policy_key};
 pub use vet_entries::{

@@ -1,11 +1,13 @@
 //! Moves as they are recorded.
-ghost use Rattle.std.specs.Prelude.{◌≡◌, ◌++◌, ◌+◌, ◌≤◌, IfOk, IfErr, length, map, vec_len, vec_capacity};
+ghost use Rattle.std.specs.Prelude.{◌≡◌, ◌++◌, ◌-◌, ◌≤◌, IfOk, IfErr, length, map, vec_len, vec_capacity};
+ghost use Rattle.vet_register.specs.Changes.{FitsMoves, first_by, moves_by};
 ghost use Rattle.vet_register.specs.Machine.{recorded};
 
 use std::alloc::Global;
 use vet_base::day::Day;
 use vet_base::refusal::Refusal;
 pub use vet_graph::moves::Move;
+use vet_graph::standing::Counts;
 
 /// A move, with the step and the day of the command that made it.
 pub struct RecordedMove {
@@ -22,6 +24,15 @@ impl Drop for RecordedMove {
             change: _,
         } = self;
     }
+}
+
+/// What becomes of the recorded moves.
+#[derive(Drop)]
+pub enum Recording {
+    /// These come behind those recorded.
+    Behind(Vec<RecordedMove>),
+    /// None is recorded any more, and these are the counts at first.
+    Anew(Counts),
 }
 
 /// Copies of some moves, with a step and a day. Refused: `NoMemory`.
@@ -45,9 +56,28 @@ pub(crate) fn record(
     Ok(records)
 }
 
-/// Adds moves to those recorded, for which there is room.
-pub(crate) fn append_reserved(moves: &mut Vec<RecordedMove>, mut more: Vec<RecordedMove>)
-    requires { vec_len moves.old + length more.items ≤ vec_capacity moves.old }
+/// Makes a recording, for which there is room. Takes no memory.
+pub(crate) fn make_recording(
+    moves: &mut Vec<RecordedMove>,
+    first: &mut Counts,
+    recording: Recording,
+)
+    requires { FitsMoves recording (vec_capacity moves.old - vec_len moves.old) }
+    ensures moves { moves.new.items ≡ moves_by recording moves.old.items }
+    ensures first { first.new ≡ first_by recording first.old }
+{
+    match recording {
+        Recording::Behind(more) => append_reserved(moves, more),
+        Recording::Anew(counts) => {
+            moves.clear();
+            *first = counts;
+        }
+    }
+}
+
+// Adds moves to those recorded, for which there is room.
+fn append_reserved(moves: &mut Vec<RecordedMove>, mut more: Vec<RecordedMove>)
+    requires { length more.items ≤ vec_capacity moves.old - vec_len moves.old }
     ensures { moves.new.items ≡ moves.old.items ++ more.items }
 {
     let _ = moves.append(&mut more);

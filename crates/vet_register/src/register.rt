@@ -2,63 +2,70 @@
 //!
 //! **A demanded pair is in the class that chains of entries give it and in no other, and each class has what it
 //! had at first, with what came since and without what went.**
-ghost use Rattle.std.specs.Prelude.{◌≡◌, ◌+◌, ◌+ℤ◌, ◌<◌, ◌≤◌, pos, not, true, Ok, Some, None, IfOk, IfErr, length};
-ghost use Rattle.std.specs.FinMap as map;
-ghost use Rattle.std.specs.List.{All, list_any};
-ghost use Rattle.std.specs.Option.{option_copied};
-ghost use Rattle.std.specs.Ordering.{int_cmp, is_lt};
-ghost use Rattle.vet_base.specs.Day.{day_number};
-ghost use Rattle.vet_base.specs.Criteria.{IsTable};
-ghost use Rattle.vet_base.specs.CriteriaChanges.{is_built_in, remove_verdict, set_verdict};
+//!
+//! A command goes in two calls, so that a caller can write down in between what it changes. `prepare` does all that
+//! can fail: it judges the command (`verdict`), makes the edit that it asks for (`edits`), has the keeper plan the
+//! standing after it, and takes room for all that will be added. The state stays. `install` makes the change, takes
+//! no memory and can't fail. A change that isn't installed is let go.
+//!
+//! To plan, the register makes the edit, asks the keeper, and makes the edit that undoes it, whether or not the
+//! keeper had memory. So what is held is never copied, and the edit that comes back is the one that `install` makes.
+//!
+//! What a change makes of a state is one equation (`changed`). Where it is prepared, the command is at hand: there it
+//! is proved to be the machine's step, and the state after it to be sound. `install` makes what the equation says,
+//! for all commands alike.
+ghost use Rattle.std.specs.Prelude.{◌≡◌, ℕ, ◌+◌, ◌++◌, ◌<◌, ◌≤◌, true, None, Ok, Some, IfOk, IfErr, OnErr, length};
+ghost use Rattle.std.specs.List.{All};
+ghost use Rattle.vet_base.specs.CriteriaChanges.{is_built_in};
 ghost use Rattle.vet_base.specs.Gives.{Gives};
-ghost use Rattle.vet_entries.specs.Facts.{Fits, edited, has_number};
+ghost use Rattle.vet_demand.specs.declared.pair.Pair.{Pair};
+ghost use Rattle.vet_entries.specs.Facts.{Fits, edited};
 ghost use Rattle.vet_graph.specs.Moves.{moves_between};
 ghost use Rattle.vet_graph.specs.Standing.{class_in, counts_of, total_of};
-ghost use Rattle.vet_graph.specs.StandingOf.{standing_of};
-ghost use Rattle.vet_register.specs.Machine.{ActionValue, CommandValue, effect, facts_after, moves_of, next, number_after, number_given, outcome_of, records_of};
-ghost use Rattle.vet_register.specs.RegisterView.{IsAnswer, IsPrepared, KeepsPrepared, KeepsReady, KeepsRoom, all_unvetted, answer_of, facts_room};
-ghost use Rattle.vet_register.specs.Sound.{ArePublishers, IsSound};
-ghost use Rattle.vet_register.specs.State.{standing, start};
-ghost use Rattle.vet_register.specs.Verdict.{checked, entry_limits, held_as, is_held, is_in_use, kind_rules, known, limits, moves_fit, publisher_limit, references, refuse_if, rules, step_limit, verdict, window_rules};
+ghost use Rattle.vet_graph.specs.StandingOf.{StandsAt, standing_of};
+ghost use Rattle.vet_graph.specs.Touched.{SameOutside};
+ghost use Rattle.vet_register.specs.Changes.{FitsFacts, FitsMoves, demand_by, facts_by, first_by, moves_by};
+ghost use Rattle.vet_register.specs.Machine.{CommandValue, moves_of, next, number_after, number_by, number_given, outcome_of, records_of};
+ghost use Rattle.vet_register.specs.RegisterView.{IsAnswer, IsExact, IsPrepared, KeepsPrepared, KeepsReady, KeepsRoom, answer_of, facts_room};
+ghost use Rattle.vet_register.specs.declared.verdict.Answer.TheVariants as answer;
+ghost use Rattle.vet_register.specs.Runs.{AreTurns, IsTurn};
+ghost use Rattle.vet_register.specs.Sound.{AreSound, IsSound};
+ghost use Rattle.vet_register.specs.State.{all_unvetted, standing, start};
+ghost use Rattle.vet_register.specs.Verdict.{judged, moves_fit, step_limit, verdict};
 
 use crate::change::{Change, Prepared};
-use crate::command::{Action, Command, Outcome};
-use crate::moves::{RecordedMove, append_reserved, record};
+use crate::command::{Command, Outcome};
+use crate::edits::{Asked, Effect};
+use crate::moves::{RecordedMove, Recording, make_recording, record};
 use std::alloc::Global;
 use std::marker::Model;
-use vet_base::criteria_table::{CriteriaTable, is_built_in};
-use vet_base::criterion::Criterion;
-use vet_base::day::Day;
-use vet_base::limits::{
-    LAST_NUMBER, LAST_STEP, MOST_ENTRIES, MOST_MOVES, MOST_PUBLISHERS, MOST_WINDOW_DAYS,
-};
+use vet_base::criteria_table::CriteriaTable;
+use vet_base::limits::{LAST_NUMBER, MOST_MOVES};
 use vet_base::name::{Name, PackageName};
-use vet_base::refusal::{Limit, Refusal};
+use vet_base::refusal::Refusal;
 use vet_base::version::VetVersion;
 use vet_demand::demand::Demand;
 use vet_demand::pair::Pair;
-use vet_entries::facts::{Edit, EntryFacts, HeldEntry};
-use vet_entries::kind::{Kind, Window};
+use vet_entries::facts::{Edit, EntryFacts, HeldEntry, edits_fit_with_more_room};
 use vet_entries::publisher_records::PackagePublishers;
-use vet_entries::publishers::Publishers;
 use vet_graph::class::Class;
 use vet_graph::keeper::Keeper;
 use vet_graph::moves::{Move, moves_are_differences, moves_balance, runs_of_moves_add};
-use vet_graph::plain::nothing_vets_nothing;
+use vet_graph::plain::{each_pair_has_its_class, nothing_vets_nothing};
 use vet_graph::standing::{Counts, classes_add_up};
 use vet_graph::touched::Touched;
 
 /// What an organisation holds, the class of each demanded pair, and how these came about. A keeper keeps the
 /// classes; which one it is changes no answer.
 pub struct Register<K: Keeper> {
-    facts: EntryFacts,
-    demand: Demand,
-    keeper: K,
-    step: u64,
-    next_entry: u64,
-    moves_limit: usize,
-    first: Counts,
-    moves: Vec<RecordedMove>,
+    pub(crate) facts: EntryFacts,
+    pub(crate) demand: Demand,
+    pub(crate) keeper: K,
+    pub(crate) step: u64,
+    pub(crate) next_entry: u64,
+    pub(crate) moves_limit: usize,
+    pub(crate) first: Counts,
+    pub(crate) moves: Vec<RecordedMove>,
 }
 
 impl<K: Keeper> Model for Register<K> {
@@ -88,13 +95,12 @@ impl<K: Keeper> Model for Register<K> {
       };
       keeper = r.keeper;
       room = record {
-        entries = r.facts.entry_room;
-        packages = r.facts.package_room;
+        facts = r.facts.room;
         moves = vec_capacity r.moves - vec_len r.moves;
       };
     } };
 
-    ghost invariant = { λ r. HasKept K.keeps K.standing r.keeper r.facts.content r.demand × IsSound (record {
+    ghost invariant = { λ r. HasKept K.keeping r.keeper r.facts.content r.demand × IsSound (record {
       facts = r.facts.content;
       demand = r.demand;
       step = r.step;
@@ -153,50 +159,94 @@ impl<K: Keeper> Register<K> {
     /// for what `install` adds, and what was prepared on this state before can still be installed. The keeper
     /// is told that all packages are touched. Refused, the first that holds: `TooManyCriteria`, `TooLarge` of
     /// `entries`, `publishers`, `step` or `number`; `UnknownCriterion`, `UnknownEntry`; `BuiltInCriterion`,
-    /// `CriterionInUse`, `EmptyWindow`, `WindowTooLong`; `MovesFull`. `NoMemory` can come at any point.
-    #[tactic(auto, using(crate::proofs::Prepared::prepared_stays))]
+    /// `CriterionInUse`, `EmptyWindow`, `WindowTooLong`; `MovesFull`. `NoMemory` comes in place of
+    /// `UnknownCriterion`, or where none before `MovesFull` holds; a command whose content is held never
+    /// meets it.
     pub fn prepare(&mut self, alloc: Global, command: &Command) -> Result<Prepared<K>, Refusal>
         ensures told { Gives answer_of (verdict self.old.state command.now) result }
-        ensures prepared { IfOk result
-            (IsAnswer K.is_ready K.planned K.plans K.touched_of self.new command.now) }
+        ensures exact { IsExact (judged self.old.state command.now.day command.now.action) result }
+        ensures prepared { IfOk result (IsAnswer K.keeping self.new command.now) }
         ensures state { self.new.state ≡ self.old.state }
         ensures room_stays { KeepsRoom self.old self.new }
-        ensures ready_stays { KeepsReady K.is_ready self.old self.new }
-        ensures prepared_stays { KeepsPrepared K.is_ready K.planned K.plans K.touched_of self.old self.new }
+        ensures ready_stays { KeepsReady K.keeping self.old self.new }
+        ensures prepared_stays { KeepsPrepared K.keeping self.old self.new }
     {
-        if let Some(number) = self.held_as(&command.action) {
-            return Ok(Prepared::Already(number));
+        match self.asked_by(command)? {
+            Asked::Already(number) => Ok(Prepared::Already(number)),
+            Asked::Effect(effect) => {
+                moves_are_differences();
+                moves_balance();
+                runs_of_moves_add();
+                edits_fit_with_more_room();
+                self.state_is_sound();
+                let Effect { edit, number } = effect;
+                let planned = self.plan(alloc, &Touched::All, edit)?;
+                Ok(Prepared::Change(self.change(alloc, command, number, planned)?))
+            }
         }
-        self.check(command)?;
-        let edit = self.edit_of(alloc, command)?;
-        let planned = self.plan(alloc, edit)?;
-        Ok(Prepared::Change(self.change(alloc, command, planned)?))
     }
 
     /// Makes a change that this register prepared on this state: one step of the machine. Takes no memory.
     pub fn install(&mut self, change: Change<K>)
-        requires { (command : CommandValue)
-            × IsPrepared K.is_ready K.planned K.plans K.touched_of self.old command change }
+        requires { (command : CommandValue) × IsPrepared K.keeping self.old command change }
         ensures { (command : CommandValue)
-            → IsPrepared K.is_ready K.planned K.plans K.touched_of self.old command change
+            → IsPrepared K.keeping self.old command change
             → self.new.state ≡ next self.old.state command }
     {
-        moves_are_differences();
-        moves_balance();
-        runs_of_moves_add();
         let Change {
             edit,
+            demand,
             update,
-            records,
+            recording,
             step,
             next_entry,
             outcome: _,
         } = change;
-        let _ = self.facts.apply(edit);
+        make_edit(&mut self.facts, edit);
+        exchange(&mut self.demand, demand);
         self.keeper.apply(update);
         self.step = step;
         self.next_entry = next_entry;
-        append_reserved(&mut self.moves, records);
+        make_recording(&mut self.moves, &mut self.first, recording);
+    }
+}
+
+impl<K: Keeper> Register<K> {
+    /// Prepares a command and installs what it changes. After a refusal the state is as it was. Refused: what
+    /// `prepare` refuses.
+    pub fn run(&mut self, alloc: Global, command: &Command) -> Result<Outcome, Refusal>
+        ensures turn { IsTurn self.old.state command.now result self.new.state }
+        ensures err { OnErr result (self.new.state ≡ self.old.state) }
+    {
+        match self.prepare(alloc, command)? {
+            Prepared::Already(number) => Ok(Outcome::Already(number)),
+            Prepared::Change(change) => {
+                let outcome = change.outcome();
+                self.install(change);
+                Ok(outcome)
+            }
+        }
+    }
+
+    /// Runs commands one after the other, whatever becomes of each, and answers what each was told in the state
+    /// of its turn. Room for the answers is taken first. Refused, with nothing run: `NoMemory`.
+    pub fn run_all(
+        &mut self,
+        alloc: Global,
+        commands: &[Command],
+    ) -> Result<Vec<Result<Outcome, Refusal>>, Refusal>
+        ensures turns { IfOk result (λ answers.
+            AreTurns self.old.state commands.now answers.items self.new.state) }
+        ensures memory { IfErr result (λ e. e ≡ Refusal.NoMemory) }
+        ensures err { OnErr result (self.new.state ≡ self.old.state) }
+    {
+        let mut answers = Vec::new(alloc);
+        answers.reserve(commands.len())?;
+        for command in commands {
+            let answer = self.run(alloc, command);
+            answers.push_reserved(answer);
+        }
+        Ok(answers)
     }
 }
 
@@ -208,9 +258,12 @@ impl<K: Keeper> Register<K> {
         version: &VetVersion,
         criterion: &Name,
     ) -> Option<Class>
-        ensures { result ≡ class_in (standing self.now.state)
+        ensures value { result ≡ class_in (standing self.now.state)
             (record { «package» = «package».now; version = version.now; criterion = criterion.now }) }
+        ensures is { StandsAt self.now.state.facts self.now.state.demand
+            (record { «package» = «package».now; version = version.now; criterion = criterion.now }) result }
     {
+        each_pair_has_its_class();
         self.keeper.class(package, version, criterion)
     }
 
@@ -282,229 +335,31 @@ struct Planned<K: Keeper> {
 }
 
 impl<K: Keeper> Register<K> {
-    // Under which number a command's content is held already.
-    fn held_as(&self, action: &Action) -> Option<Option<u64>>
-        ensures { result ≡ held_as self.now.state action.now }
-    {
-        match action {
-            Action::SetCriterion(criterion) => {
-                if is_held(self.facts.criteria(), criterion) {
-                    Some(None)
-                } else {
-                    None
-                }
-            }
-            Action::AddEntry(entry) => Some(Some(self.facts.number_of(entry)?)),
-            Action::SetPublishers(package, publishers) => {
-                if self.facts.records_of(package) == publishers.as_slice() {
-                    Some(None)
-                } else {
-                    None
-                }
-            }
-            Action::RemoveCriterion(_) | Action::DropEntry(_) => None,
-        }
-    }
-
-    // Limits, then what the command refers to, then rules.
-    fn check(&self, command: &Command) -> Result<(), Refusal>
-        ensures { Gives (λ u. u) (checked self.now.state command.now) result }
-    {
-        self.check_limits(&command.action)?;
-        self.check_references(&command.action)?;
-        self.check_rules(command)
-    }
-
-    fn check_limits(&self, action: &Action) -> Result<(), Refusal>
-        ensures { result ≡ limits self.now.state action.now }
-    {
-        match action {
-            Action::SetCriterion(criterion) => {
-                if self.facts.criteria().is_full_for(&criterion.name) {
-                    return Err(Refusal::TooManyCriteria);
-                }
-                self.check_step()
-            }
-            Action::AddEntry(_) => self.check_entry_limits(),
-            Action::SetPublishers(package, publishers) => {
-                self.check_publisher_limit(package, publishers)?;
-                self.check_step()
-            }
-            Action::RemoveCriterion(_) | Action::DropEntry(_) => self.check_step(),
-        }
-    }
-
-    fn check_step(&self) -> Result<(), Refusal>
-        ensures { result ≡ step_limit self.now.state }
-    {
-        if self.step >= LAST_STEP {
-            return Err(Refusal::TooLarge(Limit::Step));
-        }
-        Ok(())
-    }
-
-    fn check_entry_limits(&self) -> Result<(), Refusal>
-        ensures { result ≡ entry_limits self.now.state }
-    {
-        if self.facts.entries().len() >= MOST_ENTRIES {
-            return Err(Refusal::TooLarge(Limit::Entries));
-        }
-        self.check_step()?;
-        if self.next_entry > LAST_NUMBER {
-            return Err(Refusal::TooLarge(Limit::Number));
-        }
-        Ok(())
-    }
-
-    fn check_publisher_limit(
-        &self,
-        package: &PackageName,
-        publishers: &Publishers,
-    ) -> Result<(), Refusal>
-        ensures { result ≡ publisher_limit self.now.state «package».now publishers.now }
-    {
-        if self
-            .facts
-            .records_would_pass(MOST_PUBLISHERS, package, publishers)
-        {
-            return Err(Refusal::TooLarge(Limit::Publishers));
-        }
-        Ok(())
-    }
-
-    fn check_references(&self, action: &Action) -> Result<(), Refusal>
-        ensures { Gives (λ u. u) (references self.now.state action.now) result }
-    {
-        let criteria = self.facts.criteria();
-        match action {
-            Action::SetCriterion(criterion) => known(criteria.unknown_beside(criterion)),
-            Action::RemoveCriterion(name) => {
-                known(if criteria.has(name) { None } else { Some(name) })
-            }
-            Action::AddEntry(entry) => known(criteria.least_unknown(&entry.criteria)),
-            Action::DropEntry(number) => self.check_number(*number),
-            Action::SetPublishers(_, _) => Ok(()),
-        }
-    }
-
-    fn check_number(&self, number: u64) -> Result<(), Refusal>
-        ensures { result ≡ refuse_if
-            (not (list_any (has_number number) self.now.state.facts.entries)) Refusal.UnknownEntry }
-    {
-        if self.facts.place_of(number).is_none() {
-            return Err(Refusal::UnknownEntry);
-        }
-        Ok(())
-    }
-
-    fn check_rules(&self, command: &Command) -> Result<(), Refusal>
-        ensures { result ≡ rules self.now.state command.now.day command.now.action }
-    {
-        match &command.action {
-            Action::SetCriterion(criterion) => check_built_in(&criterion.name),
-            Action::RemoveCriterion(name) => {
-                check_built_in(name)?;
-                self.check_in_use(name)
-            }
-            Action::AddEntry(entry) => check_kind(command.day, &entry.kind),
-            Action::DropEntry(_) | Action::SetPublishers(_, _) => Ok(()),
-        }
-    }
-
-    fn check_in_use(&self, name: &Name) -> Result<(), Refusal>
-        ensures { result ≡ refuse_if (is_in_use self.now.state name.now) Refusal.CriterionInUse }
-    {
-        if self.facts.criteria().is_implied(name) || self.facts.names_criterion(name) {
-            return Err(Refusal::CriterionInUse);
-        }
-        Ok(())
-    }
-}
-
-impl<K: Keeper> Register<K> {
-    // The edit of the facts that a checked command asks for, and room for it.
-    fn edit_of(&mut self, alloc: Global, command: &Command) -> Result<Edit, Refusal>
-        requires other { held_as self.old.state command.now.action ≡ None }
-        requires checked { checked self.old.state command.now ≡ Ok tt }
-        ensures edit { IfOk result (λ e.
-            edited e self.old.state.facts ≡ facts_after self.old.state command.now.action) }
-        ensures fits { IfOk result (λ e. Fits e (facts_room self.new)) }
-        ensures table { IfOk result (λ e.
-            IsTable (facts_after self.old.state command.now.action).criteria) }
-        ensures publishers { IfOk result (λ e.
-            ArePublishers (facts_after self.old.state command.now.action).publishers) }
-        ensures memory { IfErr result (λ e. e ≡ Refusal.NoMemory) }
-        ensures state { self.new.state ≡ self.old.state }
-        ensures keeper { self.new.keeper ≡ self.old.keeper }
-        ensures room_stays { KeepsRoom self.old self.new }
-    {
-        match &command.action {
-            Action::SetCriterion(criterion) => {
-                let table = with_criterion(self.facts.criteria(), criterion)?;
-                Ok(Edit::Criteria(table))
-            }
-            Action::RemoveCriterion(name) => {
-                let table = without_criterion(self.facts.criteria(), name)?;
-                Ok(Edit::Criteria(table))
-            }
-            Action::AddEntry(entry) => {
-                self.facts.reserve()?;
-                let place = self.facts.entries().len();
-                let held = HeldEntry {
-                    number: self.next_entry,
-                    entry: entry.to_own()?,
-                };
-                Ok(Edit::Insert(place, held))
-            }
-            Action::DropEntry(number) => self.drop_of(*number),
-            Action::SetPublishers(package, publishers) => {
-                self.facts.records_stay_in_order(package, publishers);
-                self.facts.publishers_edit(package, publishers)
-            }
-        }
-    }
-
-    // The edit that drops the entry of a number that is held.
-    fn drop_of(&self, number: u64) -> Result<Edit, Refusal>
-        requires { list_any (has_number number) self.now.state.facts.entries ≡ true }
-        ensures edit { IfOk result (λ e. edited e self.now.state.facts
-            ≡ effect 0 (Action.DropEntry number) self.now.state.facts) }
-        ensures fits { IfOk result (λ e. Fits e (facts_room self.now)) }
-        ensures memory { IfErr result (λ e. e ≡ Refusal.NoMemory) }
-    {
-        let Some(place) = self.facts.place_of(number) else {
-            return Err(Refusal::UnknownEntry);
-        };
-        Ok(Edit::Remove(place))
-    }
-
-    // The update of the standing that an edit asks for. The facts stay.
-    fn plan(&mut self, alloc: Global, edit: Edit) -> Result<Planned<K>, Refusal>
+    // The update of the standing that an edit asks for, where this is touched. The facts stay.
+    fn plan(&mut self, alloc: Global, touched: &Touched, edit: Edit) -> Result<Planned<K>, Refusal>
         requires fits { Fits edit (facts_room self.old) }
-        requires table { IsTable (edited edit self.old.state.facts).criteria }
-        requires checked { (command : CommandValue) × (checked self.old.state command ≡ Ok tt)
-            × (edited edit self.old.state.facts ≡ facts_after self.old.state command.action) }
+        requires sound { (next : ℕ) × AreSound (edited edit self.old.state.facts) next }
+        requires outside { SameOutside touched.now self.old.state.facts self.old.state.demand
+            (edited edit self.old.state.facts) self.old.state.demand }
         ensures edit { IfOk result (λ p.
             edited p.edit self.old.state.facts ≡ edited edit self.old.state.facts) }
         ensures fits { IfOk result (λ p. Fits p.edit (facts_room self.new)) }
-        ensures standing { IfOk result (λ p. K.planned p.update
+        ensures standing { IfOk result (λ p. K.keeping.planned p.update
             ≡ standing_of (edited edit self.old.state.facts) self.old.state.demand) }
-        ensures plans { IfOk result (λ p. K.plans p.update
+        ensures plans { IfOk result (λ p. K.keeping.plans p.update
             (edited edit self.old.state.facts) self.old.state.demand) }
-        ensures moves { IfOk result (λ p. K.moves_of p.update
+        ensures moves { IfOk result (λ p. K.keeping.moves_of p.update
             ≡ moves_between (standing self.old.state)
             (standing_of (edited edit self.old.state.facts) self.old.state.demand)) }
-        ensures touched { IfOk result (λ p. K.touched_of p.update ≡ Touched.All) }
-        ensures ready { IfOk result (λ p. K.is_ready self.new.keeper p.update) }
+        ensures touched { IfOk result (λ p. K.keeping.touched_of p.update ≡ touched.now) }
+        ensures ready { IfOk result (λ p. K.keeping.is_ready self.new.keeper p.update) }
         ensures memory { IfErr result (λ e. e ≡ Refusal.NoMemory) }
         ensures state { self.new.state ≡ self.old.state }
         ensures room_stays { KeepsRoom self.old self.new }
-        ensures ready_stays { KeepsReady K.is_ready self.old self.new }
+        ensures ready_stays { KeepsReady K.keeping self.old self.new }
     {
         let back = self.facts.apply(edit);
-        let planned = self
-            .keeper
-            .plan(alloc, &Touched::All, &self.facts, &self.demand);
+        let planned = self.keeper.plan(alloc, touched, &self.facts, &self.demand);
         let edit = self.facts.apply(back);
         Ok(Planned {
             edit,
@@ -512,47 +367,55 @@ impl<K: Keeper> Register<K> {
         })
     }
 
+    // The state is sound. Does nothing.
+    fn state_is_sound(&self)
+        ensures { IsSound self.now.state }
+    {
+        let _ = &self.step;
+    }
+
     // What an accepted command changes, and room for its moves.
     fn change(
         &mut self,
         alloc: Global,
         command: &Command,
+        number: Option<u64>,
         planned: Planned<K>,
     ) -> Result<Change<K>, Refusal>
         requires step { step_limit self.old.state ≡ Ok tt }
-        requires moves { K.moves_of planned.update ≡ moves_of self.old.state command.now.action }
+        requires number { number ≡ number_given self.old.state command.now.action }
+        requires limit { number_after self.old.state command.now.action ≤ LAST_NUMBER + 1 }
+        requires moves { K.keeping.moves_of planned.update ≡ moves_of self.old.state command.now.action }
         ensures told { Gives (λ c. tt) (moves_fit self.old.state command.now.action) result }
-        ensures edit { IfOk result (λ c. c.edit ≡ planned.edit) }
+        ensures edit { IfOk result (λ c. c.edit ≡ Some planned.edit) }
+        ensures demand { IfOk result (λ c. c.demand ≡ None) }
         ensures update { IfOk result (λ c. c.update ≡ planned.update) }
-        ensures records { IfOk result (λ c. c.records.items ≡ records_of self.old.state command.now) }
-        ensures room { IfOk result (λ c. length c.records.items ≤ self.new.room.moves) }
+        ensures moves { IfOk result (λ c. moves_by c.recording self.old.state.moves
+            ≡ self.old.state.moves ++ records_of self.old.state command.now) }
+        ensures first { IfOk result (λ c. first_by c.recording self.old.state.first ≡ self.old.state.first) }
+        ensures room { IfOk result (λ c. FitsMoves c.recording self.new.room.moves) }
         ensures step { IfOk result (λ c. c.step ≡ self.old.state.step + 1) }
-        ensures next_entry { IfOk result (λ c.
-            c.next_entry ≡ number_after self.old.state.next_entry command.now.action) }
+        ensures next_entry { IfOk result (λ c. c.next_entry ≡ number_after self.old.state command.now.action) }
         ensures outcome { IfOk result (λ c. c.outcome ≡ outcome_of self.old.state command.now) }
         ensures state { self.new.state ≡ self.old.state }
         ensures keeper { self.new.keeper ≡ self.old.keeper }
-        ensures entry_room { self.new.room.entries ≡ self.old.room.entries }
-        ensures package_room { self.new.room.packages ≡ self.old.room.packages }
+        ensures facts_room { self.new.room.facts ≡ self.old.room.facts }
         ensures room_stays { KeepsRoom self.old self.new }
     {
         let records = self.records(alloc, command, K::moves(&planned.update))?;
         let step = self.step + 1;
-        let number = number_given(self.next_entry, &command.action);
+        let Planned { edit, update } = planned;
         Ok(Change {
             outcome: Outcome::Done {
                 step,
                 number,
                 moves: records.len() as u64,
             },
-            next_entry: if number.is_some() {
-                self.next_entry + 1
-            } else {
-                self.next_entry
-            },
-            edit: planned.edit,
-            update: planned.update,
-            records,
+            next_entry: number_after(self.next_entry, number),
+            edit: Some(edit),
+            demand: None,
+            update,
+            recording: Recording::Behind(records),
             step,
         })
     }
@@ -571,8 +434,7 @@ impl<K: Keeper> Register<K> {
         ensures room { IfOk result (λ r. length r.items ≤ self.new.room.moves) }
         ensures state { self.new.state ≡ self.old.state }
         ensures keeper { self.new.keeper ≡ self.old.keeper }
-        ensures entry_room { self.new.room.entries ≡ self.old.room.entries }
-        ensures package_room { self.new.room.packages ≡ self.old.room.packages }
+        ensures facts_room { self.new.room.facts ≡ self.old.room.facts }
         ensures room_stays { KeepsRoom self.old self.new }
     {
         if self.moves.len() + moves.len() > self.moves_limit {
@@ -584,103 +446,32 @@ impl<K: Keeper> Register<K> {
     }
 }
 
-// The number that a command gives, where this is the next one.
-fn number_given(next: u64, action: &Action) -> Option<u64>
-    ensures { result ≡ number_given next action.now }
+// The next number, where this was the next one and that one was given, if any.
+fn number_after(next: u64, given: Option<u64>) -> u64
+    requires { number_by next given ≤ LAST_NUMBER + 1 }
+    ensures { result ≡ number_by next given }
 {
-    match action {
-        Action::AddEntry(_) => Some(next),
-        _ => None,
+    match given {
+        Some(number) => number + 1,
+        None => next,
     }
 }
 
-// Whether a criterion is held as it is; of a built-in one nothing is asked.
-fn is_held(table: &CriteriaTable, criterion: &Criterion) -> bool
-    ensures { result ≡ is_held table.now criterion.now }
+// Makes an edit of the facts, if there is one, for which there is room.
+fn make_edit(facts: &mut EntryFacts, edit: Option<Edit>)
+    requires { FitsFacts edit facts.old }
+    ensures { facts.new.content ≡ facts_by edit facts.old.content }
 {
-    if is_built_in(&criterion.name) {
-        return false;
-    }
-    match table.get(&criterion.name) {
-        Some(held) => held == criterion,
-        None => false,
+    if let Some(edit) = edit {
+        let _ = facts.apply(edit);
     }
 }
 
-// A name that is unknown is refused.
-fn known(unknown: Option<&Name>) -> Result<(), Refusal>
-    ensures { Gives (λ u. u) (known (option_copied unknown.entry)) result }
+// Puts another demand, if there is one, in place of the one that is held.
+fn exchange(demand: &mut Demand, other: Option<Demand>)
+    ensures { demand.new ≡ demand_by other demand.old }
 {
-    match unknown {
-        Some(name) => Err(Refusal::UnknownCriterion(name.clone()?)),
-        None => Ok(()),
+    if let Some(other) = other {
+        *demand = other;
     }
-}
-
-// A window does not end before it begins, and ends soon enough after the day of the command.
-fn check_kind(day: Day, kind: &Kind) -> Result<(), Refusal>
-    ensures { result ≡ kind_rules day kind.now }
-{
-    match kind {
-        Kind::Wildcard(window, _) => check_window(day, *window),
-        Kind::Trusted(window) => check_window(day, *window),
-        _ => Ok(()),
-    }
-}
-
-fn check_window(day: Day, window: Window) -> Result<(), Refusal>
-    ensures { result ≡ window_rules day window }
-{
-    if window.last < window.first {
-        return Err(Refusal::EmptyWindow);
-    }
-    if ends_too_late(day, window.last) {
-        return Err(Refusal::WindowTooLong);
-    }
-    Ok(())
-}
-
-// Whether a last day comes more than 366 days after a day. Where that many days lead past the last day of
-// the calendar, none does.
-fn ends_too_late(day: Day, last: Day) -> bool
-    ensures { result ≡ is_lt (int_cmp (day_number day +ℤ pos MOST_WINDOW_DAYS) (day_number last)) }
-{
-    let number = last.number();
-    match day.plus(MOST_WINDOW_DAYS) {
-        Some(latest) => number > latest.number(),
-        None => false,
-    }
-}
-
-fn check_built_in(name: &Name) -> Result<(), Refusal>
-    ensures { result ≡ refuse_if (is_built_in name.now) Refusal.BuiltInCriterion }
-{
-    if is_built_in(name) {
-        return Err(Refusal::BuiltInCriterion);
-    }
-    Ok(())
-}
-
-// A copy of a table with one criterion more, or with another in place of the one of its name.
-fn with_criterion(table: &CriteriaTable, criterion: &Criterion) -> Result<CriteriaTable, Refusal>
-    requires { set_verdict table.now criterion.now ≡ None }
-    ensures ok { IfOk result (λ t. t ≡ map.insert table.now criterion.now.name criterion.now) }
-    ensures table { IfOk result IsTable }
-    ensures memory { IfErr result (λ e. e ≡ Refusal.NoMemory) }
-{
-    let mut copy = table.clone()?;
-    copy.set(criterion.clone()?)?;
-    Ok(copy)
-}
-
-// A copy of a table without a criterion.
-fn without_criterion(table: &CriteriaTable, name: &Name) -> Result<CriteriaTable, Refusal>
-    requires { remove_verdict table.now name.now ≡ None }
-    ensures ok { IfOk result (λ t. t ≡ map.remove table.now name.now) }
-    ensures table { IfOk result IsTable }
-    ensures memory { IfErr result (λ e. e ≡ Refusal.NoMemory) }
-{
-    let mut copy = table.clone()?;
-    copy.remove(name.clone()?)?;
-    Ok(copy)
 }

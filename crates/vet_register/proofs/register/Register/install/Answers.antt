@@ -1,17 +1,16 @@
-use Rattle.std.proofs.Common.{◌≡◌, ◌∙◌, ◌++◌, sym, ap, subst}
-use Rattle.vet_graph.specs.StandingOf.{standing_of}
+use Rattle.std.proofs.Common.{◌≡◌, ◌∙◌, sym, ap, subst}
+use Rattle.vet_register.specs.Changes.{changed}
 use Rattle.vet_register.specs.Machine.{next}
 use Rattle.vet_register.specs.RegisterView.{IsPrepared}
 use Rattle.vet_register.specs.Sound.{IsSound}
-use Rattle.vet_register.specs.State.{State}
-use Rattle.vet_register.proofs.Soundness.{MoveLaws, sound_after}
+use Rattle.vet_register.specs.State.{State, standing}
 use Rattle.vet_register.proofs.register.Register.install.Goals as goal
 
 pub invariant_of-self : goal.invariant_of-self
 invariant_of-self g c =
     let command = c.requires.0 in
     let change = c.args.change in
-    let prepared = subst (λ r. IsPrepared g.K.Keeper.is_ready g.K.Keeper.planned g.K.Keeper.plans g.K.Keeper.touched_of r command change) (sym c.self.view_is) c.requires.1 in
+    let prepared = subst (λ r. IsPrepared g.K.Keeper.keeping r command change) (sym c.self.view_is) c.requires.1 in
     let s : State = record {
       facts = c.self.inside.facts.content;
       demand = c.self.inside.demand;
@@ -21,33 +20,28 @@ invariant_of-self g c =
       first = c.self.inside.first;
       moves = c.self.inside.moves.items;
     } in
-    let facts = c.apply.ensures.content ∙ prepared.facts in
-    let laws : MoveLaws = record {
-      differences = c.moves_are_differences.ensures;
-      balance = c.moves_balance.ensures;
-      arrivals = c.runs_of_moves_add.ensures.arrivals;
-      departures = c.runs_of_moves_add.ensures.departures;
-    } in
-    let same : next s command ≡ record {
-      facts = c.apply.new.self.content;
-      demand = c.self.inside.demand;
+    let left : State = record {
+      facts = c.make_edit.new.facts.content;
+      demand = c.exchange.new.demand;
       step = change.step;
       next_entry = change.next_entry;
       moves_limit = c.self.inside.moves_limit;
-      first = c.self.inside.first;
-      moves = c.append_reserved.new.moves.items;
-    } = λ i. record {
-      facts = sym facts i;
-      demand = c.self.inside.demand;
-      step = sym prepared.step i;
-      next_entry = sym prepared.next_entry i;
+      first = c.make_recording.new.first;
+      moves = c.make_recording.new.moves.items;
+    } in
+    let made : changed change s ≡ left = λ i. record {
+      facts = sym c.make_edit.ensures i;
+      demand = sym c.exchange.ensures i;
+      step = change.step;
+      next_entry = change.next_entry;
       moves_limit = c.self.inside.moves_limit;
-      first = c.self.inside.first;
-      moves = sym (c.append_reserved.ensures ∙ ap (λ more. c.self.inside.moves.items ++ more) prepared.records) i;
-    } in (
+      first = sym c.make_recording.ensures.first i;
+      moves = sym c.make_recording.ensures.moves i;
+    } in
+    let same : next s command ≡ left = sym prepared.step.becomes ∙ made in (
       (
-        c.apply-2.ensures.keeps _ _ (subst (λ f. g.K.Keeper.plans change.update f c.self.inside.demand) (sym facts) prepared.basis),
-        c.apply-2.ensures.standing ∙ prepared.standing ∙ ap (λ f. standing_of f c.self.inside.demand) (sym facts),
+        c.apply.ensures.keeps _ _ (subst (λ (t : State). g.K.Keeper.keeping.plans change.update t.facts t.demand) same prepared.step.basis),
+        c.apply.ensures.standing ∙ prepared.step.standing ∙ ap standing same,
       ),
-      subst IsSound same (sound_after laws s command c.self.invariant.1 prepared.accepts prepared.table prepared.publishers),
+      subst IsSound same prepared.step.sound,
     )

@@ -11,7 +11,7 @@ use Rattle.vet_register.proofs.Soundness.{same_pairs}
 use Rattle.vet_register.proofs.register.Register.new.Given as given
 use Rattle.vet_register.proofs.register.Register.new.Goals as goal
 
-stands : (g : given.Over) (c : goal.After-new-2 g) → g.K.Keeper.standing c.apply.new.self ≡ standing_of no_facts c.args.demand
+stands : (g : given.Over) (c : goal.After-new-2 g) → g.K.Keeper.keeping.standing c.apply.new.self ≡ standing_of no_facts c.args.demand
 stands g c = c.apply.ensures.standing ∙ c.in_ok-update.ensures.planned ∙ ap (λ f. standing_of f c.args.demand) c.in_ok-facts.ensures.ok
 
 in_order : (g : given.Over) (c : goal.After-new-2 g) → IsInOrder c.args.demand

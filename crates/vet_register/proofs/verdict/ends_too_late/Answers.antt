@@ -4,7 +4,7 @@ use Rattle.std.specs.Prelude.{◌+ℤ◌, pos}
 use Rattle.vet_base.specs.declared.limits.TheConstants.{LAST_DAY_NUMBER, MOST_WINDOW_DAYS}
 use Rattle.vet_base.specs.Day.{day_number}
 use Rattle.vet_register.proofs.Publishing.{not_before}
-use Rattle.vet_register.proofs.register.ends_too_late.Goals as goal
+use Rattle.vet_register.proofs.verdict.ends_too_late.Goals as goal
 
 pub returns-in-None : goal.returns-in-None
 returns-in-None c =

@@ -1,0 +1,115 @@
+//! A run that gives its commands as lists.
+
+use crate::commands::command;
+use crate::fault::Fault;
+use crate::line::is_command;
+use crate::print::{print_contents, print_outcome, print_refusal};
+use crate::run::{Ending, Told, tell_fault};
+use crate::setting::register_of;
+use std::alloc::Global;
+use std::io;
+use vet_base::refusal::Refusal;
+use vet_graph::keeper::Keeper;
+use vet_register::command::{Command, Outcome};
+use vet_register::register::Register;
+
+/// Gives an example's commands as lists, each as long as no line between them is refused, and prints their
+/// answers and, in the end, what the register holds. Lines that give no command are passed over.
+pub fn run_together<K: Keeper>(rt: &impl Print, alloc: Global, text: &str) -> io::Result<Ending> {
+    match register_of::<K>(alloc, text) {
+        Ok(mut register) => run_on(rt, alloc, &mut register, text),
+        Err(refusal) => {
+            print_refusal(rt, &refusal)?;
+            Ok(Ending::Refused)
+        }
+    }
+}
+
+// A run of an example on its register.
+fn run_on<K: Keeper>(
+    rt: &impl Print,
+    alloc: Global,
+    register: &mut Register<K>,
+    text: &str,
+) -> io::Result<Ending> {
+    let mut commands = Vec::new(alloc);
+    let ending = give_lists(rt, alloc, register, &mut commands, text)?;
+    give_list(rt, alloc, register, commands.as_slice())?;
+    print_contents(rt, register)?;
+    Ok(ending)
+}
+
+// Gives all lists but the last, which is left.
+fn give_lists<K: Keeper>(
+    rt: &impl Print,
+    alloc: Global,
+    register: &mut Register<K>,
+    commands: &mut Vec<Command>,
+    text: &str,
+) -> io::Result<Ending> {
+    for line in text.lines() {
+        if is_command(line) {
+            match give_line(rt, alloc, register, commands, line)? {
+                Told::Answer => {}
+                _ => return Ok(Ending::Refused),
+            }
+        }
+    }
+    Ok(Ending::Whole)
+}
+
+// Puts a line's command behind the list; where it is refused, gives the list first.
+fn give_line<K: Keeper>(
+    rt: &impl Print,
+    alloc: Global,
+    register: &mut Register<K>,
+    commands: &mut Vec<Command>,
+    line: &str,
+) -> io::Result<Told> {
+    match command(alloc, line) {
+        Ok(command) => Ok(held(commands, command)),
+        Err(fault) => give_before(rt, alloc, register, commands, &fault),
+    }
+}
+
+// Gives the list, and then tells the fault of the line behind it.
+fn give_before<K: Keeper>(
+    rt: &impl Print,
+    alloc: Global,
+    register: &mut Register<K>,
+    commands: &mut Vec<Command>,
+    fault: &Fault,
+) -> io::Result<Told> {
+    give_list(rt, alloc, register, commands.as_slice())?;
+    commands.clear();
+    tell_fault(rt, fault)
+}
+
+fn held(commands: &mut Vec<Command>, command: Command) -> Told {
+    match commands.push(command) {
+        Ok(()) => Told::Answer,
+        Err(_) => Told::NoMemory,
+    }
+}
+
+fn give_list<K: Keeper>(
+    rt: &impl Print,
+    alloc: Global,
+    register: &mut Register<K>,
+    commands: &[Command],
+) -> io::Result<()> {
+    match register.run_all(alloc, commands) {
+        Ok(answers) => print_answers(rt, answers.as_slice()),
+        Err(refusal) => print_refusal(rt, &refusal),
+    }
+}
+
+fn print_answers(rt: &impl Print, answers: &[Result<Outcome, Refusal>]) -> io::Result<()> {
+    for answer in answers {
+        match answer {
+            Ok(outcome) => print_outcome(rt, *outcome)?,
+            Err(refusal) => print_refusal(rt, refusal)?,
+        }
+    }
+    Ok(())
+}

@@ -1,0 +1,142 @@
+-- The answer to an action: what is judged of it, or its effect.
+use Rattle.std.proofs.Common.{◌≡◌, ◌⊎◌, ℕ, ◌<◌, ◌^◌, Bool, true, false, cond, Option, Some, None, List, [], Ok, Err, refl, sym, ap, subst, ◌∙◌, inl, inr, arith}
+use Rattle.std.proofs.lemmas.Bool.{ltb-false}
+use Rattle.vet_base.specs.declared.criterion.Criterion.{Criterion}
+use Rattle.vet_base.specs.declared.limits.TheConstants.{MOST_PUBLISHERS}
+use Rattle.vet_base.specs.declared.refusal.Limit.TheVariants as limit
+use Rattle.vet_base.specs.declared.refusal.Refusal.{Refusal}
+use Rattle.vet_base.specs.declared.refusal.Refusal.TheVariants.{CriterionInUse, NoMemory, TooLarge, UnknownCriterion}
+use Rattle.vet_base.specs.Criteria.{IsTable}
+use Rattle.vet_base.specs.CriteriaChanges.{remove_rules, remove_verdict, set_limits, set_references, set_rules, set_verdict}
+use Rattle.vet_base.specs.Day.{DayValue}
+use Rattle.vet_base.specs.Gives.{Answers, Refuses, Told, refuse_if, ◌>>=◌}
+use Rattle.vet_base.proofs.Telling.{not_refused, then_told}
+use Rattle.vet_entries.specs.declared.publisher.Publisher.{Publisher}
+use Rattle.vet_entries.specs.Facts.{Fits, edited, is_named_by}
+use Rattle.std.specs.List.{list_any}
+use Rattle.vet_entries.specs.PublisherRecords.{IsByName, records_of, records_total, with_records}
+use Rattle.vet_entries.specs.Publishers as Publishers
+use Rattle.vet_entries.specs.Publishers.{publishers_eq, publishers_eq-Decides}
+use Rattle.vet_register.specs.declared.command.Action.{Action}
+use Rattle.vet_register.specs.declared.command.Action.TheVariants.{RemoveCriterion, SetCriterion, SetPublishers}
+use Rattle.vet_register.specs.declared.edits.Asked.TheVariants as asked
+use Rattle.vet_register.specs.declared.edits.Effect.{Effect}
+use Rattle.vet_register.specs.declared.verdict.Answer.{Answer}
+use Rattle.vet_register.specs.declared.verdict.Answer.TheVariants.{Already, Accepted}
+use Rattle.vet_register.specs.Machine.{facts_after, number_after, number_given}
+use Rattle.vet_register.specs.RegisterView.{Asks, IsEffect, IsExact, RegisterView, facts_room}
+use Rattle.vet_register.specs.Sound.{ArePublishers, AreSound, IsSound}
+use Rattle.vet_register.specs.State.{State}
+use Rattle.vet_register.specs.Verdict.{judged, publisher_limit, step_limit}
+use Rattle.vet_register.proofs.Effects.{passed, sound_effect}
+use Rattle.vet_register.proofs.Publishing.{are_publishers}
+
+-- ---- answers
+
+pub never_refuses : {A : Type 0} (e : Refusal) (x : A) → Refuses e (Ok x) → ⊥
+never_refuses (UnknownCriterion n) x (inl h) = cc h
+never_refuses (UnknownCriterion n) x (inr h) = cc h
+never_refuses e x h = cc h
+
+-- what is answered without a refusal is what is told
+pub answered : {A : Type 0} (t : Told A) (x : A) → Answers t (Ok x) → t ≡ Ok x
+answered (Ok y) x h = sym h
+answered (Err e) x h = absurd (never_refuses e x h)
+
+-- a refusal is the same for whatever would be answered
+pub refuses_too : (A B : Type 0) (e f : Refusal) → Refuses {A = A} e (Err f) → Refuses {A = B} e (Err f)
+refuses_too A B (UnknownCriterion n) f (inl h) = inl (ap Err (cc h))
+refuses_too A B (UnknownCriterion n) f (inr h) = inr (ap Err (cc h))
+refuses_too A B e f h = ap Err (cc h)
+
+module _ {K : Type 0} (r : RegisterView K) (a : Action) where
+  -- a refusal is passed on
+  pub refused : (t : Told Answer) (f : Refusal) → Answers t (Err f) → Asks r a t (Err f)
+  refused (Ok x) f h = cc h
+  refused (Err e) f h = refuses_too _ _ e f h
+
+  -- what is accepted has an effect
+  pub effective : (t : Told Answer) (e : Effect) → t ≡ Ok Accepted → IsEffect r a e → Asks r a t (Ok (asked.Effect e))
+  effective t e told is = rw told is
+
+  -- or memory is wanting
+  pub no_memory : (t : Told Answer) (f : Refusal) → t ≡ Ok Accepted → f ≡ NoMemory → Asks r a t (Err f)
+  no_memory t f told is = rw told is
+
+  -- what has an effect was accepted
+  pub accepted : (t : Told Answer) (e : Effect) → Asks r a t (Ok (asked.Effect e)) → (t ≡ Ok Accepted) × IsEffect r a e
+  accepted (Err f) e h = absurd (never_refuses f _ h)
+  accepted (Ok (Already n)) e h = cc h
+  accepted (Ok Accepted) e h = (refl, h)
+
+  -- what is refused was refused by the verdict, or for want of memory
+  pub refusal_told : {B : Type 0} (t : Told Answer) (then : Answer → Told B) (f : Refusal) → Asks r a t (Err f) → (f ≡ NoMemory) ⊎ ((t >>= then) ≡ Err f)
+  refusal_told (Err (UnknownCriterion n)) then f (inl h) = inr (sym (ap Err (cc h)))
+  refusal_told (Err (UnknownCriterion n)) then f (inr h) = inl (cc h)
+  refusal_told (Err e) then f h = inr (sym (ap Err (cc h)))
+  refusal_told (Ok (Already n)) then f h = cc h
+  refusal_told (Ok Accepted) then f h = inl h
+
+  -- and before moves are known, exactly so
+  pub refusal_exact : (U : Type 0) (t : Told Answer) (f : Refusal) → Asks r a t (Err f) → IsExact {K = K} {U = U} t (Err f)
+  refusal_exact U (Err e) f h = refuses_too _ _ e f h
+  refusal_exact U (Ok (Already n)) f h = cc h
+  refusal_exact U (Ok Accepted) f h = tt
+
+  -- the effect of what is accepted in a state that stays, if criteria and publisher records are sound after it
+  pub effect_is : (s : State) (day : DayValue) (e : Effect) → r.state ≡ s → IsSound s → judged s day a ≡ Ok Accepted → edited e.edit s.facts ≡ facts_after s a
+      → e.number ≡ number_given s a → Fits e.edit (facts_room r) → IsTable (facts_after s a).criteria
+      → ArePublishers (facts_after s a).publishers → IsEffect r a e
+  effect_is s day e stays sound told facts number fits is are =
+      let same : s ≡ r.state = sym stays in
+      record {
+        facts = subst (λ (t : State). edited e.edit t.facts ≡ facts_after t a) same facts;
+        number = subst (λ (t : State). e.number ≡ number_given t a) same number;
+        sound = subst (λ (t : State). AreSound (facts_after t a) (number_after t a)) same (sound_effect s day a told sound.facts is are);
+        fits = fits;
+      }
+
+-- ---- what was passed
+
+-- any day, where none matters
+pub some_day : DayValue
+some_day = record { year = 0; month = 1; day = 1 }
+
+-- a criterion that is set passes all that the table asks
+pub set_passed : (s : State) (day : DayValue) (c : Criterion) → judged s day (SetCriterion c) ≡ Ok Accepted → set_verdict s.facts.criteria c ≡ Ok tt
+set_passed s day c told =
+    let p = passed s day (SetCriterion c) told in
+    let l = then_told (set_limits s.facts.criteria c.name) (λ _. step_limit s) tt p.limits in
+    ap (λ t. t >>= λ _. set_references s.facts.criteria c >>= λ _. set_rules c.name) l.0 ∙ ap (λ t. t >>= λ _. set_rules c.name) p.references ∙ p.rules
+
+-- so does the name of one that is removed
+pub remove_passed : (s : State) (day : DayValue) (n : List ℕ) → judged s day (RemoveCriterion n) ≡ Ok Accepted → remove_verdict s.facts.criteria n ≡ Ok tt
+remove_passed s day n told =
+    let p = passed s day (RemoveCriterion n) told in
+    let u = then_told (remove_rules s.facts.criteria n) (λ _. refuse_if (list_any (is_named_by n) s.facts.entries) CriterionInUse) tt p.rules in
+    ap (λ t. t >>= λ _. remove_rules s.facts.criteria n) p.references ∙ u.0
+
+module _ (s : State) (day : DayValue) (name : List ℕ) (records : List Publisher) (told : judged s day (SetPublishers name records) ≡ Ok Accepted) where
+  limited : publisher_limit s name records ≡ Ok tt
+  limited = (then_told (publisher_limit s name records) (λ _. step_limit s) tt (passed s day (SetPublishers name records) told).limits).0
+
+  -- publisher records that are set can be counted
+  pub records_counted : records_total (with_records name records s.facts.publishers) < 2 ^ 64
+  records_counted = omega (arith, ltb-false MOST_PUBLISHERS (records_total (with_records name records s.facts.publishers)) (not_refused _ (TooLarge limit.Publishers) limited))
+
+  -- they are sound
+  pub records_sound : ArePublishers s.facts.publishers → Publishers.IsInOrder records → IsByName (with_records name records s.facts.publishers)
+      → ArePublishers (with_records name records s.facts.publishers)
+  records_sound are ordered named = are_publishers s name records are ordered named limited
+
+  -- and others than those held
+  pub records_differ : records_of s.facts.publishers name ≡ [] → records ≡ [] → ⊥
+  records_differ none no_new =
+      differs (publishers_eq (records_of s.facts.publishers name) records) ((publishers_eq-Decides _ _).1 (none ∙ sym no_new)) (passed s day (SetPublishers name records) told).held
+    where
+      nothing : Option (Option ℕ)
+      nothing = None
+
+      differs : (b : Bool) → b ≡ true → cond b (Some None) nothing ≡ nothing → ⊥
+      differs true e h = cc h
+      differs false e h = cc e

@@ -1,0 +1,50 @@
+use Rattle.std.proofs.Common.{◌≡◌, ◌∙◌, ◌++◌, ◌∷◌, [], ap, subst, Ok, Some}
+use Rattle.std.proofs.lemmas.Result.{err_from_is_err_and}
+use Rattle.vet_entries.specs.Facts.{edited}
+use Rattle.vet_register.specs.declared.command.Action.TheVariants as action
+use Rattle.vet_register.specs.declared.verdict.Answer.TheVariants.{Accepted}
+use Rattle.vet_register.specs.RegisterView.{RegisterView}
+use Rattle.vet_register.specs.Sound.{IsSound}
+use Rattle.vet_register.specs.State.{State}
+use Rattle.vet_register.specs.Verdict.{judged}
+use Rattle.vet_register.proofs.Asking.{answered, effect_is, effective, no_memory, refused}
+use Rattle.vet_register.proofs.register.Register.add_entry.Goals as goal
+
+pub returns-in_err-number-clause-asked : goal.returns-in_err-number-clause-asked
+returns-in_err-number-clause-asked g c =
+    let passed = err_from_is_err_and c.from_residual.result c.from_residual.ensures.1 in
+    rw (passed.1, passed.2) (refused _ _ _ _ c.in_err-number.ensures)
+
+pub returns-in_err-edit_adding-clause-asked : goal.returns-in_err-edit_adding-clause-asked
+returns-in_err-edit_adding-clause-asked g c =
+    let passed = err_from_is_err_and c.from_residual-in_err-edit_adding.result c.from_residual-in_err-edit_adding.ensures.1 in
+    let told : judged c.args.self.now.state c.args.day (action.AddEntry c.args.entry.now) ≡ Ok Accepted = answered _ _ c.in_ok-number.ensures ∙ ap Ok c.in_default.is in
+    rw (passed.1, passed.2) (no_memory _ _ _ _ told c.in_err-edit_adding.ensures.memory)
+
+pub returns-clause-asked : goal.returns-clause-asked
+returns-clause-asked g c =
+    let state = c.args.self.now.state in
+    let asks = action.AddEntry c.args.entry.now in
+    let sound : IsSound state = subst (λ (r : RegisterView _). IsSound r.state) c.self.view_is c.self.invariant.1 in
+    let told : judged state c.args.day asks ≡ Ok Accepted = answered _ _ c.in_ok-number.ensures ∙ ap Ok c.in_default.is in
+    let added = c.in_ok-edit_adding.ensures in
+    let before : State = record {
+      facts = c.self.inside.facts.content;
+      demand = c.self.inside.demand;
+      step = c.self.inside.step;
+      next_entry = c.self.inside.next_entry;
+      moves_limit = c.self.inside.moves_limit;
+      first = c.self.inside.first;
+      moves = c.self.inside.moves.items;
+    } in
+    let stays = (λ i. record before { facts = added.content i }) ∙ ap (λ (r : RegisterView _). r.state) c.self.view_is in
+    let edit = subst (λ (r : RegisterView _). edited c.in_ok-edit_adding.field-0 r.state.facts
+    ≡ record r.state.facts { entries = r.state.facts.entries ++ (record { number = r.state.next_entry; entry = c.in_ok-own.own }) ∷ [] })
+    c.self.view_is added.edit in
+    let facts = edit ∙ (λ i. record {
+      criteria = state.facts.criteria;
+      entries = state.facts.entries ++ (record { number = state.next_entry; entry = c.in_ok-own.ensures i }) ∷ [];
+      publishers = state.facts.publishers;
+    }) in
+    let number = ap (λ (r : RegisterView _). Some r.state.next_entry) c.self.view_is in
+    effective _ _ _ _ told (effect_is _ _ state c.args.day _ stays sound told facts number added.fits sound.facts.criteria sound.facts.publishers)

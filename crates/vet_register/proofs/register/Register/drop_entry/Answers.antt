@@ -1,0 +1,30 @@
+use Rattle.std.proofs.Common.{◌≡◌, ◌∙◌, ◌<◌, ap, refl, sym, subst, length, not, filter, None, Ok}
+use Rattle.std.specs.List.{remove}
+use Rattle.vet_entries.specs.Facts.{Fits, edited, has_number}
+use Rattle.vet_register.specs.declared.command.Action.TheVariants as action
+use Rattle.vet_register.specs.declared.verdict.Answer.TheVariants.{Accepted}
+use Rattle.vet_register.specs.RegisterView.{RegisterView, facts_room}
+use Rattle.vet_register.specs.Sound.{IsSound}
+use Rattle.vet_register.specs.Verdict.{checked, held_or, judged}
+use Rattle.vet_register.proofs.Asking.{effect_is, effective}
+use Rattle.vet_register.proofs.Drops.{dropped, passes, place_within}
+use Rattle.vet_register.proofs.register.Register.drop_entry.Goals as goal
+
+pub edit_dropping-requires : goal.edit_dropping-requires
+edit_dropping-requires g c =
+    subst (λ (r : RegisterView _). c.in_ok-place.place < length r.state.facts.entries) (sym c.self.view_is)
+    (place_within c.args.self.now.state.facts.entries c.args.number c.in_ok-place.place c.in_ok-place.ensures.place)
+
+pub returns-clause-asked : goal.returns-clause-asked
+returns-clause-asked g c day =
+    let state = c.args.self.now.state in
+    let asks = action.DropEntry c.args.number in
+    let sound : IsSound state = subst (λ (r : RegisterView _). IsSound r.state) c.self.view_is c.self.invariant.1 in
+    let told : judged state day asks ≡ Ok Accepted = ap (held_or None) (passes (checked state day asks) c.in_ok-place.place (c.in_ok-place.ensures.refused day)) in
+    let gone : remove state.facts.entries c.in_ok-place.place ≡ filter (λ h. not (has_number c.args.number h)) state.facts.entries =
+    dropped c.args.number c.in_ok-place.place state.facts.entries sound.facts.entries.numbers_rise c.in_ok-place.ensures.place in
+    let edit = subst (λ (r : RegisterView _). edited c.edit_dropping.result r.state.facts ≡ record r.state.facts { entries = remove r.state.facts.entries c.in_ok-place.place })
+    c.self.view_is c.edit_dropping.ensures.edit in
+    let facts = edit ∙ (λ i. record { criteria = state.facts.criteria; entries = gone i; publishers = state.facts.publishers }) in
+    let fits = subst (λ (r : RegisterView _). Fits c.edit_dropping.result (facts_room r)) c.self.view_is c.edit_dropping.ensures.fits in
+    effective _ _ _ _ told (effect_is _ _ state day _ refl sound told facts refl fits sound.facts.criteria sound.facts.publishers)

@@ -1,0 +1,91 @@
+use Rattle.std.proofs.Common.{◌≡◌, ◌∙◌, ◌≤◌, ◌+◌, ap, sym, subst, Ok}
+use Rattle.std.proofs.lemmas.Result.{err_from_is_err_and}
+use Rattle.vet_base.specs.declared.limits.TheConstants.{LAST_NUMBER}
+use Rattle.vet_entries.specs.Facts.{FactsRoom, Fits}
+use Rattle.vet_register.specs.declared.verdict.Answer.TheVariants.{Accepted}
+use Rattle.vet_register.specs.Changes.{FitsFacts, facts_by}
+use Rattle.vet_register.specs.Machine.{number_after}
+use Rattle.vet_register.specs.RegisterView.{Asks, IsStep, facts_room}
+use Rattle.vet_graph.specs.StandingOf.{standing_of}
+use Rattle.vet_register.specs.State.{State}
+use Rattle.vet_register.specs.Sound.{AreSound}
+use Rattle.vet_register.specs.Verdict.{judged}
+use Rattle.vet_register.proofs.Asking.{accepted, refusal_exact, refusal_told}
+use Rattle.vet_register.proofs.Effects.{next_number_follows, passed}
+use Rattle.vet_register.proofs.Prepared.{AreParts, IsUpdate, is_step}
+use Rattle.vet_register.proofs.Soundness.{MoveLaws}
+use Rattle.vet_register.proofs.register.Register.prepare.Goals as goal
+
+pub returns-in_err-number-clause-told : goal.returns-in_err-number-clause-told
+returns-in_err-number-clause-told g c =
+    let passed = err_from_is_err_and c.from_residual.result c.from_residual.ensures.1 in
+    rw (passed.1, passed.2) (refusal_told _ _ _ _ _ c.in_err-number.ensures.asked)
+
+pub returns-in_err-number-clause-exact : goal.returns-in_err-number-clause-exact
+returns-in_err-number-clause-exact g c =
+    let passed = err_from_is_err_and c.from_residual.result c.from_residual.ensures.1 in
+    rw (passed.1, passed.2) (refusal_exact _ _ _ _ _ c.in_err-number.ensures.asked)
+
+pub change-requires-clause-limit : goal.change-requires-clause-limit
+change-requires-clause-limit g c =
+    let command = c.args.command.now in
+    let action = command.action in
+    let asks = accepted c.asked_by.new.self action (judged c.args.self.now.state command.day action) c.in-Effect.effect
+    (subst (Asks c.asked_by.new.self action (judged c.args.self.now.state command.day action)) (ap Ok c.in-Effect.is) c.in_ok-number.ensures.asked) in
+    let told = subst (λ (s : State). judged s command.day action ≡ Ok Accepted) (sym c.asked_by.ensures.state) asks.0 in
+    subst (λ (s : State). number_after s action ≤ LAST_NUMBER + 1) (sym c.plan.ensures.state)
+    (next_number_follows c.asked_by.new.self.state action (passed c.asked_by.new.self.state command.day action told).limits c.state_is_sound.ensures.next_number)
+
+pub returns-in_ok-change-in-Effect-clause-prepared : goal.returns-in_ok-change-in-Effect-clause-prepared
+returns-in_ok-change-in-Effect-clause-prepared g c =
+    let command = c.args.command.now in
+    let action = command.action in
+    let change = c.in_ok-change-in-Effect.field-0 in
+    let s = c.asked_by.new.self.state in
+    let asks = accepted c.asked_by.new.self action (judged c.args.self.now.state command.day action) c.in-Effect.effect
+    (subst (Asks c.asked_by.new.self action (judged c.args.self.now.state command.day action)) (ap Ok c.in-Effect.is) c.in_ok-number.ensures.asked) in
+    let told = subst (λ (s : State). judged s command.day action ≡ Ok Accepted) (sym c.asked_by.ensures.state) asks.0 in
+    let planned = c.in_ok-planned-in-Effect.ensures in
+    let made = c.in_ok-change-in-Effect.ensures in
+    let parts : AreParts c.plan.new.self.state command change = record {
+      fit = made.told;
+      demand = made.demand;
+      moves = made.moves;
+      first = made.first;
+      step = made.step;
+      next_entry = made.next_entry;
+      outcome = made.outcome;
+    } in
+    let facts = asks.1.facts in
+    let update : IsUpdate g.K.Keeper.keeping s action change.update = subst (λ u. IsUpdate g.K.Keeper.keeping s action u) (sym made.update) (record {
+      standing = planned.standing ∙ ap (λ f. standing_of f s.demand) facts;
+      basis = subst (λ f. g.K.Keeper.keeping.plans c.in_ok-planned-in-Effect.planned.update f s.demand) facts planned.plans;
+      touches = planned.touched;
+    }) in
+    let laws : MoveLaws = record {
+      differences = c.moves_are_differences.ensures;
+      balance = c.moves_balance.ensures;
+      arrivals = c.runs_of_moves_add.ensures.arrivals;
+      departures = c.runs_of_moves_add.ensures.departures;
+    } in
+    let by = ap (λ e. facts_by e s.facts) made.edit ∙ planned.edit ∙ facts in
+    let step = is_step laws g.K.Keeper.keeping s command change c.state_is_sound.ensures told asks.1.sound
+    (subst (λ (t : State). AreParts t command change) c.plan.ensures.state parts) by update in
+    let left : FactsRoom = facts_room c.change.new.self in
+    let room : facts_room c.plan.new.self ≡ left = λ i. record { content = (sym made.state i).facts; room = sym made.facts_room i } in
+    record {
+      step = subst (λ (t : State). IsStep g.K.Keeper.keeping t command change) (sym (made.state ∙ c.plan.ensures.state)) step;
+      fits = subst (λ e. FitsFacts e left) (sym made.edit) (subst (Fits c.in_ok-planned-in-Effect.planned.edit) room planned.fits);
+      move_room = made.room;
+      ready = subst (λ k. g.K.Keeper.keeping.is_ready k change.update) (sym made.keeper)
+          (subst (λ u. g.K.Keeper.keeping.is_ready c.plan.new.self.keeper u) (sym made.update) planned.ready);
+    }
+
+pub plan-requires-clause-sound : goal.plan-requires-clause-sound
+plan-requires-clause-sound g c =
+    let command = c.args.command.now in
+    let action = command.action in
+    let s = c.asked_by.new.self.state in
+    let asks = accepted c.asked_by.new.self action (judged c.args.self.now.state command.day action) c.in-Effect.effect
+    (subst (Asks c.asked_by.new.self action (judged c.args.self.now.state command.day action)) (ap Ok c.in-Effect.is) c.in_ok-number.ensures.asked) in
+    (number_after s action, subst (λ f. AreSound f (number_after s action)) (sym asks.1.facts) asks.1.sound)

@@ -1,0 +1,51 @@
+-- What a prepared change makes of a state (ours): one equation for all commands.
+use Rattle.std.specs.Prelude.{ℕ, ◌++◌, ◌≤◌, List, [], Option, Some, None, length}
+use Rattle.vet_demand.specs.declared.pair.Pair.{Pair}
+use Rattle.vet_entries.specs.declared.facts.Edit.{Edit}
+use Rattle.vet_entries.specs.Facts.{Facts, FactsRoom, Fits, edited}
+use Rattle.vet_graph.specs.declared.standing.Counts.{Counts}
+use Rattle.vet_register.specs.declared.change.Change.{Change}
+use Rattle.vet_register.specs.declared.moves.RecordedMove.{RecordedMove}
+use Rattle.vet_register.specs.declared.moves.Recording.{Recording}
+use Rattle.vet_register.specs.declared.moves.Recording.TheVariants.{Behind, Anew}
+use Rattle.vet_register.specs.State.{State}
+
+-- the facts after an edit, if there is one
+abbrev pub facts_by : Option Edit → Facts → Facts
+facts_by None facts = facts
+facts_by (Some edit) facts = edited edit facts
+
+-- the demand, unless there is another
+abbrev pub demand_by : Option (List Pair) → List Pair → List Pair
+demand_by None demand = demand
+demand_by (Some other) demand = other
+
+-- the recorded moves, and the counts at first, after a recording
+abbrev pub moves_by : Recording → List RecordedMove → List RecordedMove
+moves_by (Behind more) moves = moves ++ more.items
+moves_by (Anew counts) moves = []
+
+abbrev pub first_by : Recording → Counts → Counts
+first_by (Behind more) first = first
+first_by (Anew counts) first = counts
+
+-- the state after a change
+abbrev pub changed : {K U : Type 0} → Change K U → State → State
+changed change s = record {
+  facts = facts_by change.edit s.facts;
+  demand = demand_by change.demand s.demand;
+  step = change.step;
+  next_entry = change.next_entry;
+  moves_limit = s.moves_limit;
+  first = first_by change.recording s.first;
+  moves = moves_by change.recording s.moves;
+}
+
+-- there is room for an edit, and for a recording
+abbrev pub FitsFacts : Option Edit → FactsRoom → Type 0
+FitsFacts None facts = Unit {0}
+FitsFacts (Some edit) facts = Fits edit facts
+
+abbrev pub FitsMoves : Recording → ℕ → Type 0
+FitsMoves (Behind more) room = length more.items ≤ room
+FitsMoves (Anew counts) room = Unit {0}

@@ -1,0 +1,170 @@
+//! What an accepted command does to what is held: one function a command, which asks for the verdict and then makes
+//! the edit, and room for it. What is held stays.
+ghost use Rattle.std.specs.Prelude.{◌≡◌, Ok, IfOk, IfErr};
+ghost use Rattle.std.specs.FinMap as map;
+ghost use Rattle.vet_base.specs.Criteria.{IsTable};
+ghost use Rattle.vet_base.specs.CriteriaChanges.{remove_verdict, set_verdict};
+ghost use Rattle.vet_base.specs.Day.{DayValue};
+ghost use Rattle.vet_register.specs.declared.command.Action.TheVariants as action;
+ghost use Rattle.vet_register.specs.RegisterView.{Asks, KeepsRoom};
+ghost use Rattle.vet_register.specs.Verdict.{judged};
+
+use crate::command::{Action, Command};
+use crate::register::Register;
+use crate::verdict::Answer;
+use std::alloc::Global;
+use vet_base::criteria_table::CriteriaTable;
+use vet_base::criterion::Criterion;
+use vet_base::day::Day;
+use vet_base::name::{Name, PackageName};
+use vet_base::refusal::Refusal;
+use vet_entries::entry::Entry;
+use vet_entries::facts::Edit;
+use vet_entries::publishers::Publishers;
+use vet_graph::keeper::Keeper;
+
+/// An edit of what is held, and the number of the entry that it adds.
+#[derive(Drop)]
+pub struct Effect {
+    pub(crate) edit: Edit,
+    pub(crate) number: Option<u64>,
+}
+
+/// What an action asks of a register.
+#[derive(Drop)]
+pub enum Asked {
+    /// Nothing: what it sets or adds is held already; an entry, under this number.
+    Already(Option<u64>),
+    /// This effect.
+    Effect(Effect),
+}
+
+impl<K: Keeper> Register<K> {
+    /// What a command asks of the register, and room for it.
+    pub(crate) fn asked_by(&mut self, command: &Command) -> Result<Asked, Refusal>
+        ensures asked { Asks self.new command.now.action
+            (judged self.old.state command.now.day command.now.action) result }
+        ensures state { self.new.state ≡ self.old.state }
+        ensures keeper { self.new.keeper ≡ self.old.keeper }
+        ensures room_stays { KeepsRoom self.old self.new }
+    {
+        match &command.action {
+            Action::SetCriterion(criterion) => self.set_criterion(criterion),
+            Action::RemoveCriterion(name) => self.remove_criterion(name),
+            Action::AddEntry(entry) => self.add_entry(command.day, entry),
+            Action::DropEntry(number) => self.drop_entry(*number),
+            Action::SetPublishers(package, publishers) => {
+                self.set_publishers(package, publishers)
+            }
+        }
+    }
+
+    fn set_criterion(&mut self, criterion: &Criterion) -> Result<Asked, Refusal>
+        ensures asked { (day : DayValue) → Asks self.new (action.SetCriterion criterion.now)
+            (judged self.old.state day (action.SetCriterion criterion.now)) result }
+        ensures state { self.new.state ≡ self.old.state }
+        ensures keeper { self.new.keeper ≡ self.old.keeper }
+        ensures room_stays { KeepsRoom self.old self.new }
+    {
+        if let Answer::Already(number) = self.judge_criterion(criterion)? {
+            return Ok(Asked::Already(number));
+        }
+        let table = with_criterion(self.facts.criteria(), criterion)?;
+        Ok(Asked::Effect(Effect {
+            edit: self.facts.edit_of_criteria(table),
+            number: None,
+        }))
+    }
+
+    fn remove_criterion(&mut self, name: &Name) -> Result<Asked, Refusal>
+        ensures asked { (day : DayValue) → Asks self.new (action.RemoveCriterion name.now)
+            (judged self.old.state day (action.RemoveCriterion name.now)) result }
+        ensures state { self.new.state ≡ self.old.state }
+        ensures keeper { self.new.keeper ≡ self.old.keeper }
+        ensures room_stays { KeepsRoom self.old self.new }
+    {
+        self.judge_removal(name)?;
+        let table = without_criterion(self.facts.criteria(), name)?;
+        Ok(Asked::Effect(Effect {
+            edit: self.facts.edit_of_criteria(table),
+            number: None,
+        }))
+    }
+
+    fn add_entry(&mut self, day: Day, entry: &Entry) -> Result<Asked, Refusal>
+        ensures asked { Asks self.new (action.AddEntry entry.now)
+            (judged self.old.state day (action.AddEntry entry.now)) result }
+        ensures state { self.new.state ≡ self.old.state }
+        ensures keeper { self.new.keeper ≡ self.old.keeper }
+        ensures room_stays { KeepsRoom self.old self.new }
+    {
+        if let Answer::Already(number) = self.judge_entry(day, entry)? {
+            return Ok(Asked::Already(number));
+        }
+        let own = entry.to_own()?;
+        Ok(Asked::Effect(Effect {
+            edit: self.facts.edit_adding(self.next_entry, own)?,
+            number: Some(self.next_entry),
+        }))
+    }
+
+    fn drop_entry(&mut self, number: u64) -> Result<Asked, Refusal>
+        ensures asked { (day : DayValue) → Asks self.new (action.DropEntry number)
+            (judged self.old.state day (action.DropEntry number)) result }
+        ensures state { self.new.state ≡ self.old.state }
+        ensures keeper { self.new.keeper ≡ self.old.keeper }
+        ensures room_stays { KeepsRoom self.old self.new }
+    {
+        let place = self.judge_drop(number)?;
+        Ok(Asked::Effect(Effect {
+            edit: self.facts.edit_dropping(place),
+            number: None,
+        }))
+    }
+
+    fn set_publishers(
+        &mut self,
+        package: &PackageName,
+        publishers: &Publishers,
+    ) -> Result<Asked, Refusal>
+        ensures asked { (day : DayValue) → Asks self.new
+            (action.SetPublishers «package».now publishers.now)
+            (judged self.old.state day (action.SetPublishers «package».now publishers.now)) result }
+        ensures state { self.new.state ≡ self.old.state }
+        ensures keeper { self.new.keeper ≡ self.old.keeper }
+        ensures room_stays { KeepsRoom self.old self.new }
+    {
+        if let Answer::Already(number) = self.judge_publishers(package, publishers)? {
+            return Ok(Asked::Already(number));
+        }
+        self.facts.records_stay_in_order(package, publishers);
+        Ok(Asked::Effect(Effect {
+            edit: self.facts.publishers_edit(package, publishers)?,
+            number: None,
+        }))
+    }
+}
+
+// A copy of a table with one criterion more, or with another in place of the one of its name.
+fn with_criterion(table: &CriteriaTable, criterion: &Criterion) -> Result<CriteriaTable, Refusal>
+    requires { set_verdict table.now criterion.now ≡ Ok tt }
+    ensures ok { IfOk result (λ t. t ≡ map.insert table.now criterion.now.name criterion.now) }
+    ensures table { IfOk result IsTable }
+    ensures memory { IfErr result (λ e. e ≡ Refusal.NoMemory) }
+{
+    let mut copy = table.clone()?;
+    copy.set(criterion.clone()?)?;
+    Ok(copy)
+}
+
+// A copy of a table without a criterion.
+fn without_criterion(table: &CriteriaTable, name: &Name) -> Result<CriteriaTable, Refusal>
+    requires { remove_verdict table.now name.now ≡ Ok tt }
+    ensures ok { IfOk result (λ t. t ≡ map.remove table.now name.now) }
+    ensures table { IfOk result IsTable }
+    ensures memory { IfErr result (λ e. e ≡ Refusal.NoMemory) }
+{
+    let mut copy = table.clone()?;
+    copy.remove(name.clone()?)?;
+    Ok(copy)
+}
