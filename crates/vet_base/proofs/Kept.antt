@@ -1,5 +1,5 @@
 -- How a changed table is kept, and what its verdicts say.
-use Rattle.std.proofs.Common.{◌≡◌, ℕ, ◌<◌, Bool, true, false, ◌&&◌, not, nat_le, List, [], length, get_or, set as setn, Option, Some, None, IfErr, Result, Ok, Err, OnOk, OnErr, Less, refl, sym, ap, subst, ◌∙◌, arith, inl, inr}
+use Rattle.std.proofs.Common.{◌≡◌, ℕ, ◌<◌, Bool, true, false, ◌&&◌, not, nat_le, List, [], length, get_or, set as setn, IfErr, Result, Ok, Err, OnOk, OnErr, Less, refl, sym, ap, subst, ◌∙◌, arith, inl, inr}
 use Rattle.std.specs.List.{insert, remove}
 use Rattle.std.specs.FinMap as map
 use Rattle.std.proofs.lemmas.Bool.{leb-false, false≢true}
@@ -10,7 +10,7 @@ use Rattle.vet_base.specs.declared.refusal.Refusal.{Refusal}
 use Rattle.vet_base.specs.declared.refusal.Refusal.TheVariants.{BuiltInCriterion, UnknownCriterion, CriterionInUse, TooManyCriteria}
 use Rattle.vet_base.specs.Names.{IsRising}
 use Rattle.vet_base.specs.Criteria.{Criteria, IsTable}
-use Rattle.vet_base.specs.CriteriaChanges.{is_built_in, is_full_for, is_implied, known, remove_verdict, set_limits, set_references, set_rules, set_verdict, unknown_beside}
+use Rattle.vet_base.specs.CriteriaChanges.{is_built_in, is_full_for, is_implied, remove_verdict, set_limits, set_references, set_rules, set_verdict, unknown_beside}
 use Rattle.vet_base.specs.CriteriaTable.{by_name, IsKept}
 use Rattle.vet_base.proofs.Rising.{R, Lacks, IsRising-insert}
 use Rattle.vet_base.specs.Gives.{Answers, Refuses, Told, refuse_if, ◌>>=◌}
