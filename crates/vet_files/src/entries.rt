@@ -167,7 +167,6 @@ fn read_audit_of(
 ) -> Result<Found<Option<Entry>>, Refusal>
     ensures { Gives (λ f. f) (audit_of_subject «package».now path.now (table_view table.now) criteria subject) result }
 {
-    let notices = unknown_keys(TableKind::Audit, table)?;
     let who: Option<Texts> = optional(alloc, path, table, "who")?;
     let notes = optional(alloc, path, table, "notes")?;
     let importable = optional(alloc, path, table, "importable")?;
@@ -176,6 +175,7 @@ fn read_audit_of(
         importable,
     };
     let entry = own_entry(package, subject.with_audit(audit), criteria, notes)?;
+    let notices = unknown_keys(TableKind::Audit, table)?;
     Ok(Found {
         content: Some(entry),
         notices,
