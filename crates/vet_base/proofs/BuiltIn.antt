@@ -1,5 +1,5 @@
 -- The table of the built-in criteria.
-use Rattle.std.proofs.Common.{◌≡◌, ℕ, Bool, true, false, cond, ◌||◌, List, [], ◌∷◌, Some, None, is_some, Less, refl, sym, ap, ◌∙◌, arith}
+use Rattle.std.proofs.Common.{◌≡◌, ℕ, Bool, true, false, cond, ◌||◌, List, [], ◌∷◌, Some, None, is_some, Less, refl, sym, ap, subst, ◌∙◌, arith}
 use Rattle.std.specs.Option.{option_map_or}
 use Rattle.std.specs.Ordering.{eq_by_cmp}
 use Rattle.std.specs.FinSet as set
@@ -10,7 +10,7 @@ use Rattle.std.proofs.lemmas.List.Elements.{All-nil, All-cons}
 use Rattle.std.proofs.lemmas.List.Kept.{AllPairs-cons}
 use Rattle.vet_base.specs.declared.criterion.Criterion.{Criterion}
 use Rattle.vet_base.specs.Criteria.{Criteria, IsTable, built_in_criteria, run_criterion, deploy_criterion, safe_to_run, safe_to_deploy}
-use Rattle.vet_base.specs.CriteriaTable.{by_name, IsKept}
+use Rattle.vet_base.specs.Definitions.{by_name, IsKept}
 use Rattle.vet_base.proofs.Rising.{R, only_equal, equal-from_eq, IsRising-nil}
 use Rattle.vet_base.proofs.Closing.{found_entry}
 use Rattle.vet_base.proofs.Tables.{named_in}
@@ -21,7 +21,7 @@ built_in = deploy_criterion ∷ run_criterion ∷ []
 abbrev table : Criteria
 table = map.from_sorted {R = R} (by_name built_in)
 
-get_built_in : (q : List ℕ) → map.get table q ≡ cond (eq_by_cmp R q safe_to_deploy) (Some deploy_criterion) (cond (eq_by_cmp R q safe_to_run) (Some run_criterion) None)
+pub get_built_in : (q : List ℕ) → map.get table q ≡ cond (eq_by_cmp R q safe_to_deploy) (Some deploy_criterion) (cond (eq_by_cmp R q safe_to_run) (Some run_criterion) None)
 get_built_in q = map.get-from_sorted R (by_name built_in) q tt
 
 -- the two built-in criteria make the table of them
@@ -50,9 +50,12 @@ built_in_is_table = record {
   deploy = get_built_in safe_to_deploy;
 }
 
+pub first_table : IsTable built_in_criteria
+first_table = subst IsTable is_built_in built_in_is_table
+
 pub built_in_is_kept : IsKept (safe_to_deploy ∷ safe_to_run ∷ []) built_in
 built_in_is_kept = record {
   named = refl;
   rising = AllPairs-cons (λ a b. R a b ≡ Less) safe_to_deploy (safe_to_run ∷ []) (All-cons (λ b. R safe_to_deploy b ≡ Less) safe_to_run [] refl (All-nil _)) (AllPairs-cons (λ a b. R a b ≡ Less) safe_to_run [] (All-nil _) IsRising-nil);
-  table = built_in_is_table;
+  few = omega arith;
 }

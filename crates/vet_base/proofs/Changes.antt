@@ -18,7 +18,7 @@ use Rattle.vet_base.specs.declared.criterion.Criterion.{Criterion}
 use Rattle.vet_base.specs.Names.{IsRising, members}
 use Rattle.vet_base.specs.Criteria.{Criteria, IsTable, implied_by, least_unknown, safe_to_run, safe_to_deploy}
 use Rattle.vet_base.specs.CriteriaChanges.{is_built_in, is_user, is_implied}
-use Rattle.vet_base.specs.CriteriaTable.{by_name}
+use Rattle.vet_base.specs.Definitions.{by_name}
 use Rattle.vet_base.proofs.Rising.{R, only_equal, equal-from_eq, IsRising-head, IsRising-tail, sorted_entries}
 use Rattle.vet_base.proofs.Closing.{found_entry}
 use Rattle.vet_base.proofs.Tables.{keys-by_name, nothing}

@@ -1,23 +1,23 @@
 -- What is found on the way to the closures of a table, criterion by criterion from the last one on.
-use Rattle.std.proofs.Common.{◌≡◌, ℕ, ◌<◌, ◌+◌, ◌≤◌, ◌↔◌, Bool, true, false, ◌||◌, ◌&&◌, List, [], ◌∷◌, length, get_or, not, nat_lt, Option, Some, None, slice_get, refl, sym, ap, subst, ◌∙◌, arith, inl, inr, lt-ltb, ltb-true}
+use Rattle.std.proofs.Common.{◌≡◌, ℕ, zero, suc, ◌<◌, ◌+◌, ◌≤◌, ◌↔◌, Bool, true, false, ◌||◌, ◌&&◌, List, [], ◌∷◌, map as mapped, drop, length, get_or, nat_lt, Option, Some, None, slice_get, refl, sym, ap, subst, ◌∙◌, arith, inl, inr, lt-ltb, ltb-true}
 use Rattle.std.specs.Option.{option_map_or}
-use Rattle.std.specs.Ordering.{nat_cmp}
+use Rattle.std.specs.List.{list_any}
+use Rattle.std.specs.Ordering.{nat_cmp, eq_by_cmp}
 use Rattle.std.specs.Cmp.{nat_cmp_total, both_ways}
 use Rattle.std.specs.FinSet as set
 use Rattle.std.specs.FinMap as map
-use Rattle.std.proofs.lemmas.Cmp.{nat_list_cmp_total}
-use Rattle.std.proofs.lemmas.Bool.{cases_eq, cases_lt, false≢true, or_cases, or_left, or_right, and_parts, cond-true, cond-false, le-ltb, not-false}
+use Rattle.std.proofs.lemmas.Cmp.{nat_list_cmp_total, eq_by_cmp_equiv}
+use Rattle.std.proofs.lemmas.Bool.{cases_eq, cases_lt, or_cases, or_left, or_right, or_parts, and_parts, cond-true, cond-false, le-ltb}
 use Rattle.std.proofs.lemmas.Option.{slice_get-get_or, slice_get_past}
 use Rattle.vet_base.specs.declared.criterion.Criterion.{Criterion}
 use Rattle.vet_base.specs.Closures.{apart_at, led_on}
 use Rattle.vet_base.specs.CriteriaSet.{Places, has}
 use Rattle.vet_base.specs.PlaceLaws.{same_places}
-use Rattle.vet_base.specs.Names.{NameSet, members}
-use Rattle.vet_base.specs.Criteria.{Criteria, placed, reached_by, place_of, least_unknown}
-use Rattle.vet_base.proofs.Changes.{none_found}
+use Rattle.vet_base.specs.Names.{NameSet}
+use Rattle.vet_base.specs.Criteria.{Criteria, placed, reached_by, place_of}
+use Rattle.vet_base.proofs.Rising.{R, equal-from_eq}
 use Rattle.vet_base.proofs.Closing.{Entries, alone, from_one, for_all, grown, stayed}
 use Rattle.vet_base.proofs.Tables.{len-keys, place_at, at_place, missing_place, contains-placed, contains-placed_at, placed-empty, placed-insert_held}
-use Rattle.vet_base.proofs.Walks.{among_members}
 
 -- ---- a walk over places that finds whether something is so at one of them
 
@@ -45,8 +45,33 @@ module _ (F : ℕ → Type 0) (b : Bool) (n : ℕ) (old : (b ≡ true) ↔ ((p :
 
 -- ---- names that reach by way of some criteria
 
-pub known_in : (table : Criteria) (names : NameSet) → least_unknown table names ≡ None → (m : List ℕ) → set.contains names m ≡ true → map.contains_key table m ≡ true
-known_in table names none m held = not-false _ (none_found (λ x. not (map.contains_key table x)) (members names) m none (among_members names m held))
+only_one : (n m : List ℕ) → set.contains (alone m) n ≡ true → eq_by_cmp R n m ≡ true
+only_one n m h = of_one (eq_by_cmp R n m) (sym (set.contains-insert nat_list_cmp_total set.empty m n) ∙ h)
+  where
+    of_one : (b : Bool) → (b || set.contains (set.empty {R = R}) n) ≡ true → b ≡ true
+    of_one true e = refl
+    of_one false e = sym (set.contains-empty R n) ∙ e
+
+-- a name that none of some criteria has reaches only itself by way of them
+pub lone_name : (es : Entries) (m : List ℕ) → list_any (eq_by_cmp R m) (mapped (λ e. e.0) es) ≡ false → reached_by es (alone m) ≡ alone m
+unfolding reached_by
+lone_name [] m h = refl
+lone_name ((name, c) ∷ rest) m h =
+    let parts = or_parts (eq_by_cmp R m name) (list_any (eq_by_cmp R m) (mapped (λ e. e.0) rest)) h in
+    let later = lone_name rest m parts.1 in
+    let other : eq_by_cmp R name m ≡ false = (eq_by_cmp_equiv nat_list_cmp_total).symm name m ∙ parts.0 in
+    let not_it : set.contains (alone m) name ≡ false = set.contains-insert nat_list_cmp_total set.empty m name ∙ (λ i. other i || set.contains-empty R name i) in
+    stayed name c rest (alone m) (ap (λ s. set.contains s name) later ∙ not_it) ∙ later
+
+none_dropped : (p : List ℕ → Bool) (k : ℕ) (es : Entries) → list_any p (mapped (λ e. e.0) es) ≡ false → list_any p (mapped (λ e. e.0) (drop k es)) ≡ false
+none_dropped p zero es h = h
+none_dropped p (suc k) [] h = h
+none_dropped p (suc k) (e ∷ es) h = none_dropped p k es (or_parts (p e.0) (list_any p (mapped (λ d. d.0) es)) h).1
+
+-- a name that a table lacks reaches only itself by way of the last criteria of the table
+pub lone_in : (table : Criteria) (k : ℕ) (m : List ℕ) → map.contains_key table m ≡ false → reached_by (drop k (map.entries table)) (alone m) ≡ alone m
+lone_in table k m lacks =
+    lone_name (drop k (map.entries table)) m (none_dropped (eq_by_cmp R m) k (map.entries table) (sym (map.contains_key-keys table m) ∙ lacks))
 
 module _ (table : Criteria) (es : Entries) where
   -- what the criterion at a place reaches
@@ -67,11 +92,11 @@ module _ (table : Criteria) (es : Entries) where
   in_placed : (names : NameSet) (p : ℕ) → p < length (map.keys table) → set.contains names (get_or (map.keys table) p []) ≡ true → set.contains (placed table names) p ≡ true
   in_placed names p low h = contains-placed_at table names (get_or (map.keys table) p []) p (place_at table (get_or (map.keys table) p []) p low refl) ∙ h
 
-  -- names of the table reach what stands where they do
-  pub reach_joined : (names : NameSet) → ((m : List ℕ) → set.contains names m ≡ true → map.contains_key table m ≡ true) → (joined : Places)
+  -- what the table lacks reaches only itself, and names reach what stands where they do
+  pub reach_joined : (names : NameSet) → ((m : List ℕ) → map.contains_key table m ≡ false → reached_by es (alone m) ≡ alone m) → (joined : Places)
       → ((q : ℕ) → (has q joined ≡ true) ↔ ((p : ℕ) × (has p (placed table names) ≡ true) × (has q (reach_at p) ≡ true)))
       → joined ≡ placed table (reached_by es names)
-  reach_joined names known joined tells = same_places _ _ (λ q. both_ways (has q joined) (has q (placed table (reached_by es names))) (forth q) (back q))
+  reach_joined names lone joined tells = same_places _ _ (λ q. both_ways (has q joined) (has q (placed table (reached_by es names))) (forth q) (back q))
     where
       forth : (q : ℕ) → has q joined ≡ true → has q (placed table (reached_by es names)) ≡ true
       forth q h =
@@ -80,18 +105,22 @@ module _ (table : Criteria) (es : Entries) where
           let to = placed_parts (reached_by es (alone (get_or (map.keys table) at.0 []))) q (ap (has q) (sym (reach_within at.0 from.0)) ∙ at.2) in
           in_placed (reached_by es names) q to.0 (for_all es names (get_or (map.keys table) at.0 []) (get_or (map.keys table) q []) from.1 to.1)
 
-      place : (m : List ℕ) → map.contains_key table m ≡ true → (o : Option ℕ) → place_of table m ≡ o → (p : ℕ) × (place_of table m ≡ Some p)
-      place m held None e = absurd (false≢true (sym (missing_place table m e) ∙ held))
-      place m held (Some p) e = (p, e)
+      by_place : (q : ℕ) (m : List ℕ) (o : Option ℕ) → place_of table m ≡ o → q < length (map.keys table) → set.contains names m ≡ true
+          → set.contains (reached_by es (alone m)) (get_or (map.keys table) q []) ≡ true → has q joined ≡ true
+      by_place q m None e low held reached =
+          let n = get_or (map.keys table) q [] in
+          let same : n ≡ m = equal-from_eq n m (only_one n m (sym (ap (λ s. set.contains s n) (lone m (missing_place table m e))) ∙ reached)) in
+          cc (sym e ∙ place_at table m q low same)
+      by_place q m (Some p) e low held reached =
+          let at = at_place table m p e in
+          let here : set.contains (reached_by es (alone (get_or (map.keys table) p []))) (get_or (map.keys table) q []) ≡ true = rw at.1 reached in
+          (tells q).1 (p, contains-placed_at table names m p e ∙ held, ap (has q) (reach_within p at.0) ∙ in_placed (reached_by es (alone (get_or (map.keys table) p []))) q low here)
 
       back : (q : ℕ) → has q (placed table (reached_by es names)) ≡ true → has q joined ≡ true
       back q h =
           let to = placed_parts (reached_by es names) q h in
           let one = from_one es names (get_or (map.keys table) q []) to.1 in
-          let p = place one.0 (known one.0 one.1) (place_of table one.0) refl in
-          let at = at_place table one.0 p.0 p.1 in
-          let reached : set.contains (reached_by es (alone (get_or (map.keys table) p.0 []))) (get_or (map.keys table) q []) ≡ true = rw at.1 one.2 in
-          (tells q).1 (p.0, contains-placed_at table names one.0 p.0 p.1 ∙ one.1, ap (has q) (reach_within p.0 at.0) ∙ in_placed (reached_by es (alone (get_or (map.keys table) p.0 []))) q to.0 reached)
+          by_place q one.0 (place_of table one.0) refl to.0 one.1 one.2
 
 module _ (table : Criteria) where
   placed-union : (a b : NameSet) → placed table (set.union a b) ≡ set.union (placed table a) (placed table b)

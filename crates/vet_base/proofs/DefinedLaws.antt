@@ -1,6 +1,6 @@
 -- What some criteria define is a table where nothing refuses them.
-use Rattle.std.proofs.Common.{◌≡◌, ℕ, ◌<◌, ◌≤◌, get_or, length, set as setn, OnOk, Bool, true, false, cond, ◌||◌, not, nat_lt, List, [], ◌∷◌, is_some, fold, Option, Some, None, Result, Ok, Err, refl, sym, ap, subst, ◌∙◌, arith, inl, inr, lt-ltb}
-use Rattle.std.specs.List.{All, insert, list_any}
+use Rattle.std.proofs.Common.{◌≡◌, ℕ, ◌≤◌, get_or, Bool, true, false, cond, ◌||◌, not, nat_lt, List, [], ◌∷◌, is_some, fold, Option, Some, None, Ok, Err, refl, sym, ap, subst, ◌∙◌, inl, inr, lt-ltb}
+use Rattle.std.specs.List.{All, list_any}
 use Rattle.std.specs.Option.{option_map_or}
 use Rattle.std.specs.Ordering.{eq_by_cmp, is_lt}
 use Rattle.std.specs.FinSet as set
@@ -10,21 +10,18 @@ use Rattle.std.proofs.Common.{nat_eq}
 use Rattle.std.proofs.lemmas.Cmp.{nat_list_cmp_total}
 use Rattle.std.proofs.lemmas.Bool.{false≢true, cond-false, or_parts, not-false, le-ltb, cases_lt}
 use Rattle.std.proofs.lemmas.List.Elements.{All-nil, All-cons, All-head, All-tail}
-use Rattle.std.proofs.lemmas.List.{length-map}
 use Rattle.std.proofs.lemmas.Option.{same_Some}
-use Rattle.vet_base.specs.declared.refusal.Refusal.{Refusal}
 use Rattle.vet_base.specs.declared.refusal.Refusal.TheVariants.{UnknownCriterion, BuiltInCriterion, TooManyCriteria}
-use Rattle.vet_base.specs.CriteriaTable.{IsKept}
 use Rattle.vet_base.specs.Gives.{Told}
 use Rattle.vet_base.specs.declared.limits.TheConstants.{MOST_CRITERIA}
 use Rattle.vet_base.specs.declared.criterion.Criterion.{Criterion}
-use Rattle.vet_base.specs.Names.{IsRising, members}
+use Rattle.vet_base.specs.Names.{members}
 use Rattle.vet_base.specs.Criteria.{Criteria, IsTable, built_in_criteria, run_criterion, deploy_criterion, safe_to_run, safe_to_deploy}
 use Rattle.vet_base.specs.CriteriaChanges.{is_built_in}
-use Rattle.vet_base.specs.Defined.{IsListed, defined, least_implied, least_undefined, lesser, table_told, table_unless}
-use Rattle.vet_base.proofs.Rising.{R, Lacks, IsRising-insert, equal-from_eq}
-use Rattle.vet_base.proofs.BuiltIn as built
-use Rattle.vet_base.proofs.Changes.{find-insert, find-set, names_of, names-insert, names-set, none_found, not_this, view_insert}
+use Rattle.vet_base.specs.Defined.{defined, least_implied, least_undefined, lesser, table_told, table_unless}
+use Rattle.vet_base.proofs.Rising.{R, equal-from_eq}
+use Rattle.vet_base.proofs.BuiltIn.{first_table}
+use Rattle.vet_base.proofs.Changes.{none_found, not_this}
 use Rattle.vet_base.proofs.Walks.{among_members}
 use Rattle.vet_base.proofs.DefinedTables.{with_criteria}
 
@@ -48,7 +45,7 @@ each_of_none : (Q : Criterion → Type 0) → Each Q map.empty
 each_of_none Q n c e = cc (sym (map.get-empty R n) ∙ e)
 
 -- what no criterion is named stays
-get_with : (table : Criteria) (criteria : List Criterion) (q : List ℕ) → All (λ c. eq_by_cmp R q c.name ≡ false) criteria → map.get (with_criteria table criteria) q ≡ map.get table q
+pub get_with : (table : Criteria) (criteria : List Criterion) (q : List ℕ) → All (λ c. eq_by_cmp R q c.name ≡ false) criteria → map.get (with_criteria table criteria) q ≡ map.get table q
 get_with table [] q h = refl
 get_with table (c ∷ cs) q h =
     get_with (map.insert table c.name c) cs q (All-tail (λ d. eq_by_cmp R q d.name ≡ false) c cs h)
@@ -88,9 +85,6 @@ module _ (criteria : List Criterion) (few : map.len (defined criteria) ≤ MOST_
 
   others : All (λ c. is_built_in c.name ≡ false) criteria
   others = none_built criteria own
-
-  first_table : IsTable built_in_criteria
-  first_table = subst IsTable built.is_built_in built.built_in_is_table
 
   run_stays : map.get (defined criteria) safe_to_run ≡ Some run_criterion
   run_stays = get_with built_in_criteria criteria safe_to_run (λ k d l. (let n = (get_or criteria k d).name in not_this n safe_to_run (or_parts (pointwise nat_eq n safe_to_run) (pointwise nat_eq n safe_to_deploy) (others k d l)).0)) ∙ first_table.run
@@ -143,27 +137,6 @@ module _ (criteria : List Criterion) (few : map.len (defined criteria) ≤ MOST_
   pub told_built_in : least_undefined (map.contains_key (defined criteria)) criteria ≡ None → list_any (λ c. is_built_in c.name) criteria ≡ true → table_told criteria ≡ Err BuiltInCriterion
   told_built_in e own = rw (room, e, own) refl
 
--- ---- lists of a table
-
-module _ (names : List (List ℕ)) (cs : List Criterion) (table : Criteria) (h : IsListed names cs table) (i : ℕ) (c : Criterion) where
-  pub listed_set : i < length names → get_or names i [] ≡ c.name → IsListed names (setn cs i c) (map.insert table c.name c)
-  listed_set l at =
-      let at_names : get_or (names_of cs) i [] ≡ c.name = ap (λ ns. get_or ns i []) h.named ∙ at in
-      let same : names_of (setn cs i c) ≡ names = names-set cs i c at_names ∙ h.named in
-      let rising : IsRising (names_of cs) = rw h.named h.rising in
-      let long : length cs ≡ length names = sym (length-map cs (λ (d : Criterion). d.name)) ∙ ap length h.named in
-      record { named = same; rising = h.rising; value = view_insert cs (setn cs i c) table h.value rising (rw same h.rising) c (λ q. find-set cs i c q rising (omega (arith, l, long)) at_names) }
-
-  pub listed_insert : Lacks names c.name i → IsListed (insert names i c.name) (insert cs i c) (map.insert table c.name c)
-  listed_insert lacks =
-      let more : names_of (insert cs i c) ≡ insert names i c.name = names-insert cs i c ∙ ap (λ ns. insert ns i c.name) h.named in
-      let rising : IsRising (insert names i c.name) = IsRising-insert names i c.name lacks.low lacks.high h.rising in
-      record { named = more; rising = rising; value = view_insert cs (insert cs i c) table h.value (rw h.named h.rising) (rw more rising) c (λ q. find-insert cs i c q (rw h.named lacks.low)) }
-
-pub on_both : {A B P : Type 0} (r : Result (Unit {0}) Refusal) → OnOk r A → OnOk r B → (A → B → P) → OnOk r P
-on_both (Ok u) a b f = f a b
-on_both (Err e) a b f = tt
-
 ok_parts : (full : Bool) (o : Option (List ℕ)) (own : Bool) (table t : Criteria) → ◌≡◌ {A = Told Criteria} (cond full (Err TooManyCriteria) (table_unless o own table)) (Ok t)
     → (full ≡ false) × ((o ≡ None) × (own ≡ false))
 ok_parts true o own table t e = cc e
@@ -180,6 +153,3 @@ told_is_table criteria e =
       | inr within ↦ within
     ] in
     defined_is_table criteria few parts.1.0 parts.1.1
-
-pub kept_listed : (names : List (List ℕ)) (cs : List Criterion) (table : Criteria) → IsListed names cs table → IsTable table → IsKept names cs
-kept_listed names cs table h is = record { named = h.named; rising = h.rising; table = subst IsTable (sym h.value) is }

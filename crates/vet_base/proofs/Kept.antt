@@ -1,31 +1,34 @@
 -- How a changed table is kept, and what its verdicts say.
-use Rattle.std.proofs.Common.{◌≡◌, ℕ, ◌<◌, Bool, true, false, ◌&&◌, not, nat_le, List, [], length, get_or, set as setn, IfErr, Result, Ok, Err, OnOk, OnErr, Less, refl, sym, ap, subst, ◌∙◌, arith, inl, inr}
+use Rattle.std.proofs.Common.{◌≡◌, ℕ, zero, suc, ◌+◌, ◌<◌, Bool, true, false, ◌&&◌, not, nat_le, List, [], ◌∷◌, length, get_or, set as setn, IfErr, Result, Ok, Err, OnOk, OnErr, Less, refl, sym, ap, ◌∙◌, arith, inl, inr}
 use Rattle.std.specs.List.{insert, remove}
 use Rattle.std.specs.FinMap as map
 use Rattle.std.proofs.lemmas.Bool.{leb-false, false≢true}
+use Rattle.std.proofs.lemmas.List.Edits.{length-remove}
 use Rattle.std.proofs.lemmas.List.Quantifiers.{all_pairs_remove}
 use Rattle.vet_base.specs.declared.limits.TheConstants.{MOST_CRITERIA}
 use Rattle.vet_base.specs.declared.criterion.Criterion.{Criterion}
 use Rattle.vet_base.specs.declared.refusal.Refusal.{Refusal}
 use Rattle.vet_base.specs.declared.refusal.Refusal.TheVariants.{BuiltInCriterion, UnknownCriterion, CriterionInUse, TooManyCriteria}
 use Rattle.vet_base.specs.Names.{IsRising}
-use Rattle.vet_base.specs.Criteria.{Criteria, IsTable}
+use Rattle.vet_base.specs.Criteria.{Criteria}
 use Rattle.vet_base.specs.CriteriaChanges.{is_built_in, is_full_for, is_implied, remove_verdict, set_limits, set_references, set_rules, set_verdict, unknown_beside}
-use Rattle.vet_base.specs.CriteriaTable.{by_name, IsKept}
+use Rattle.vet_base.specs.Definitions.{by_name, IsKept}
 use Rattle.vet_base.proofs.Rising.{R, Lacks, IsRising-insert}
 use Rattle.vet_base.specs.Gives.{Answers, Refuses, Told, refuse_if, ◌>>=◌}
-use Rattle.vet_base.proofs.Tables.{length_kept}
+use Rattle.vet_base.proofs.Tables.{keys_is, len-keys, length_kept, not_held}
 use Rattle.vet_base.proofs.Telling.{all_known, not_refused, then_told}
-use Rattle.vet_base.proofs.Changes.{names_of, find-set, find-insert, find-remove, names-set, names-insert, names-remove, view_insert, view_remove, table_insert, table_remove, MaySet}
+use Rattle.vet_base.proofs.Changes.{names_of, find-set, find-insert, find-remove, names-set, names-insert, names-remove, view_insert, view_remove, MaySet}
+
+longer : (xs : List (List ℕ)) (i : ℕ) (x : List ℕ) → length (insert xs i x) ≡ length xs + 1
+longer xs zero x = omega arith
+longer [] (suc i) x = refl
+longer (y ∷ ys) (suc i) x = omega (arith, longer ys i x)
 
 module _ (names : List (List ℕ)) (cs : List Criterion) (kept : IsKept names cs) (table : Criteria) (is : map.from_sorted {R = R} (by_name cs) ≡ table) where
   rising : IsRising (names_of cs)
   rising = rw kept.named kept.rising
 
-  old_table : IsTable table
-  old_table = subst IsTable is kept.table
-
-  module _ (i : ℕ) (c : Criterion) (l : i < length names) (at : get_or names i [] ≡ c.name) (may : MaySet table c) where
+  module _ (i : ℕ) (c : Criterion) (l : i < length names) (at : get_or names i [] ≡ c.name) where
     at_names : get_or (names_of cs) i [] ≡ c.name
     at_names = ap (λ ns. get_or ns i []) kept.named ∙ at
 
@@ -36,9 +39,9 @@ module _ (names : List (List ℕ)) (cs : List Criterion) (kept : IsKept names cs
     view_after_set = view_insert cs (setn cs i c) table is rising (rw same_names kept.rising) c (λ q. find-set cs i c q rising (omega (arith, l, length_kept names cs kept)) at_names)
 
     pub kept_after_set : IsKept names (setn cs i c)
-    kept_after_set = record { named = same_names; rising = kept.rising; table = subst IsTable (sym view_after_set) (table_insert table c old_table may) }
+    kept_after_set = record { named = same_names; rising = kept.rising; few = kept.few }
 
-  module _ (i : ℕ) (c : Criterion) (lacks : Lacks names c.name i) (may : MaySet table c) where
+  module _ (i : ℕ) (c : Criterion) (lacks : Lacks names c.name i) where
     more_names : names_of (insert cs i c) ≡ insert names i c.name
     more_names = names-insert cs i c ∙ ap (λ ns. insert ns i c.name) kept.named
 
@@ -48,10 +51,13 @@ module _ (names : List (List ℕ)) (cs : List Criterion) (kept : IsKept names cs
     pub view_after_insert : map.from_sorted {R = R} (by_name (insert cs i c)) ≡ map.insert table c.name c
     view_after_insert = view_insert cs (insert cs i c) table is rising (rw more_names more_rising) c (λ q. find-insert cs i c q (rw kept.named lacks.low))
 
-    pub kept_after_insert : IsKept (insert names i c.name) (insert cs i c)
-    kept_after_insert = record { named = more_names; rising = more_rising; table = subst IsTable (sym view_after_insert) (table_insert table c old_table may) }
+    pub kept_after_insert : (map.contains_key table c.name ≡ false → map.len table < MOST_CRITERIA) → IsKept (insert names i c.name) (insert cs i c)
+    kept_after_insert room =
+        let free : map.len table < MOST_CRITERIA = room (not_held names cs kept table c.name i is lacks) in
+        let many : map.len table ≡ length names = len-keys table ∙ ap length (keys_is names cs kept table is) in
+        record { named = more_names; rising = more_rising; few = omega (arith, free, many, longer names i c.name) }
 
-  module _ (i : ℕ) (n : List ℕ) (l : i < length names) (at : get_or names i [] ≡ n) (built : is_built_in n ≡ false) (free : is_implied table n ≡ false) where
+  module _ (i : ℕ) (n : List ℕ) (l : i < length names) (at : get_or names i [] ≡ n) where
     fewer_names : names_of (remove cs i) ≡ remove names i
     fewer_names = names-remove cs i ∙ ap (λ ns. remove ns i) kept.named
 
@@ -62,7 +68,7 @@ module _ (names : List (List ℕ)) (cs : List Criterion) (kept : IsKept names cs
     view_after_remove = view_remove cs (remove cs i) table is rising (rw fewer_names fewer_rising) n (λ q. find-remove cs i n q rising (omega (arith, l, length_kept names cs kept)) (ap (λ ns. get_or ns i []) kept.named ∙ at))
 
     pub kept_after_remove : IsKept (remove names i) (remove cs i)
-    kept_after_remove = record { named = fewer_names; rising = fewer_rising; table = subst IsTable (sym view_after_remove) (table_remove table n old_table built free) }
+    kept_after_remove = record { named = fewer_names; rising = fewer_rising; few = omega (arith, kept.few, length-remove names i l) }
 
 -- ---- verdicts
 

@@ -1,6 +1,6 @@
 -- Items in the order of their keys: what they are without one, and what numbers of each sum up to.
 use Rattle.std.proofs.Common.{◌≡◌, ℕ, ◌+◌, ◌-◌, ◌<◌, Bool, true, false, List, [], ◌∷◌, Option, Some, None, cond, is_some, get_or, length, slice_get, Err, not, inl, inr, refl, sym, ap, subst, ◌∙◌, arith}
-use Rattle.std.specs.Cmp.{IsTotalOrder}
+use Rattle.std.specs.Cmp.{IsTotalOrder, tied_itself}
 use Rattle.std.specs.List.{All, filter, sum_by}
 use Rattle.std.specs.Option.{unwrap_or}
 use Rattle.std.specs.Ordering.{is_eq, is_gt, is_lt}
@@ -97,6 +97,35 @@ module _ {K E : Type 0} (cmp : K → K → Ordering) (total : IsTotalOrder cmp) 
       at : (k : K) (b : Bool) → is_of cmp key k e ≡ b → (let o : Option E = cond b (Some e) (item_of cmp key items k) in o) ≡ item_of cmp key items k
       at k true h = sym held ∙ ap (item_of cmp key items) (only (key e) k (equal (cmp (key e) k) h))
       at k false h = refl
+
+  -- an item put in after the one of its key was taken out stands in its place
+  pub with_over : (items : List E) (e : E) → IsByKey cmp key items → with_item cmp key (without_item cmp key items (key e)) e ≡ with_item cmp key items e
+  with_over items e up =
+      let rest = without_item cmp key items (key e) in
+      same_items cmp total only key (with_item cmp key rest e) (with_item cmp key items e)
+      (IsByKey-with_item cmp total only key rest e (IsByKey-without_item cmp key items (key e) up)) (IsByKey-with_item cmp total only key items e up)
+      (λ k. item_of-after cmp total only key rest e k (is_of cmp key k e) refl ∙ at k (is_of cmp key k e) refl ∙ sym (item_of-after cmp total only key items e k (is_of cmp key k e) refl))
+    where
+      at : (k : K) (b : Bool) → is_of cmp key k e ≡ b
+          → (let o : Option E = cond b (Some e) (item_of cmp key (without_item cmp key items (key e)) k) in o) ≡ cond b (Some e) (item_of cmp key items k)
+      at k true h = refl
+      at k false h = item_of-stays items (key e) k (λ same. false≢true (sym h ∙ ap (λ n. is_eq (cmp (key e) n)) same ∙ ap is_eq (tied_itself total (key e))))
+
+  -- the item that was held, set again, leads back
+  pub with_back : (items : List E) (e held : E) → IsByKey cmp key items → item_of cmp key items (key e) ≡ Some held → key held ≡ key e
+      → with_item cmp key (with_item cmp key items e) held ≡ items
+  with_back items e held up found same =
+      let after = with_item cmp key items e in
+      same_items cmp total only key (with_item cmp key after held) items
+      (IsByKey-with_item cmp total only key after held (IsByKey-with_item cmp total only key items e up)) up
+      (λ k. item_of-after cmp total only key after held k (is_of cmp key k held) refl ∙ at k (is_of cmp key k held) refl)
+    where
+      at : (k : K) (b : Bool) → is_of cmp key k held ≡ b
+          → (let o : Option E = cond b (Some held) (item_of cmp key (with_item cmp key items e) k) in o) ≡ item_of cmp key items k
+      at k true h = sym found ∙ ap (item_of cmp key items) (sym same ∙ only (key held) k (equal (cmp (key held) k) h))
+      at k false h =
+          item_of-after cmp total only key items e k (is_of cmp key k e) refl
+          ∙ ap (λ b. cond b (Some e) (item_of cmp key items k)) (ap (λ n. is_eq (cmp n k)) (sym same) ∙ h)
 
   -- ---- sums
 

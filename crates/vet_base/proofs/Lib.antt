@@ -5,9 +5,12 @@ pub mod Closing
 pub mod DayLemmas
 pub mod DefinedTables
 pub mod DefinedLaws
+pub mod DefinitionLaws
 pub mod DeltaLemmas
 pub mod DeltaText
+pub mod FurtherLaws
 pub mod Held
+pub mod ItemLemmas
 pub mod Kept
 pub mod KeyedLemmas
 pub mod KeyedParts

@@ -21,7 +21,7 @@ use Rattle.vet_base.specs.CriteriaSet.{places_below}
 use Rattle.vet_base.specs.PlaceLaws.{contains-places_below, same_nat, same_places}
 use Rattle.vet_base.specs.Names.{NameSet, IsRising}
 use Rattle.vet_base.specs.Criteria.{Criteria, implied_by, place_of, placed, is_in}
-use Rattle.vet_base.specs.CriteriaTable.{by_name, IsKept}
+use Rattle.vet_base.specs.Definitions.{by_name, IsKept}
 use Rattle.vet_base.proofs.Rising.{R, Lacks, eq-itself, equal-from_eq, any_lacks, found_or_not, sorted_entries, rising_entries}
 use Rattle.vet_base.proofs.Closing.{entry_found, found_entry, not_tied}
 
@@ -141,7 +141,7 @@ module _ (names : List (List ℕ)) (criteria : List Criterion) (kept : IsKept na
       ∙ entry_found (get_or names i []) (by_name criteria) (get_or criteria i d) (subst IsRising (sym (keys-by_name criteria ∙ kept.named)) kept.rising) here
 
   pub few_kept : length names ≤ MOST_CRITERIA
-  few_kept = omega (arith, kept.table.few, len-keys (map.from_sorted {R = R} (by_name criteria)), ap length keys_kept)
+  few_kept = kept.few
 
 pub within_few : (r : Result ℕ ℕ) (n : ℕ) → n ≤ MOST_CRITERIA → IsSearchInRange r n → IfSome (result_ok r) (λ p. p < MOST_CRITERIA)
 within_few (Ok i) n few h = omega (arith, few, h)

@@ -1,5 +1,5 @@
 -- The table that the criteria of a file define beside the built-in ones, or what refuses them.
-use Rattle.std.specs.Prelude.{ℕ, ◌≡◌, map as mapped, Bool, true, false, not, nat_lt, List, Option, Some, None, Ok, Err, if◌then◌else◌, find, fold}
+use Rattle.std.specs.Prelude.{ℕ, Bool, true, false, not, nat_lt, List, Option, Some, None, Ok, Err, if◌then◌else◌, find, fold}
 use Rattle.std.specs.List.{list_any}
 use Rattle.std.specs.Ordering.{is_lt, nat_cmp}
 use Rattle.std.specs.Cmp.Lexicographic.{slice_cmp}
@@ -10,18 +10,11 @@ use Rattle.vet_base.specs.declared.refusal.Refusal.TheVariants.{UnknownCriterion
 use Rattle.vet_base.specs.Criteria.{Criteria, built_in_criteria}
 use Rattle.vet_base.specs.CriteriaChanges.{is_built_in}
 use Rattle.vet_base.specs.Gives.{Told}
-use Rattle.vet_base.specs.CriteriaTable.{by_name}
-use Rattle.vet_base.specs.Names.{IsRising, members}
+use Rattle.vet_base.specs.Names.{members}
 
 -- the built-in criteria and these, of which a later one stands in place of an earlier one of its name
 abbrev pub defined : List Criterion → Criteria
 defined criteria = fold (λ table c. map.insert table c.name c) built_in_criteria criteria
-
--- the names stand beside the criteria, in order, and these are the table
-pub record IsListed (names : List (List ℕ)) (criteria : List Criterion) (table : Criteria) : Type 0 where
-  pub named : mapped (λ c. c.name) criteria ≡ names
-  pub rising : IsRising names
-  pub value : map.from_sorted (by_name criteria) ≡ table
 
 -- the lesser of two names, where there are
 abbrev pub lesser : Option (List ℕ) → Option (List ℕ) → Option (List ℕ)

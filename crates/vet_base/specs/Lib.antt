@@ -2,13 +2,15 @@ pub mod Closures
 pub mod Criteria
 pub mod CriteriaChanges
 pub mod CriteriaSet
-pub mod CriteriaTable
 pub mod Criterion
 pub mod Day
 pub mod Defined
+pub mod Definitions
 pub mod Delta
 pub mod Fed
+pub mod FurtherCriteria
 pub mod Gives
+pub mod Items
 pub mod KeyText
 pub mod Keyed
 pub mod Name

@@ -6,9 +6,9 @@
 //! They are found criterion by criterion, from the last one on. What was found then counts only ways through
 //! the criteria seen so far. One more criterion adds to each closure that has it what its own names reach.
 //! So a table of n criteria costs n looks at what each implies and n times n unions.
-ghost use Rattle.std.specs.Prelude.{◌≡◌, ◌↔◌, ◌≤◌, ℕ, true, None};
+ghost use Rattle.std.specs.Prelude.{◌≡◌, ◌↔◌, ◌≤◌, ℕ, true};
 ghost use Rattle.vet_base.specs.Closures.{AreClosures, apart_at, closed_at, led_on};
-ghost use Rattle.vet_base.specs.Criteria.{Criteria, closure_of, leading_to, least_unknown, placed};
+ghost use Rattle.vet_base.specs.Criteria.{Criteria, closure_of, leading_to, placed};
 ghost use Rattle.vet_base.specs.CriteriaSet.{has};
 ghost use Rattle.vet_base.specs.Names.{NameSet};
 
@@ -22,11 +22,10 @@ pub struct Closures {
 }
 
 impl Closures {
-    /// The closure of the names that are placed in a set, all of which the table has. Costs a look a place.
+    /// The closure of the names that are placed in a set. Costs a look a place.
     pub fn close(&self, set: &CriteriaSet) -> CriteriaSet
         ensures closure { (table : Criteria) (names : NameSet) → AreClosures table self.now
-            → least_unknown table names ≡ None → set.now ≡ placed table names
-            → result ≡ placed table (closure_of table names) }
+            → set.now ≡ placed table names → result ≡ placed table (closure_of table names) }
     {
         self.joined(set)
     }

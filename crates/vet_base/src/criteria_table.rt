@@ -1,22 +1,20 @@
 //! The table of criteria, and the closure of a set of them.
 //!
 //! **The closure of some names is the least set that holds them and, with each name, what it implies.**
-ghost use Rattle.std.specs.Prelude.{◌≡◌, ◌⊎◌, ◌&&◌, ◌<◌, true, ◌≤◌, [], ◌∷◌, IfOk, IfErr, OnOk, OnErr, IfSome, IfNone, vec_len, insert};
+ghost use Rattle.std.specs.Prelude.{◌≡◌, ◌⊎◌, ◌<◌, true, IfOk, IfErr, OnOk, OnErr, IfSome};
 ghost use Rattle.std.specs.Option.{option_copied};
-ghost use Rattle.std.specs.FinSet as set;
 ghost use Rattle.std.specs.FinMap as map;
-ghost use Rattle.vet_base.specs.Name.{is_name};
-ghost use Rattle.vet_base.specs.Criteria.{Criteria, IsTable, built_in_criteria, closure_of, is_in, leading_to, least_unknown, place_of, placed, deploy_criterion, run_criterion, safe_to_deploy, safe_to_run, ClosureIsLeast, LedTo, PlacedNamesAreIn, PlacesAreOfNames};
+ghost use Rattle.vet_base.specs.Criteria.{IsTable, built_in_criteria, closure_of, is_in, leading_to, least_unknown, place_of, placed, ClosureIsLeast, LedTo, PlacedNamesAreIn, PlacesAreOfNames};
 ghost use Rattle.vet_base.specs.CriteriaChanges.{is_built_in, is_full_for, is_implied, remove_verdict, set_verdict, unknown_beside};
 ghost use Rattle.vet_base.specs.Closures.{AreClosures};
-ghost use Rattle.vet_base.specs.CriteriaTable.{by_name};
-ghost use Rattle.vet_base.specs.Defined.{IsListed, defined, table_told};
+ghost use Rattle.vet_base.specs.Defined.{table_told};
 ghost use Rattle.vet_base.specs.Gives.{Answers, Gives, Refuses};
 
 use crate::closures::Closures;
 use crate::criteria_set::CriteriaSet;
 use crate::criterion::Criterion;
 use crate::defined::check_defined;
+use crate::definitions::{Definitions, SAFE_TO_DEPLOY, SAFE_TO_RUN};
 use crate::limits::MOST_CRITERIA;
 use crate::name::Name;
 use crate::names::Names;
@@ -24,33 +22,30 @@ use crate::refusal::Refusal;
 use std::alloc::{AllocError, Global};
 use std::marker::Model;
 
-/// The name of the built-in criterion that implies nothing.
-pub(crate) const SAFE_TO_RUN: &str = "safe-to-run";
-
-/// The name of the built-in criterion that implies the other.
-pub(crate) const SAFE_TO_DEPLOY: &str = "safe-to-deploy";
-
 /// A table of at most 64 criteria, the built-in ones among them. Each name that a criterion implies is in
 /// the table. Criteria may imply one another in a cycle.
-#[derive(Drop)]
 pub struct CriteriaTable {
-    names: Vec<Name>,
-    criteria: Vec<Criterion>,
+    definitions: Definitions,
+}
+
+impl Drop for CriteriaTable {
+    fn drop(self) {
+        let CriteriaTable { definitions: _ } = self;
+    }
 }
 
 impl Model for CriteriaTable {
     ghost use Rattle.std.specs.Coded.{coded_list, coded_ℕ};
     ghost use Rattle.std.specs.FinMap as map;
-    ghost use Rattle.vet_base.specs.Criteria.{Criteria, criterion_code};
-    ghost use Rattle.vet_base.specs.CriteriaTable.{by_name, IsKept};
+    ghost use Rattle.vet_base.specs.Criteria.{Criteria, IsTable, criterion_code};
 
     ghost Value = { Criteria };
 
     ghost coded = { map.code (coded_list coded_ℕ) criterion_code };
 
-    ghost view = { λ t. map.from_sorted (by_name t.criteria.items) };
+    ghost view = { λ t. t.definitions };
 
-    ghost invariant = { λ t. IsKept t.names.items t.criteria.items };
+    ghost invariant = { λ t. IsTable t.definitions };
 }
 
 impl CriteriaTable {
@@ -60,11 +55,9 @@ impl CriteriaTable {
         ensures table { IfOk result IsTable }
         ensures memory { IfErr result (λ e. e ≡ Refusal.NoMemory) }
     {
-        let mut names = Vec::new(alloc);
-        let mut criteria = Vec::new(alloc);
-        list_names(alloc, &mut names)?;
-        list_built_in(alloc, &mut criteria)?;
-        Ok(CriteriaTable { names, criteria })
+        Ok(CriteriaTable {
+            definitions: Definitions::new(alloc)?,
+        })
     }
 
     /// The table of the built-in criteria and of these. Refused: `TooManyCriteria` where there would be more
@@ -75,11 +68,8 @@ impl CriteriaTable {
         ensures table { IfOk result IsTable }
     {
         check_defined(alloc, criteria.as_slice())?;
-        let first = CriteriaTable::new(alloc)?;
-        let listed = listed(first.names, first.criteria, criteria)?;
         Ok(CriteriaTable {
-            names: listed.0,
-            criteria: listed.1,
+            definitions: Definitions::with_built_in(alloc, criteria)?,
         })
     }
 
@@ -87,17 +77,14 @@ impl CriteriaTable {
     pub fn has(&self, name: &Name) -> bool
         ensures { result ≡ map.contains_key self.now name.now }
     {
-        self.names.binary_search(name).is_ok()
+        self.definitions.has(name)
     }
 
     /// The criterion of a name.
     pub fn get(&self, name: &Name) -> Option<&Criterion>
         ensures { option_copied result ≡ map.get self.now name.now }
     {
-        match self.names.binary_search(name) {
-            Ok(place) => Some(&self.criteria[place]),
-            Err(_) => None,
-        }
+        self.definitions.get(name)
     }
 
     /// The table's names, in the order of their bytes.
@@ -105,7 +92,7 @@ impl CriteriaTable {
         ensures names { result.now ≡ map.keys self.now }
         ensures table { IsTable self.now }
     {
-        self.names.as_slice()
+        self.definitions.names()
     }
 
     /// The place of a name among the table's names.
@@ -113,7 +100,7 @@ impl CriteriaTable {
         ensures value { result ≡ place_of self.now name.now }
         ensures within { IfSome result (λ p. p < MOST_CRITERIA) }
     {
-        self.names.binary_search(name).ok()
+        self.definitions.place(name)
     }
 
     /// The least of some names that the table lacks.
@@ -132,7 +119,7 @@ impl CriteriaTable {
     pub fn set_of(&self, names: &Names) -> CriteriaSet
         ensures { result ≡ placed self.now names.now }
     {
-        self.places(names.as_slice())
+        self.definitions.set_of(names)
     }
 
     /// What some names imply in the end, and they themselves. Refused: `UnknownCriterion` of the least name
@@ -160,15 +147,7 @@ impl CriteriaTable {
     pub fn closures(&self) -> Closures
         ensures { AreClosures self.now result }
     {
-        let mut place = self.criteria.len();
-        let mut closures = Closures::apart(place);
-        'places: while place > 0 {
-            place -= 1;
-            let implied = self.set_of(&self.criteria[place].implies);
-            let reached = closures.joined(&implied);
-            closures.lead_on(place, &reached);
-        }
-        closures
+        self.definitions.closures()
     }
 
     /// Whether a name is new and the table is full.
@@ -204,23 +183,14 @@ impl CriteriaTable {
         ensures table { IsTable self.new }
     {
         self.check_set(&criterion)?;
-        match self.names.binary_search(&criterion.name) {
-            Ok(place) => {
-                self.criteria[place] = criterion;
-                Ok(())
-            }
-            Err(place) => {
-                let name = criterion.name.clone()?;
-                put(&mut self.names, &mut self.criteria, place, name, criterion)
-            }
-        }
+        self.definitions.set(criterion)
     }
 
     /// Whether a criterion of another name implies a name.
     pub fn is_implied(&self, name: &Name) -> bool
         ensures { result ≡ is_implied self.now name.now }
     {
-        for criterion in &self.criteria {
+        for criterion in self.definitions.criteria() {
             if criterion.name != *name && criterion.implies.contains(name) {
                 return true;
             }
@@ -238,17 +208,16 @@ impl CriteriaTable {
         ensures err { OnErr result (self.new ≡ self.old) }
         ensures table { IsTable self.new }
     {
-        let Ok(place) = self.names.binary_search(&name) else {
+        if !self.has(&name) {
             return Err(Refusal::UnknownCriterion(name));
-        };
+        }
         if is_built_in(&name) {
             return Err(Refusal::BuiltInCriterion);
         }
         if self.is_implied(&name) {
             return Err(Refusal::CriterionInUse);
         }
-        let _ = self.names.remove(place);
-        let _ = self.criteria.remove(place);
+        self.definitions.remove(&name);
         Ok(())
     }
 }
@@ -258,8 +227,7 @@ impl Clone for CriteriaTable {
 
     fn clone(&self) -> Result<CriteriaTable, AllocError> {
         Ok(CriteriaTable {
-            names: self.names.clone()?,
-            criteria: self.criteria.clone()?,
+            definitions: self.definitions.clone()?,
         })
     }
 }
@@ -304,59 +272,7 @@ pub fn led_to()
     ensures { LedTo }
 {}
 
-// Lists the names of the built-in criteria, in order.
-fn list_names(alloc: Global, names: &mut Vec<Name>) -> Result<(), Refusal>
-    requires { names.old.items ≡ [] }
-    ensures ok { OnOk result (names.new.items ≡ safe_to_deploy ∷ safe_to_run ∷ []) }
-    ensures memory { IfErr result (λ e. e ≡ Refusal.NoMemory) }
-{
-    names.push(Name::parse(alloc, SAFE_TO_DEPLOY)?)?;
-    names.push(Name::parse(alloc, SAFE_TO_RUN)?)?;
-    Ok(())
-}
-
-// Lists the built-in criteria, in the order of their names.
-fn list_built_in(alloc: Global, criteria: &mut Vec<Criterion>) -> Result<(), Refusal>
-    requires { criteria.old.items ≡ [] }
-    ensures ok { OnOk result (criteria.new.items ≡ deploy_criterion ∷ run_criterion ∷ []) }
-    ensures memory { IfErr result (λ e. e ≡ Refusal.NoMemory) }
-{
-    let mut implied = Names::new(alloc);
-    implied.insert(Name::parse(alloc, SAFE_TO_RUN)?)?;
-    criteria.push(built_in(alloc, SAFE_TO_DEPLOY, implied)?)?;
-    criteria.push(built_in(alloc, SAFE_TO_RUN, Names::new(alloc))?)?;
-    Ok(())
-}
-
-// A criterion of no more than a name and what it implies.
-fn built_in(alloc: Global, name: &str, implies: Names) -> Result<Criterion, Refusal>
-    requires { is_name name.now ≡ true }
-    ensures ok { IfOk result (λ c.
-        c ≡ record { name = name.now; description = None; url = None; implies = implies }) }
-    ensures memory { IfErr result (λ e. e ≡ Refusal.NoMemory) }
-{
-    Ok(Criterion {
-        name: Name::parse(alloc, name)?,
-        description: None,
-        url: None,
-        implies,
-    })
-}
-
 impl CriteriaTable {
-    // The places of the names that the table holds.
-    fn places(&self, names: &[Name]) -> CriteriaSet
-        ensures { result ≡ placed self.now (set.from_list names.now) }
-    {
-        let mut places = CriteriaSet::empty();
-        for name in names {
-            if let Some(place) = self.place(name) {
-                places = places.with(place);
-            }
-        }
-        places
-    }
-
     // Whether a criterion may be set.
     fn check_set(&self, criterion: &Criterion) -> Result<(), Refusal>
         ensures { Answers (set_verdict self.now criterion.now) result }
@@ -372,70 +288,4 @@ impl CriteriaTable {
         }
         Ok(())
     }
-}
-
-// The built-in criteria beside their names, and these among them.
-fn listed(
-    names: Vec<Name>,
-    held: Vec<Criterion>,
-    criteria: Vec<Criterion>,
-) -> Result<(Vec<Name>, Vec<Criterion>), Refusal>
-    requires { IsListed names.items held.items built_in_criteria }
-    ensures ok { IfOk result (λ p. IsListed p.0.items p.1.items (defined criteria.items)) }
-    ensures memory { IfErr result (λ e. e ≡ Refusal.NoMemory) }
-{
-    let mut names = names;
-    let mut held = held;
-    'criteria: for criterion in criteria {
-        add(&mut names, &mut held, criterion)?;
-    }
-    Ok((names, held))
-}
-
-// Puts a criterion in its place among some that stand beside their names in order, or in place of the one of
-// its name.
-fn add(
-    names: &mut Vec<Name>,
-    criteria: &mut Vec<Criterion>,
-    criterion: Criterion,
-) -> Result<(), Refusal>
-    requires { IsListed names.old.items criteria.old.items (map.from_sorted (by_name criteria.old.items)) }
-    ensures listed { OnOk result (IsListed names.new.items criteria.new.items
-        (map.insert (map.from_sorted (by_name criteria.old.items)) criterion.name criterion)) }
-    ensures memory { IfErr result (λ e. e ≡ Refusal.NoMemory) }
-{
-    match names.binary_search(&criterion.name) {
-        Ok(place) => {
-            criteria[place] = criterion;
-            Ok(())
-        }
-        Err(place) => {
-            let name = criterion.name.clone()?;
-            put(names, criteria, place, name, criterion)
-        }
-    }
-}
-
-// Puts a criterion and its name at a place of their lists, or at none.
-fn put(
-    names: &mut Vec<Name>,
-    criteria: &mut Vec<Criterion>,
-    place: usize,
-    name: Name,
-    criterion: Criterion,
-) -> Result<(), Refusal>
-    requires names { place ≤ vec_len names.old }
-    requires criteria { place ≤ vec_len criteria.old }
-    ensures names { OnOk result (names.new.items ≡ insert names.old.items place name) }
-    ensures criteria { OnOk result (criteria.new.items ≡ insert criteria.old.items place criterion) }
-    ensures memory { IfErr result (λ e. e ≡ Refusal.NoMemory) }
-    ensures names_stay { OnErr result (names.new.items ≡ names.old.items) }
-    ensures criteria_stay { OnErr result (criteria.new.items ≡ criteria.old.items) }
-{
-    criteria.insert(place, criterion)?;
-    if names.insert(place, name).is_err() {
-        let _ = criteria.remove(place);
-        return Err(Refusal::NoMemory);
-    }
-    Ok(())
 }

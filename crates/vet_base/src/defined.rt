@@ -10,8 +10,9 @@ ghost use Rattle.vet_base.specs.CriteriaChanges.{is_built_in};
 ghost use Rattle.vet_base.specs.Gives.{Gives};
 ghost use Rattle.vet_base.specs.Name.{is_name};
 
-use crate::criteria_table::{CriteriaTable, SAFE_TO_DEPLOY, SAFE_TO_RUN, is_built_in};
+use crate::criteria_table::{CriteriaTable, is_built_in};
 use crate::criterion::Criterion;
+use crate::definitions::{SAFE_TO_DEPLOY, SAFE_TO_RUN};
 use crate::limits::MOST_CRITERIA;
 use crate::name::Name;
 use crate::names::Names;

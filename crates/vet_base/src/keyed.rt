@@ -1,5 +1,5 @@
 //! Lists of items in the order of their keys, no key twice.
-ghost use Rattle.std.specs.Prelude.{◌≡◌, ◌==◌, Err, IfOk, ◌<◌, ◌≤◌, ◌+◌, [], IfSome, IsTrue, OnErr, OnOk, Ok, insert, is_none, is_some, length, vec_capacity, vec_len};
+ghost use Rattle.std.specs.Prelude.{◌≡◌, ◌==◌, Err, IfOk, ◌<◌, ◌≤◌, ◌+◌, ◌-◌, [], IfSome, None, IsTrue, OnErr, OnOk, Ok, insert, is_none, is_some, length, vec_capacity, vec_len};
 ghost use Rattle.std.specs.Bool.{Decides};
 ghost use Rattle.std.specs.Option.{option_copied};
 ghost use Rattle.vet_base.specs.Keyed.{Fits, IsByKey, IsPlace, all_set, edited, item_of, room_after, with_item, without_item};
@@ -9,7 +9,7 @@ use std::alloc::{AllocError, Global};
 use std::marker::Model;
 
 /// What stands in a list under a key of its own.
-pub trait HasKey: Clone + Eq + Drop {
+pub trait HasKey: Drop {
     /// What it is found by.
     type Key: Exact;
 
@@ -19,7 +19,10 @@ pub trait HasKey: Clone + Eq + Drop {
     /// The key. Takes no memory.
     fn key(&self) -> &Self::Key
         ensures { result.now ≡ key_of self.now };
+}
 
+/// Items of which a copy is the item itself, and of which only an item itself is equal to it.
+pub trait ExactItem: HasKey + Clone + Eq {
     /// A copy is the item itself.
     ghost only_copies: { (a b : Self) → Self.is_clone a b → b ≡ a };
 
@@ -174,6 +177,32 @@ impl<T: HasKey> Keyed<T> {
         }
     }
 
+    /// Takes the item of a key out, if there is one, and leaves room for it. Takes no memory. Moves what stands behind
+    /// its place.
+    pub fn take(&mut self, key: &T::Key) -> Option<T>
+        ensures item { result ≡ item_of T.Key.cmp T.key_of self.old.items key.now }
+        ensures items { self.new.items ≡ without_item T.Key.cmp T.key_of self.old.items key.now }
+        ensures room { IfSome result (λ _. self.new.room ≡ self.old.room + 1) }
+    {
+        match self.place_of(key) {
+            Ok(place) => Some(self.items.remove(place)),
+            Err(_) => None,
+        }
+    }
+
+    /// Puts an item of a new key in, for which there is room. Takes no memory. Moves what stands behind its place.
+    pub fn put_reserved(&mut self, item: T)
+        requires new { item_of T.Key.cmp T.key_of self.old.items (T.key_of item) ≡ None }
+        requires room { 0 < self.old.room }
+        ensures items { self.new.items ≡ with_item T.Key.cmp T.key_of self.old.items item }
+        ensures room { self.new.room ≡ self.old.room - 1 }
+    {
+        match self.place_of(item.key()) {
+            Ok(_) => unreachable!(),
+            Err(place) => put(&mut self.items, place, item),
+        }
+    }
+
     /// Makes an edit that fits, and answers the one that undoes it. Takes no memory. A put or a take moves what
     /// stands behind its place.
     pub fn apply(&mut self, edit: KeyedEdit<T>) -> KeyedEdit<T>
@@ -219,7 +248,7 @@ impl<T: HasKey> Keyed<T> {
     }
 }
 
-impl<T: HasKey> Clone for Keyed<T> {
+impl<T: ExactItem> Clone for Keyed<T> {
     ghost is_clone = { λ a b. b.items ≡ a.items };
 
     fn clone(&self) -> Result<Keyed<T>, AllocError> {
@@ -229,7 +258,7 @@ impl<T: HasKey> Clone for Keyed<T> {
     }
 }
 
-impl<T: HasKey> PartialEq for Keyed<T> {
+impl<T: ExactItem> PartialEq for Keyed<T> {
     ghost use Rattle.std.specs.Cmp.{on_per};
     ghost use Rattle.std.specs.Cmp.Lexicographic.{lists_per, pointwise};
     ghost use Rattle.std.specs.Prelude.{IsTrue, ◌↔◌, ◌≡◌};

@@ -6,7 +6,7 @@ ghost use Rattle.vet_base.specs.Gives.{Gives, found_or};
 ghost use Rattle.vet_base.specs.Name.{is_name, is_package_byte, is_package_name, read_name, read_package_name};
 
 use crate::exact::Exact;
-use crate::keyed::HasKey;
+use crate::keyed::{ExactItem, HasKey};
 use crate::limits::MOST_NAME_BYTES;
 use crate::refusal::Refusal;
 use crate::text::Text;
@@ -76,9 +76,6 @@ impl Exact for PackageName {
 }
 
 impl HasKey for PackageName {
-    ghost use Rattle.std.proofs.Common.{rules};
-    ghost use Rattle.std.specs.Cmp.Lexicographic.{bytes_decides};
-
     type Key = PackageName;
 
     ghost key_of = { λ n. n };
@@ -86,6 +83,11 @@ impl HasKey for PackageName {
     fn key(&self) -> &PackageName {
         self
     }
+}
+
+impl ExactItem for PackageName {
+    ghost use Rattle.std.proofs.Common.{rules};
+    ghost use Rattle.std.specs.Cmp.Lexicographic.{bytes_decides};
 
     ghost only_copies = { Prim.search rules };
 
@@ -176,9 +178,6 @@ impl Exact for Name {
 }
 
 impl HasKey for Name {
-    ghost use Rattle.std.proofs.Common.{rules};
-    ghost use Rattle.std.specs.Cmp.Lexicographic.{bytes_decides};
-
     type Key = Name;
 
     ghost key_of = { λ n. n };
@@ -186,6 +185,11 @@ impl HasKey for Name {
     fn key(&self) -> &Name {
         self
     }
+}
+
+impl ExactItem for Name {
+    ghost use Rattle.std.proofs.Common.{rules};
+    ghost use Rattle.std.specs.Cmp.Lexicographic.{bytes_decides};
 
     ghost only_copies = { Prim.search rules };
 

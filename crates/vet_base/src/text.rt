@@ -2,7 +2,7 @@
 ghost use Rattle.std.specs.Prelude.{◌≡◌, ◌↔◌, ◌≤◌, ◌<◌, length, IfOk, IfErr, Err};
 
 use crate::exact::Exact;
-use crate::keyed::HasKey;
+use crate::keyed::{ExactItem, HasKey};
 use crate::limits::MOST_TEXT_BYTES;
 use crate::refusal::{Limit, Refusal};
 use std::alloc::{AllocError, Global};
@@ -72,9 +72,6 @@ impl Exact for Text {
 }
 
 impl HasKey for Text {
-    ghost use Rattle.std.proofs.Common.{rules};
-    ghost use Rattle.std.specs.Cmp.Lexicographic.{bytes_decides};
-
     type Key = Text;
 
     ghost key_of = { λ n. n };
@@ -82,6 +79,11 @@ impl HasKey for Text {
     fn key(&self) -> &Text {
         self
     }
+}
+
+impl ExactItem for Text {
+    ghost use Rattle.std.proofs.Common.{rules};
+    ghost use Rattle.std.specs.Cmp.Lexicographic.{bytes_decides};
 
     ghost only_copies = { Prim.search rules };
 
