@@ -8,7 +8,7 @@ use Rattle.vet_demand.specs.declared.pair.Pair.{Pair}
 use Rattle.vet_entries.specs.Condemned.{is_condemned}
 use Rattle.vet_entries.specs.Facts.{Facts}
 use Rattle.vet_entries.specs.declared.step.Step.{Step}
-use Rattle.vet_entries.specs.Step.{HasKnownCriteria, steps_of}
+use Rattle.vet_entries.specs.Step.{steps_of}
 use Rattle.vet_graph.specs.Chain.{Condemned}
 use Rattle.vet_graph.specs.Class.{IsClassOfPair}
 use Rattle.vet_graph.specs.ClassAt.{class_at}
@@ -32,10 +32,6 @@ class_of_pair facts p = class_by facts.criteria (steps_of facts p.«package») (
 -- the standing: each demanded pair with its class, in the order of the pairs
 abbrev pub standing_of : Facts → List Pair → List Stand
 standing_of facts demand = map (λ p. record { pair = p; class = class_of_pair facts p }) demand
-
--- the criteria that entries name are known
-abbrev pub AreKnown : Facts → Type 0
-AreKnown facts = All (HasKnownCriteria facts.criteria) facts.entries
 
 -- the table has each demanded criterion
 abbrev pub HasDemanded : Criteria → List Pair → Type 0

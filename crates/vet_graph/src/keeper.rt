@@ -9,10 +9,11 @@
 ghost use Rattle.std.specs.Prelude.{◌≡◌, [], List, IfOk, IfErr};
 ghost use Rattle.vet_demand.specs.declared.pair.Pair.{Pair};
 ghost use Rattle.vet_entries.specs.Facts.{Facts};
+ghost use Rattle.vet_entries.specs.Step.{AreKnown};
 ghost use Rattle.vet_graph.specs.Keeping.{Keeping};
 ghost use Rattle.vet_graph.specs.Moves.{moves_between};
 ghost use Rattle.vet_graph.specs.Standing.{IsStanding, class_in, counts_of};
-ghost use Rattle.vet_graph.specs.StandingOf.{AreKnown, HasDemanded, standing_of};
+ghost use Rattle.vet_graph.specs.StandingOf.{HasDemanded, standing_of};
 ghost use Rattle.vet_graph.specs.Touched.{GiveNothing, SameOutside};
 
 use crate::class::Class;

@@ -2,10 +2,11 @@
 ghost use Rattle.std.specs.Prelude.{◌≡◌, [], IfOk, IfErr, IfSome, IsOk};
 ghost use Rattle.vet_entries.specs.Facts.{Facts, no_facts};
 ghost use Rattle.vet_entries.specs.Condemned.{condemned_by};
+ghost use Rattle.vet_entries.specs.LocalCriteria.{AreLocal};
 ghost use Rattle.vet_graph.specs.Class.{IsClassOfPair};
 ghost use Rattle.vet_graph.specs.Plain.{AreStepsOf};
 ghost use Rattle.vet_graph.specs.Search.{AreGuarded, steps_in};
-ghost use Rattle.vet_graph.specs.StandingOf.{AreKnown, NoneIsVetted, PairClassHolds, PairClassIsOnly, PairsStandAtTheirClass, class_of_pair, standing_of};
+ghost use Rattle.vet_graph.specs.StandingOf.{NoneIsVetted, PairClassHolds, PairClassIsOnly, PairsStandAtTheirClass, class_of_pair, standing_of};
 ghost use Rattle.vet_graph.specs.Touched.{GiveNothing};
 
 use crate::class::{Class, class_of};
@@ -23,21 +24,21 @@ use vet_base::refusal::Refusal;
 use vet_base::version::VetVersion;
 use vet_demand::demand::Demand;
 use vet_demand::pair::Pair;
-use vet_entries::condemned::{Violation, condemned_by, violations_condemn, violations_of};
+use vet_entries::condemned::{Violation, condemned_by, violations_by, violations_condemn};
 use vet_entries::facts::EntryFacts;
 use vet_entries::judge::{judge, merged};
-use vet_entries::step::{Step, steps_of};
+use vet_entries::local_criteria::LocalCriteria;
+use vet_entries::step::{Step, steps_by};
 
-/// The class of a pair by these facts: `Unvetted` where the table lacks its criterion. Asks that each criterion
-/// that an entry names is in the table. Finds the steps of the package, and searches them at most four times.
-/// Refused: `NoMemory`.
+/// The class of a pair by these facts: `Unvetted` where the table lacks its criterion. Finds the local criteria of all
+/// sources and the steps of the package, and searches these at most four times. Refused: `NoMemory`.
 pub fn class_of_pair(alloc: Global, facts: &EntryFacts, pair: &Pair) -> Result<Class, Refusal>
-    requires { AreKnown facts.now.content }
     ensures is { IfOk result (IsClassOfPair facts.now.content pair.now) }
     ensures ok { IfOk result (λ class. class ≡ class_of_pair facts.now.content pair.now) }
     ensures memory { IfErr result (λ e. e ≡ Refusal.NoMemory) }
 {
-    let found = found_steps(alloc, &pair.package, facts)?;
+    let local = LocalCriteria::of(alloc, facts)?;
+    let found = found_steps(alloc, &pair.package, facts, &local)?;
     let violations = found.violations.as_slice();
     class_by(alloc, facts, &found.steps, violations, pair)
 }
@@ -114,7 +115,7 @@ impl Keeper for PlainKeeper {
         })
     }
 
-    /// Finds every class anew, whatever is touched. Finds the steps and the violations of each package once, and
+    /// Finds every class anew, whatever is touched. Finds the local criteria of all sources once, and the steps and the violations of each package once, and
     /// searches them at most four times for each of its pairs. Refused: `NoMemory`.
     #[tactic(auto, using(crate::proofs::Standings::standing_in_order))]
     fn plan(
@@ -183,14 +184,14 @@ impl Drop for PackageSteps {
 
 // Each pair of a demand with its class. The pairs of a package stand side by side, so its steps are found once.
 fn stands_of(alloc: Global, facts: &EntryFacts, demand: &[Pair]) -> Result<Vec<Stand>, Refusal>
-    requires { AreKnown facts.now.content }
     ensures ok { IfOk result (λ s. s.items ≡ standing_of facts.now.content demand.now) }
     ensures memory { IfErr result (λ e. e ≡ Refusal.NoMemory) }
 {
+    let local = LocalCriteria::of(alloc, facts)?;
     let mut standing = Vec::new(alloc);
     let mut held: Option<PackageSteps> = None;
     'pairs: for pair in demand {
-        let found = package_steps(alloc, held, &pair.package, facts)?;
+        let found = package_steps(alloc, held, &pair.package, facts, &local)?;
         let violations = found.violations.as_slice();
         standing.push(stand_of(alloc, facts, &found.steps, violations, pair)?)?;
         held = Some(found);
@@ -204,8 +205,9 @@ fn package_steps(
     held: Option<PackageSteps>,
     package: &PackageName,
     facts: &EntryFacts,
+    local: &LocalCriteria,
 ) -> Result<PackageSteps, Refusal>
-    requires known { AreKnown facts.now.content }
+    requires local { AreLocal facts.now.content local.now }
     requires held { IfSome held (λ h.
         AreStepsOf facts.now.content h.«package» h.steps h.violations.items) }
     ensures package { IfOk result (λ h. h.«package» ≡ «package».now) }
@@ -220,7 +222,7 @@ fn package_steps(
             return Ok(found);
         }
     }
-    found_steps(alloc, package, facts)
+    found_steps(alloc, package, facts, local)
 }
 
 // The steps of a package, each with the criteria for which its target is condemned.
@@ -228,8 +230,9 @@ fn found_steps(
     alloc: Global,
     package: &PackageName,
     facts: &EntryFacts,
+    local: &LocalCriteria,
 ) -> Result<PackageSteps, Refusal>
-    requires known { AreKnown facts.now.content }
+    requires { AreLocal facts.now.content local.now }
     ensures package { IfOk result (λ h. h.«package» ≡ «package».now) }
     ensures steps { IfOk result (λ h.
         AreStepsOf facts.now.content «package».now h.steps h.violations.items) }
@@ -237,8 +240,8 @@ fn found_steps(
         AreStepsOf facts.now.content h.«package» h.steps h.violations.items) }
     ensures memory { IfErr result (λ e. e ≡ Refusal.NoMemory) }
 {
-    let steps = steps_of(alloc, package, facts)?;
-    let violations = violations_of(alloc, package, facts)?;
+    let steps = steps_by(alloc, package, facts, local)?;
+    let violations = violations_by(alloc, package, facts, local.own())?;
     let guarded = guarded(alloc, steps, violations.as_slice())?;
     Ok(PackageSteps {
         package: package.clone()?,

@@ -13,7 +13,7 @@ returns-clause-ok c =
     let facts = c.args.facts.now.content in
     let pair = c.args.pair.now in
     let violations = c.args.violations.now in
-    let found = sym c.in-Some.is ∙ c.place.ensures.value ∙ ap (λ table. place_of table pair.criterion) c.criteria.ensures in
+    let found = sym c.in-Some.is ∙ c.place.ensures.value ∙ ap (λ table. place_of table pair.criterion) c.criteria.ensures.value in
     IfOk-weaker c.class_of.result
     (λ class. class ≡ class_at (steps_in c.args.steps.now) (condemned_by violations) c.in-Some.place pair.version) (λ class. class ≡ class_of_pair facts pair)
     (λ class is. is ∙ class_by_place c.violations_condemn.ensures facts pair c.args.steps.now violations c.in-Some.place c.requires found)
