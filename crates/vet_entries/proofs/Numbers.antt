@@ -8,9 +8,9 @@ use Rattle.vet_base.specs.Names.{same_names}
 use Rattle.vet_entries.specs.declared.entry.Entry.{Entry}
 use Rattle.vet_entries.specs.declared.facts.HeldEntry.{HeldEntry}
 use Rattle.vet_entries.specs.Entry.{entry_eq, own, source_eq}
-use Rattle.vet_entries.specs.Facts.{number_of, numbered}
+use Rattle.vet_entries.specs.ByPackage.{is_of}
+use Rattle.vet_entries.specs.Numbered.{number_of, numbered}
 use Rattle.vet_entries.specs.Kind.{kind_eq}
-use Rattle.vet_entries.specs.Step.{is_of}
 
 held_number : (n m : ℕ) (entry : Entry) → n ≡ m → ◌≡◌ {A = HeldEntry} (record { number = n; entry = entry }) (record { number = m; entry = entry })
 held_number n m entry e = λ i. record { number = e i; entry = entry }

@@ -9,8 +9,7 @@ use Rattle.std.proofs.lemmas.Slice.Eq.{bytes_eq-Decides}
 use Rattle.std.proofs.lemmas.Map.Text.{is_eq-slice_cmp}
 use Rattle.std.proofs.lemmas.List.Sorted.{searchable_from_sorted, IsPartitionedBy-ltb}
 use Rattle.vet_entries.specs.declared.facts.HeldEntry.{HeldEntry}
-use Rattle.vet_entries.specs.ByPackage.{stand, is_at, places_of, gathered, up, down}
-use Rattle.vet_entries.specs.Step.{is_of}
+use Rattle.vet_entries.specs.ByPackage.{stand, is_at, places_of, gathered, up, down, is_of}
 use Rattle.vet_entries.proofs.Places.{filter-map, map_range}
 
 abbrev pub R : List ℕ → List ℕ → Ordering

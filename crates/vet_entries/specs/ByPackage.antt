@@ -5,10 +5,15 @@ use Rattle.std.specs.List.Sorted.{IsNonDecreasingBy}
 use Rattle.std.specs.Coded.{Coded, code_by, coded×, coded_list, coded_ℕ}
 use Rattle.std.specs.Ordering.{is_eq, nat_cmp, ordering_index}
 use Rattle.std.specs.Cmp.Lexicographic.{slice_cmp}
+use Rattle.std.specs.Str.{bytes_eq}
 use Rattle.std.specs.declared.cmp.Ordering.{Ordering}
 use Rattle.std.specs.declared.cmp.Ordering.TheVariants.{Less, Equal, Greater}
 use Rattle.std.proofs.Common.{refl}
 use Rattle.vet_entries.specs.declared.facts.HeldEntry.{HeldEntry}
+
+-- an entry is of a package
+abbrev pub is_of : List ℕ → HeldEntry → Bool
+is_of name held = bytes_eq held.entry.«package» name
 
 -- entries, and for how many more there is room
 pub record EntriesRoom : Type 0 where

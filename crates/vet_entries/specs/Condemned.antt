@@ -1,40 +1,43 @@
 -- For which criteria a version is condemned (The Cargo Vet Book, audit entries; the exact form is ours).
-use Rattle.std.specs.Prelude.{ℕ, ◌≡◌, ◌&&◌, Bool, false, List, [], ◌∷◌, filter}
+use Rattle.std.specs.Prelude.{ℕ, ◌≡◌, ◌&&◌, Bool, false, List, [], ◌∷◌}
 use Rattle.std.specs.List.{flat_map, list_any}
 use Rattle.vet_base.specs.Criteria.{Criteria, leading_to, leads_to, placed}
-use Rattle.vet_base.specs.CriteriaSet.{has}
-use Rattle.vet_base.specs.Names.{NameSet}
+use Rattle.vet_base.specs.CriteriaSet.{Places, has}
 use Rattle.vet_base.specs.Req.{req_matches}
 use Rattle.vet_base.specs.Version.{VersionValue}
-use Rattle.vet_entries.specs.declared.facts.HeldEntry.{HeldEntry}
 use Rattle.vet_entries.specs.declared.kind.Kind.{Kind}
 use Rattle.vet_entries.specs.declared.condemned.Violation.{Violation}
 use Rattle.vet_entries.specs.declared.kind.Kind.TheVariants.{Violation as Violated}
 use Rattle.vet_entries.specs.Facts.{Facts}
-use Rattle.vet_entries.specs.Step.{is_of}
+use Rattle.vet_entries.specs.PeerWords.{violated_names}
+use Rattle.vet_entries.specs.Step.{SourcedEntry, entries_of}
 
 -- a violation speaks against the versions that its requirement matches, with a revision or without
 abbrev pub violates : VersionValue → Kind → Bool
 violates v (Violated requirement audit) = req_matches requirement v.parts
 violates v _ = false
 
--- what a kind says against versions, where these are the criteria that it names
-abbrev pub violation_of : Criteria → NameSet → Kind → List Violation
-violation_of table names (Violated requirement audit) = (record { requirement = requirement; criteria = leading_to table (placed table names) }) ∷ []
-violation_of table names _ = []
+-- what a kind says against versions, where these are the criteria that it would violate
+abbrev pub violation_of : Criteria → Places → Kind → List Violation
+violation_of table places (Violated requirement audit) = (record { requirement = requirement; criteria = leading_to table places }) ∷ []
+violation_of table places _ = []
+
+-- the criteria that an entry would violate, as places in the table: those that it names, and a peer's as its map says
+abbrev pub violated : Criteria → SourcedEntry → Places
+violated table e = placed table (violated_names e.peer e.held.entry.criteria)
 
 -- an entry condemns a version for the criterion at a place: it is a violation that matches, and what the criterion
--- implies in the end has one of the criteria that the violation names, as they are written
-abbrev pub condemns : Criteria → VersionValue → ℕ → HeldEntry → Bool
-condemns table v c held = violates v held.entry.kind && leads_to table (placed table held.entry.criteria) c
+-- implies in the end has one of the criteria that the violation names, unclosed
+abbrev pub condemns : Criteria → VersionValue → ℕ → SourcedEntry → Bool
+condemns table v c e = violates v e.held.entry.kind && leads_to table (violated table e) c
 
 -- the violation that an entry is, if it is one, with the criteria that it condemns for
-abbrev pub violation_in : Criteria → HeldEntry → List Violation
-violation_in table held = violation_of table held.entry.criteria held.entry.kind
+abbrev pub violation_in : Criteria → SourcedEntry → List Violation
+violation_in table e = violation_of table (violated table e) e.held.entry.kind
 
--- the violations of a package
+-- the violations of a package: one's own, then those of each peer
 abbrev pub violations_of : Facts → List ℕ → List Violation
-violations_of facts name = flat_map (violation_in facts.criteria) (filter (is_of name) facts.entries)
+violations_of facts name = flat_map (violation_in facts.criteria) (entries_of facts name)
 
 -- one of some violations condemns a version for the criterion at a place
 abbrev pub condemned_by : List Violation → ℕ → VersionValue → Bool
@@ -42,7 +45,7 @@ condemned_by violations c v = list_any (λ w. req_matches w.requirement v.parts 
 
 -- some entry of a package condemns a version for the criterion at a place
 abbrev pub is_condemned : Facts → List ℕ → ℕ → VersionValue → Bool
-is_condemned facts name c v = list_any (condemns facts.criteria v c) (filter (is_of name) facts.entries)
+is_condemned facts name c v = list_any (condemns facts.criteria v c) (entries_of facts name)
 
 -- a package's violations condemn just what its entries do
 abbrev pub ViolationsCondemn : Type 0

@@ -1,30 +1,37 @@
--- What is held of packages (ours): a table of criteria, entries by their numbers, and publisher records by package.
-use Rattle.std.specs.Prelude.{ℕ, ◌<◌, ◌≤◌, ◌+◌, ◌-◌, ◌==◌, Bool, List, [], ◌∷◌, Option, length, find, option_map, insert, remove}
-use Rattle.std.specs.List.{position}
+-- What is held of packages (ours): a table of criteria, one's own entries, peers with theirs, and publisher records.
+use Rattle.std.specs.Prelude.{ℕ, ◌≡◌, ◌<◌, ◌≤◌, ◌+◌, ◌-◌, ◌||◌, Bool, true, List, [], ◌∷◌, length, insert, is_some, remove}
+use Rattle.std.specs.List.{list_any, sum_by}
 use Rattle.std.specs.Coded.{Coded, code_by, coded×, coded_list, coded_ℕ}
 use Rattle.std.specs.FinMap as map
 use Rattle.std.specs.FinSet as set
+use Rattle.std.specs.Ordering.{nat_cmp}
+use Rattle.std.specs.Cmp.Lexicographic.{slice_cmp}
 use Rattle.std.proofs.Common.{refl}
 use Rattle.vet_base.specs.Criteria.{Criteria, built_in_criteria, criterion_code}
-use Rattle.vet_entries.specs.declared.entry.Entry.{Entry}
 use Rattle.vet_entries.specs.declared.facts.Edit.{Edit}
 use Rattle.vet_entries.specs.declared.facts.Edit.TheVariants as edit
 use Rattle.vet_entries.specs.declared.facts.HeldEntry.{HeldEntry}
+use Rattle.vet_entries.specs.declared.held_peer.HeldPeer.{HeldPeer}
 use Rattle.vet_entries.specs.declared.publisher_records.PackagePublishers.{PackagePublishers}
-use Rattle.vet_entries.specs.Entry.{entry_eq, own}
+use Rattle.vet_entries.specs.HeldPeer.{peer_name, peer_of, with_content, with_settings}
+use Rattle.vet_entries.specs.Numbered.{AreByNumber}
+use Rattle.vet_entries.specs.PeerWords.{targets}
 use Rattle.vet_base.specs.Keyed as keyed
 use Rattle.vet_base.specs.Keyed.{KeyedRoom}
 use Rattle.vet_entries.specs.PublisherRecords.{FitsPublishers}
 
--- the criteria, the entries in the order of their numbers, and the publisher records of packages in the order of their names
+-- the criteria, one's own entries in the order of their numbers, the peers in the order of their names, and the publisher
+-- records of packages in the order of their names
 pub record Facts : Type 0 where
   pub criteria : Criteria
   pub entries : List HeldEntry
+  pub peers : List HeldPeer
   pub publishers : List PackagePublishers
 
--- for how many more entries and packages with records there is room
+-- for how many more own entries, peers, and packages with records there is room
 pub record Room : Type 0 where
   pub entries : ℕ
+  pub peers : ℕ
   pub packages : ℕ
 
 -- facts, and their room
@@ -32,43 +39,49 @@ pub record FactsRoom : Type 0 where
   pub content : Facts
   pub room : Room
 
--- facts are stored as the tuple of the table, the entries, the records and the room for entries and for packages
-abbrev pub facts_room_code : Coded HeldEntry → Coded PackagePublishers → Coded FactsRoom
-facts_room_code held_code publishers_code =
-    code_by (Criteria × (List HeldEntry × (List PackagePublishers × (ℕ × ℕ))))
-    (coded× (map.code (coded_list coded_ℕ) criterion_code) (coded× (coded_list held_code) (coded× (coded_list publishers_code) (coded× coded_ℕ coded_ℕ))))
-    (λ f. (f.content.criteria, (f.content.entries, (f.content.publishers, (f.room.entries, f.room.packages)))))
-    (λ p. record { content = record { criteria = p.0; entries = p.1.0; publishers = p.1.1.0 }; room = record { entries = p.1.1.1.0; packages = p.1.1.1.1 } })
+-- facts are stored as the tuple of the table, the entries, the peers, the records and the room for each
+abbrev pub facts_room_code : Coded HeldEntry → Coded HeldPeer → Coded PackagePublishers → Coded FactsRoom
+facts_room_code held_code peer_code publishers_code =
+    code_by (Criteria × (List HeldEntry × (List HeldPeer × (List PackagePublishers × (ℕ × (ℕ × ℕ))))))
+    (coded× (map.code (coded_list coded_ℕ) criterion_code) (coded× (coded_list held_code) (coded× (coded_list peer_code)
+    (coded× (coded_list publishers_code) (coded× coded_ℕ (coded× coded_ℕ coded_ℕ))))))
+    (λ f. (f.content.criteria, (f.content.entries, (f.content.peers, (f.content.publishers, (f.room.entries, (f.room.peers, f.room.packages)))))))
+    (λ p. record {
+      content = record { criteria = p.0; entries = p.1.0; peers = p.1.1.0; publishers = p.1.1.1.0 };
+      room = record { entries = p.1.1.1.1.0; peers = p.1.1.1.1.1.0; packages = p.1.1.1.1.1.1 };
+    })
     (λ _. refl)
 
 -- the publisher records, and for how many more packages there is room
 abbrev pub publishers_room : FactsRoom → KeyedRoom PackagePublishers
 publishers_room facts = record { items = facts.content.publishers; room = facts.room.packages }
 
+-- the peers, and for how many more there is room
+abbrev pub peers_room : FactsRoom → KeyedRoom HeldPeer
+peers_room facts = record { items = facts.content.peers; room = facts.room.peers }
+
 -- nothing but the built-in criteria
 abbrev pub no_facts : Facts
-no_facts = record { criteria = built_in_criteria; entries = []; publishers = [] }
+no_facts = record { criteria = built_in_criteria; entries = []; peers = []; publishers = [] }
 
--- some entries, with numbers from one on
-abbrev pub numbered : ℕ → List Entry → List HeldEntry
-numbered n [] = []
-numbered n (entry ∷ rest) = (record { number = n; entry = entry }) ∷ numbered (n + 1) rest
+-- how many entries there are of all sources
+abbrev pub entries_of_peers : List HeldPeer → ℕ
+entries_of_peers peers = sum_by (λ peer. length peer.content.entries) peers
 
--- an entry has a number
-abbrev pub has_number : ℕ → HeldEntry → Bool
-has_number n held = held.number == n
-
--- the place of the entry with a number
-abbrev pub place_of : List HeldEntry → ℕ → Option ℕ
-place_of entries n = position (has_number n) entries
-
--- the number of the held entry that is the same as this one, as one of one's own
-abbrev pub number_of : List HeldEntry → Entry → Option ℕ
-number_of entries entry = option_map (λ h. h.number) (find (λ h. entry_eq h.entry (own entry)) entries)
+abbrev pub entries_total : Facts → ℕ
+entries_total facts = length facts.entries + entries_of_peers facts.peers
 
 -- an entry names a criterion
 abbrev pub is_named_by : List ℕ → HeldEntry → Bool
 is_named_by name held = set.contains held.entry.criteria name
+
+-- the map of a peer leads to a criterion
+abbrev pub is_target_of : List ℕ → HeldPeer → Bool
+is_target_of name peer = set.contains (targets peer.settings.map) name
+
+-- one's own entries or the map of a peer name a criterion; the words of peers don't count
+abbrev pub is_named : Facts → List ℕ → Bool
+is_named facts name = list_any (is_named_by name) facts.entries || list_any (is_target_of name) facts.peers
 
 -- ---- edits
 
@@ -77,13 +90,24 @@ abbrev pub edited : Edit → Facts → Facts
 edited (edit.Criteria table) facts = record facts { criteria = table }
 edited (edit.Insert place held) facts = record facts { entries = insert facts.entries place held }
 edited (edit.Remove place) facts = record facts { entries = remove facts.entries place }
+edited (edit.Peer change) facts = record facts { peers = keyed.edited change facts.peers }
+edited (edit.Settings settings) facts = record facts { peers = with_settings settings facts.peers }
+edited (edit.Content name content) facts = record facts { peers = with_content name content facts.peers }
 edited (edit.Publishers change) facts = record facts { publishers = keyed.edited change facts.publishers }
+
+-- a peer of a name is held
+abbrev pub IsHeld : List ℕ → Facts → Type 0
+IsHeld name facts = is_some (peer_of facts.peers name) ≡ true
 
 -- an edit can be made, and takes no memory
 abbrev pub Fits : Edit → FactsRoom → Type 0
 Fits (edit.Criteria table) facts = Unit {0}
-Fits (edit.Insert place held) facts = (place ≤ length facts.content.entries) × (0 < facts.room.entries)
+Fits (edit.Insert place held) facts =
+    (place ≤ length facts.content.entries) × ((0 < facts.room.entries) × AreByNumber (insert facts.content.entries place held))
 Fits (edit.Remove place) facts = place < length facts.content.entries
+Fits (edit.Peer change) facts = keyed.Fits (slice_cmp nat_cmp) peer_name change (peers_room facts)
+Fits (edit.Settings settings) facts = IsHeld settings.name facts.content
+Fits (edit.Content name content) facts = IsHeld name facts.content × AreByNumber content.entries
 Fits (edit.Publishers change) facts = FitsPublishers change (publishers_room facts)
 
 -- the room after an edit
@@ -91,11 +115,14 @@ abbrev pub room_after : Edit → Room → Room
 room_after (edit.Criteria table) room = room
 room_after (edit.Insert place held) room = record room { entries = room.entries - 1 }
 room_after (edit.Remove place) room = record room { entries = room.entries + 1 }
+room_after (edit.Peer change) room = record room { peers = keyed.room_after change room.peers }
+room_after (edit.Settings settings) room = room
+room_after (edit.Content name content) room = room
 room_after (edit.Publishers change) room = record room { packages = keyed.room_after change room.packages }
 
 -- where there is room for something in the old, there is in the new
 abbrev pub HoldsRoomOf : Room → Room → Type 0
-HoldsRoomOf old new = (old.entries ≤ new.entries) × (old.packages ≤ new.packages)
+HoldsRoomOf old new = (old.entries ≤ new.entries) × ((old.peers ≤ new.peers) × (old.packages ≤ new.packages))
 
 -- an edit that fits still does where the facts are the same, and no room is lost
 abbrev pub FitsWithMoreRoom : Type 0

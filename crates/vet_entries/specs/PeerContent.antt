@@ -5,6 +5,8 @@ use Rattle.std.specs.Coded.{Coded, code_by, coded×, coded_list}
 use Rattle.vet_base.specs.declared.criterion.Criterion.{Criterion}
 use Rattle.vet_base.specs.declared.limits.TheConstants.{MOST_PEER_CRITERIA}
 use Rattle.vet_base.specs.CriteriaChanges.{is_built_in}
+use Rattle.vet_base.specs.Items.{NamedOnce}
+use Rattle.vet_entries.specs.Distinct.{distinct}
 use Rattle.vet_entries.specs.declared.entry.Entry.{Entry}
 use Rattle.vet_entries.specs.declared.entry.Source.{Source}
 use Rattle.vet_entries.specs.declared.entry.Source.TheVariants.{Own, Peer}
@@ -48,8 +50,11 @@ is_peer_kind (Exemption v s) = false
 abbrev pub is_peer_entry : Entry → Bool
 is_peer_entry e = is_own e.source && is_peer_kind e.kind
 
--- no criterion is named as a built-in one, there are not too many, and each entry is one that a peer's file gives
+-- no criterion is named as a built-in one or as another, there are not too many, and each entry is one that a peer's file
+-- gives, and stands once
 pub record IsPeerContent (criteria : List Criterion) (entries : List Entry) : Type 0 where
   pub further : All (λ c. is_built_in c.name ≡ false) criteria
+  pub named_once : NamedOnce (λ (c : Criterion). c.name) criteria
   pub few : length criteria ≤ MOST_PEER_CRITERIA
   pub given : All (λ e. is_peer_entry e ≡ true) entries
+  pub once : distinct entries ≡ entries

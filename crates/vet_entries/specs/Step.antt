@@ -1,27 +1,25 @@
 -- The steps of a package (The Cargo Vet Book, audit entries, wildcard audits, trusted publishers and exemptions).
-use Rattle.std.specs.Prelude.{ℕ, ◌≡◌, ◌&&◌, ◌==◌, Bool, true, false, List, Some, None, filter, map, [], ◌∷◌}
-use Rattle.std.specs.List.{flat_map}
+use Rattle.std.specs.Prelude.{ℕ, ◌≡◌, ◌&&◌, ◌==◌, Bool, true, false, List, Option, Some, None, filter, if◌then◌else◌, map, nat_lt, [], ◌∷◌, ◌++◌}
+use Rattle.std.specs.FinSet as set
+use Rattle.std.specs.List.{All, flat_map}
 use Rattle.std.specs.Ordering.{is_le}
-use Rattle.std.specs.Str.{bytes_eq}
 use Rattle.vet_base.specs.CriteriaSet.{Places}
-use Rattle.vet_base.specs.Criteria.{Criteria, closure_of, least_unknown, placed}
+use Rattle.vet_base.specs.Criteria.{Criteria, least_unknown}
 use Rattle.vet_base.specs.Day.{day_cmp}
 use Rattle.vet_base.specs.declared.delta.Delta.{Delta}
-use Rattle.vet_base.specs.Names.{NameSet}
 use Rattle.vet_base.specs.Version.{VersionValue}
 use Rattle.vet_entries.specs.declared.facts.HeldEntry.{HeldEntry}
+use Rattle.vet_entries.specs.declared.held_peer.HeldPeer.{HeldPeer}
 use Rattle.vet_entries.specs.declared.kind.Kind.{Kind}
 use Rattle.vet_entries.specs.declared.kind.Kind.TheVariants as kind
 use Rattle.vet_entries.specs.declared.kind.Kind.TheVariants.{Full, Violation, Wildcard, Trusted, Exemption}
 use Rattle.vet_entries.specs.declared.kind.Window.{Window}
 use Rattle.vet_entries.specs.declared.publisher.Publisher.{Publisher}
 use Rattle.vet_entries.specs.declared.step.Step.{Step}
+use Rattle.vet_entries.specs.ByPackage.{is_of}
 use Rattle.vet_entries.specs.Facts.{Facts}
+use Rattle.vet_entries.specs.PeerWords.{local_criteria, targets}
 use Rattle.vet_entries.specs.PublisherRecords.{records_of}
-
--- the local criteria of an own entry: the closure of those that it names, as places in the table
-abbrev pub local_criteria : Criteria → NameSet → Places
-local_criteria table names = placed table (closure_of table names)
 
 -- a step from nothing to a version
 abbrev pub first_step : Places → Bool → VersionValue → Step
@@ -49,18 +47,51 @@ kind_steps criteria records (Wildcard window grant) = window_steps criteria reco
 kind_steps criteria records (Trusted window) = window_steps criteria records window
 kind_steps criteria records (Exemption version suggest) = first_step criteria true version ∷ []
 
--- the steps of an entry, where these are its package's publisher records
-abbrev pub entry_steps : Criteria → List Publisher → HeldEntry → List Step
-entry_steps table records held = kind_steps (local_criteria table held.entry.criteria) records held.entry.kind
+-- a held entry, and the peer whose it is, or none for one of one's own
+pub record SourcedEntry : Type 0 where
+  pub peer : Option HeldPeer
+  pub held : HeldEntry
 
--- an entry is of a package
-abbrev pub is_of : List ℕ → HeldEntry → Bool
-is_of name held = bytes_eq held.entry.«package» name
+-- the entries of a package from some that are held, as those of a peer or as one's own
+abbrev pub sourced : Option HeldPeer → List ℕ → List HeldEntry → List SourcedEntry
+sourced peer name entries = map (λ h. record { peer = peer; held = h }) (filter (is_of name) entries)
+
+-- the entries of a package that are taken from a peer: of an excluded package none
+abbrev pub taken_from : List ℕ → HeldPeer → List SourcedEntry
+taken_from name peer = if set.contains peer.settings.exclude name then [] else sourced (Some peer) name peer.content.entries
+
+-- the entries of a package: one's own, then those of each peer
+abbrev pub entries_of : Facts → List ℕ → List SourcedEntry
+entries_of facts name = sourced None name facts.entries ++ flat_map (taken_from name) facts.peers
+
+-- an item among some in the order of their numbers, before others of its number
+abbrev pub put_by_number : {X : Type 0} → (X → ℕ) → X → List X → List X
+put_by_number number x [] = x ∷ []
+put_by_number number x (y ∷ ys) = if nat_lt (number y) (number x) then y ∷ put_by_number number x ys else x ∷ y ∷ ys
+
+-- some items in the order of their numbers
+abbrev pub by_number : {X : Type 0} → (X → ℕ) → List X → List X
+by_number number [] = []
+by_number number (x ∷ xs) = put_by_number number x (by_number number xs)
+
+-- the steps of an entry, where these are its package's publisher records
+abbrev pub entry_steps : Criteria → List Publisher → SourcedEntry → List Step
+entry_steps table records e = kind_steps (local_criteria table e.peer e.held.entry.criteria) records e.held.entry.kind
 
 -- the steps of a package, by the numbers of the entries
 abbrev pub steps_of : Facts → List ℕ → List Step
-steps_of facts name = flat_map (entry_steps facts.criteria (records_of facts.publishers name)) (filter (is_of name) facts.entries)
+steps_of facts name =
+    flat_map (entry_steps facts.criteria (records_of facts.publishers name)) (by_number (λ (e : SourcedEntry). e.held.number) (entries_of facts name))
 
--- the table has each criterion that an entry names
+-- the table has each criterion that an own entry names
 abbrev pub HasKnownCriteria : Criteria → HeldEntry → Type 0
 HasKnownCriteria table held = least_unknown table held.entry.criteria ≡ None
+
+-- the table has each criterion to which the map of a peer leads
+abbrev pub HasKnownTargets : Criteria → HeldPeer → Type 0
+HasKnownTargets table peer = least_unknown table (targets peer.settings.map) ≡ None
+
+-- the table has each criterion that an own entry names or to which the map of a peer leads
+pub record AreKnown (facts : Facts) : Type 0 where
+  pub own : All (HasKnownCriteria facts.criteria) facts.entries
+  pub targets : All (HasKnownTargets facts.criteria) facts.peers

@@ -1,10 +1,10 @@
-//! Entries that are found by their packages.
+//! Entries that are found by their packages, and by their numbers.
 ghost use Rattle.std.specs.Prelude.{◌≡◌, ◌<◌, ◌≤◌, ◌+◌, ◌-◌, [], IfOk, IsOk, OnOk, OnErr, filter, insert, length, map, remove, slice_index_or, true, false, vec_capacity, vec_len};
 ghost use Rattle.std.specs.List.{All, range_with_len};
 ghost use Rattle.std.specs.List.Sorted.{IsNonDecreasingBy, IsPartitionPoint};
 ghost use Rattle.std.specs.Ordering.{is_le, is_lt, ordering_index};
-ghost use Rattle.vet_entries.specs.ByPackage.{IsByPackage, IsRange, IsSlot, down, gathered, package_at, places_of, stand, up};
-ghost use Rattle.vet_entries.specs.Step.{is_of};
+ghost use Rattle.vet_entries.specs.ByPackage.{IsByPackage, IsRange, IsSlot, down, gathered, is_of, package_at, places_of, stand, up};
+ghost use Rattle.vet_entries.specs.Numbered.{AreByNumber, place_of};
 
 use crate::facts::HeldEntry;
 use std::alloc::{AllocError, Global};
@@ -12,7 +12,8 @@ use std::cmp::Ordering;
 use std::marker::Model;
 use vet_base::name::PackageName;
 
-/// Entries, and beside them their places in the order of packages, in which a package's stand together.
+/// Entries in the order of their numbers, and beside them their places in the order of packages, in which a
+/// package's stand together.
 pub(crate) struct ByPackage {
     entries: Vec<HeldEntry>,
     order: Vec<usize>,
@@ -21,6 +22,7 @@ pub(crate) struct ByPackage {
 impl Model for ByPackage {
     ghost use Rattle.std.specs.Prelude.{◌-◌, vec_len, vec_capacity};
     ghost use Rattle.vet_entries.specs.ByPackage.{EntriesRoom, IsByPackage, entries_room_code, lesser};
+    ghost use Rattle.vet_entries.specs.Numbered.{AreByNumber};
     ghost use Rattle.vet_entries.specs.contracts.facts.HeldEntry as held;
 
     ghost Value = { EntriesRoom };
@@ -32,7 +34,7 @@ impl Model for ByPackage {
       room = lesser (vec_capacity b.entries - vec_len b.entries) (vec_capacity b.order - vec_len b.order);
     } };
 
-    ghost invariant = { λ b. IsByPackage b.entries.items b.order.items };
+    ghost invariant = { λ b. IsByPackage b.entries.items b.order.items × AreByNumber b.entries.items };
 }
 
 impl Drop for ByPackage {
@@ -55,17 +57,19 @@ impl ByPackage {
         }
     }
 
-    /// Some entries, one after another. Takes a time of n log n.
+    /// Some entries in the order of their numbers. Takes a time of n log n.
     pub(crate) fn of(alloc: Global, entries: Vec<HeldEntry>) -> Result<ByPackage, AllocError>
+        requires { AreByNumber entries.items }
         ensures { IfOk result (λ b. b.entries ≡ entries.items) }
     {
         let order = sorted_places(alloc, entries.as_slice())?;
         Ok(ByPackage { entries, order })
     }
 
-    /// The entries, one after another. Costs nothing.
+    /// The entries in the order of their numbers. Costs nothing.
     pub(crate) fn entries(&self) -> &[HeldEntry]
-        ensures { result.now ≡ self.now.entries }
+        ensures value { result.now ≡ self.now.entries }
+        ensures by_number { AreByNumber self.now.entries }
     {
         self.entries.as_slice()
     }
@@ -78,6 +82,19 @@ impl ByPackage {
     {
         let (low, high) = range_of(self.entries.as_slice(), self.order.as_slice(), package);
         &self.order.as_slice()[low..high]
+    }
+
+    /// The place of the entry with a number, if there is one. Costs a binary search.
+    pub(crate) fn place_of(&self, number: u64) -> Option<usize>
+        ensures { result ≡ place_of self.now.entries number }
+    {
+        match self
+            .entries
+            .binary_search_by(|held| held.number.cmp(&number))
+        {
+            Ok(place) => Some(place),
+            Err(_) => None,
+        }
     }
 
     /// Makes room for one more entry. Where there is no memory, the room stays.
@@ -97,6 +114,7 @@ impl ByPackage {
     /// order of packages; in front of other entries, also a pass over all places, and a move of those entries.
     pub(crate) fn insert(&mut self, place: usize, held: HeldEntry)
         requires place { place ≤ length self.old.entries }
+        requires by_number { AreByNumber (insert self.old.entries place held) }
         requires room { 0 < self.old.room }
         ensures entries { self.new.entries ≡ insert self.old.entries place held }
         ensures room { self.new.room ≡ self.old.room - 1 }
@@ -117,6 +135,7 @@ impl ByPackage {
         requires { place < length self.old.entries }
         ensures value { result ≡ slice_index_or self.old.entries place result }
         ensures entries { self.new.entries ≡ remove self.old.entries place }
+        ensures back { AreByNumber (insert self.new.entries place result) }
         ensures room { self.new.room ≡ self.old.room + 1 }
     {
         self.order.retain(|other| *other != place);
@@ -138,7 +157,7 @@ fn sorted_places(alloc: Global, entries: &[HeldEntry]) -> Result<Vec<usize>, All
 fn places_below(alloc: Global, len: usize) -> Result<Vec<usize>, AllocError>
     ensures { IfOk result (λ places. places.items ≡ range_with_len 0 len) }
 {
-    let mut places = Vec::new(alloc);
+    let mut places = Vec::with_capacity(alloc, len)?;
     for place in 0..len {
         places.push(place)?;
     }

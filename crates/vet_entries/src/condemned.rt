@@ -1,55 +1,86 @@
 //! What violations condemn.
 ghost use Rattle.std.specs.Prelude.{◌≡◌, ◌||◌, ◌&&◌, ◌++◌, ℕ, IfOk, IfErr, OnOk};
+ghost use Rattle.std.specs.List.{flat_map, list_any};
+ghost use Rattle.std.specs.Option.{option_copied};
 ghost use Rattle.vet_base.specs.Closures.{AreClosures};
-ghost use Rattle.vet_base.specs.Criteria.{leads_to};
+ghost use Rattle.vet_base.specs.Criteria.{leads_to, placed};
 ghost use Rattle.vet_base.specs.CriteriaSet.{has};
 ghost use Rattle.vet_base.specs.Req.{req_matches};
 ghost use Rattle.vet_entries.specs.Condemned.{ViolationsCondemn, condemned_by, condemns, is_condemned, violates, violation_in, violations_of};
+ghost use Rattle.vet_entries.specs.PeerWords.{violated_names};
+ghost use Rattle.vet_entries.specs.Source.{IsWithin, entries_from};
 
 use crate::facts::{EntryFacts, HeldEntry};
+use crate::held_peer::HeldPeer;
 use crate::kind::Kind;
+use crate::local_criteria::mapped_set;
+use crate::source::{Source, entries_taken, own_entries};
 use std::alloc::{AllocError, Global};
 use vet_base::closures::Closures;
 use vet_base::criteria_set::{CriteriaSet, meet_of_nothing, meet_of_unions};
 use vet_base::criteria_table::{CriteriaTable, led_to};
 use vet_base::name::PackageName;
+use vet_base::names::Names;
 use vet_base::refusal::Refusal;
 use vet_base::req::Req;
 use vet_base::version::VetVersion;
 
 /// The criteria for which a version of a package is condemned: those that imply in the end one that a
-/// violation of the package names, where its requirement matches the version. What the violation names is
-/// not closed. Takes no memory. Costs two binary searches among all entries, a look at each of the package's,
-/// and the closures of the table once.
+/// violation of the package names, one's own or a peer's that does not exclude the package, where its
+/// requirement matches the version. What a peer's violation names is mapped, and neither is closed. Takes no
+/// memory. Costs two binary searches among the own entries and two among those of each peer, a look at each of
+/// the package's, and the closures of the table once. Each violation that matches costs a search for each of
+/// its names, a peer's one in its map and one for each name that the map lists there.
 pub fn condemned(package: &PackageName, version: &VetVersion, facts: &EntryFacts) -> CriteriaSet
     ensures { (c : ℕ) → has c result ≡ is_condemned facts.now.content «package».now c version.now }
 {
     meet_of_nothing();
     led_to();
     let criteria = facts.criteria();
-    let entries = facts.entries();
-    let mut violated = CriteriaSet::empty();
-    for place in facts.places_of(package) {
-        violated = with_violated(violated, &entries[*place], version, criteria);
+    let own = own_entries(package, facts);
+    let mut violated = with_all_violated(CriteriaSet::empty(), &own, version, criteria);
+    for peer in facts.peers() {
+        let taken = entries_taken(package, peer);
+        violated = with_all_violated(violated, &taken, version, criteria);
     }
     criteria.leading_to(&violated)
 }
 
-// The violated criteria with those that an entry names, where it is a violation that the version matches.
+// The violated criteria with those of the entries of a source.
+fn with_all_violated(
+    mut violated: CriteriaSet,
+    source: &Source<'_>,
+    version: &VetVersion,
+    criteria: &CriteriaTable,
+) -> CriteriaSet
+    requires { IsWithin source.now }
+    ensures { (c : ℕ) → leads_to criteria.now result c ≡ (leads_to criteria.now violated c
+        || list_any (condemns criteria.now version.now c) (entries_from source.now)) }
+{
+    for place in source.places {
+        let held = &source.entries[*place];
+        violated = with_violated(violated, source.peer, held, version, criteria);
+    }
+    violated
+}
+
+// The violated criteria with those that an entry of a peer or one's own names, where it is a violation that
+// the version matches.
 fn with_violated(
     violated: CriteriaSet,
+    peer: Option<&HeldPeer>,
     held: &HeldEntry,
     version: &VetVersion,
     criteria: &CriteriaTable,
 ) -> CriteriaSet
-    ensures { (c : ℕ) → leads_to criteria.now result c
-        ≡ (leads_to criteria.now violated c || condemns criteria.now version.now c held.now) }
+    ensures { (c : ℕ) → leads_to criteria.now result c ≡ (leads_to criteria.now violated c
+        || condemns criteria.now version.now c (record { peer = option_copied peer.entry; held = held.now })) }
 {
     meet_of_unions();
     if !held.entry.kind.violates(version) {
         return violated;
     }
-    violated.union(&criteria.set_of(&held.entry.criteria))
+    violated.union(&violated_set(peer, &held.entry.criteria, criteria))
 }
 
 /// A violation of a package: the versions that it is of, and the criteria for which these are condemned.
@@ -68,9 +99,10 @@ impl Drop for Violation {
     }
 }
 
-/// The violations of a package, by the numbers of the entries. With them each version of the package is
-/// judged without a further look at its entries (`violations_condemn`). Costs what `condemned` does, with a
-/// look at each closure for each violation. Refused: `NoMemory`.
+/// The violations of a package: one's own, then those of each peer that does not exclude it, each by the
+/// numbers of the entries. With them each version of the package is judged without a further look at its
+/// entries (`violations_condemn`). Costs the closures of the table, and then what `violations_by` does.
+/// Refused: `NoMemory`.
 pub fn violations_of(
     alloc: Global,
     package: &PackageName,
@@ -79,12 +111,29 @@ pub fn violations_of(
     ensures ok { IfOk result (λ v. v.items ≡ violations_of facts.now.content «package».now) }
     ensures memory { IfErr result (λ e. e ≡ Refusal.NoMemory) }
 {
+    violations_by(alloc, package, facts, &facts.criteria().closures())
+}
+
+/// The same by closures that were found before. Costs two binary searches among the own entries and two among
+/// those of each peer, and a look at each of the package's. Each violation costs a look at each closure, and
+/// the searches for its names that `condemned` tells. Refused: `NoMemory`.
+pub fn violations_by(
+    alloc: Global,
+    package: &PackageName,
+    facts: &EntryFacts,
+    closures: &Closures,
+) -> Result<Vec<Violation>, Refusal>
+    requires { AreClosures facts.now.content.criteria closures.now }
+    ensures ok { IfOk result (λ v. v.items ≡ violations_of facts.now.content «package».now) }
+    ensures memory { IfErr result (λ e. e ≡ Refusal.NoMemory) }
+{
     let mut violations = Vec::new(alloc);
     let criteria = facts.criteria();
-    let closures = criteria.closures();
-    let entries = facts.entries();
-    for place in facts.places_of(package) {
-        add_violation(&mut violations, &entries[*place], criteria, &closures)?;
+    let own = own_entries(package, facts);
+    add_violations(&mut violations, &own, criteria, closures)?;
+    for peer in facts.peers() {
+        let taken = entries_taken(package, peer);
+        add_violations(&mut violations, &taken, criteria, closures)?;
     }
     Ok(violations)
 }
@@ -108,24 +157,55 @@ pub fn violations_condemn()
     led_to();
 }
 
-// Adds the violation that an entry is, if it is one.
+// Adds the violations among the entries of a source.
+fn add_violations(
+    violations: &mut Vec<Violation>,
+    source: &Source<'_>,
+    criteria: &CriteriaTable,
+    closures: &Closures,
+) -> Result<(), AllocError>
+    requires within { IsWithin source.now }
+    requires closures { AreClosures criteria.now closures.now }
+    ensures { OnOk result (violations.new.items ≡ violations.old.items
+        ++ flat_map (violation_in criteria.now) (entries_from source.now)) }
+{
+    for place in source.places {
+        let held = &source.entries[*place];
+        add_violation(violations, source.peer, held, criteria, closures)?;
+    }
+    Ok(())
+}
+
+// Adds the violation that an entry of a peer or one's own is, if it is one.
 fn add_violation(
     violations: &mut Vec<Violation>,
+    peer: Option<&HeldPeer>,
     held: &HeldEntry,
     criteria: &CriteriaTable,
     closures: &Closures,
 ) -> Result<(), AllocError>
     requires { AreClosures criteria.now closures.now }
-    ensures { OnOk result (violations.new.items
-        ≡ violations.old.items ++ violation_in criteria.now held.now) }
+    ensures { OnOk result (violations.new.items ≡ violations.old.items
+        ++ violation_in criteria.now (record { peer = option_copied peer.entry; held = held.now })) }
 {
     if let Kind::Violation(requirement, _) = &held.entry.kind {
+        let violated = violated_set(peer, &held.entry.criteria, criteria);
         violations.push(Violation {
             requirement: requirement.clone()?,
-            criteria: closures.leading_to(&criteria.set_of(&held.entry.criteria)),
+            criteria: closures.leading_to(&violated),
         })?;
     }
     Ok(())
+}
+
+// What a violation names, as places in the table: a peer's as its map says.
+fn violated_set(peer: Option<&HeldPeer>, names: &Names, criteria: &CriteriaTable) -> CriteriaSet
+    ensures { result ≡ placed criteria.now (violated_names (option_copied peer.entry) names.now) }
+{
+    match peer {
+        None => criteria.set_of(names),
+        Some(peer) => mapped_set(criteria, &peer.settings.map, names),
+    }
 }
 
 // The condemned criteria with those of a violation, where the version matches.

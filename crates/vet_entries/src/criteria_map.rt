@@ -1,13 +1,19 @@
 //! What the criteria of a peer are in one's own.
 ghost use Rattle.std.specs.Prelude.{◌≡◌, ◌↔◌, IsTrue, Ok, OnOk, OnErr};
 ghost use Rattle.std.specs.FinMap as map;
+ghost use Rattle.std.specs.FinSet as set;
+ghost use Rattle.std.specs.List.{list_any};
 ghost use Rattle.std.specs.Option.{option_copied};
+ghost use Rattle.vet_base.specs.Criteria.{least_unknown};
 ghost use Rattle.vet_base.specs.Names.{IsRising};
 ghost use Rattle.vet_entries.specs.CriteriaMap.{by_name, names_of};
+ghost use Rattle.vet_entries.specs.Mapped.{targets};
 
 use std::alloc::{AllocError, Global};
 use std::marker::Model;
-use vet_base::keyed::{HasKey, Keyed};
+use vet_base::criteria_table::CriteriaTable;
+use vet_base::defined::lesser;
+use vet_base::keyed::{ExactItem, HasKey, Keyed};
 use vet_base::name::Name;
 use vet_base::names::Names;
 
@@ -62,7 +68,7 @@ impl Eq for MappedCriterion {
 }
 
 impl HasKey for MappedCriterion {
-    ghost use Rattle.vet_entries.specs.CriteriaMap.{mapped_eq-Decides, mapped_name};
+    ghost use Rattle.vet_entries.specs.CriteriaMap.{mapped_name};
 
     type Key = Name;
 
@@ -71,6 +77,10 @@ impl HasKey for MappedCriterion {
     fn key(&self) -> &Name {
         &self.name
     }
+}
+
+impl ExactItem for MappedCriterion {
+    ghost use Rattle.vet_entries.specs.CriteriaMap.{mapped_eq-Decides};
 
     ghost only_copies = { λ a b h. h };
 
@@ -142,6 +152,25 @@ impl CriteriaMap {
         self.items.items()
     }
 
+    /// Whether one of the peer's criteria stands for a name, beside others or alone. Costs a look at each item, up to
+    /// the first that does.
+    pub fn leads_to(&self, name: &Name) -> bool
+        ensures { result ≡ set.contains (targets self.now) name.now }
+    {
+        lists(self.items(), name)
+    }
+
+    /// The least name for which one of the peer's criteria stands and that a table lacks. Costs a look at each item.
+    pub fn least_target_outside<'a>(&'a self, table: &CriteriaTable) -> Option<&'a Name>
+        ensures { option_copied result ≡ least_unknown table.now (targets self.now) }
+    {
+        let mut least = None;
+        for item in self.items() {
+            least = lesser(least, table.least_unknown(&item.criteria));
+        }
+        least
+    }
+
     /// How many of the peer's criteria stand for others.
     pub fn len(&self) -> usize
         ensures { result ≡ map.len self.now }
@@ -155,6 +184,13 @@ impl CriteriaMap {
     {
         self.items.is_empty()
     }
+}
+
+// Whether one of some items lists a name.
+fn lists(items: &[MappedCriterion], name: &Name) -> bool
+    ensures { result ≡ list_any (λ m. set.contains m.criteria name.now) items.now }
+{
+    items.iter().any(|item| item.criteria.contains(name))
 }
 
 impl Clone for CriteriaMap {

@@ -101,7 +101,7 @@ impl Entry {
     }
 
     // A copy whose source is this one.
-    fn copied_for(&self, source: Source) -> Result<Entry, AllocError>
+    pub(crate) fn copied_for(&self, source: Source) -> Result<Entry, AllocError>
         ensures { IfOk result (λ e. e ≡ of_source source self.now) }
     {
         Ok(Entry {
@@ -121,7 +121,7 @@ impl Entry {
     }
 
     // Whether another entry says the same, whosever the two are.
-    fn says_same(&self, other: &Entry) -> bool
+    pub(crate) fn says_same(&self, other: &Entry) -> bool
         ensures { result ≡ says_same self.now other.now }
     {
         self.package == other.package

@@ -1,22 +1,31 @@
 //! What is held of packages.
-ghost use Rattle.std.specs.Prelude.{◌≡◌, ◌<◌, ◌^◌, ◌++◌, ◌∷◌, [], IfOk, IfErr, IsOk, OnErr, filter, length, nat_lt, remove};
+ghost use Rattle.std.specs.Prelude.{◌≡◌, ◌<◌, ◌+◌, ◌^◌, ◌++◌, ◌∷◌, [], IfOk, IfErr, IsOk, OnErr, filter, length, nat_lt, remove};
 ghost use Rattle.std.specs.List.{All, list_any};
+ghost use Rattle.std.specs.Option.{option_copied};
+ghost use Rattle.std.specs.Ordering.{nat_cmp};
+ghost use Rattle.std.specs.Cmp.Lexicographic.{slice_cmp};
 ghost use Rattle.vet_base.specs.Criteria.{IsTable};
-ghost use Rattle.vet_entries.specs.ByPackage.{gathered};
-ghost use Rattle.vet_entries.specs.Facts.{Fits, FitsWithMoreRoom, HoldsRoomOf, RoomHoldsItself, RoomHoldsOnward, edited, is_named_by, no_facts, number_of, numbered, place_of, publishers_room, room_after};
+ghost use Rattle.vet_base.specs.Keyed.{IsByKey};
+ghost use Rattle.vet_entries.specs.ByPackage.{gathered, is_of};
+ghost use Rattle.vet_entries.specs.Facts.{Fits, FitsWithMoreRoom, HoldsRoomOf, IsHeld, RoomHoldsItself, RoomHoldsOnward, edited, entries_of_peers, entries_total, is_named, is_named_by, is_target_of, no_facts, peers_room, publishers_room, room_after};
+ghost use Rattle.vet_entries.specs.HeldPeer.{holding_or_none, peer_name, peer_of, with_content, with_settings, without_peer};
+ghost use Rattle.vet_entries.specs.Numbered.{AreByNumber, number_of, numbered, place_of};
 ghost use Rattle.vet_entries.specs.PublisherRecords.{IsByName, records_of, records_total, with_records};
 ghost use Rattle.vet_entries.specs.Publishers.{IsInOrder};
-ghost use Rattle.vet_entries.specs.Step.{is_of};
 
 use crate::by_package::ByPackage;
 use crate::entry::Entry;
+use crate::held_peer::HeldPeer;
+use crate::holding::Holding;
+use crate::peer_settings::PeerSettings;
+use crate::peers::{exchange_content, exchange_settings};
 use crate::publisher::Publisher;
 use crate::publisher_records::{PackagePublishers, PublisherRecords, records_after_setting};
 use crate::publishers::Publishers;
 use std::alloc::{AllocError, Global};
 use std::marker::Model;
 use vet_base::criteria_table::CriteriaTable;
-use vet_base::keyed::KeyedEdit;
+use vet_base::keyed::{Keyed, KeyedEdit};
 use vet_base::name::{Name, PackageName};
 use vet_base::refusal::Refusal;
 
@@ -35,10 +44,12 @@ impl Drop for HeldEntry {
     }
 }
 
-/// A table of criteria, entries in the order of their numbers, and publisher records by package.
+/// A table of criteria, one's own entries in the order of their numbers, peers by name, and publisher records by
+/// package.
 pub struct EntryFacts {
     criteria: CriteriaTable,
     entries: ByPackage,
+    peers: Keyed<HeldPeer>,
     publishers: PublisherRecords,
 }
 
@@ -47,6 +58,7 @@ impl Drop for EntryFacts {
         let EntryFacts {
             criteria: _,
             entries: _,
+            peers: _,
             publishers: _,
         } = self;
     }
@@ -61,6 +73,12 @@ pub enum Edit {
     Insert(usize, HeldEntry),
     /// The entry at this place goes.
     Remove(usize),
+    /// A peer comes or goes.
+    Peer(KeyedEdit<HeldPeer>),
+    /// These settings in place of those of the held peer of their name.
+    Settings(PeerSettings),
+    /// This content in place of that of the held peer of a name.
+    Content(Name, Holding),
     /// The publisher records of a package change.
     Publishers(KeyedEdit<PackagePublishers>),
 }
@@ -68,27 +86,30 @@ pub enum Edit {
 impl Model for EntryFacts {
     ghost use Rattle.vet_entries.specs.Facts.{FactsRoom, facts_room_code};
     ghost use Rattle.vet_entries.specs.contracts.facts.HeldEntry as held;
+    ghost use Rattle.vet_entries.specs.contracts.held_peer.HeldPeer as peer;
     ghost use Rattle.vet_entries.specs.contracts.publisher_records.PackagePublishers as listed;
 
     ghost Value = { FactsRoom };
 
-    ghost coded = { facts_room_code held.the_row.coded listed.the_row.coded };
+    ghost coded = { facts_room_code held.the_row.coded peer.the_row.coded listed.the_row.coded };
 
     ghost view = { λ f. record {
       content = record {
         criteria = f.criteria;
         entries = f.entries.entries;
+        peers = f.peers.items;
         publishers = f.publishers.items;
       };
       room = record {
         entries = f.entries.room;
+        peers = f.peers.room;
         packages = f.publishers.room;
       };
     } };
 }
 
 impl EntryFacts {
-    /// The built-in criteria, no entries and no publisher records. Refused: `NoMemory`.
+    /// The built-in criteria, no entries, no peers and no publisher records. Refused: `NoMemory`.
     pub fn new(alloc: Global) -> Result<EntryFacts, Refusal>
         ensures ok { IfOk result (λ f. f.content ≡ no_facts) }
         ensures table { IfOk result (λ f. IsTable f.content.criteria) }
@@ -97,40 +118,92 @@ impl EntryFacts {
         Ok(EntryFacts {
             criteria: CriteriaTable::new(alloc)?,
             entries: ByPackage::new(alloc),
+            peers: Keyed::new(alloc),
             publishers: PublisherRecords::new(alloc),
         })
     }
 
-    /// A table of criteria, and some entries, which are given the numbers from one on, without publisher
-    /// records. Refused: `NoMemory`.
+    /// A table of criteria, and some own entries, which are given the numbers from one on, without peers and
+    /// publisher records. Refused: `NoMemory`.
     pub fn of(
         alloc: Global,
         criteria: CriteriaTable,
         entries: Vec<Entry>,
     ) -> Result<EntryFacts, Refusal>
         ensures ok { IfOk result (λ f.
-            f.content ≡ record { criteria = criteria; entries = numbered 1 entries.items; publishers = [] }) }
+            f.content ≡ record { criteria = criteria; entries = numbered 1 entries.items; peers = []; publishers = [] }) }
         ensures memory { IfErr result (λ e. e ≡ Refusal.NoMemory) }
     {
         Ok(EntryFacts {
             criteria,
             entries: ByPackage::of(alloc, numbered(alloc, entries)?)?,
+            peers: Keyed::new(alloc),
             publishers: PublisherRecords::new(alloc),
         })
     }
 
     /// The table of criteria.
     pub fn criteria(&self) -> &CriteriaTable
-        ensures { result.now ≡ self.now.content.criteria }
+        ensures value { result.now ≡ self.now.content.criteria }
+        ensures table { IsTable self.now.content.criteria }
     {
+        let _ = self.criteria.names();
         &self.criteria
     }
 
-    /// The entries in the order of their numbers.
+    /// One's own entries in the order of their numbers.
     pub fn entries(&self) -> &[HeldEntry]
-        ensures { result.now ≡ self.now.content.entries }
+        ensures value { result.now ≡ self.now.content.entries }
+        ensures by_number { AreByNumber self.now.content.entries }
     {
         self.entries.entries()
+    }
+
+    /// The peers in the order of their names.
+    pub fn peers(&self) -> &[HeldPeer]
+        ensures value { result.now ≡ self.now.content.peers }
+        ensures by_name { IsByKey (slice_cmp nat_cmp) peer_name self.now.content.peers }
+    {
+        self.peers.items()
+    }
+
+    /// The peer of a name, if it is held. Costs a binary search among the peers.
+    pub fn peer(&self, name: &Name) -> Option<&HeldPeer>
+        ensures { option_copied result ≡ peer_of self.now.content.peers name.now }
+    {
+        self.peers.get(name)
+    }
+
+    /// How many entries there are of all sources. Asks that they can be counted. Costs a look at each peer.
+    pub fn entries_total(&self) -> usize
+        requires { entries_total self.now.content < 2 ^ 64 }
+        ensures { result ≡ entries_total self.now.content }
+    {
+        let mut total = self.entries().len();
+        'peers: for peer in self.peers() {
+            total += peer.content.entries().len();
+        }
+        total
+    }
+
+    /// How many entries there are of all sources but the peer of a name. Asks that all entries can be counted. Costs a
+    /// look at each peer.
+    pub fn entries_beside(&self, name: &Name) -> usize
+        requires { entries_total self.now.content < 2 ^ 64 }
+        ensures { result ≡ length self.now.content.entries + entries_of_peers (without_peer name.now self.now.content.peers) }
+    {
+        let _ = self.peers();
+        self.entries_total() - self.entries_of(name)
+    }
+
+    // How many entries there are of the peer of a name.
+    fn entries_of(&self, name: &Name) -> usize
+        ensures { result ≡ length (holding_or_none (peer_of self.now.content.peers name.now)).entries }
+    {
+        match self.peers.get(name) {
+            Some(peer) => peer.content.entries().len(),
+            None => 0,
+        }
     }
 
     /// The packages that have publisher records, in the order of their names.
@@ -157,7 +230,7 @@ impl EntryFacts {
         self.publishers.total()
     }
 
-    // The places of a package's entries, in rising order.
+    // The places of a package's own entries, in rising order.
     pub(crate) fn places_of(&self, package: &PackageName) -> &[usize]
         ensures within { All (λ place. place < length self.now.content.entries) result.now }
         ensures entries { gathered self.now.content.entries result.now
@@ -166,8 +239,8 @@ impl EntryFacts {
         self.entries.places_of(package)
     }
 
-    /// The number of the held entry that is the same as this one would be as one of one's own. Costs two
-    /// binary searches among all entries, and a look at each of the package's, up to the one that it is.
+    /// The number of the own entry that is the same as this one would be as one of one's own. Costs two
+    /// binary searches among the own entries, and a look at each of the package's, up to the one that it is.
     pub fn number_of(&self, entry: &Entry) -> Option<u64>
         ensures { result ≡ number_of self.now.content.entries entry.now }
     {
@@ -181,20 +254,22 @@ impl EntryFacts {
         None
     }
 
-    /// The place among the entries of the one with a number. Costs a look at each entry in front of it.
+    /// The place among one's own entries of the one with a number. Costs a binary search.
     pub fn place_of(&self, number: u64) -> Option<usize>
         ensures { result ≡ place_of self.now.content.entries number }
     {
-        self.entries().iter().position(|held| held.number == number)
+        self.entries.place_of(number)
     }
 
-    /// Whether an entry names a criterion. Costs a look at each entry, up to the first that does.
+    /// Whether an own entry or a target of a peer's map names a criterion; words of peers don't count. Costs a look
+    /// at each own entry and each item of a map, up to the first that does.
     pub fn names_criterion(&self, name: &Name) -> bool
-        ensures { result ≡ list_any (is_named_by name.now) self.now.content.entries }
+        ensures { result ≡ is_named self.now.content name.now }
     {
-        self.entries()
-            .iter()
-            .any(|held| held.entry.criteria.contains(name))
+        if names(self.entries(), name) {
+            return true;
+        }
+        leads_to(self.peers(), name)
     }
 
     /// Whether there would be more publisher records than this, if these were set for a package. Costs a binary
@@ -226,9 +301,11 @@ impl EntryFacts {
         let _ = publishers.as_slice();
     }
 
-    /// The edit that puts an entry with this number behind all others, and room for it. Costs nothing where
+    /// The edit that puts an own entry with this number behind all others, and room for it. Asks that the number
+    /// is higher than theirs. Costs nothing where
     /// there is room; else a move of all entries to twice the room. Refused: `NoMemory`.
     pub fn edit_adding(&mut self, number: u64, entry: Entry) -> Result<Edit, Refusal>
+        requires { All (λ h. h.number < number) self.old.content.entries }
         ensures edit { IfOk result (λ e. edited e self.old.content ≡ record self.old.content {
           entries = self.old.content.entries ++ (record { number = number; entry = entry }) ∷ [];
         }) }
@@ -244,7 +321,7 @@ impl EntryFacts {
         Ok(Edit::Insert(place, HeldEntry { number, entry }))
     }
 
-    /// The edit by which the entry at a place goes. Asks that there is one. Takes no memory.
+    /// The edit by which the own entry at a place goes. Asks that there is one. Takes no memory.
     pub fn edit_dropping(&self, at: usize) -> Edit
         requires { at < length self.now.content.entries }
         ensures edit { edited result self.now.content ≡ record self.now.content {
@@ -261,6 +338,59 @@ impl EntryFacts {
         ensures fits { Fits result self.now }
     {
         Edit::Criteria(criteria)
+    }
+
+    /// The edit that puts these settings in place of those of the peer of their name, or adds the peer with nothing
+    /// imported, and room for it. Costs a binary search among the peers; for a new one a move of those behind it.
+    /// Refused: `NoMemory`, and never where the peer is held.
+    pub fn edit_of_settings(
+        &mut self,
+        alloc: Global,
+        settings: PeerSettings,
+    ) -> Result<Edit, Refusal>
+        ensures edit { IfOk result (λ e. edited e self.old.content ≡ record self.old.content {
+          peers = with_settings settings self.old.content.peers;
+        }) }
+        ensures fits { IfOk result (λ e. Fits e self.new) }
+        ensures content { self.new.content ≡ self.old.content }
+        ensures kept { HoldsRoomOf self.old.room self.new.room }
+        ensures memory { IfErr result (λ e. e ≡ Refusal.NoMemory) }
+        ensures held { IsHeld settings.name self.old.content → IsOk result }
+    {
+        if self.peers.has(&settings.name) {
+            return Ok(Edit::Settings(settings));
+        }
+        self.peers.reserve()?;
+        let content = Holding::new(alloc)?;
+        Ok(Edit::Peer(self.peers.edit_setting(HeldPeer { settings, content })))
+    }
+
+    /// The edit by which the peer of a name goes, with all that was imported from it. Asks that it is held. Takes no
+    /// memory.
+    pub fn edit_dropping_peer(&self, name: &Name) -> Edit
+        requires { IsHeld name.now self.now.content }
+        ensures edit { edited result self.now.content ≡ record self.now.content {
+          peers = without_peer name.now self.now.content.peers;
+        } }
+        ensures fits { Fits result self.now }
+    {
+        match self.peers.edit_dropping(name) {
+            Some(edit) => Edit::Peer(edit),
+            None => unreachable!(),
+        }
+    }
+
+    /// The edit that puts a content in place of that of the peer of a name. Asks that the peer is held. Takes no
+    /// memory.
+    pub fn edit_of_content(&self, name: Name, content: Holding) -> Edit
+        requires { IsHeld name self.now.content }
+        ensures edit { edited result self.now.content ≡ record self.now.content {
+          peers = with_content name content self.now.content.peers;
+        } }
+        ensures fits { Fits result self.now }
+    {
+        let _ = content.entries();
+        Edit::Content(name, content)
     }
 
     /// The edit that puts these publisher records in place of those of a package, and room for it. Asks that
@@ -291,7 +421,8 @@ impl EntryFacts {
     /// Makes an edit, and answers the one that undoes it. An insert behind all entries costs three binary
     /// searches, and a move of the places behind its own in the order of packages, which are numbers; an insert
     /// in front of entries, or a remove, passes over the places of all entries, and moves those behind it.
-    /// Records of a package are exchanged as a whole; a package that comes or goes moves those behind it.
+    /// Records of a package are exchanged as a whole; a package or a peer that comes or goes moves those behind it,
+    /// and so does a peer whose settings or content are exchanged.
     pub fn apply(&mut self, edit: Edit) -> Edit
         requires { Fits edit self.old }
         ensures content { self.new.content ≡ edited edit self.old.content }
@@ -307,6 +438,15 @@ impl EntryFacts {
                 Edit::Remove(place)
             }
             Edit::Remove(place) => Edit::Insert(place, self.entries.remove(place)),
+            Edit::Peer(change) => Edit::Peer(self.peers.apply(change)),
+            Edit::Settings(settings) => Edit::Settings(exchange_settings(
+                &mut self.peers,
+                settings,
+            )),
+            Edit::Content(name, content) => {
+                let content = exchange_content(&mut self.peers, &name, content);
+                Edit::Content(name, content)
+            }
             Edit::Publishers(change) => Edit::Publishers(self.publishers.apply(change)),
         }
     }
@@ -319,6 +459,22 @@ pub fn edits_fit_with_more_room()
     ensures itself { RoomHoldsItself }
     ensures onward { RoomHoldsOnward }
 {}
+
+// Whether one of some entries names a criterion.
+fn names(entries: &[HeldEntry], name: &Name) -> bool
+    ensures { result ≡ list_any (is_named_by name.now) entries.now }
+{
+    entries
+        .iter()
+        .any(|held| held.entry.criteria.contains(name))
+}
+
+// Whether the map of one of some peers leads to a criterion.
+fn leads_to(peers: &[HeldPeer], name: &Name) -> bool
+    ensures { result ≡ list_any (is_target_of name.now) peers.now }
+{
+    peers.iter().any(|peer| peer.settings.map.leads_to(name))
+}
 
 // Some entries with the numbers from one on.
 fn numbered(alloc: Global, entries: Vec<Entry>) -> Result<Vec<HeldEntry>, AllocError>

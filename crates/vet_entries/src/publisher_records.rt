@@ -9,7 +9,7 @@ use crate::publisher::Publisher;
 use crate::publishers::Publishers;
 use std::alloc::{AllocError, Global};
 use std::marker::Model;
-use vet_base::keyed::{HasKey, Keyed, KeyedEdit};
+use vet_base::keyed::{ExactItem, HasKey, Keyed, KeyedEdit};
 use vet_base::name::PackageName;
 use vet_base::refusal::Refusal;
 
@@ -66,7 +66,7 @@ impl Eq for PackagePublishers {
 }
 
 impl HasKey for PackagePublishers {
-    ghost use Rattle.vet_entries.specs.PublisherRecords.{package_eq-Decides, package_of};
+    ghost use Rattle.vet_entries.specs.PublisherRecords.{package_of};
 
     type Key = PackageName;
 
@@ -75,6 +75,10 @@ impl HasKey for PackagePublishers {
     fn key(&self) -> &PackageName {
         &self.package
     }
+}
+
+impl ExactItem for PackagePublishers {
+    ghost use Rattle.vet_entries.specs.PublisherRecords.{package_eq-Decides};
 
     ghost only_copies = { λ a b h. h };
 

@@ -1,5 +1,8 @@
-use Rattle.std.proofs.Common.{◌≡◌, ◌<◌, length, arith, ap, ◌∙◌}
+use Rattle.std.proofs.Common.{◌≡◌, ◌<◌, is_some, length, arith, ap, ◌∙◌}
 use Rattle.std.specs.List.{insert, remove}
+use Rattle.std.proofs.lemmas.List.Edits.{length-remove}
+use Rattle.vet_entries.specs.HeldPeer.{holding_or_none, peer_of}
+use Rattle.vet_entries.proofs.PeerLaws.{found_own}
 use Rattle.vet_entries.specs.Facts.{Facts}
 use Rattle.vet_base.proofs.KeyedLemmas.{remove-insert}
 use Rattle.vet_entries.proofs.Edits.{insert-remove}
@@ -12,8 +15,8 @@ returns-in-Insert-clause-back c =
     let fits = rw c.in-Insert.is at c.requires in
     let held : items ≡ c.args.self.now.content.entries = ap (λ f. f.content.entries) c.self.view_is in
     let undone = ap (λ es. remove es place) c.insert.ensures.entries ∙ remove-insert items place c.in-Insert.held (omega (arith, fits.0, ap length held)) in
-    let back : ◌≡◌ {A = Facts} (record { criteria = c.self.inside.criteria; entries = remove c.insert.new.self.entries place; publishers = c.self.inside.publishers.items }) (record { criteria = c.self.inside.criteria; entries = items; publishers = c.self.inside.publishers.items }) =
-    λ i. record { criteria = c.self.inside.criteria; entries = undone i; publishers = c.self.inside.publishers.items } in
+    let back : ◌≡◌ {A = Facts} (record { criteria = c.self.inside.criteria; entries = remove c.insert.new.self.entries place; peers = c.self.inside.peers.items; publishers = c.self.inside.publishers.items }) (record { criteria = c.self.inside.criteria; entries = items; peers = c.self.inside.peers.items; publishers = c.self.inside.publishers.items }) =
+    λ i. record { criteria = c.self.inside.criteria; entries = undone i; peers = c.self.inside.peers.items; publishers = c.self.inside.publishers.items } in
     back ∙ ap (λ f. f.content) c.self.view_is
 
 pub returns-in-Remove-clause-back : goal.returns-in-Remove-clause-back
@@ -23,6 +26,24 @@ returns-in-Remove-clause-back c =
     let fits : place < length c.args.self.now.content.entries = rw c.in-Remove.is at c.requires in
     let held : items ≡ c.args.self.now.content.entries = ap (λ f. f.content.entries) c.self.view_is in
     let undone = ap (λ es. insert es place c.remove.result) c.remove.ensures.entries ∙ insert-remove items place c.remove.result (omega (arith, fits, ap length held)) c.remove.ensures.value in
-    let back : ◌≡◌ {A = Facts} (record { criteria = c.self.inside.criteria; entries = insert c.remove.new.self.entries place c.remove.result; publishers = c.self.inside.publishers.items }) (record { criteria = c.self.inside.criteria; entries = items; publishers = c.self.inside.publishers.items }) =
-    λ i. record { criteria = c.self.inside.criteria; entries = undone i; publishers = c.self.inside.publishers.items } in
+    let back : ◌≡◌ {A = Facts} (record { criteria = c.self.inside.criteria; entries = insert c.remove.new.self.entries place c.remove.result; peers = c.self.inside.peers.items; publishers = c.self.inside.publishers.items }) (record { criteria = c.self.inside.criteria; entries = items; peers = c.self.inside.peers.items; publishers = c.self.inside.publishers.items }) =
+    λ i. record { criteria = c.self.inside.criteria; entries = undone i; peers = c.self.inside.peers.items; publishers = c.self.inside.publishers.items } in
     back ∙ ap (λ f. f.content) c.self.view_is
+
+pub returns-in-Remove-clause-fits : goal.returns-in-Remove-clause-fits
+returns-in-Remove-clause-fits c =
+    let place = c.in-Remove.place in
+    let fits : place < length c.args.self.now.content.entries = rw c.in-Remove.is at c.requires in
+    let held = ap (λ f. length f.content.entries) c.self.view_is in (
+      omega (arith, fits, held, ap length c.remove.ensures.entries, length-remove c.self.inside.entries.entries place),
+      (omega (arith, c.remove.ensures.room), c.remove.ensures.back),
+    )
+
+pub returns-in-Settings-clause-fits : goal.returns-in-Settings-clause-fits
+returns-in-Settings-clause-fits c =
+    let old = c.self.inside.peers.items in
+    let settings = c.in-Settings.settings in
+    ap is_some
+    (ap (peer_of c.exchange_settings.new.peers.items) c.exchange_settings.ensures.name
+    ∙ ap (λ ps. peer_of ps settings.name) c.exchange_settings.ensures.items
+    ∙ found_own old (record { settings = settings; content = holding_or_none (peer_of old settings.name) }))

@@ -1,7 +1,7 @@
 -- The number is still to be found among the entries at the places that are left.
 use Rattle.std.proofs.Common.{◌≡◌, drop}
 use Rattle.vet_entries.specs.ByPackage.{gathered}
-use Rattle.vet_entries.specs.Facts.{number_of}
+use Rattle.vet_entries.specs.Numbered.{number_of}
 use Rattle.vet_entries.proofs.facts.EntryFacts.number_of.Given as goal
 
 abbrev pub invariant-loop-place : goal.invariant-loop-place

@@ -1,0 +1,169 @@
+-- What a pass over hashes tells of held entries and of those of a content.
+use Rattle.std.proofs.Common.{◌≡◌, ℕ, ◌==◌, Bool, true, false, cond, not, ◌&&◌, ◌||◌, List, [], ◌∷◌, length, map, get_or, suc, Option, Some, None, is_none, option_map, refl, sym, ap, ◌∙◌, arith}
+use Rattle.std.specs.List.{All, filter, list_all, list_any}
+use Rattle.std.specs.Option.{unwrap_or}
+use Rattle.std.proofs.lemmas.Bool.{false≢true}
+use Rattle.std.proofs.lemmas.Bool.Decides.{nat_tests}
+use Rattle.std.proofs.lemmas.List.Folds.{list_all-map}
+use Rattle.std.proofs.lemmas.List.Elements.{All-nil, All-cons, All-head, All-tail}
+use Rattle.vet_base.specs.Defined.{defined}
+use Rattle.vet_base.specs.Definitions.{criteria_eq}
+use Rattle.vet_entries.specs.declared.entry.Entry.{Entry}
+use Rattle.vet_entries.specs.declared.entry.Source.{Source}
+use Rattle.vet_entries.specs.declared.entry.Source.TheVariants.{Own, Peer}
+use Rattle.vet_entries.specs.declared.facts.HeldEntry.{HeldEntry}
+use Rattle.vet_entries.specs.Entry.{entry_eq, entry_eq-Decides, of_source, own}
+use Rattle.vet_entries.specs.HeldPeer.{as_peers, comes_again, is_new}
+use Rattle.vet_entries.specs.Holding.{HoldingValue}
+use Rattle.vet_entries.specs.Import.{ComparisonValue, compared, is_held, same_content}
+use Rattle.vet_entries.specs.PeerContent.{PeerContentValue, is_own, is_peer_entry, is_peer_kind}
+use Rattle.vet_entries.proofs.ImportMarks.{marks_count}
+
+-- two tests that pass alike are the same
+same_tests : (a b : Bool) → (a ≡ true → b ≡ true) → (b ≡ true → a ≡ true) → a ≡ b
+same_tests true b f g = sym (f refl)
+same_tests false true f g = g refl
+same_tests false false f g = refl
+
+-- lists of alike values
+pub map_alike : {X Y : Type 0} (f g : X → Y) (xs : List X) → All (λ x. f x ≡ g x) xs → map f xs ≡ map g xs
+map_alike f g [] h = refl
+map_alike f g (x ∷ xs) h = λ i. All-head (λ y. f y ≡ g y) x xs h i ∷ map_alike f g xs (All-tail (λ y. f y ≡ g y) x xs h) i
+
+pub any_alike : {X : Type 0} (p q : X → Bool) (xs : List X) → All (λ x. p x ≡ q x) xs → list_any p xs ≡ list_any q xs
+any_alike p q [] h = refl
+any_alike p q (x ∷ xs) h = λ i. (All-head (λ y. p y ≡ q y) x xs h i || any_alike p q xs (All-tail (λ y. p y ≡ q y) x xs h) i)
+
+pub any_map : {X Y : Type 0} (p : Y → Bool) (f : X → Y) (xs : List X) → list_any p (map f xs) ≡ list_any (λ x. p (f x)) xs
+any_map p f [] = refl
+any_map p f (x ∷ xs) = ap (λ b. p (f x) || b) (any_map p f xs)
+
+or_true : (b : Bool) → (b || true) ≡ true
+or_true true = refl
+or_true false = refl
+
+-- each item of a list is like one of it
+pub any_self : {X : Type 0} (R : X → X → Bool) → ((x : X) → R x x ≡ true) → (xs : List X) → All (λ x. list_any (λ y. R y x) xs ≡ true) xs
+any_self R r [] = All-nil _
+any_self R r (x ∷ xs) = All-cons (λ z. list_any (λ y. R y z) (x ∷ xs) ≡ true) x xs (ap (λ b. b || list_any (λ y. R y x) xs) (r x)) (λ k d l. ap (λ b. R x (get_or xs k d) || b) (any_self R r xs k d l) ∙ or_true (R x (get_or xs k d)))
+
+-- ---- an entry of a peer, and the same as the peer's own
+
+pub restored : (x : Entry) (s : Source) → x.source ≡ s → of_source s x ≡ x
+restored x s e = λ i. record { source = sym e i; «package» = x.«package»; kind = x.kind; criteria = x.criteria; notes = x.notes }
+
+-- a held entry is the same as one of a content just where that is the same as one's own
+pub same_as_own : (name : List ℕ) (x e : Entry) → x.source ≡ Peer name → e.source ≡ Own → entry_eq (own x) e ≡ entry_eq x (of_source (Peer name) e)
+same_as_own name x e theirs its =
+    same_tests (entry_eq (own x) e) (entry_eq x (of_source (Peer name) e))
+    (λ h. (entry_eq-Decides x (of_source (Peer name) e)).1 (sym (restored x (Peer name) theirs) ∙ ap (of_source (Peer name)) ((entry_eq-Decides (own x) e).0 h)))
+    (λ h. (entry_eq-Decides (own x) e).1 (ap own ((entry_eq-Decides x (of_source (Peer name) e)).0 h) ∙ restored e Own its))
+
+pub own_of : (e : Entry) → is_peer_entry e ≡ true → e.source ≡ Own
+own_of e h = by e.source (is_peer_kind e.kind) h
+  where
+    by : (s : Source) (b : Bool) → (is_own s && b) ≡ true → s ≡ Own
+    by Own b t = refl
+    by (Peer n) b t = absurd (false≢true t)
+
+symmetric : (a b : Entry) → entry_eq a b ≡ entry_eq b a
+symmetric a b = same_tests (entry_eq a b) (entry_eq b a) (λ h. (entry_eq-Decides b a).1 (sym ((entry_eq-Decides a b).0 h))) (λ h. (entry_eq-Decides a b).1 (sym ((entry_eq-Decides b a).0 h)))
+
+-- ---- what a look-up among held entries finds
+
+found_again : (held seen : Bool) → held ≡ true → unwrap_or (option_map (λ before. before || seen) (cond held (Some false) None)) false ≡ seen
+found_again true seen h = refl
+found_again false seen h = cc h
+
+found_not : (held : Bool) → is_none (cond held (Some false) None) ≡ not held
+found_not true = refl
+found_not false = refl
+
+module _ (name : List ℕ) (held : List HeldEntry) (entries : List Entry) (theirs : All (λ h. h.entry.source ≡ Peer name) held) (given : All (λ e. is_peer_entry e ≡ true) entries) where
+  own_entries : All (λ (e : Entry). e.source ≡ Own) entries
+  own_entries k d l = own_of (get_or entries k d) (given k d l)
+
+  as_own : All (λ (e : Entry). own e ≡ e) entries
+  as_own k d l = restored (get_or entries k d) Own (own_entries k d l)
+
+  -- those that were seen come again
+  pub again_is : (seen : Entry → Option Bool) → ((q : Entry) → seen q ≡ option_map (λ before. before || list_any (λ e. entry_eq (own e) q) entries) (cond (list_any (λ h. entry_eq (own h.entry) q) held) (Some false) None))
+      → map (λ h. unwrap_or (seen (own h.entry)) false) held ≡ map (comes_again (as_peers name entries)) held
+  again_is seen is = map_alike (λ (h : HeldEntry). unwrap_or (seen (own h.entry)) false) (comes_again (as_peers name entries)) held (λ k d l.
+      one (get_or held k d) (theirs k d l) (any_self (λ (g h : HeldEntry). entry_eq (own g.entry) (own h.entry)) (λ h. (entry_eq-Decides (own h.entry) (own h.entry)).1 refl) held k d l))
+    where
+      one : (h : HeldEntry) → h.entry.source ≡ Peer name → list_any (λ g. entry_eq (own g.entry) (own h.entry)) held ≡ true → unwrap_or (seen (own h.entry)) false ≡ comes_again (as_peers name entries) h
+      one h its here =
+          ap (λ o. unwrap_or o false) (is (own h.entry))
+          ∙ found_again _ (list_any (λ e. entry_eq (own e) (own h.entry)) entries) here
+          ∙ any_alike (λ e. entry_eq (own e) (own h.entry)) (λ e. entry_eq h.entry (of_source (Peer name) e)) entries (λ k d l. ap (λ e. entry_eq e (own h.entry)) (as_own k d l) ∙ symmetric (get_or entries k d) (own h.entry) ∙ same_as_own name h.entry (get_or entries k d) its (own_entries k d l))
+          ∙ sym (any_map (entry_eq h.entry) (of_source (Peer name)) entries)
+
+  -- those that were not found are new
+  pub fresh_is : (seen : Entry → Option Bool) → ((q : Entry) → seen q ≡ cond (list_any (λ h. entry_eq (own h.entry) q) held) (Some false) None)
+      → map (λ e. is_none (seen (own e))) entries ≡ map (is_new held) (as_peers name entries)
+  fresh_is seen is = map_alike (λ e. is_none (seen (own e))) (λ e. is_new held (of_source (Peer name) e)) entries (λ k d l. ap (λ e. is_none (seen e)) (as_own k d l) ∙ one (get_or entries k d) (own_entries k d l)) ∙ sym (twice entries)
+    where
+      one : (e : Entry) → e.source ≡ Own → is_none (seen e) ≡ is_new held (of_source (Peer name) e)
+      one e its = ap is_none (is e) ∙ found_not _ ∙ ap not (any_alike (λ h. entry_eq (own h.entry) e) (λ h. entry_eq h.entry (of_source (Peer name) e)) held (λ k d l. same_as_own name (get_or held k d).entry e (theirs k d l) its))
+
+      twice : (es : List Entry) → map (is_new held) (as_peers name es) ≡ map (λ e. is_new held (of_source (Peer name) e)) es
+      twice [] = refl
+      twice (e ∷ es) = ap (λ (bs : List Bool). is_new held (of_source (Peer name) e) ∷ bs) (twice es)
+
+not_zero : (n : ℕ) → (suc n == 0) ≡ false
+not_zero n = grind (arith, nat_tests)
+
+-- nothing is new just where all is held
+pub none_new : (held : List HeldEntry) (entries : List Entry) → (length (filter (is_new held) entries) == 0) ≡ list_all (is_held held) entries
+none_new held [] = refl
+none_new held (e ∷ es) = by (is_held held e) (none_new held es)
+  where
+    by : (b : Bool) → (length (filter (is_new held) es) == 0) ≡ list_all (is_held held) es → (length (cond (not b) (e ∷ filter (is_new held) es) (filter (is_new held) es)) == 0) ≡ (b && list_all (is_held held) es)
+    by true h = h
+    by false h = not_zero (length (filter (is_new held) es))
+
+-- ---- all that is compared
+
+module _ (name : List ℕ) (held : HoldingValue) (content : PeerContentValue) (theirs : All (λ h. h.entry.source ≡ Peer name) held.entries) (given : All (λ e. is_peer_entry e ≡ true) content.entries) where
+  abbrev all_of : List Bool → Bool
+  all_of = list_all (λ b. b)
+
+  -- where the marks are those of a pass, they are the comparison
+  pub marks_compared : (again fresh : List Bool) (count : ℕ) (same : Bool)
+      → again ≡ map (comes_again (as_peers name content.entries)) held.entries
+      → fresh ≡ map (is_new held.entries) (as_peers name content.entries)
+      → count ≡ length (filter (λ b. b) fresh)
+      → same ≡ (all_of again && ((count == 0) && criteria_eq (defined content.criteria) held.table))
+      → ◌≡◌ {A = ComparisonValue} (record { again = again; fresh = fresh; new_count = count; is_same = same }) (compared name held content)
+  marks_compared again fresh count same a f n s = λ i. record { again = a i; fresh = f i; new_count = counted i; is_same = is_same i }
+    where
+      counted : count ≡ length (filter (is_new held.entries) (as_peers name content.entries))
+      counted = n ∙ ap (λ marks. length (filter (λ b. b) marks)) f ∙ marks_count (is_new held.entries) (as_peers name content.entries)
+
+      is_same : same ≡ same_content name held content
+      is_same =
+          s ∙ ap (λ marks. all_of marks && ((count == 0) && criteria_eq (defined content.criteria) held.table)) a
+          ∙ ap (λ b. b && ((count == 0) && criteria_eq (defined content.criteria) held.table)) (list_all-map (λ b. b) (comes_again (as_peers name content.entries)) held.entries)
+          ∙ ap (λ k. list_all (comes_again (as_peers name content.entries)) held.entries && ((k == 0) && criteria_eq (defined content.criteria) held.table)) counted
+          ∙ ap (λ b. list_all (comes_again (as_peers name content.entries)) held.entries && (b && criteria_eq (defined content.criteria) held.table)) (none_new held.entries (as_peers name content.entries))
+
+  -- where a pass looks for the entries of the content among those held
+  pub pass_again : (hs hs' : List HeldEntry) (es : List Entry) (before after : Entry → Option Bool)
+      → hs ≡ held.entries → hs' ≡ held.entries → es ≡ content.entries
+      → ((q : Entry) → before q ≡ cond (list_any (λ h. entry_eq (own h.entry) q) hs) (Some false) None)
+      → ((q : Entry) → after q ≡ option_map (λ b. b || list_any (λ e. entry_eq (own e) q) es) (before q))
+      → map (λ h. unwrap_or (after (own h.entry)) false) hs' ≡ map (comes_again (as_peers name content.entries)) held.entries
+  pass_again hs hs' es before after eh eh' ee b a =
+      ap (map (λ h. unwrap_or (after (own h.entry)) false)) eh'
+      ∙ again_is name held.entries content.entries theirs given after (λ q. a q
+      ∙ ap (λ l. option_map (λ x. x || list_any (λ e. entry_eq (own e) q) l) (before q)) ee
+      ∙ ap (option_map (λ x. x || list_any (λ e. entry_eq (own e) q) content.entries)) (b q ∙ ap (λ l. cond (list_any (λ h. entry_eq (own h.entry) q) l) (Some false) None) eh))
+
+  pub pass_fresh : (hs : List HeldEntry) (es : List Entry) (before : Entry → Option Bool)
+      → hs ≡ held.entries → es ≡ content.entries
+      → ((q : Entry) → before q ≡ cond (list_any (λ h. entry_eq (own h.entry) q) hs) (Some false) None)
+      → map (λ e. is_none (before (own e))) es ≡ map (is_new held.entries) (as_peers name content.entries)
+  pass_fresh hs es before eh ee b =
+      ap (map (λ e. is_none (before (own e)))) ee
+      ∙ fresh_is name held.entries content.entries theirs given before (λ q. b q ∙ ap (λ l. cond (list_any (λ h. entry_eq (own h.entry) q) l) (Some false) None) eh)

@@ -1,0 +1,9 @@
+-- What stands at the places so far that are in the set.
+use Rattle.std.proofs.Common.{◌≡◌, ◌↔◌, ℕ, true, ◌<◌, get_or}
+use Rattle.std.specs.FinSet as set
+use Rattle.vet_base.specs.CriteriaSet.{has}
+use Rattle.vet_entries.proofs.local_criteria.joined.Given as goal
+
+abbrev pub invariant-loop-place : goal.invariant-loop-place
+invariant-loop-place l =
+    (q : ℕ) → (has q l.joined ≡ true) ↔ ((p : ℕ) × (p < l.place) × ((has p l.places ≡ true) × (has q (get_or l.words p set.empty) ≡ true)))

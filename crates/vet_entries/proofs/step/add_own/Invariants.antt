@@ -1,0 +1,14 @@
+-- One's own entries at the places so far were added, and the peer of each is there.
+use Rattle.std.proofs.Common.{◌≡◌, ◌++◌, None, take}
+use Rattle.std.specs.List.{All}
+use Rattle.vet_entries.specs.Source.{sourced_at}
+use Rattle.vet_entries.specs.Taken.{HasPeer, all_sourced}
+use Rattle.vet_entries.proofs.step.add_own.Given as goal
+
+abbrev pub invariant-loop-place : goal.invariant-loop-place
+invariant-loop-place l =
+    let peers = l.facts.content.peers in
+    record {
+      entries : all_sourced peers l.taken.items ≡ all_sourced peers l.fn.taken.items ++ sourced_at None l.entries (take l.place-index l.place-items);
+      there : All (HasPeer peers) l.taken.items;
+    }

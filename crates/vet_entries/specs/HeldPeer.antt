@@ -1,0 +1,81 @@
+-- Peers as they are held (ours): how each is imported, and what was imported from it, in its own words.
+use Rattle.std.specs.Prelude.{◌≡◌, ◌&&◌, ℕ, Bool, not, List, [], ◌∷◌, ◌++◌, Option, Some, None, filter, map}
+use Rattle.std.specs.List.{list_any}
+use Rattle.std.specs.FinMap as table
+use Rattle.std.specs.Ordering.{nat_cmp}
+use Rattle.std.specs.Cmp.Lexicographic.{slice_cmp}
+use Rattle.vet_base.specs.Defined.{defined}
+use Rattle.vet_base.specs.Keyed.{item_of, with_item, without_item}
+use Rattle.vet_entries.specs.declared.entry.Entry.{Entry}
+use Rattle.vet_entries.specs.declared.entry.Source.TheVariants.{Peer}
+use Rattle.vet_entries.specs.declared.facts.HeldEntry.{HeldEntry}
+use Rattle.vet_entries.specs.declared.held_peer.HeldPeer.{HeldPeer}
+use Rattle.vet_entries.specs.declared.peer_settings.PeerSettings.{PeerSettings}
+use Rattle.vet_entries.specs.Entry.{entry_eq, of_source}
+use Rattle.vet_entries.specs.Holding.{HoldingValue, no_holding}
+use Rattle.vet_entries.specs.Numbered.{numbered}
+use Rattle.vet_entries.specs.PeerContent.{PeerContentValue}
+
+-- the name of a peer
+abbrev pub peer_name : HeldPeer → List ℕ
+peer_name peer = peer.settings.name
+
+-- the peer of a name, if it is held
+abbrev pub peer_of : List HeldPeer → List ℕ → Option HeldPeer
+peer_of peers name = item_of (slice_cmp nat_cmp) peer_name peers name
+
+-- a peer put in place of the one of its name, or among the others
+abbrev pub with_peer : HeldPeer → List HeldPeer → List HeldPeer
+with_peer peer peers = with_item (slice_cmp nat_cmp) peer_name peers peer
+
+-- the peers but that of a name
+abbrev pub without_peer : List ℕ → List HeldPeer → List HeldPeer
+without_peer name peers = without_item (slice_cmp nat_cmp) peer_name peers name
+
+-- what is held of a peer, if it is: of a new one, nothing
+abbrev pub holding_or_none : Option HeldPeer → HoldingValue
+holding_or_none None = no_holding
+holding_or_none (Some peer) = peer.content
+
+-- a peer set: with these settings, and what is held of it
+abbrev pub with_settings : PeerSettings → List HeldPeer → List HeldPeer
+with_settings settings peers = with_peer (record { settings = settings; content = holding_or_none (peer_of peers settings.name) }) peers
+
+-- the same peer with another content; none where none is held
+abbrev pub with_content_of : Option HeldPeer → HoldingValue → List HeldPeer → List HeldPeer
+with_content_of None content peers = peers
+with_content_of (Some peer) content peers = with_peer (record peer { content = content }) peers
+
+abbrev pub with_content : List ℕ → HoldingValue → List HeldPeer → List HeldPeer
+with_content name content peers = with_content_of (peer_of peers name) content peers
+
+-- ---- imports
+
+-- entries as those of a peer
+abbrev pub as_peers : List ℕ → List Entry → List Entry
+as_peers name entries = map (of_source (Peer name)) entries
+
+-- a held entry is among some
+abbrev pub comes_again : List Entry → HeldEntry → Bool
+comes_again entries held = list_any (entry_eq held.entry) entries
+
+-- an entry is not held
+abbrev pub is_new : List HeldEntry → Entry → Bool
+is_new held entry = not (list_any (λ h. entry_eq h.entry entry) held)
+
+-- those of some entries of a peer that are not held, in the order of reading
+abbrev pub new_entries : List ℕ → List HeldEntry → List Entry → List Entry
+new_entries name held entries = filter (is_new held) (as_peers name entries)
+
+-- the entries after an import, where this is the next number: those held that come again keep their numbers, and the new
+-- ones get the next numbers in the order of reading
+abbrev pub entries_after_import : List ℕ → ℕ → List HeldEntry → List Entry → List HeldEntry
+entries_after_import name next held entries =
+    filter (comes_again (as_peers name entries)) held ++ numbered next (new_entries name held entries)
+
+-- what is held of a peer after an import
+abbrev pub imported : List ℕ → ℕ → PeerContentValue → HoldingValue → HoldingValue
+imported name next content held = record {
+  table = defined content.criteria;
+  entries = entries_after_import name next held.entries content.entries;
+}

@@ -1,0 +1,21 @@
+-- Entries as they are lent, each with the place of its peer (ours).
+use Rattle.std.specs.Prelude.{ℕ, ◌<◌, List, Option, None, Some, IfSome, length, map, slice_get}
+use Rattle.vet_entries.specs.declared.held_peer.HeldPeer.{HeldPeer}
+use Rattle.vet_entries.specs.declared.step.Taken.{Taken}
+use Rattle.vet_entries.specs.Step.{SourcedEntry}
+
+-- the peer at a place, or none for what is one's own
+abbrev pub peer_at : List HeldPeer → Option ℕ → Option HeldPeer
+peer_at peers None = None
+peer_at peers (Some place) = slice_get peers place
+
+-- the entry that is lent, and whose it is
+abbrev pub sourced_entry : List HeldPeer → Taken → SourcedEntry
+sourced_entry peers t = record { peer = peer_at peers t.peer; held = t.held.now }
+
+abbrev pub all_sourced : List HeldPeer → List Taken → List SourcedEntry
+all_sourced peers taken = map (sourced_entry peers) taken
+
+-- the peer of an entry is there
+abbrev pub HasPeer : List HeldPeer → Taken → Type 0
+HasPeer peers t = IfSome t.peer (λ place. place < length peers)

@@ -1,0 +1,340 @@
+//! What an import changes of what is held of a peer.
+//!
+//! **An import holds the content's entries, each once: those that come again keep their numbers, and the new ones
+//! get the next numbers in the order of reading.**
+ghost use Rattle.std.specs.HashMap.{get};
+ghost use Rattle.std.specs.List.{All, list_all, list_any};
+ghost use Rattle.std.specs.Option.{unwrap_or};
+ghost use Rattle.std.specs.Prelude.{◌≡◌, ◌==◌, ◌<◌, ◌+◌, ◌^◌, ◌++◌, ◌&&◌, ◌||◌, Bool, IfErr, IfOk, None, OnOk, Some, false, filter, if◌then◌else◌, is_none, is_some, length, map, not, option_map, true};
+ghost use Rattle.vet_base.specs.Defined.{defined};
+ghost use Rattle.vet_base.specs.Definitions.{criteria_eq};
+ghost use Rattle.vet_entries.specs.declared.entry.Entry.{Entry};
+ghost use Rattle.vet_entries.specs.declared.entry.Source.TheVariants.{Peer};
+ghost use Rattle.vet_entries.specs.declared.facts.HeldEntry.{HeldEntry};
+ghost use Rattle.vet_entries.specs.Entry.{entry_eq, of_source, own};
+ghost use Rattle.vet_entries.specs.HeldPeer.{as_peers, imported};
+ghost use Rattle.vet_entries.specs.Import.{compared};
+ghost use Rattle.vet_entries.specs.ImportLaws.{ImportHoldsEachOnce, ImportHoldsItsContent, ImportKeepsNumbers, ImportKeepsOrder, ImportTakesEntries, SameItemsAreSame};
+ghost use Rattle.vet_entries.specs.Numbered.{numbered};
+
+use crate::entry::{Entry, Source};
+use crate::facts::HeldEntry;
+use crate::holding::Holding;
+use crate::peer_content::PeerContent;
+use crate::said::Said;
+use std::alloc::{AllocError, Global};
+use std::collections::HashMap;
+use std::marker::Model;
+use vet_base::definitions::Definitions;
+use vet_base::name::Name;
+use vet_base::refusal::Refusal;
+
+/// How a content stands to what is held of a peer: which held entries come again, and which entries are new.
+pub struct Comparison {
+    again: Vec<bool>,
+    fresh: Vec<bool>,
+    new_count: usize,
+    is_same: bool,
+}
+
+impl Model for Comparison {
+    ghost use Rattle.vet_entries.specs.Import.{ComparisonValue, comparison_code};
+
+    ghost Value = { ComparisonValue };
+
+    ghost coded = { comparison_code };
+
+    ghost view = { λ c. record {
+      again = c.again.items;
+      fresh = c.fresh.items;
+      new_count = c.new_count;
+      is_same = c.is_same;
+    } };
+}
+
+impl Drop for Comparison {
+    fn drop(self) {
+        let Comparison {
+            again: _,
+            fresh: _,
+            new_count: _,
+            is_same: _,
+        } = self;
+    }
+}
+
+impl Comparison {
+    /// How many entries are new.
+    pub fn new_count(&self) -> usize
+        ensures { result ≡ self.now.new_count }
+    {
+        self.new_count
+    }
+
+    /// Whether the content is the one held: the same criteria and the same entries, in whatever order.
+    pub fn is_same(&self) -> bool
+        ensures { result ≡ self.now.is_same }
+    {
+        self.is_same
+    }
+}
+
+/// How a content stands to what is held of a peer. Costs two look-ups by a hash of each held entry and, where any is
+/// held, one of each entry; and copies of the criteria, but of no entry. Refused: `NoMemory`.
+pub fn compare(
+    alloc: Global,
+    name: &Name,
+    held: &Holding,
+    content: &PeerContent,
+) -> Result<Comparison, Refusal>
+    requires { All (λ h. h.entry.source ≡ Peer name.now) held.now.entries }
+    ensures ok { IfOk result (λ c. c ≡ compared name.now held.now content.now) }
+    ensures memory { IfErr result (λ e. e ≡ Refusal.NoMemory) }
+{
+    let mut seen = unseen(alloc, held.entries())?;
+    let fresh = see(alloc, &mut seen, content.entries())?;
+    let again = seen_again(alloc, &seen, held.entries())?;
+    let new_count = count(fresh.as_slice());
+    let is_same = is_same(alloc, held, content, again.as_slice(), new_count)?;
+    Ok(Comparison {
+        again,
+        fresh,
+        new_count,
+        is_same,
+    })
+}
+
+/// What is held of the peer after an import, where this is the next number. Costs a copy of each entry that comes again
+/// or is new, and a time of n log n. Refused: `NoMemory`.
+pub fn holding_after(
+    alloc: Global,
+    name: &Name,
+    next: u64,
+    held: &Holding,
+    content: &PeerContent,
+    comparison: &Comparison,
+) -> Result<Holding, Refusal>
+    requires compared { comparison.now ≡ compared name.now held.now content.now }
+    requires below { All (λ h. h.number < next) held.now.entries }
+    requires numbers { next + comparison.now.new_count < 2 ^ 64 }
+    ensures ok { IfOk result (λ h. h ≡ imported name.now next content.now held.now) }
+    ensures memory { IfErr result (λ e. e ≡ Refusal.NoMemory) }
+{
+    let coming = content.entries();
+    let mut entries = Vec::with_capacity(alloc, coming.len())?;
+    keep(&mut entries, held.entries(), comparison.again.as_slice())?;
+    let fresh = comparison.fresh.as_slice();
+    add(&mut entries, name, next, coming, fresh)?;
+    Holding::of(alloc, definitions_of(alloc, content)?, entries)
+}
+
+/// A content is the one held just where it has the same criteria and the same entries, in whatever order.
+pub fn same_items_are_same()
+    ensures { SameItemsAreSame }
+{}
+
+/// What is held after an import is the content: the same entries, as the peer's, and its criteria.
+pub fn import_holds_its_content()
+    ensures { ImportHoldsItsContent }
+{}
+
+/// Where no two held entries are the same, no two are after an import, and there are as many as in the content.
+pub fn import_holds_each_once()
+    ensures { ImportHoldsEachOnce }
+{}
+
+/// Where the numbers rise below the next one, they still do after an import, below the next one after it.
+pub fn import_keeps_order()
+    ensures { ImportKeepsOrder }
+{}
+
+/// Each entry after an import was held with its number, or has a new number.
+pub fn import_keeps_numbers()
+    ensures { ImportKeepsNumbers }
+{}
+
+/// Each entry after an import is one of the content, as the peer's.
+pub fn import_takes_entries()
+    ensures { ImportTakesEntries }
+{}
+
+// The held entries by what they say, of which none was seen yet.
+fn unseen<'a>(alloc: Global, held: &'a [HeldEntry]) -> Result<HashMap<Said<'a>, bool>, AllocError>
+    ensures { IfOk result (λ seen. (q : Entry)
+        → get entry_eq seen q ≡ (if list_any (λ h. entry_eq (own h.entry) q) held.now then Some false else None)) }
+{
+    let mut seen = HashMap::with_capacity(alloc, held.len())?;
+    'entries: for entry in held {
+        seen.insert(Said::of(&entry.entry), false)?;
+    }
+    Ok(seen)
+}
+
+// Sees some entries, and tells of each whether it is not held.
+fn see<'a>(
+    alloc: Global,
+    seen: &mut HashMap<Said<'a>, bool>,
+    entries: &'a [Entry],
+) -> Result<Vec<bool>, AllocError>
+    ensures fresh { IfOk result (λ fresh. fresh.items ≡ map (λ e. is_none (get entry_eq seen.old (own e))) entries.now) }
+    ensures seen { OnOk result ((q : Entry) → get entry_eq seen.new q
+        ≡ option_map (λ before. before || list_any (λ e. entry_eq (own e) q) entries.now) (get entry_eq seen.old q)) }
+{
+    let mut fresh = Vec::new(alloc);
+    'entries: for entry in entries {
+        let is_held = see_one(seen, entry);
+        fresh.push(!is_held)?;
+    }
+    Ok(fresh)
+}
+
+// Sees an entry, and tells whether it is held. Where nothing is held, its hash is not taken.
+fn see_one<'a>(seen: &mut HashMap<Said<'a>, bool>, entry: &'a Entry) -> bool
+    ensures held { result ≡ is_some (get entry_eq seen.old (own entry.now)) }
+    ensures seen { (q : Entry) → get entry_eq seen.new q
+        ≡ option_map (λ before. before || entry_eq (own entry.now) q) (get entry_eq seen.old q) }
+{
+    if seen.is_empty() {
+        return false;
+    }
+    match seen.get_mut(&Said::of(entry)) {
+        Some(mark) => {
+            *mark = true;
+            true
+        }
+        None => false,
+    }
+}
+
+// Of each held entry, whether it was seen.
+fn seen_again<'a>(
+    alloc: Global,
+    seen: &HashMap<Said<'a>, bool>,
+    held: &'a [HeldEntry],
+) -> Result<Vec<bool>, AllocError>
+    ensures { IfOk result (λ again. again.items
+        ≡ map (λ h. unwrap_or (get entry_eq seen.now (own h.entry)) false) held.now) }
+{
+    let mut again = Vec::new(alloc);
+    'entries: for entry in held {
+        again.push(was_seen(seen, entry))?;
+    }
+    Ok(again)
+}
+
+// Whether a held entry was seen.
+fn was_seen<'a>(seen: &HashMap<Said<'a>, bool>, held: &'a HeldEntry) -> bool
+    ensures { result ≡ unwrap_or (get entry_eq seen.now (own held.now.entry)) false }
+{
+    match seen.get(&Said::of(&held.entry)) {
+        Some(seen) => *seen,
+        None => false,
+    }
+}
+
+// How many of some answers are yes.
+fn count(answers: &[bool]) -> usize
+    ensures { result ≡ length (filter (λ b. b) answers.now) }
+{
+    answers.iter().filter(|answer| **answer).count()
+}
+
+// Whether all answers are yes.
+fn are_all(answers: &[bool]) -> bool
+    ensures { result ≡ list_all (λ b. b) answers.now }
+{
+    answers.iter().all(|answer| *answer)
+}
+
+// Whether all that is held comes again, nothing is new, and the criteria are the same.
+fn is_same(
+    alloc: Global,
+    held: &Holding,
+    content: &PeerContent,
+    again: &[bool],
+    new_count: usize,
+) -> Result<bool, Refusal>
+    ensures ok { IfOk result (λ is_same. is_same ≡ (list_all (λ b. b) again.now
+        && ((new_count == 0) && criteria_eq (defined content.now.criteria) held.now.table))) }
+    ensures memory { IfErr result (λ e. e ≡ Refusal.NoMemory) }
+{
+    if !are_all(again) {
+        return Ok(false);
+    }
+    if new_count > 0 {
+        return Ok(false);
+    }
+    has_criteria_of(alloc, held, content)
+}
+
+// Whether what is held has the criteria of a content.
+fn has_criteria_of(alloc: Global, held: &Holding, content: &PeerContent) -> Result<bool, Refusal>
+    ensures ok { IfOk result (λ is_same. is_same ≡ criteria_eq (defined content.now.criteria) held.now.table) }
+    ensures memory { IfErr result (λ e. e ≡ Refusal.NoMemory) }
+{
+    Ok(definitions_of(alloc, content)? == *held.definitions())
+}
+
+// The criteria of a content, and the built-in ones.
+fn definitions_of(alloc: Global, content: &PeerContent) -> Result<Definitions, Refusal>
+    ensures ok { IfOk result (λ d. d ≡ defined content.now.criteria) }
+    ensures memory { IfErr result (λ e. e ≡ Refusal.NoMemory) }
+{
+    let criteria = content.criteria().to_vec(alloc)?;
+    Definitions::of(alloc, criteria)
+}
+
+// Adds copies of those held entries that come again.
+fn keep(entries: &mut Vec<HeldEntry>, held: &[HeldEntry], again: &[bool]) -> Result<(), AllocError>
+    requires { length again.now ≡ length held.now }
+    ensures { OnOk result ((keeps : HeldEntry → Bool) → again.now ≡ map keeps held.now
+        → entries.new.items ≡ entries.old.items ++ filter keeps held.now) }
+{
+    'held: for place in 0..held.len() {
+        if again[place] {
+            entries.push(copied(&held[place])?)?;
+        }
+    }
+    Ok(())
+}
+
+// A copy of a held entry.
+fn copied(held: &HeldEntry) -> Result<HeldEntry, AllocError>
+    ensures { IfOk result (λ h. h ≡ held.now) }
+{
+    Ok(HeldEntry {
+        number: held.number,
+        entry: held.entry.clone()?,
+    })
+}
+
+// Adds the new entries as those of a peer, with numbers from this one on.
+fn add(
+    held: &mut Vec<HeldEntry>,
+    name: &Name,
+    next: u64,
+    entries: &[Entry],
+    fresh: &[bool],
+) -> Result<(), AllocError>
+    requires fresh { length fresh.now ≡ length entries.now }
+    requires numbers { next + length (filter (λ b. b) fresh.now) < 2 ^ 64 }
+    ensures { OnOk result ((is_new : Entry → Bool) → fresh.now ≡ map is_new (as_peers name.now entries.now)
+        → held.new.items ≡ held.old.items ++ numbered next (filter is_new (as_peers name.now entries.now))) }
+{
+    let mut number = next;
+    'entries: for place in 0..entries.len() {
+        if fresh[place] {
+            let entry = copied_for_peer(&entries[place], name)?;
+            held.push(HeldEntry { number, entry })?;
+            number += 1;
+        }
+    }
+    Ok(())
+}
+
+// A copy of an entry as that of a peer.
+fn copied_for_peer(entry: &Entry, name: &Name) -> Result<Entry, AllocError>
+    ensures { IfOk result (λ e. e ≡ of_source (Peer name.now) entry.now) }
+{
+    entry.copied_for(Source::Peer(name.clone()?))
+}

@@ -1,0 +1,240 @@
+//! What the words of one's own and of each peer are in one's own table.
+//!
+//! **The local criteria of an entry are those of the definition: a peer's are closed by the peer's own criteria,
+//! then mapped, and what they stand for is closed here.**
+//!
+//! All that one criterion of a peer implies there is found once, and so is what that stands for here. A name that
+//! the peer doesn't define implies nothing there, so the map alone says what it is. An entry then costs a look for
+//! each name, and one closure.
+ghost use Rattle.std.specs.Prelude.{◌≡◌, ◌<◌, ◌↔◌, ℕ, true, None, Some, [], length, slice_index_or, IfOk, IfErr};
+ghost use Rattle.std.specs.FinMap as table;
+ghost use Rattle.std.specs.FinSet as set;
+ghost use Rattle.vet_base.specs.Closures.{AreClosures};
+ghost use Rattle.vet_base.specs.Criteria.{closure_of, placed};
+ghost use Rattle.vet_base.specs.CriteriaSet.{has};
+ghost use Rattle.vet_base.specs.Names.{members};
+ghost use Rattle.vet_entries.specs.LocalCriteria.{AreLocal, AreWords, all_beyond, direct, mapped_beyond, stands_for};
+ghost use Rattle.vet_entries.specs.Mapped.{mapped, mapped_name};
+ghost use Rattle.vet_entries.specs.PeerWords.{local_criteria};
+ghost use Rattle.vet_entries.specs.declared.held_peer.HeldPeer.{HeldPeer};
+
+use crate::criteria_map::CriteriaMap;
+use crate::facts::EntryFacts;
+use crate::held_peer::HeldPeer;
+use std::alloc::Global;
+use vet_base::closures::Closures;
+use vet_base::criteria_set::CriteriaSet;
+use vet_base::criteria_table::{CriteriaTable, is_built_in};
+use vet_base::definitions::Definitions;
+use vet_base::limits::MOST_CRITERIA;
+use vet_base::name::Name;
+use vet_base::names::Names;
+use vet_base::refusal::Refusal;
+
+/// What the words of one's own and of each peer are in one's own table, found once for many packages. A change of
+/// the table or of a peer makes it void.
+pub struct LocalCriteria {
+    own: Closures,
+    peers: Vec<PeerWords>,
+}
+
+impl Drop for LocalCriteria {
+    fn drop(self) {
+        let LocalCriteria { own: _, peers: _ } = self;
+    }
+}
+
+// What each criterion of a peer stands for with all that it implies there, by its place among the peer's names, not
+// yet closed in one's own table.
+#[derive(Drop)]
+struct PeerWords {
+    stands: [CriteriaSet; MOST_CRITERIA],
+}
+
+impl LocalCriteria {
+    /// What the words of all sources are. Costs the closures of each peer's criteria, and a look in the peer's map
+    /// for each name that they imply. Refused: `NoMemory`.
+    pub fn of(alloc: Global, facts: &EntryFacts) -> Result<LocalCriteria, Refusal>
+        ensures ok { IfOk result (AreLocal facts.now.content) }
+        ensures memory { IfErr result (λ e. e ≡ Refusal.NoMemory) }
+    {
+        let criteria = facts.criteria();
+        let mut peers = Vec::new(alloc);
+        for peer in facts.peers() {
+            peers.push(PeerWords::of(criteria, peer))?;
+        }
+        Ok(LocalCriteria {
+            own: criteria.closures(),
+            peers,
+        })
+    }
+
+    /// The closures of one's own table. Takes no memory.
+    pub fn own(&self) -> &Closures
+        ensures { result.now ≡ self.now.own }
+    {
+        &self.own
+    }
+
+    /// The local criteria of some names of one's own. Takes no memory.
+    pub(crate) fn of_own(&self, facts: &EntryFacts, names: &Names) -> CriteriaSet
+        requires { AreLocal facts.now.content self.now }
+        ensures { result ≡ local_criteria facts.now.content.criteria None names.now }
+    {
+        self.own.close(&facts.criteria().set_of(names))
+    }
+
+    /// The local criteria of some names of the peer at a place. Costs a look for each, and takes no memory.
+    pub(crate) fn of_peer(&self, facts: &EntryFacts, place: usize, names: &Names) -> CriteriaSet
+        requires local { AreLocal facts.now.content self.now }
+        requires place { place < length facts.now.content.peers }
+        ensures { (d : HeldPeer) → result ≡ local_criteria facts.now.content.criteria
+            (Some (slice_index_or facts.now.content.peers place d)) names.now }
+    {
+        let criteria = facts.criteria();
+        let peer = &facts.peers()[place];
+        let stands = self.peers[place].of_names(criteria, peer, names);
+        self.own.close(&stands)
+    }
+}
+
+/// What a peer's violation names in one's own words, unclosed: no closure on either side. Takes no memory.
+pub(crate) fn mapped_set(criteria: &CriteriaTable, map: &CriteriaMap, names: &Names) -> CriteriaSet
+    ensures { result ≡ placed criteria.now (mapped map.now names.now) }
+{
+    let mut set = CriteriaSet::empty();
+    for name in names.as_slice() {
+        set = set.union(&word(criteria, map, name));
+    }
+    set
+}
+
+impl PeerWords {
+    // What each criterion of a peer stands for.
+    fn of(criteria: &CriteriaTable, peer: &HeldPeer) -> PeerWords
+        ensures { AreWords criteria.now peer.now result }
+    {
+        let definitions = peer.content.definitions();
+        let direct = direct_words(criteria, &peer.settings.map, definitions);
+        let closures = definitions.closures();
+        let count = definitions.names().len();
+        let mut stands = [CriteriaSet::empty(); MOST_CRITERIA];
+        for place in 0..count {
+            let reached = closures.close(&CriteriaSet::empty().with(place));
+            stands[place] = joined(&direct, &reached);
+        }
+        PeerWords { stands }
+    }
+
+    // What some names of the peer stand for with all that they imply there.
+    fn of_names(&self, criteria: &CriteriaTable, peer: &HeldPeer, names: &Names) -> CriteriaSet
+        requires { AreWords criteria.now peer.now self.now }
+        ensures { result ≡ placed criteria.now
+            (mapped peer.now.settings.map (closure_of peer.now.content.table names.now)) }
+    {
+        let mut set = CriteriaSet::empty();
+        for name in names.as_slice() {
+            set = set.union(&self.of_name(criteria, peer, name));
+        }
+        set
+    }
+
+    // What a name of the peer stands for with all that it implies there.
+    fn of_name(&self, criteria: &CriteriaTable, peer: &HeldPeer, name: &Name) -> CriteriaSet
+        requires { AreWords criteria.now peer.now self.now }
+        ensures { result ≡ stands_for criteria.now peer.now name.now }
+    {
+        match peer.content.definitions().place(name) {
+            Some(place) => self.stands[place],
+            None => word(criteria, &peer.settings.map, name),
+        }
+    }
+}
+
+// What each criterion of a peer stands for with the names that it implies and the peer doesn't define, by its place.
+fn direct_words(
+    criteria: &CriteriaTable,
+    map: &CriteriaMap,
+    definitions: &Definitions,
+) -> [CriteriaSet; MOST_CRITERIA]
+    ensures { (p : ℕ) → p < length (table.keys definitions.now)
+        → slice_index_or result p set.empty
+        ≡ placed criteria.now (direct definitions.now map.now (slice_index_or (table.keys definitions.now) p [])) }
+{
+    let names = definitions.names();
+    let defined = definitions.criteria();
+    let mut words = [CriteriaSet::empty(); MOST_CRITERIA];
+    for place in 0..names.len() {
+        let beyond = words_beyond(criteria, map, definitions, &defined[place].implies);
+        words[place] = word(criteria, map, &names[place]).union(&beyond);
+    }
+    words
+}
+
+// What those of some names stand for that a peer doesn't define.
+fn words_beyond(
+    criteria: &CriteriaTable,
+    map: &CriteriaMap,
+    definitions: &Definitions,
+    names: &Names,
+) -> CriteriaSet
+    ensures { result ≡ placed criteria.now (all_beyond definitions.now map.now (members names.now)) }
+{
+    let mut set = CriteriaSet::empty();
+    for name in names.as_slice() {
+        set = set.union(&word_beyond(criteria, map, definitions, name));
+    }
+    set
+}
+
+// What a name stands for, if a peer doesn't define it.
+fn word_beyond(
+    criteria: &CriteriaTable,
+    map: &CriteriaMap,
+    definitions: &Definitions,
+    name: &Name,
+) -> CriteriaSet
+    ensures { result ≡ placed criteria.now (mapped_beyond definitions.now map.now name.now) }
+{
+    if definitions.has(name) {
+        return CriteriaSet::empty();
+    }
+    word(criteria, map, name)
+}
+
+// What a name of a peer stands for, without what it implies there or here.
+fn word(criteria: &CriteriaTable, map: &CriteriaMap, name: &Name) -> CriteriaSet
+    ensures { result ≡ placed criteria.now (mapped_name map.now name.now) }
+{
+    if let Some(names) = map.get(name) {
+        return criteria.set_of(names);
+    }
+    if !is_built_in(name) {
+        return CriteriaSet::empty();
+    }
+    itself(criteria, name)
+}
+
+// A name of one's own, if the table has it.
+fn itself(criteria: &CriteriaTable, name: &Name) -> CriteriaSet
+    ensures { result ≡ placed criteria.now (set.insert set.empty name.now) }
+{
+    match criteria.place(name) {
+        Some(place) => CriteriaSet::empty().with(place),
+        None => CriteriaSet::empty(),
+    }
+}
+
+// What stands at the places of a set, in one.
+fn joined(words: &[CriteriaSet; MOST_CRITERIA], places: &CriteriaSet) -> CriteriaSet
+    ensures { (q : ℕ) → (has q result ≡ true)
+        ↔ ((p : ℕ) × (has p places.now ≡ true) × (has q (slice_index_or words.now p set.empty) ≡ true)) }
+{
+    let mut joined = CriteriaSet::empty();
+    for place in 0..MOST_CRITERIA {
+        if places.has(place) {
+            joined = joined.union(&words[place]);
+        }
+    }
+    joined
+}
