@@ -10,8 +10,8 @@ use Rattle.toml.specs.Data.{Data, Members, no_members, member}
 use Rattle.vet_base.specs.Gives.{Told}
 use Rattle.vet_files.specs.declared.found.Found.{Found}
 use Rattle.vet_files.specs.Lists.{nothing}
-use Rattle.vet_files.specs.Walk.{each_member}
-use Rattle.vet_files.proofs.Rising.{IsBelow, IsLess, Rises, Rising}
+use Rattle.vet_files.specs.Walk.{IsBelow, IsLess, KeysRise, each_member}
+use Rattle.vet_files.proofs.Rising.{Rises, Rising}
 use Rattle.vet_files.proofs.Walks.{bind-keeps}
 
 -- each item is apart from those after it
@@ -77,13 +77,29 @@ before-apart name R apart xs ys k before named =
     All-weaker (λ x. IsLess (name x) k) (λ x. All (R x) ys)
     (λ x less. All-weaker (λ y. name y ≡ k) (R x) (λ y is. apart x y (ap (λ n. slice_cmp nat_cmp (name x) n) is ∙ less)) ys named) xs before
 
-walk-holds : {X : Type 0} (name : X → List ℕ) (R : X → X → Type 0) (Q : X → Type 0) → ((a b : X) → IsLess (name a) (name b) → R a b)
-    → (read : Found (List X) → List ℕ → Data → Told (Found (List X))) → ((found : Found (List X)) (key : List ℕ) (d : Data) → Rises d → IfOk (read found key d) (Appends name R Q found key))
-    → (found : Found (List X)) (ms : Members) → Holds R Q found → AllBefore name found.content ms → Rising ms → IfOk (each_member read found ms) (Holds R Q)
-walk-holds name R Q apart read step found no_members h before rise = h
-walk-holds name R Q apart read step found (member key d rest) h before rise =
+-- the keys rise, and each value is of a kind
+abbrev RiseWith : (Data → Type 0) → Members → Type 0
+RiseWith D no_members = Unit {0}
+RiseWith D (member k d ms) = IsBelow k ms × (D d × RiseWith D ms)
+
+rising-with : (ms : Members) → Rising ms → RiseWith Rises ms
+rising-with no_members h = tt
+rising-with (member k d ms) h = (h.0, (h.1.0, rising-with ms h.1.1))
+
+abbrev AnyData : Data → Type 0
+AnyData d = Unit {0}
+
+keys-with : (ms : Members) → KeysRise ms → RiseWith AnyData ms
+keys-with no_members h = tt
+keys-with (member k d ms) h = (h.0, (tt, keys-with ms h.1))
+
+walk-holds : {X : Type 0} (name : X → List ℕ) (R : X → X → Type 0) (Q : X → Type 0) (D : Data → Type 0) → ((a b : X) → IsLess (name a) (name b) → R a b)
+    → (read : Found (List X) → List ℕ → Data → Told (Found (List X))) → ((found : Found (List X)) (key : List ℕ) (d : Data) → D d → IfOk (read found key d) (Appends name R Q found key))
+    → (found : Found (List X)) (ms : Members) → Holds R Q found → AllBefore name found.content ms → RiseWith D ms → IfOk (each_member read found ms) (Holds R Q)
+walk-holds name R Q D apart read step found no_members h before rise = h
+walk-holds name R Q D apart read step found (member key d rest) h before rise =
     bind-keeps (Appends name R Q found key) (Holds R Q) (read found key d) (λ more. each_member read more rest) (step found key d rise.1.0)
-    (λ more (ys, (is, (named, (own, all)))). walk-holds name R Q apart read step more rest
+    (λ more (ys, (is, (named, (own, all)))). walk-holds name R Q D apart read step more rest
     (rw is (apart-append R found.content ys h.0 own (before-apart name R apart found.content ys key before.0 named), All-append Q found.content ys h.1 all))
     (rw is (more-before name found.content ys key rest before.1 named rise.0)) rise.1.1)
 
@@ -91,4 +107,11 @@ walk-holds name R Q apart read step found (member key d rest) h before rise =
 pub walk-apart : {X : Type 0} (name : X → List ℕ) (R : X → X → Type 0) (Q : X → Type 0) → ((a b : X) → IsLess (name a) (name b) → R a b)
     → (read : Found (List X) → List ℕ → Data → Told (Found (List X))) → ((found : Found (List X)) (key : List ℕ) (d : Data) → Rises d → IfOk (read found key d) (Appends name R Q found key))
     → (ms : Members) → Rising ms → IfOk (each_member read nothing ms) (Holds R Q)
-walk-apart name R Q apart read step ms rise = walk-holds name R Q apart read step nothing ms (tt, All-nil Q) (none-before name ms) rise
+walk-apart name R Q apart read step ms rise = walk-holds name R Q Rises apart read step nothing ms (tt, All-nil Q) (none-before name ms) (rising-with ms rise)
+
+-- the same, where nothing is asked of the values
+pub walk-keys : {X : Type 0} (name : X → List ℕ) (R : X → X → Type 0) (Q : X → Type 0) → ((a b : X) → IsLess (name a) (name b) → R a b)
+    → (read : Found (List X) → List ℕ → Data → Told (Found (List X))) → ((found : Found (List X)) (key : List ℕ) (d : Data) → IfOk (read found key d) (Appends name R Q found key))
+    → (ms : Members) → KeysRise ms → IfOk (each_member read nothing ms) (Holds R Q)
+walk-keys name R Q apart read step ms rise =
+    walk-holds name R Q AnyData apart read (λ found key d any. step found key d) nothing ms (tt, All-nil Q) (none-before name ms) (keys-with ms rise)

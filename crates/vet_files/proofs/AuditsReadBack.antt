@@ -8,6 +8,7 @@ use Rattle.std.proofs.lemmas.List.Elements.{All-head, All-tail}
 use Rattle.toml.specs.Data.{table, Members}
 use Rattle.vet_base.specs.CriteriaChanges.{is_built_in}
 use Rattle.vet_base.specs.Gives.{◌>>=◌}
+use Rattle.vet_base.specs.Items.{IsIn, SameItems}
 use Rattle.vet_base.specs.Names.{NameSet}
 use Rattle.vet_base.specs.declared.criterion.Criterion.{Criterion}
 use Rattle.vet_base.specs.declared.limits.TheConstants.{MOST_PEER_CRITERIA}
@@ -24,7 +25,7 @@ use Rattle.vet_files.specs.Keys.{unknown_keys}
 use Rattle.vet_files.specs.Lists.{Reading, nothing, one, onto, table_at, table_of}
 use Rattle.vet_files.specs.Notices.{no_notices, only_keys}
 use Rattle.vet_files.specs.ReadAgain.{ReadsCriterion, ReadsEntry, is_taken, reading_of}
-use Rattle.vet_files.specs.SameContent.{AreFew, CanStand, IsIn, SameItems, is_entry_of, is_kind_of, taken}
+use Rattle.vet_files.specs.SameContent.{AreFew, CanStand, is_entry_of, is_kind_of, taken}
 use Rattle.vet_files.specs.Tables.{members_from, unless_empty}
 use Rattle.vet_files.specs.Walk.{each_member}
 use Rattle.vet_files.specs.declared.audits_file.AuditsContent.{AuditsContent}

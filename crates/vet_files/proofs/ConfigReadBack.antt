@@ -9,6 +9,7 @@ use Rattle.std.specs.List.{All}
 use Rattle.std.proofs.lemmas.Bool.{and_parts}
 use Rattle.std.proofs.lemmas.List.Elements.{All-head, All-tail}
 use Rattle.toml.specs.Data.{Data, Members, get_member, string, table}
+use Rattle.vet_base.specs.Items.{SameItems}
 use Rattle.vet_base.specs.Names.{NameSet}
 use Rattle.vet_demand.specs.declared.policies.KeyedPolicy.{KeyedPolicy}
 use Rattle.vet_entries.specs.Distinct.{distinct}
@@ -30,7 +31,7 @@ use Rattle.vet_files.specs.Keys.{unknown_keys}
 use Rattle.vet_files.specs.Lists.{nothing, one}
 use Rattle.vet_files.specs.Notices.{no_notices}
 use Rattle.vet_files.specs.ReadAgain.{IsReadAs, ReadsConfig, ReadsEntry, ReadsPeer, ReadsPolicy, reading_of}
-use Rattle.vet_files.specs.SameContent.{IsConfig, SameConfig, SameItems, is_own_exemption}
+use Rattle.vet_files.specs.SameContent.{IsConfig, SameConfig, is_own_exemption}
 use Rattle.vet_files.specs.Tables.{set_data}
 use Rattle.vet_files.specs.Walk.{each_member}
 use Rattle.vet_files.proofs.Fields.{get_field, none_unknown}

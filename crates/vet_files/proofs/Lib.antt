@@ -19,6 +19,7 @@ pub mod Ordered
 pub mod PackageEntries
 pub mod PackagesRead
 pub mod PeerLemmas
+pub mod PeerStanding
 pub mod PoliciesGathered
 pub mod PoliciesRead
 pub mod Printed
@@ -33,5 +34,6 @@ pub mod SetsRead
 pub mod Stands
 pub mod StandsConfig
 pub mod StandsImports
+pub mod TableKeys
 pub mod TablesRead
 pub mod Walks

@@ -9,7 +9,7 @@ use Rattle.std.proofs.lemmas.Cmp.{nat_list_cmp_total, tied_itself}
 use Rattle.std.proofs.lemmas.List.Elements.{All-nil, All-cons, All-head, All-tail}
 use Rattle.std.proofs.lemmas.List.Kept.{AllPairs-cons}
 use Rattle.toml.specs.Data.{Data}
-use Rattle.vet_files.specs.SameContent.{IsIn, NamedOnce, SameItems}
+use Rattle.vet_base.specs.Items.{IsIn, NamedOnce, SameItems}
 use Rattle.vet_files.specs.Tables.{by_name, members_from, put_all}
 
 -- ---- items of a list

@@ -25,12 +25,10 @@ use Rattle.vet_files.specs.Audits.{audit_kind, audit_of, audit_told, entries_of,
 use Rattle.vet_files.specs.Config.{exemption_told}
 use Rattle.vet_files.specs.EntryTables.{is_listed}
 use Rattle.vet_files.specs.Field.{a_flag, a_text, a_version, fault, names, optional, required, texts}
-use Rattle.vet_files.specs.Lists.{Reading, next_table, nothing, path_in_list, skipped, table_at, tables_of_package}
-use Rattle.vet_files.specs.Walk.{each_item, each_member}
-use Rattle.vet_files.proofs.Apart.{Appends, Holds, IsOther, other-item, walk-apart}
+use Rattle.vet_files.specs.Lists.{Reading, RisesAt, next_table, nothing, path_in_list, skipped, table_at, tables_of_package}
+use Rattle.vet_files.specs.Walk.{KeysRise, each_item, each_member}
+use Rattle.vet_files.proofs.Apart.{Appends, Holds, IsOther, other-item, walk-keys}
 use Rattle.vet_files.proofs.Once.{distinct-once}
-use Rattle.vet_files.proofs.Rising.{Rising}
-use Rattle.vet_files.proofs.RisingTables.{table_at-rises}
 use Rattle.vet_files.proofs.Walks.{bind-gives, bind-keeps, each_item-keeps}
 
 -- ---- the tables of a package
@@ -95,13 +93,13 @@ next_package-appends which read gives path found name d =
       ),
     ))
 
-pub entries-once : (which : Listing) (read : Reading Entry) → GivesEntries which read → (path prefix key : List ℕ) (ms : Members) → Rising ms
+pub entries-once : (which : Listing) (read : Reading Entry) → GivesEntries which read → (path prefix key : List ℕ) (ms : Members) → RisesAt path key ms
     → IfOk (entries_of read path prefix key ms) (StandOnce which)
 entries-once which read gives path prefix key ms rise =
     let step = next_package read (prefix ++ key) in
-    bind-keeps Rising (StandOnce which) (table_at path key ms) (each_member step nothing) (table_at-rises path key ms rise)
-    (λ inner inner_rise. walk-apart (λ (e : Entry). e.«package») IsOther (IsOf which) (other-item (λ (e : Entry). e.«package»)) step
-    (λ found name d _. next_package-appends which read gives (prefix ++ key) found name d) inner inner_rise)
+    bind-keeps KeysRise (StandOnce which) (table_at path key ms) (each_member step nothing) rise
+    (λ inner inner_rise. walk-keys (λ (e : Entry). e.«package») IsOther (IsOf which) (other-item (λ (e : Entry). e.«package»)) step
+    (λ found name d. next_package-appends which read gives (prefix ++ key) found name d) inner inner_rise)
 
 -- ---- what the readers of one table give
 

@@ -8,6 +8,7 @@ use Rattle.std.proofs.lemmas.Bool.{or_from, or_parts}
 use Rattle.std.proofs.lemmas.List.Elements.{All-head, All-tail}
 use Rattle.toml.specs.Data.{array, table, Items, Members, no_members, member}
 use Rattle.toml.specs.View.{items_of}
+use Rattle.vet_base.specs.Items.{IsIn, SameItems}
 use Rattle.vet_base.specs.Name.{is_package_name}
 use Rattle.vet_entries.specs.Distinct.{distinct, firsts}
 use Rattle.vet_entries.specs.Entry.{entry_eq}
@@ -16,7 +17,6 @@ use Rattle.vet_files.specs.Audits.{next_package}
 use Rattle.vet_files.specs.EntryTables.{entry_items, entry_table, of_package, package_lists}
 use Rattle.vet_files.specs.Lists.{Reading, each_once, next_table, nothing, one, onto, table_of, tables_of_package}
 use Rattle.vet_files.specs.Notices.{no_notices, only_doubles, together}
-use Rattle.vet_files.specs.SameContent.{IsIn, SameItems}
 use Rattle.vet_files.specs.Tables.{members_from, unless_empty}
 use Rattle.vet_files.specs.Walk.{each_item, each_member}
 use Rattle.vet_files.specs.declared.found.Found.{Found}

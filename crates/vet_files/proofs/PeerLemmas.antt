@@ -1,4 +1,4 @@
--- What the walk of a peer's file gives is what the peer's content may hold.
+-- What the walk of a peer's file gives: criteria that may stand there, not too many, and entries that may.
 use Rattle.std.proofs.Common.{◌≡◌, ◌≤◌, ◌<◌, ℕ, true, false, List, [], ◌∷◌, ◌++◌, length, refl, IfOk, arith, length-append, ltb-true}
 use Rattle.std.specs.Prelude.{Ok, Err, Option, Some, None, codes, nat_lt, if◌then◌else◌}
 use Rattle.std.specs.List.{All}
@@ -13,7 +13,7 @@ use Rattle.vet_base.specs.Name.{is_name, is_package_name}
 use Rattle.vet_base.specs.declared.criterion.Criterion.{Criterion}
 use Rattle.vet_base.specs.declared.limits.TheConstants.{MOST_PEER_CRITERIA}
 use Rattle.vet_entries.specs.Distinct.{distinct, distinct-All}
-use Rattle.vet_entries.specs.PeerContent.{IsPeerContent, is_peer_entry, is_peer_kind, may_import}
+use Rattle.vet_entries.specs.PeerContent.{is_peer_entry, is_peer_kind, may_import}
 use Rattle.vet_entries.specs.declared.entry.Entry.{Entry}
 use Rattle.vet_entries.specs.declared.kind.Audit.{Audit}
 use Rattle.vet_files.specs.declared.audits_file.AuditsContent.{AuditsContent}
@@ -172,24 +172,24 @@ entries_of-given read gives path prefix key ms =
 
 -- ---- the file
 
-abbrev HasPeerContent : Found AuditsContent → Type 0
-HasPeerContent found = IsPeerContent found.content.criteria found.content.entries
+-- what holds of each criterion and of each entry, and how many criteria there are
+abbrev HasPeerItems : Found AuditsContent → Type 0
+HasPeerItems found = (All IsFurther found.content.criteria × (length found.content.criteria ≤ MOST_PEER_CRITERIA)) × All IsGiven found.content.entries
 
-audits_file-peer : (path prefix : List ℕ) (ms : Members) → IfOk (audits_file_told Peers path prefix ms) HasPeerContent
+audits_file-peer : (path prefix : List ℕ) (ms : Members) → IfOk (audits_file_told Peers path prefix ms) HasPeerItems
 audits_file-peer path prefix ms =
-    bind-keeps AreFew HasPeerContent (criteria_of Peers path prefix ms) _ (criteria_of-few path prefix ms) (λ criteria few.
-    bind-keeps AreGiven HasPeerContent (entries_of (audit_told Peers) path prefix (codes "audits") ms) _
+    bind-keeps AreFew HasPeerItems (criteria_of Peers path prefix ms) _ (criteria_of-few path prefix ms) (λ criteria few.
+    bind-keeps AreGiven HasPeerItems (entries_of (audit_told Peers) path prefix (codes "audits") ms) _
     (entries_of-given (audit_told Peers) audits-given path prefix (codes "audits") ms) (λ audits audits_given.
-    bind-keeps AreGiven HasPeerContent (entries_of wildcard_told path prefix (codes "wildcard-audits") ms) _
+    bind-keeps AreGiven HasPeerItems (entries_of wildcard_told path prefix (codes "wildcard-audits") ms) _
     (entries_of-given wildcard_told wildcards-given path prefix (codes "wildcard-audits") ms) (λ wildcards wildcards_given.
-    bind-keeps AreGiven HasPeerContent (entries_of (trusted_told Peers) path prefix (codes "trusted") ms) _
-    (entries_of-given (trusted_told Peers) trusted-given path prefix (codes "trusted") ms) (λ trusted trusted_given. record {
-      further = few.0;
-      few = few.1;
-      given = All-append IsGiven (audits.content ++ wildcards.content) trusted.content
-          (All-append IsGiven audits.content wildcards.content audits_given wildcards_given) trusted_given;
-    }))))
+    bind-keeps AreGiven HasPeerItems (entries_of (trusted_told Peers) path prefix (codes "trusted") ms) _
+    (entries_of-given (trusted_told Peers) trusted-given path prefix (codes "trusted") ms) (λ trusted trusted_given. (
+      few,
+      All-append IsGiven (audits.content ++ wildcards.content) trusted.content
+          (All-append IsGiven audits.content wildcards.content audits_given wildcards_given) trusted_given,
+    )))))
 
-pub peer_content : (path prefix : List ℕ) (ms : Members) (found : Found AuditsContent) → audits_file_told Peers path prefix ms ≡ Ok found
-    → IsPeerContent found.content.criteria found.content.entries
-peer_content path prefix ms found told = IfOk-at_ok HasPeerContent told (audits_file-peer path prefix ms)
+pub peer_items : (path prefix : List ℕ) (ms : Members) (found : Found AuditsContent) → audits_file_told Peers path prefix ms ≡ Ok found
+    → HasPeerItems found
+peer_items path prefix ms found told = IfOk-at_ok HasPeerItems told (audits_file-peer path prefix ms)

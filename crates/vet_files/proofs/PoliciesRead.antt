@@ -6,6 +6,7 @@ use Rattle.std.specs.List.{All, AllPairs}
 use Rattle.std.specs.Ordering.{is_eq, is_gt, is_lt, ordering_reverse}
 use Rattle.std.proofs.lemmas.List.Elements.{All-head, All-tail}
 use Rattle.toml.specs.Data.{Data, table}
+use Rattle.vet_base.specs.Items.{IsIn, NamedOnce, SameItems}
 use Rattle.vet_base.specs.Keyed.{IsByKey, all_set, item_of, is_before, is_behind, is_of, with_item}
 use Rattle.vet_base.proofs.KeyedLemmas.{IsByKey-all_set}
 use Rattle.vet_demand.specs.Policies.{IsInKeyOrder, has_policy, key_of}
@@ -15,7 +16,6 @@ use Rattle.vet_demand.specs.declared.policy_key.PolicyKey.{PolicyKey}
 use Rattle.vet_files.specs.Config.{next_policy}
 use Rattle.vet_files.specs.ConfigTable.{policies_table, policy_table}
 use Rattle.vet_files.specs.ReadAgain.{ReadsPolicy}
-use Rattle.vet_files.specs.SameContent.{IsIn, NamedOnce, SameItems}
 use Rattle.vet_files.specs.Tables.{members_from}
 use Rattle.vet_files.specs.Walk.{each_member}
 use Rattle.vet_files.proofs.NamedOnce.{All-IsIn, IsIn-either, IsIn-filter, IsIn-left, IsIn-of_filter, IsIn-right, by_name-sorted, sorted, sorted-All, sorted-NamedOnce, sorted-SameItems}

@@ -2,6 +2,7 @@
 use Rattle.std.proofs.Common.{◌≡◌, ℕ, List, [], ◌∷◌, Result, Ok, Err, IfOk, nat_cmp, refl, ap}
 use Rattle.std.specs.Cmp.Lexicographic.{slice_cmp}
 use Rattle.std.specs.FinSet as set
+use Rattle.vet_base.specs.Items.{SameItems}
 use Rattle.vet_entries.specs.declared.entry.Entry.{Entry}
 use Rattle.vet_entries.specs.declared.peer_settings.PeerSettings.{PeerSettings}
 use Rattle.vet_files.specs.declared.audits_file.AuditsContent.{AuditsContent}
@@ -15,7 +16,7 @@ use Rattle.vet_files.specs.ConfigTable.{config_table}
 use Rattle.vet_files.specs.Imports.{imports_told}
 use Rattle.vet_files.specs.ImportsTable.{imports_table}
 use Rattle.vet_files.specs.ReadAgain.{GivesBack, ReadsAudits, ReadsConfig, ReadsImports}
-use Rattle.vet_files.specs.SameContent.{IsAudits, IsConfig, IsImports, SameAudits, SameConfig, SameImports, SameItems, taken}
+use Rattle.vet_files.specs.SameContent.{IsAudits, IsConfig, IsImports, SameAudits, SameConfig, SameImports, taken}
 use Rattle.vet_files.proofs.ConfigReadBack.{config_read_again}
 use Rattle.vet_files.proofs.ImportsReadBack.{imports_read_again}
 use Rattle.vet_files.proofs.AuditsReadBack.{audits_read_back}

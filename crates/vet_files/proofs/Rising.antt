@@ -1,18 +1,8 @@
 -- Tables whose keys rise, at every level.
-use Rattle.std.proofs.Common.{◌≡◌, ℕ, List, Less, Option, Some, None, option_map, option_and_then}
+use Rattle.std.proofs.Common.{Option, Some, None, option_map, option_and_then}
 use Rattle.std.specs.Prelude.{IfSome}
-use Rattle.std.specs.Cmp.Lexicographic.{slice_cmp}
-use Rattle.std.specs.Ordering.{nat_cmp}
 use Rattle.toml.specs.Data.{Data, array, table, Items, no_items, item, push_item, Members, no_members, member}
-
--- a key comes before another
-abbrev pub IsLess : List ℕ → List ℕ → Type 0
-IsLess k l = slice_cmp nat_cmp k l ≡ Less
-
--- a key comes before each key of the members
-abbrev pub IsBelow : List ℕ → Members → Type 0
-IsBelow k no_members = Unit {0}
-IsBelow k (member l d ms) = IsLess k l × IsBelow k ms
+use Rattle.vet_files.specs.Walk.{IsBelow, KeysRise}
 
 -- each key comes before those after it, here and in what stands at the keys
 abbrev mutual
@@ -28,6 +18,11 @@ abbrev mutual
   pub Rising : Members → Type 0
   Rising no_members = Unit {0}
   Rising (member k d ms) = IsBelow k ms × (Rises d × Rising ms)
+
+-- the keys of the one level alone
+pub rising-keys : (ms : Members) → Rising ms → KeysRise ms
+rising-keys no_members h = tt
+rising-keys (member k d ms) h = (h.0, rising-keys ms h.1.1)
 
 pub push-rises : (ds : Items) (d : Data) → AllRise ds → Rises d → AllRise (push_item ds d)
 push-rises no_items d h one = (one, tt)

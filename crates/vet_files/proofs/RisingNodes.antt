@@ -7,7 +7,8 @@ use Rattle.std.proofs.lemmas.Bool.{cond_both}
 use Rattle.toml_parser.specs.Strings.{Key}
 use Rattle.toml.specs.Data.{Data, same_key, table}
 use Rattle.toml.specs.Tables.{Definition, Document, Edit, Node, Nodes, Origin, along_dots, along_header, array_table, at_found, at_key, by_dot, by_header, close, close_node, define, define_as, dot_node, dotted, get_node, header, header_node, implicit, insert, key_value, new_node, no_nodes, node, open_array, open_table, put, redefine, replace, std_table, value}
-use Rattle.vet_files.proofs.Rising.{AllRise, IsBelow, IsLess, Rises, Rising, map-if, push-rises}
+use Rattle.vet_files.specs.Walk.{IsBelow, IsLess}
+use Rattle.vet_files.proofs.Rising.{AllRise, Rises, Rising, map-if, push-rises}
 
 -- a key comes before each key of the nodes
 abbrev IsBelowNodes : List ℕ → Nodes → Type 0

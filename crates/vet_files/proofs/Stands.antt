@@ -27,16 +27,16 @@ use Rattle.vet_files.specs.Audits.{audit_told, audits_file_told, built_in_criter
 use Rattle.vet_files.specs.EntryTables.{is_listed}
 use Rattle.vet_files.specs.Imports.{peer_file_told}
 use Rattle.vet_files.specs.Field.{a_text, fault, names, optional}
-use Rattle.vet_files.specs.Lists.{nothing, path_below, table_at}
+use Rattle.vet_files.specs.Lists.{RisesAt, nothing, path_below, table_at}
 use Rattle.vet_files.specs.SameContent.{CanStand, is_entry_of}
-use Rattle.vet_files.specs.Walk.{each_member}
-use Rattle.vet_files.proofs.Apart.{Appends, AreApart, HasOther, Holds, IsOther, apart-append, apart-pairs, other-name, walk-apart}
+use Rattle.vet_files.specs.Walk.{KeysRise, each_member}
+use Rattle.vet_files.proofs.Apart.{Appends, AreApart, HasOther, Holds, IsOther, apart-append, apart-pairs, other-name, walk-keys}
 use Rattle.vet_files.proofs.FurtherCriteria.{further-answered}
 use Rattle.vet_files.proofs.Once.{distinct-apart}
 use Rattle.vet_files.proofs.PackageEntries.{IsOf, StandOnce, audits-listed, entries-once, trusted-listed, wildcards-listed}
-use Rattle.vet_files.proofs.PeerLemmas.{peer_content}
+use Rattle.vet_files.proofs.PeerLemmas.{peer_items}
 use Rattle.vet_files.proofs.Rising.{Rising}
-use Rattle.vet_files.proofs.RisingTables.{table_at-rises}
+use Rattle.vet_files.proofs.RisingTables.{rising-at}
 use Rattle.vet_files.proofs.Walks.{bind-gives, bind-keeps}
 
 -- ---- criteria
@@ -85,12 +85,12 @@ next_criterion-appends whose path found name d =
 abbrev NamedApart : Found (List Criterion) → Type 0
 NamedApart = Holds (HasOther name_of) Any
 
-criteria-named : (whose : Whose) (path prefix : List ℕ) (ms : Members) → Rising ms → IfOk (criteria_of whose path prefix ms) NamedApart
+criteria-named : (whose : Whose) (path prefix : List ℕ) (ms : Members) → RisesAt path (codes "criteria") ms → IfOk (criteria_of whose path prefix ms) NamedApart
 criteria-named whose path prefix ms rise =
     let step = next_criterion whose (prefix ++ codes "criteria") in
-    bind-keeps Rising NamedApart (table_at path (codes "criteria") ms) (each_member step nothing) (table_at-rises path (codes "criteria") ms rise)
-    (λ inner inner_rise. walk-apart name_of (HasOther name_of) Any (other-name name_of) step
-    (λ found name d _. next_criterion-appends whose (prefix ++ codes "criteria") found name d) inner inner_rise)
+    bind-keeps KeysRise NamedApart (table_at path (codes "criteria") ms) (each_member step nothing) rise
+    (λ inner inner_rise. walk-keys name_of (HasOther name_of) Any (other-name name_of) step
+    (λ found name d. next_criterion-appends whose (prefix ++ codes "criteria") found name d) inner inner_rise)
 
 -- ---- entries of different tables
 
@@ -190,19 +190,24 @@ three-tables audits wildcards trusted a w t =
 abbrev AreApartAll : Found AuditsContent → Type 0
 AreApartAll found = AreApart (HasOther name_of) found.content.criteria × AreEntries found.content.entries
 
-file-apart : (whose : Whose) (path prefix : List ℕ) (ms : Members) → Rising ms → IfOk (audits_file_told whose path prefix ms) AreApartAll
+-- the keys rise in each table that holds criteria or entries
+abbrev TablesRise : List ℕ → Members → Type 0
+TablesRise path ms =
+    RisesAt path (codes "criteria") ms × (RisesAt path (codes "audits") ms × (RisesAt path (codes "wildcard-audits") ms × RisesAt path (codes "trusted") ms))
+
+file-apart : (whose : Whose) (path prefix : List ℕ) (ms : Members) → TablesRise path ms → IfOk (audits_file_told whose path prefix ms) AreApartAll
 file-apart whose path prefix ms rise =
-    bind-keeps NamedApart AreApartAll (criteria_of whose path prefix ms) _ (criteria-named whose path prefix ms rise) (λ criteria named.
+    bind-keeps NamedApart AreApartAll (criteria_of whose path prefix ms) _ (criteria-named whose path prefix ms rise.0) (λ criteria named.
     bind-keeps (StandOnce listing.Audits) AreApartAll (entries_of (audit_told whose) path prefix (codes "audits") ms) _
-    (entries-once listing.Audits (audit_told whose) (audits-listed whose) path prefix (codes "audits") ms rise) (λ audits audits_once.
+    (entries-once listing.Audits (audit_told whose) (audits-listed whose) path prefix (codes "audits") ms rise.1.0) (λ audits audits_once.
     bind-keeps (StandOnce listing.WildcardAudits) AreApartAll (entries_of wildcard_told path prefix (codes "wildcard-audits") ms) _
-    (entries-once listing.WildcardAudits wildcard_told wildcards-listed path prefix (codes "wildcard-audits") ms rise) (λ wildcards wildcards_once.
+    (entries-once listing.WildcardAudits wildcard_told wildcards-listed path prefix (codes "wildcard-audits") ms rise.1.1.0) (λ wildcards wildcards_once.
     bind-keeps (StandOnce listing.Trusted) AreApartAll (entries_of (trusted_told whose) path prefix (codes "trusted") ms) _
-    (entries-once listing.Trusted (trusted_told whose) (trusted-listed whose) path prefix (codes "trusted") ms rise) (λ trusted trusted_once.
+    (entries-once listing.Trusted (trusted_told whose) (trusted-listed whose) path prefix (codes "trusted") ms rise.1.1.1) (λ trusted trusted_once.
     (named.0, three-tables audits wildcards trusted audits_once wildcards_once trusted_once)))))
 
 -- what a file's table holds can be written again
-pub stands : (whose : Whose) (path prefix : List ℕ) (ms : Members) (found : Found AuditsContent) → Rising ms → audits_file_told whose path prefix ms ≡ Ok found
+stands : (whose : Whose) (path prefix : List ℕ) (ms : Members) (found : Found AuditsContent) → TablesRise path ms → audits_file_told whose path prefix ms ≡ Ok found
     → CanStand whose found.content.criteria found.content.entries
 stands Ours path prefix ms found rise told =
     let apart = IfOk-at_ok AreApartAll told (file-apart Ours path prefix ms rise) in
@@ -215,12 +220,12 @@ stands Ours path prefix ms found rise told =
     }
 stands Peers path prefix ms found rise told =
     let apart = IfOk-at_ok AreApartAll told (file-apart Peers path prefix ms rise) in
-    let content = peer_content path prefix ms found told in
+    let items = peer_items path prefix ms found told in
     record {
-      further = content.further;
+      further = items.0.0;
       named_once = apart-pairs (HasOther name_of) found.content.criteria apart.0;
-      few = content.few;
-      kinds = content.given;
+      few = items.0.1;
+      kinds = items.1;
       once = distinct-apart found.content.entries apart.1.0;
     }
 
@@ -237,11 +242,25 @@ answered P told (Err refusal) h is = tt
 abbrev Stands : Whose → Found AuditsContent → Type 0
 Stands whose found = CanStand whose found.content.criteria found.content.entries
 
-pub file-stands : (whose : Whose) (path prefix : List ℕ) (ms : Members) → Rising ms → IfOk (audits_file_told whose path prefix ms) (Stands whose)
+file-stands : (whose : Whose) (path prefix : List ℕ) (ms : Members) → TablesRise path ms → IfOk (audits_file_told whose path prefix ms) (Stands whose)
 file-stands whose path prefix ms rise = ok-if (Stands whose) (audits_file_told whose path prefix ms) (λ found told. stands whose path prefix ms found rise told)
+
+-- what the reader answers, which finds that the keys rise as it walks
+pub file-answered : (whose : Whose) (path prefix : List ℕ) (ms : Members) (answer : Result (Found AuditsContent) Refusal) → RisesAt path (codes "criteria") ms → RisesAt path (codes "audits") ms
+    → IfOk answer (λ _. RisesAt path (codes "wildcard-audits") ms × RisesAt path (codes "trusted") ms) → Gives (λ a. a) (audits_file_told whose path prefix ms) answer → IfOk answer (Stands whose)
+file-answered whose path prefix ms (Ok found) criteria audits others told =
+    answered (Stands whose) (audits_file_told whose path prefix ms) (Ok found) (file-stands whose path prefix ms (criteria, (audits, others))) told
+file-answered whose path prefix ms (Err refusal) criteria audits others told = tt
 
 abbrev pub PeerStands : Found PeerContentValue → Type 0
 PeerStands found = CanStand Peers found.content.criteria found.content.entries
 
 pub peer-stands : (path prefix : List ℕ) (ms : Members) → Rising ms → IfOk (peer_file_told path prefix ms) PeerStands
-peer-stands path prefix ms rise = bind-keeps (Stands Peers) PeerStands (audits_file_told Peers path prefix ms) _ (file-stands Peers path prefix ms rise) (λ found held. held)
+peer-stands path prefix ms rise =
+    bind-keeps (Stands Peers) PeerStands (audits_file_told Peers path prefix ms) _ (file-stands Peers path prefix ms rising) (λ found held. held)
+  where
+    rising : TablesRise path ms
+    rising = (
+      rising-at path (codes "criteria") ms rise,
+      (rising-at path (codes "audits") ms rise, (rising-at path (codes "wildcard-audits") ms rise, rising-at path (codes "trusted") ms rise)),
+    )

@@ -31,7 +31,7 @@ use Rattle.vet_files.proofs.Apart.{Appends, AreApart, HasOther, Holds, apart-pai
 use Rattle.vet_files.proofs.Once.{distinct-apart}
 use Rattle.vet_files.proofs.PackageEntries.{IsOf, StandOnce, entries-once, exemptions-listed}
 use Rattle.vet_files.proofs.Rising.{Rising}
-use Rattle.vet_files.proofs.RisingTables.{table_at-rises}
+use Rattle.vet_files.proofs.RisingTables.{rising-at, table_at-rises}
 use Rattle.vet_files.proofs.Stands.{both}
 use Rattle.vet_files.proofs.Walks.{bind-gives, bind-keeps, each_member-keeps}
 
@@ -107,7 +107,7 @@ config-stands ms rise =
     bind-keeps NamedApart ConfigStands (peers_told ms) _ (peers-named ms rise) (λ peers named.
     bind-keeps InKeyOrder ConfigStands (policies_told ms) _ (policies-in_order ms) (λ policies up.
     bind-keeps (StandOnce listing.Exemptions) ConfigStands (entries_of exemption_told (codes "top") [] (codes "exemptions") ms) _
-    (entries-once listing.Exemptions exemption_told exemptions-listed (codes "top") [] (codes "exemptions") ms rise) (λ exemptions once. record {
+    (entries-once listing.Exemptions exemption_told exemptions-listed (codes "top") [] (codes "exemptions") ms (rising-at (codes "top") (codes "exemptions") ms rise)) (λ exemptions once. record {
       named_once = apart-pairs (HasOther peer_name) peers.content named.0;
       by_key = up;
       kinds = All-weaker (IsOf listing.Exemptions) (λ e. is_own_exemption e ≡ true) own-exemption exemptions.content once.1;

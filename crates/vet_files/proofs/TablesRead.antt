@@ -5,9 +5,9 @@ use Rattle.std.specs.List.{All}
 use Rattle.std.proofs.lemmas.List.Elements.{All-head, All-tail}
 use Rattle.toml.specs.Data.{Data}
 use Rattle.vet_base.specs.Gives.{Told, ◌>>=◌}
+use Rattle.vet_base.specs.Items.{IsIn, NamedOnce, SameItems}
 use Rattle.vet_files.specs.declared.found.Found.{Found}
 use Rattle.vet_files.specs.Lists.{nothing}
-use Rattle.vet_files.specs.SameContent.{IsIn, NamedOnce, SameItems}
 use Rattle.vet_files.specs.Tables.{by_name, members_from}
 use Rattle.vet_files.specs.Walk.{each_member}
 use Rattle.vet_files.proofs.NamedOnce.{by_name-sorted, sorted, sorted-All, sorted-SameItems}

@@ -1,5 +1,5 @@
 -- Lists of tables by package, as `[[audits.serde]]` (The Cargo Vet Book, audits, config and imports files).
-use Rattle.std.specs.Prelude.{ℕ, ◌-◌, List, [], ◌++◌, codes, Option, Some, None, Ok, Err, if◌then◌else◌, length}
+use Rattle.std.specs.Prelude.{ℕ, ◌-◌, List, [], ◌++◌, codes, Option, Some, None, Ok, Err, IfOk, if◌then◌else◌, length}
 use Rattle.std.specs.Fmt.{decimal}
 use Rattle.std.specs.Option.{option_to_list}
 use Rattle.toml.specs.Data.{Data, Members, no_members, as_array, as_table, get_member}
@@ -8,7 +8,7 @@ use Rattle.vet_base.specs.Name.{is_package_name}
 use Rattle.vet_files.specs.declared.found.Found.{Found}
 use Rattle.vet_files.specs.Field.{fault}
 use Rattle.vet_files.specs.Notices.{no_notices, one_skipped, only_doubles, only_keys, together}
-use Rattle.vet_files.specs.Walk.{each_item}
+use Rattle.vet_files.specs.Walk.{KeysRise, each_item}
 
 -- nothing was found
 abbrev pub nothing : {A : Type 0} → Found (List A)
@@ -42,6 +42,10 @@ table_of path key (Some d) = found_or (fault path key) (as_table d)
 
 abbrev pub table_at : List ℕ → List ℕ → Members → Told Members
 table_at path key ms = table_of path key (get_member key ms)
+
+-- the keys of the table at a key rise
+abbrev pub RisesAt : List ℕ → List ℕ → Members → Type 0
+RisesAt path key ms = IfOk (table_at path key ms) KeysRise
 
 -- the path of what stands in a table at a key: `criteria.ours`
 abbrev pub path_below : List ℕ → List ℕ → List ℕ

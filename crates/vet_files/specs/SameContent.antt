@@ -1,8 +1,9 @@
 -- What the readers can give, in any order, and when two contents are the same as sets.
-use Rattle.std.specs.Prelude.{ℕ, ◌≡◌, ◌≤◌, ◌⊎◌, ◌&&◌, not, Bool, true, false, List, [], ◌∷◌, filter, length}
+use Rattle.std.specs.Prelude.{◌≡◌, ◌≤◌, ◌&&◌, not, Bool, true, false, List, [], filter, length}
 use Rattle.std.specs.FinSet as set
-use Rattle.std.specs.List.{All, AllPairs}
+use Rattle.std.specs.List.{All}
 use Rattle.vet_base.specs.CriteriaChanges.{is_built_in}
+use Rattle.vet_base.specs.Items.{IsIn, NamedOnce, SameItems}
 use Rattle.vet_base.specs.Names.{NameSet}
 use Rattle.vet_base.specs.declared.criterion.Criterion.{Criterion}
 use Rattle.vet_base.specs.declared.limits.TheConstants.{MOST_PEER_CRITERIA}
@@ -23,21 +24,6 @@ use Rattle.vet_files.specs.declared.imports_file.ImportsContent.{ImportsContent}
 use Rattle.vet_files.specs.declared.listing.Listing.TheVariants.{Exemptions}
 use Rattle.vet_files.specs.declared.whose.Whose.{Whose}
 use Rattle.vet_files.specs.declared.whose.Whose.TheVariants.{Ours, Peers}
-
--- ---- lists as sets
-
--- an item is one of a list
-abbrev pub IsIn : {X : Type 0} → X → List X → Type 0
-IsIn x [] = ⊥
-IsIn x (y ∷ rest) = (x ≡ y) ⊎ IsIn x rest
-
--- each item of the one is an item of the other
-abbrev pub SameItems : {X : Type 0} → List X → List X → Type 0
-SameItems {X} xs ys = ((x : X) → IsIn x xs → IsIn x ys) × ((x : X) → IsIn x ys → IsIn x xs)
-
--- no two items of a list have the same name
-abbrev pub NamedOnce : {X : Type 0} → (X → List ℕ) → List X → Type 0
-NamedOnce name xs = AllPairs (λ a b. name a ≡ name b → ⊥) xs
 
 -- ---- audits files
 

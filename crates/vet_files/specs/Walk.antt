@@ -1,7 +1,25 @@
--- Walks over a table and over a list: each step goes on from what was found before it, or tells a fault.
-use Rattle.std.specs.Prelude.{ℕ, ◌+◌, List, Ok}
+-- Keys that rise, and walks over a table and over a list: each step goes on from what was found before it, or tells a
+-- fault.
+use Rattle.std.specs.Prelude.{ℕ, ◌≡◌, ◌+◌, List, Ok}
+use Rattle.std.specs.Cmp.Lexicographic.{slice_cmp}
+use Rattle.std.specs.Ordering.{nat_cmp}
+use Rattle.std.specs.declared.cmp.Ordering.TheVariants.{Less}
 use Rattle.toml.specs.Data.{Data, Items, no_items, item, Members, no_members, member}
 use Rattle.vet_base.specs.Gives.{Told, ◌>>=◌}
+
+-- a key comes before another
+abbrev pub IsLess : List ℕ → List ℕ → Type 0
+IsLess k l = slice_cmp nat_cmp k l ≡ Less
+
+-- a key comes before each key of the members
+abbrev pub IsBelow : List ℕ → Members → Type 0
+IsBelow k no_members = Unit {0}
+IsBelow k (member l d ms) = IsLess k l × IsBelow k ms
+
+-- each key comes before those after it
+abbrev pub KeysRise : Members → Type 0
+KeysRise no_members = Unit {0}
+KeysRise (member k d ms) = IsBelow k ms × KeysRise ms
 
 -- over the keys of a table, in the order of their bytes
 abbrev pub each_member : {S : Type 0} → (S → List ℕ → Data → Told S) → S → Members → Told S

@@ -1,6 +1,6 @@
 //! Audits files: one's own, and those of peers.
 ghost use Rattle.std.specs.List.{All};
-ghost use Rattle.std.specs.Prelude.{◌≡◌, ◌++◌, IfErr, IfOk, Some, false, string_bytes};
+ghost use Rattle.std.specs.Prelude.{◌≡◌, ◌++◌, IfErr, IfOk, Some, codes, false, string_bytes};
 ghost use Rattle.std.specs.Option.{option_map_or};
 ghost use Rattle.toml.specs.Data.{no_members};
 ghost use Rattle.toml.specs.Parse.{parse_document};
@@ -10,9 +10,9 @@ ghost use Rattle.vet_base.specs.Gives.{Gives};
 ghost use Rattle.vet_entries.specs.Distinct.{distinct};
 ghost use Rattle.vet_files.specs.Audits.{audits_file_told, audits_told, criteria_of, document_told, entries_of, further_entries_told, next_package, trusted_entries_told};
 ghost use Rattle.vet_files.specs.AuditsTable.{audits_table};
-ghost use Rattle.vet_files.specs.Lists.{each_once, table_at};
+ghost use Rattle.vet_files.specs.Lists.{RisesAt, each_once, table_at};
 ghost use Rattle.vet_files.specs.ReadAgain.{GivesBack};
-ghost use Rattle.vet_files.specs.SameContent.{IsAudits, SameAudits};
+ghost use Rattle.vet_files.specs.SameContent.{CanStand, IsAudits, SameAudits};
 
 use crate::audits_table::audits_file_table;
 use crate::criteria::ReadCriteria;
@@ -99,7 +99,8 @@ pub(crate) fn read_audits_file(
     prefix: &str,
     file: &Table,
 ) -> Result<Found<AuditsContent>, Refusal>
-    ensures { Gives (λ f. f) (audits_file_told whose path.now prefix.now (table_view file.now)) result }
+    ensures told { Gives (λ f. f) (audits_file_told whose path.now prefix.now (table_view file.now)) result }
+    ensures stands { IfOk result (λ f. CanStand whose f.content.criteria f.content.entries) }
 {
     let criteria = read_criteria(alloc, whose, path, prefix, file)?;
     let audits = read_entries(alloc, &ReadAudits { whose }, path, prefix, "audits", file)?;
@@ -116,7 +117,10 @@ fn read_further_entries(
     criteria: Found<Listed<Criterion>>,
     audits: Found<Listed<Entry>>,
 ) -> Result<Found<AuditsContent>, Refusal>
-    ensures { Gives (λ f. f) (further_entries_told whose path.now prefix.now (table_view file.now) criteria audits) result }
+    ensures told { Gives (λ f. f)
+        (further_entries_told whose path.now prefix.now (table_view file.now) criteria audits) result }
+    ensures rises { IfOk result (λ _. RisesAt path.now (codes "wildcard-audits") (table_view file.now)
+        × RisesAt path.now (codes "trusted") (table_view file.now)) }
 {
     let wildcards = read_entries(
         alloc,
@@ -140,7 +144,9 @@ fn read_trusted_entries(
     criteria: Found<Listed<Criterion>>,
     entries: Found<Listed<Entry>>,
 ) -> Result<Found<AuditsContent>, Refusal>
-    ensures { Gives (λ f. f) (trusted_entries_told whose path.now prefix.now (table_view file.now) criteria entries) result }
+    ensures told { Gives (λ f. f)
+        (trusted_entries_told whose path.now prefix.now (table_view file.now) criteria entries) result }
+    ensures rises { IfOk result (λ _. RisesAt path.now (codes "trusted") (table_view file.now)) }
 {
     let keys = unknown_keys(TableKind::AuditsFile, file)?;
     let trusted = read_entries(alloc, &ReadTrusted { whose }, path, prefix, "trusted", file)?;
@@ -181,7 +187,8 @@ fn read_criteria(
     prefix: &str,
     file: &Table,
 ) -> Result<Found<Listed<Criterion>>, Refusal>
-    ensures { Gives (λ f. f) (criteria_of whose path.now prefix.now (table_view file.now)) result }
+    ensures told { Gives (λ f. f) (criteria_of whose path.now prefix.now (table_view file.now)) result }
+    ensures rises { IfOk result (λ _. RisesAt path.now (codes "criteria") (table_view file.now)) }
 {
     let Some(table) = table_at(alloc, path, file, "criteria")? else {
         return Ok(Found::nothing(alloc));
@@ -210,7 +217,9 @@ pub(crate) fn read_entries<R: ReadTable<Item = Entry>>(
     key: &str,
     file: &Table,
 ) -> Result<Found<Listed<Entry>>, Refusal>
-    ensures { Gives (λ f. f) (entries_of (R.told reader.now) path.now prefix.now key.now (table_view file.now)) result }
+    ensures told { Gives (λ f. f)
+        (entries_of (R.told reader.now) path.now prefix.now key.now (table_view file.now)) result }
+    ensures rises { IfOk result (λ _. RisesAt path.now key.now (table_view file.now)) }
 {
     let Some(table) = table_at(alloc, path, file, key)? else {
         return Ok(Found::nothing(alloc));

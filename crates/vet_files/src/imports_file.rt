@@ -98,6 +98,13 @@ pub fn read_peer(alloc: Global, bytes: &[u8]) -> Result<Found<PeerContent>, Refu
     read_peer_file(alloc, "top", "", &file)
 }
 
+/// What a peer's content is, an imports file can give: a law, which does nothing.
+pub fn peers_can_stand(content: &PeerContent)
+    ensures { CanStand Peers content.now.criteria content.now.entries }
+{
+    let _ = content.criteria();
+}
+
 /// What the table of an imports file holds.
 fn read_imports_file(alloc: Global, file: &Table) -> Result<Found<ImportsContent>, Refusal>
     ensures { Gives (λ f. f) (imports_file_told (table_view file.now)) result }

@@ -3,7 +3,7 @@ ghost use Rattle.std.specs.Prelude.{◌≡◌, ℕ, List};
 ghost use Rattle.toml.specs.Data.{Data};
 ghost use Rattle.toml.specs.View.{array_view, table_view, view};
 ghost use Rattle.vet_base.specs.Gives.{Gives, Told};
-ghost use Rattle.vet_files.specs.Walk.{each_item, each_member};
+ghost use Rattle.vet_files.specs.Walk.{KeysRise, each_item, each_member};
 
 use std::alloc::Global;
 use toml::value::Array;
@@ -29,14 +29,15 @@ pub(crate) trait ReadMember {
         ensures { Gives (λ found. found) (told self.now found key.now (view value.now)) result };
 }
 
-/// Reads each key of a table, in the order of their bytes, and goes on from a start.
+/// Reads each key of a table, in the order of their bytes, and goes on from a start. No key comes twice.
 pub(crate) fn each_member<R: ReadMember>(
     alloc: Global,
     reader: &R,
     start: R::Found,
     table: &Table,
 ) -> Result<R::Found, Refusal>
-    ensures { Gives (λ found. found) (each_member (R.told reader.now) start (table_view table.now)) result }
+    ensures told { Gives (λ found. found) (each_member (R.told reader.now) start (table_view table.now)) result }
+    ensures rises { KeysRise (table_view table.now) }
 {
     let mut found = start;
     'keys: for (key, value) in table.iter() {
