@@ -1,3 +1,12 @@
+pub mod Closing
+pub mod Collecting
+pub mod DemandLaws
 pub mod DemandLemmas
+pub mod Flowing
 pub mod KeyLemmas
 pub mod KeyText
+pub mod KnownLists
+pub mod Lists
+pub mod NeedsLaws
+pub mod PairsInOrder
+pub mod Spreading

@@ -1,6 +1,15 @@
+pub mod Collected
 pub mod Demand
+pub mod DemandOf
 pub mod DependencyCriteria
+pub mod Flow
+pub mod NamedProject
+pub mod Needs
 pub mod Pair
+pub mod Passed
 pub mod Policies
 pub mod Policy
 pub mod PolicyKey
+pub mod Project
+pub mod Spread
+pub mod Terms

@@ -6,7 +6,7 @@ ghost use Rattle.vet_demand.specs.DependencyCriteria.{IsByPackage, OtherCriteria
 
 use std::alloc::{AllocError, Global};
 use std::marker::Model;
-use vet_base::keyed::{HasKey, Keyed};
+use vet_base::keyed::{ExactItem, HasKey, Keyed};
 use vet_base::name::PackageName;
 use vet_base::names::Names;
 
@@ -62,7 +62,9 @@ impl HasKey for DependencyItem {
     fn key(&self) -> &PackageName {
         &self.package
     }
+}
 
+impl ExactItem for DependencyItem {
     ghost only_copies = { λ a b h. h };
 
     ghost only_itself = { dependency_eq-Decides };

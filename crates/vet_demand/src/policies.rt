@@ -8,7 +8,7 @@ use crate::policy::Policy;
 use crate::policy_key::PolicyKey;
 use std::alloc::{AllocError, Global};
 use std::marker::Model;
-use vet_base::keyed::{HasKey, Keyed};
+use vet_base::keyed::{ExactItem, HasKey, Keyed};
 
 /// A policy, and what it is of.
 pub struct KeyedPolicy {
@@ -58,7 +58,9 @@ impl HasKey for KeyedPolicy {
     fn key(&self) -> &PolicyKey {
         &self.key
     }
+}
 
+impl ExactItem for KeyedPolicy {
     ghost only_copies = { λ a b h. h };
 
     ghost only_itself = { keyed_policy_eq-Decides };

@@ -1,0 +1,155 @@
+//! What a node needs by itself, and what an edge passes.
+ghost use Rattle.std.specs.Prelude.{◌≡◌, IfOk, IfErr, option_map};
+ghost use Rattle.std.specs.Option.{option_copied};
+ghost use Rattle.vet_demand.specs.DemandOf.{is_audited};
+ghost use Rattle.vet_demand.specs.Passed.{dev_criteria, dev_passed, listed_criteria, own_criteria, passed_criteria, policy_for, settled_criteria, takes};
+ghost use Rattle.vet_demand.specs.Terms.{AreTerms, closed_places};
+
+use crate::policies::Policies;
+use crate::policy::Policy;
+use crate::policy_key::PolicyKey;
+use crate::project::{EdgeKind, Node, Party};
+use crate::terms::Terms;
+use vet_base::criteria_set::CriteriaSet;
+use vet_base::name::PackageName;
+use vet_base::names::Names;
+use vet_base::refusal::Refusal;
+
+/// The policy of a node: the one of its version where there is one, else the one of its package, whole.
+/// Refused: `NoMemory`.
+pub(crate) fn policy_for<'p>(
+    policies: &'p Policies,
+    node: &Node,
+) -> Result<Option<&'p Policy>, Refusal>
+    ensures ok { IfOk result (λ policy. option_copied policy ≡ policy_for policies.now node.now) }
+    ensures memory { IfErr result (λ e. e ≡ Refusal.NoMemory) }
+{
+    let key = PolicyKey {
+        package: node.package.clone()?,
+        version: Some(node.version.clone()?),
+    };
+    if let Some(policy) = policies.get(&key) {
+        return Ok(Some(policy));
+    }
+    let key = PolicyKey {
+        package: node.package.clone()?,
+        version: None,
+    };
+    Ok(policies.get(&key))
+}
+
+/// Whether what a node needs is demanded: where it is third-party, or its policy says that it is audited.
+pub(crate) fn is_audited(party: Party, policy: Option<&Policy>) -> bool
+    ensures { result ≡ is_audited party (option_copied policy.entry) }
+{
+    match party {
+        Party::Root | Party::First => match policy {
+            Some(policy) => match policy.audit_as_crates_io {
+                Some(says) => says,
+                None => false,
+            },
+            None => false,
+        },
+        Party::Third => true,
+    }
+}
+
+/// Whether a node needs what its dependants pass.
+pub(crate) fn takes(party: Party, policy: Option<&Policy>) -> bool
+    ensures { result ≡ takes party (option_copied policy.entry) }
+{
+    settled_criteria(party, policy).is_none()
+}
+
+/// What a node needs by itself.
+#[tactic(auto, using(crate::proofs::Closing::none_closed))]
+pub(crate) fn own_set(terms: &Terms<'_>, party: Party, policy: Option<&Policy>) -> CriteriaSet
+    requires { AreTerms terms.now }
+    ensures { result ≡ closed_places terms.now.criteria.now (own_criteria party (option_copied policy.entry)) }
+{
+    match settled_criteria(party, policy) {
+        Some(names) => terms.closed(names),
+        None => match party {
+            Party::Root => terms.deploy,
+            Party::First | Party::Third => CriteriaSet::empty(),
+        },
+    }
+}
+
+/// What an edge to a name passes; none where it passes what the node needs at which it starts.
+pub(crate) fn passed(
+    terms: &Terms<'_>,
+    kind: EdgeKind,
+    party: Party,
+    policy: Option<&Policy>,
+    name: &PackageName,
+) -> Option<CriteriaSet>
+    requires { AreTerms terms.now }
+    ensures { result ≡ option_map (closed_places terms.now.criteria.now)
+        (passed_criteria kind party (option_copied policy.entry) name.now) }
+{
+    match kind {
+        EdgeKind::Normal | EdgeKind::Build => match listed_criteria(policy, name) {
+            Some(names) => Some(terms.closed(names)),
+            None => None,
+        },
+        EdgeKind::Dev => Some(dev_passed(terms, party, policy, name)),
+    }
+}
+
+// All that a node needs, however it is reached, where its policy says so.
+fn settled_criteria<'p>(party: Party, policy: Option<&'p Policy>) -> Option<&'p Names>
+    ensures { option_copied result ≡ settled_criteria party (option_copied policy.entry) }
+{
+    match party {
+        Party::Root | Party::First => match policy {
+            Some(policy) => policy.criteria.as_ref(),
+            None => None,
+        },
+        Party::Third => None,
+    }
+}
+
+// The criteria that a policy lists for dependencies of a name.
+fn listed_criteria<'p>(policy: Option<&'p Policy>, name: &PackageName) -> Option<&'p Names>
+    ensures { option_copied result ≡ listed_criteria (option_copied policy.entry) name.now }
+{
+    match policy {
+        Some(policy) => policy.dependency_criteria.get(name),
+        None => None,
+    }
+}
+
+// What a policy gives for dev edges.
+fn dev_criteria(terms: &Terms<'_>, policy: Option<&Policy>) -> CriteriaSet
+    requires { AreTerms terms.now }
+    ensures { result ≡ closed_places terms.now.criteria.now (dev_criteria (option_copied policy.entry)) }
+{
+    match policy {
+        Some(policy) => match &policy.dev_criteria {
+            Some(names) => terms.closed(names),
+            None => terms.run,
+        },
+        None => terms.run,
+    }
+}
+
+// What is passed along a dev edge.
+#[tactic(auto, using(crate::proofs::Closing::none_closed))]
+fn dev_passed(
+    terms: &Terms<'_>,
+    party: Party,
+    policy: Option<&Policy>,
+    name: &PackageName,
+) -> CriteriaSet
+    requires { AreTerms terms.now }
+    ensures { result ≡ closed_places terms.now.criteria.now (dev_passed party (option_copied policy.entry) name.now) }
+{
+    if let Party::Third = party {
+        return CriteriaSet::empty();
+    }
+    match listed_criteria(policy, name) {
+        Some(names) => terms.closed(names),
+        None => dev_criteria(terms, policy),
+    }
+}
