@@ -1,5 +1,5 @@
 -- The answer to an action: what is judged of it, or its effect.
-use Rattle.std.proofs.Common.{◌≡◌, ◌⊎◌, ℕ, ◌<◌, ◌^◌, Bool, true, false, cond, Option, Some, None, List, [], Ok, Err, refl, sym, ap, subst, ◌∙◌, inl, inr, arith}
+use Rattle.std.proofs.Common.{◌≡◌, ◌⊎◌, ℕ, ◌<◌, ◌^◌, Bool, true, false, cond, Option, Some, None, List, [], Result, Ok, Err, refl, sym, ap, subst, ◌∙◌, inl, inr, arith}
 use Rattle.std.proofs.lemmas.Bool.{ltb-false}
 use Rattle.vet_base.specs.declared.criterion.Criterion.{Criterion}
 use Rattle.vet_base.specs.declared.limits.TheConstants.{MOST_PUBLISHERS}
@@ -12,23 +12,24 @@ use Rattle.vet_base.specs.Day.{DayValue}
 use Rattle.vet_base.specs.Gives.{Answers, Refuses, Told, refuse_if, ◌>>=◌}
 use Rattle.vet_base.proofs.Telling.{not_refused, then_told}
 use Rattle.vet_entries.specs.declared.publisher.Publisher.{Publisher}
-use Rattle.vet_entries.specs.Facts.{Fits, edited, is_named_by}
-use Rattle.std.specs.List.{list_any}
+use Rattle.vet_entries.specs.Facts.{Fits, edited, is_named}
 use Rattle.vet_entries.specs.PublisherRecords.{IsByName, records_of, records_total, with_records}
 use Rattle.vet_entries.specs.Publishers as Publishers
 use Rattle.vet_entries.specs.Publishers.{publishers_eq, publishers_eq-Decides}
+use Rattle.vet_register.specs.declared.change.Prepared.{Prepared}
 use Rattle.vet_register.specs.declared.command.Action.{Action}
 use Rattle.vet_register.specs.declared.command.Action.TheVariants.{RemoveCriterion, SetCriterion, SetPublishers}
+use Rattle.vet_register.specs.declared.edits.Asked.{Asked}
 use Rattle.vet_register.specs.declared.edits.Asked.TheVariants as asked
 use Rattle.vet_register.specs.declared.edits.Effect.{Effect}
 use Rattle.vet_register.specs.declared.verdict.Answer.{Answer}
 use Rattle.vet_register.specs.declared.verdict.Answer.TheVariants.{Already, Accepted}
 use Rattle.vet_register.specs.Machine.{facts_after, number_after, number_given}
-use Rattle.vet_register.specs.RegisterView.{Asks, IsEffect, IsExact, RegisterView, facts_room}
+use Rattle.vet_register.specs.RegisterView.{Asks, AsksBy, AsksExactly, IsEffect, IsExact, IsExactly, RegisterView, facts_room}
 use Rattle.vet_register.specs.Sound.{ArePublishers, AreSound, IsSound}
 use Rattle.vet_register.specs.State.{State}
-use Rattle.vet_register.specs.Verdict.{judged, publisher_limit, step_limit}
-use Rattle.vet_register.proofs.Effects.{passed, sound_effect}
+use Rattle.vet_register.specs.Verdict.{judged, publisher_limit, step_limit, wants_memory}
+use Rattle.vet_register.proofs.Effects.{IsGivenContent, passed, sound_effect}
 use Rattle.vet_register.proofs.Publishing.{are_publishers}
 
 -- ---- answers
@@ -49,50 +50,94 @@ refuses_too A B (UnknownCriterion n) f (inl h) = inl (ap Err (cc h))
 refuses_too A B (UnknownCriterion n) f (inr h) = inr (ap Err (cc h))
 refuses_too A B e f h = ap Err (cc h)
 
+-- of what is accepted nothing is asked before its moves are known
+pub accepted_exact : {K U : Type 0} (a : Action) (t : Told Answer) (answer : Result (Prepared K U) Refusal) → t ≡ Ok Accepted → IsExact (wants_memory a) t answer
+accepted_exact {K} {U} a t answer told = by (wants_memory a)
+  where
+    accepted_so : IsExactly t answer
+    accepted_so = rw told tt
+
+    by : (wants : Bool) → IsExact wants t answer
+    by true = inr accepted_so
+    by false = accepted_so
+
 module _ {K : Type 0} (r : RegisterView K) (a : Action) where
+  -- what is answered exactly may be answered
+  pub exactly : (t : Told Answer) (x : Result Asked Refusal) → AsksExactly r a t x → Asks r a t x
+  exactly t x h = by (wants_memory a)
+    where
+      by : (wants : Bool) → AsksBy wants r a t x
+      by true = inr h
+      by false = h
+
   -- a refusal is passed on
-  pub refused : (t : Told Answer) (f : Refusal) → Answers t (Err f) → Asks r a t (Err f)
+  pub refused : (t : Told Answer) (f : Refusal) → Answers t (Err f) → AsksExactly r a t (Err f)
   refused (Ok x) f h = cc h
   refused (Err e) f h = refuses_too _ _ e f h
 
   -- what is accepted has an effect
-  pub effective : (t : Told Answer) (e : Effect) → t ≡ Ok Accepted → IsEffect r a e → Asks r a t (Ok (asked.Effect e))
+  pub effective : (t : Told Answer) (e : Effect) → t ≡ Ok Accepted → IsEffect r a e → AsksExactly r a t (Ok (asked.Effect e))
   effective t e told is = rw told is
 
   -- or memory is wanting
-  pub no_memory : (t : Told Answer) (f : Refusal) → t ≡ Ok Accepted → f ≡ NoMemory → Asks r a t (Err f)
+  pub no_memory : (t : Told Answer) (f : Refusal) → t ≡ Ok Accepted → f ≡ NoMemory → AsksExactly r a t (Err f)
   no_memory t f told is = rw told is
+
+  accepted_exactly : (t : Told Answer) (e : Effect) → AsksExactly r a t (Ok (asked.Effect e)) → (t ≡ Ok Accepted) × IsEffect r a e
+  accepted_exactly (Err f) e h = absurd (never_refuses f _ h)
+  accepted_exactly (Ok (Already n)) e h = cc h
+  accepted_exactly (Ok Accepted) e h = (refl, h)
 
   -- what has an effect was accepted
   pub accepted : (t : Told Answer) (e : Effect) → Asks r a t (Ok (asked.Effect e)) → (t ≡ Ok Accepted) × IsEffect r a e
-  accepted (Err f) e h = absurd (never_refuses f _ h)
-  accepted (Ok (Already n)) e h = cc h
-  accepted (Ok Accepted) e h = (refl, h)
+  accepted t e h = by (wants_memory a) h
+    where
+      by : (wants : Bool) → AsksBy wants r a t (Ok (asked.Effect e)) → (t ≡ Ok Accepted) × IsEffect r a e
+      by true (inl lacks) = cc lacks
+      by true (inr h) = accepted_exactly t e h
+      by false h = accepted_exactly t e h
+
+  told_exactly : {B : Type 0} (t : Told Answer) (then : Answer → Told B) (f : Refusal) → AsksExactly r a t (Err f) → (f ≡ NoMemory) ⊎ ((t >>= then) ≡ Err f)
+  told_exactly (Err (UnknownCriterion n)) then f (inl h) = inr (sym (ap Err (cc h)))
+  told_exactly (Err (UnknownCriterion n)) then f (inr h) = inl (cc h)
+  told_exactly (Err e) then f h = inr (sym (ap Err (cc h)))
+  told_exactly (Ok (Already n)) then f h = cc h
+  told_exactly (Ok Accepted) then f h = inl h
 
   -- what is refused was refused by the verdict, or for want of memory
   pub refusal_told : {B : Type 0} (t : Told Answer) (then : Answer → Told B) (f : Refusal) → Asks r a t (Err f) → (f ≡ NoMemory) ⊎ ((t >>= then) ≡ Err f)
-  refusal_told (Err (UnknownCriterion n)) then f (inl h) = inr (sym (ap Err (cc h)))
-  refusal_told (Err (UnknownCriterion n)) then f (inr h) = inl (cc h)
-  refusal_told (Err e) then f h = inr (sym (ap Err (cc h)))
-  refusal_told (Ok (Already n)) then f h = cc h
-  refusal_told (Ok Accepted) then f h = inl h
+  refusal_told {B} t then f h = by (wants_memory a) h
+    where
+      by : (wants : Bool) → AsksBy wants r a t (Err f) → (f ≡ NoMemory) ⊎ ((t >>= then) ≡ Err f)
+      by true (inl lacks) = inl (cc lacks)
+      by true (inr h) = told_exactly t then f h
+      by false h = told_exactly t then f h
+
+  exact_exactly : (U : Type 0) (t : Told Answer) (f : Refusal) → AsksExactly r a t (Err f) → IsExactly {K = K} {U = U} t (Err f)
+  exact_exactly U (Err e) f h = refuses_too _ _ e f h
+  exact_exactly U (Ok (Already n)) f h = cc h
+  exact_exactly U (Ok Accepted) f h = tt
 
   -- and before moves are known, exactly so
-  pub refusal_exact : (U : Type 0) (t : Told Answer) (f : Refusal) → Asks r a t (Err f) → IsExact {K = K} {U = U} t (Err f)
-  refusal_exact U (Err e) f h = refuses_too _ _ e f h
-  refusal_exact U (Ok (Already n)) f h = cc h
-  refusal_exact U (Ok Accepted) f h = tt
+  pub refusal_exact : (U : Type 0) (t : Told Answer) (f : Refusal) → Asks r a t (Err f) → IsExact {K = K} {U = U} (wants_memory a) t (Err f)
+  refusal_exact U t f h = by (wants_memory a) h
+    where
+      by : (wants : Bool) → AsksBy wants r a t (Err f) → IsExact {K = K} {U = U} wants t (Err f)
+      by true (inl lacks) = inl (ap Err (cc lacks))
+      by true (inr h) = inr (exact_exactly U t f h)
+      by false h = exact_exactly U t f h
 
   -- the effect of what is accepted in a state that stays, if criteria and publisher records are sound after it
-  pub effect_is : (s : State) (day : DayValue) (e : Effect) → r.state ≡ s → IsSound s → judged s day a ≡ Ok Accepted → edited e.edit s.facts ≡ facts_after s a
-      → e.number ≡ number_given s a → Fits e.edit (facts_room r) → IsTable (facts_after s a).criteria
-      → ArePublishers (facts_after s a).publishers → IsEffect r a e
-  effect_is s day e stays sound told facts number fits is are =
+  pub effect_is : (s : State) (day : DayValue) (e : Effect) → r.state ≡ s → IsSound s → judged s day a ≡ Ok Accepted → IsGivenContent a
+      → edited e.edit s.facts ≡ facts_after s a → e.number ≡ number_given s a → e.next_entry ≡ number_after s a → Fits e.edit (facts_room r)
+      → IsTable (facts_after s a).criteria → ArePublishers (facts_after s a).publishers → IsEffect r a e
+  effect_is s day e stays sound told given facts number next fits is are =
       let same : s ≡ r.state = sym stays in
       record {
         facts = subst (λ (t : State). edited e.edit t.facts ≡ facts_after t a) same facts;
         number = subst (λ (t : State). e.number ≡ number_given t a) same number;
-        sound = subst (λ (t : State). AreSound (facts_after t a) (number_after t a)) same (sound_effect s day a told sound.facts is are);
+        next_entry = subst (λ (t : State). e.next_entry ≡ number_after t a) same next;
+        sound = subst (λ (t : State). AreSound (facts_after t a) (number_after t a)) same (sound_effect s day a told sound.facts given is are);
         fits = fits;
       }
 
@@ -113,7 +158,7 @@ set_passed s day c told =
 pub remove_passed : (s : State) (day : DayValue) (n : List ℕ) → judged s day (RemoveCriterion n) ≡ Ok Accepted → remove_verdict s.facts.criteria n ≡ Ok tt
 remove_passed s day n told =
     let p = passed s day (RemoveCriterion n) told in
-    let u = then_told (remove_rules s.facts.criteria n) (λ _. refuse_if (list_any (is_named_by n) s.facts.entries) CriterionInUse) tt p.rules in
+    let u = then_told (remove_rules s.facts.criteria n) (λ _. refuse_if (is_named s.facts n) CriterionInUse) tt p.rules in
     ap (λ t. t >>= λ _. remove_rules s.facts.criteria n) p.references ∙ u.0
 
 module _ (s : State) (day : DayValue) (name : List ℕ) (records : List Publisher) (told : judged s day (SetPublishers name records) ≡ Ok Accepted) where

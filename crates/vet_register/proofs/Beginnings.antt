@@ -16,8 +16,9 @@ use Rattle.vet_graph.specs.declared.class.Class.TheVariants.{Conflicting, Full, 
 use Rattle.vet_graph.specs.declared.standing.Stand.{Stand}
 use Rattle.vet_graph.specs.Standing.{ClassesAddUp, count_in, count_of, counts_of, same_class, total_of}
 use Rattle.vet_graph.specs.StandingOf.{NoneIsVetted, class_of_pair, standing_of}
-use Rattle.vet_register.specs.Sound.{IsSound}
+use Rattle.vet_register.specs.Sound.{IsSound, ShareNone}
 use Rattle.vet_register.specs.State.{all_unvetted, start}
+use Rattle.vet_register.proofs.Lists.{AllPairs-single}
 
 -- the count of a class among the five
 pub count_in_counts : (class : Class) (standing : List Stand) → count_in class (counts_of standing) ≡ count_of class standing
@@ -63,14 +64,16 @@ pub start_is_sound : (limit : ℕ) (demand : List Pair) → IsTable built_in_cri
 start_is_sound limit demand t l d k = record {
   facts = record {
     criteria = t;
-    known = All-nil _;
+    known = record { own = All-nil _; targets = All-nil _ };
     entries = record {
-      own = All-nil _;
+      from = All-nil _;
       different = λ i j x a b. absurd (omega arith);
       numbers_rise = λ i j x a b. absurd (omega arith);
       numbers_given = All-nil _;
-      few = omega arith;
     };
+    peers = record { by_name = λ i j x a b. absurd (omega arith); sound = All-nil _; few = omega arith };
+    apart = AllPairs-single ShareNone [];
+    few = omega arith;
     publishers = record {
       by_name = record { rising = λ i j x a b. absurd (omega arith); filled = All-nil _ };
       in_order = All-nil _;

@@ -1,12 +1,12 @@
 -- What a file without unknown criteria gives.
-use Rattle.std.proofs.Common.{◌≡◌, ◌∙◌, ℕ, ◌+◌, Bool, false, List, [], ◌∷◌, Option, Some, None, Ok, Err, refl, sym, ap, inl, inr}
+use Rattle.std.proofs.Common.{◌≡◌, ◌∙◌, ℕ, Bool, false, List, [], ◌∷◌, Option, Some, None, Ok, Err, refl, sym, ap, inl, inr}
 use Rattle.std.specs.Prelude.{IfOk, IfErr}
 use Rattle.std.specs.declared.result.Result.{Result}
 use Rattle.vet_base.specs.Gives.{Gives, Told}
 use Rattle.vet_base.specs.declared.refusal.Refusal.{Refusal}
 use Rattle.vet_base.specs.declared.refusal.Refusal.TheVariants.{NoMemory}
 use Rattle.std.proofs.lemmas.Bool.{cases_Bool}
-use Rattle.std.proofs.lemmas.List.Elements.{All-cons, All-head, All-nil, All-tail}
+use Rattle.std.proofs.lemmas.List.Elements.{All-head, All-tail}
 use Rattle.std.specs.Cmp.Lexicographic.{slice_cmp}
 use Rattle.std.specs.FinMap as map
 use Rattle.std.specs.List.{All, list_any}
@@ -18,8 +18,6 @@ use Rattle.vet_base.specs.declared.criterion.Criterion.{Criterion}
 use Rattle.vet_base.specs.declared.limits.TheConstants.{MOST_CRITERIA}
 use Rattle.vet_base.specs.Defined.{defined, least_undefined, lesser, table_told}
 use Rattle.vet_entries.specs.declared.entry.Entry.{Entry}
-use Rattle.vet_entries.specs.Facts.{numbered}
-use Rattle.vet_entries.specs.Step.{HasKnownCriteria}
 use Rattle.vet_files.specs.declared.audits_file.AuditsContent.{AuditsContent}
 use Rattle.vet_register.specs.ClassOfFile.{checked, unknown_in, unknown_name, unknown_of_entries}
 
@@ -32,26 +30,17 @@ lesser-None (Some a) (Some b) e = elim (cases_Bool (is_lt (slice_cmp nat_cmp b a
   | inr above ↦ let e' = rw above at e in cc e'
 ]
 
-known_from : (table : Criteria) (n : ℕ) (least : Option (List ℕ)) (es : List Entry) → unknown_of_entries (map.contains_key table) least es ≡ None
-    → (least ≡ None) × All (HasKnownCriteria table) (numbered n es)
-known_from table n least [] e = (e, All-nil _)
-known_from table n least (x ∷ es) e =
-    let later = known_from table (n + 1) (lesser least (least_unknown table x.criteria)) es e in
-    let both = lesser-None least (least_unknown table x.criteria) later.0 in
-    (both.0, All-cons (HasKnownCriteria table) (record { number = n; entry = x }) (numbered (n + 1) es) both.1 later.1)
+known_at_first : (table : Criteria) (least : Option (List ℕ)) (es : List Entry) → unknown_of_entries (map.contains_key table) least es ≡ None → least ≡ None
+known_at_first table least [] e = e
+known_at_first table least (x ∷ es) e =
+    (lesser-None least (least_unknown table x.criteria) (known_at_first table (lesser least (least_unknown table x.criteria)) es e)).0
 
--- where no name is unknown, each entry's criteria are known
-pub all_known : (table : Criteria) (word : List ℕ) (content : AuditsContent) → unknown_name (map.contains_key table) word content ≡ None
-    → All (HasKnownCriteria table) (numbered 1 content.entries)
-all_known table word content e =
-    (known_from table 1 (lesser (unknown_in (map.contains_key table) word) (least_undefined (map.contains_key table) content.criteria)) content.entries e).1
-
--- and each name that a criterion implies
+-- where no name is unknown, each is known that a criterion implies
 pub all_defined : (table : Criteria) (word : List ℕ) (content : AuditsContent) → unknown_name (map.contains_key table) word content ≡ None
     → least_undefined (map.contains_key table) content.criteria ≡ None
 all_defined table word content e =
     let implied = least_undefined (map.contains_key table) content.criteria in
-    (lesser-None (unknown_in (map.contains_key table) word) implied (known_from table 1 (lesser (unknown_in (map.contains_key table) word) implied) content.entries e).0).1
+    (lesser-None (unknown_in (map.contains_key table) word) implied (known_at_first table (lesser (unknown_in (map.contains_key table) word) implied) content.entries e)).1
 
 none_built_in : (cs : List Criterion) → All (λ c. is_built_in c.name ≡ false) cs → list_any (λ c. is_built_in c.name) cs ≡ false
 none_built_in [] h = refl
@@ -89,9 +78,6 @@ pub table_passed : (word : List ℕ) (content : AuditsContent) → checked word 
 table_passed word content e further =
     let both = passed word content e in
     table_of content.criteria both.0 (all_defined (defined content.criteria) word content both.1) further
-
-pub entries_passed : (word : List ℕ) (content : AuditsContent) → checked word content ≡ Ok tt → All (HasKnownCriteria (defined content.criteria)) (numbered 1 content.entries)
-entries_passed word content e = all_known (defined content.criteria) word content (passed word content e).1
 
 -- ---- the answer
 

@@ -4,13 +4,12 @@ use Rattle.std.specs.List.{All, AllPairs, list_any, position, position_or_len, r
 use Rattle.std.proofs.lemmas.Bool.{cases_Bool, false≢true, lt-ltb, le-ltb, ltb-true}
 use Rattle.std.proofs.lemmas.List.Elements.{All-head, All-tail}
 use Rattle.vet_entries.specs.declared.facts.HeldEntry.{HeldEntry}
-use Rattle.vet_entries.specs.Facts.{has_number, place_of}
+use Rattle.vet_entries.specs.Numbered.{Rise, has_number, place_of}
 use Rattle.vet_base.specs.Day.{DayValue}
 use Rattle.vet_base.specs.Gives.{Refuses, Told, ◌>>=◌}
 use Rattle.vet_base.specs.declared.refusal.Refusal.TheVariants.{UnknownEntry}
 use Rattle.vet_base.proofs.Telling.{not_refused, then_told}
 use Rattle.vet_register.specs.declared.command.Action.TheVariants.{DropEntry}
-use Rattle.vet_register.specs.Sound.{Rise}
 use Rattle.vet_register.specs.State.{State}
 use Rattle.vet_register.specs.Verdict.{checked, references, rules, step_limit}
 use Rattle.vet_register.proofs.Asking.{never_refuses}

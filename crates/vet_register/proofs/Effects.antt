@@ -1,41 +1,44 @@
 -- What a command that is accepted leaves of what is held is sound.
-use Rattle.std.proofs.Common.{◌≡◌, ◌≢◌, ℕ, ◌+◌, ◌≤◌, Bool, true, false, not, cond, is_some, List, [], ◌∷◌, filter, length, get_or, Option, Some, None, Ok, Err, refl, sym, ap, ◌∙◌, arith}
-use Rattle.std.specs.List.{All, find, list_any}
+use Rattle.std.proofs.Common.{◌≡◌, ◌≢◌, ℕ, ◌+◌, ◌≤◌, ◌&&◌, Bool, true, false, not, is_none, List, [], ◌∷◌, ◌++◌, filter, length, Option, Some, None, Ok, Err, refl, sym, ap, ◌∙◌, arith, inl, inr}
+use Rattle.std.specs.List.{All, find}
 use Rattle.std.specs.Option.{option_map}
-use Rattle.std.specs.Ordering.{nat_cmp, eq_by_cmp}
-use Rattle.std.specs.Cmp.{eq_by_cmp_equiv}
-use Rattle.std.specs.Cmp.Lexicographic.{slice_cmp, nat_list_cmp_total}
-use Rattle.std.specs.FinMap as table
+use Rattle.std.specs.Prelude.{nat_lt}
 use Rattle.std.proofs.lemmas.Bool.{false≢true, ltb-false}
 use Rattle.std.proofs.lemmas.List.{length-append}
 use Rattle.std.proofs.lemmas.List.Elements.{All-nil, All-cons, All-append, All-weaker, All-filter}
 use Rattle.std.proofs.lemmas.List.Kept.{AllPairs-filter}
-use Rattle.vet_base.specs.declared.limits.TheConstants.{MOST_ENTRIES, LAST_STEP, LAST_NUMBER}
-use Rattle.vet_base.specs.declared.criterion.Criterion.{Criterion}
+use Rattle.vet_base.specs.declared.limits.TheConstants.{MOST_ENTRIES, MOST_PEERS, LAST_STEP, LAST_NUMBER}
 use Rattle.vet_base.specs.declared.refusal.Limit.TheVariants as limit
-use Rattle.vet_base.specs.declared.refusal.Refusal.TheVariants.{TooLarge, CriterionInUse}
-use Rattle.vet_base.specs.Criteria.{Criteria, IsTable, least_unknown}
-use Rattle.vet_base.specs.CriteriaChanges.{remove_rules, set_limits}
+use Rattle.vet_base.specs.declared.refusal.Refusal.TheVariants.{TooLarge, UnknownPeer}
+use Rattle.vet_base.specs.Criteria.{IsTable}
+use Rattle.vet_base.specs.CriteriaChanges.{set_limits}
 use Rattle.vet_base.specs.Day.{DayValue}
-use Rattle.vet_base.specs.Gives.{Told, ◌>>=◌, refuse_if}
-use Rattle.vet_base.specs.NameLaws.{any-members}
-use Rattle.vet_base.specs.Names.{members}
-use Rattle.vet_base.proofs.Telling.{all_known, not_refused, then_told}
+use Rattle.vet_base.specs.Gives.{Told, ◌>>=◌}
+use Rattle.vet_base.proofs.Telling.{not_refused, then_told}
 use Rattle.vet_entries.specs.declared.entry.Entry.{Entry}
+use Rattle.vet_entries.specs.declared.entry.Source.TheVariants.{Own}
 use Rattle.vet_entries.specs.declared.facts.HeldEntry.{HeldEntry}
+use Rattle.vet_entries.specs.declared.held_peer.HeldPeer.{HeldPeer}
 use Rattle.vet_entries.specs.Entry.{entry_eq, entry_eq-Decides, own}
-use Rattle.vet_entries.specs.Facts.{has_number, is_named_by, number_of}
-use Rattle.vet_entries.specs.Step.{HasKnownCriteria}
-use Rattle.vet_graph.specs.StandingOf.{AreKnown}
+use Rattle.vet_entries.specs.Facts.{entries_of_peers, entries_total}
+use Rattle.vet_entries.specs.HeldPeer.{holding_or_none, imported, peer_of, with_content_of, without_peer}
+use Rattle.vet_entries.specs.ImportLaws.{AllDiffer}
+use Rattle.vet_entries.specs.Numbered.{Rise, has_number, number_of}
+use Rattle.vet_entries.specs.PeerContent.{IsPeerContent, PeerContentValue}
+use Rattle.vet_base.proofs.ItemLemmas.{in_all, in_append, in_filter}
+use Rattle.vet_entries.proofs.ImportLaws.{holds_each_once}
+use Rattle.vet_entries.proofs.PeerLaws.{entries_with, entries_without, found_name}
 use Rattle.vet_register.specs.declared.command.Action.{Action}
-use Rattle.vet_register.specs.declared.command.Action.TheVariants.{SetCriterion, RemoveCriterion, AddEntry, DropEntry, SetPublishers}
+use Rattle.vet_register.specs.declared.command.Action.TheVariants.{SetCriterion, RemoveCriterion, AddEntry, DropEntry, SetPeer, DropPeer, ImportPeer, SetPublishers}
 use Rattle.vet_register.specs.declared.verdict.Answer.{Answer}
 use Rattle.vet_register.specs.declared.verdict.Answer.TheVariants.{Already, Accepted}
-use Rattle.vet_register.specs.Machine.{facts_after, number_after}
-use Rattle.vet_register.specs.Sound.{AreEntries, ArePublishers, AreSound, Differ, IsGiven, IsOwn, Rise}
+use Rattle.vet_register.specs.Machine.{facts_after, number_after, numbers_given}
+use Rattle.vet_register.specs.Sound.{AreEntries, ArePublishers, AreSound, Differ, IsFrom, IsGiven, IsSoundPeer}
 use Rattle.vet_register.specs.State.{State}
-use Rattle.vet_register.specs.Verdict.{checked, entry_limit, held_as, held_or, judged, limits, number_limit, publisher_limit, references, rules, step_limit}
-use Rattle.vet_register.proofs.Lists.{AllPairs-append, AllPairs-single, find-none, find-none_among, all_fail, none_pass, filter-fewer}
+use Rattle.vet_register.specs.Verdict.{checked, entries_beside, entry_limit, held_as, held_or, judged, limits, number_limit, peer_limit, publisher_limit, references, rules, step_limit}
+use Rattle.vet_register.proofs.Known.{known_after}
+use Rattle.vet_register.proofs.Lists.{AllPairs-append, AllPairs-single, all_fail, filter-fewer}
+use Rattle.vet_register.proofs.PeerEffects.{PeersSound, dropped_peer, found_in, imported_peer, later_entries, own_changed, settings_set}
 
 -- ---- what an accepted command passed
 
@@ -62,83 +65,54 @@ passed s day a e =
     let r = then_told (references s a) (λ _. rules s day a) tt l.1 in
     record { held = free.0; limits = l.0; references = r.0; rules = r.1 }
 
--- what an entry passed to be added
-record EntryLimits (s : State) : Type 0 where
-  pub few : length s.facts.entries + 1 ≤ MOST_ENTRIES
+-- what a count of entries, a step and a count of numbers passed
+pub record Counted (s : State) (count numbers : ℕ) : Type 0 where
+  pub few : count ≤ MOST_ENTRIES
   pub step : step_limit s ≡ Ok tt
-  pub number : s.next_entry ≤ LAST_NUMBER
+  pub number : s.next_entry + numbers ≤ LAST_NUMBER + 1
 
-entry_limits_passed : (s : State) → (entry_limit s >>= λ _. step_limit s >>= λ _. number_limit s) ≡ Ok tt → EntryLimits s
-entry_limits_passed s h =
-    let l = then_told (entry_limit s) (λ _. step_limit s >>= λ _. number_limit s) tt h in
-    let r = then_told (step_limit s) (λ _. number_limit s) tt l.1 in
+counts_passed : (s : State) (count numbers : ℕ) → (entry_limit count >>= λ _. step_limit s >>= λ _. number_limit s numbers) ≡ Ok tt → Counted s count numbers
+counts_passed s count numbers h =
+    let l = then_told (entry_limit count) (λ _. step_limit s >>= λ _. number_limit s numbers) tt h in
+    let r = then_told (step_limit s) (λ _. number_limit s numbers) tt l.1 in
     record {
-      few = ltb-false MOST_ENTRIES (length s.facts.entries + 1) (not_refused _ (TooLarge limit.Entries) l.0);
+      few = ltb-false MOST_ENTRIES count (not_refused _ (TooLarge limit.Entries) l.0);
       step = r.0;
-      number = ltb-false LAST_NUMBER s.next_entry (not_refused _ (TooLarge limit.Number) r.1);
+      number = ltb-false (LAST_NUMBER + 1) (s.next_entry + numbers) (not_refused _ (TooLarge limit.Number) r.1);
     }
+
+entry_passed : (s : State) (e : Entry) → limits s (AddEntry e) ≡ Ok tt → Counted s (entries_total s.facts + 1) 1
+entry_passed s e h = counts_passed s (entries_total s.facts + 1) 1 h
+
+pub import_passed : (s : State) (name : List ℕ) (content : PeerContentValue) → limits s (ImportPeer name content) ≡ Ok tt
+    → Counted s (entries_beside s.facts name + length content.entries) (numbers_given s (ImportPeer name content))
+import_passed s name content h = counts_passed s (entries_beside s.facts name + length content.entries) (numbers_given s (ImportPeer name content)) h
 
 -- a step follows
 pub step_passed : (s : State) (a : Action) → limits s a ≡ Ok tt → step_limit s ≡ Ok tt
 step_passed s (SetCriterion c) h = (then_told (set_limits s.facts.criteria c.name) (λ _. step_limit s) tt h).1
 step_passed s (RemoveCriterion n) h = h
-step_passed s (AddEntry e) h = (entry_limits_passed s h).step
+step_passed s (AddEntry e) h = (entry_passed s e h).step
 step_passed s (DropEntry n) h = h
+step_passed s (SetPeer settings) h = (then_told (peer_limit s settings.name) (λ _. step_limit s) tt h).1
+step_passed s (DropPeer n) h = h
+step_passed s (ImportPeer n content) h = (import_passed s n content h).step
 step_passed s (SetPublishers n records) h = (then_told (publisher_limit s n records) (λ _. step_limit s) tt h).1
 
 pub step_follows : (s : State) → step_limit s ≡ Ok tt → s.step + 1 ≤ LAST_STEP
 step_follows s h = ltb-false LAST_STEP (s.step + 1) (not_refused _ (TooLarge limit.Step) h)
 
 pub next_number_follows : (s : State) (a : Action) → limits s a ≡ Ok tt → s.next_entry ≤ LAST_NUMBER + 1 → number_after s a ≤ LAST_NUMBER + 1
-next_number_follows s (SetCriterion c) p h = h
-next_number_follows s (RemoveCriterion n) p h = h
-next_number_follows s (AddEntry e) p h = omega (arith, (entry_limits_passed s p).number)
-next_number_follows s (DropEntry n) p h = h
-next_number_follows s (SetPublishers n records) p h = h
+next_number_follows s (SetCriterion c) p h = omega (arith, h)
+next_number_follows s (RemoveCriterion n) p h = omega (arith, h)
+next_number_follows s (AddEntry e) p h = (entry_passed s e p).number
+next_number_follows s (DropEntry n) p h = omega (arith, h)
+next_number_follows s (SetPeer settings) p h = omega (arith, h)
+next_number_follows s (DropPeer n) p h = omega (arith, h)
+next_number_follows s (ImportPeer n content) p h = (import_passed s n content p).number
+next_number_follows s (SetPublishers n records) p h = omega (arith, h)
 
--- ---- the facts
-
--- what a table has, it has after one more criterion
-has_more : (t : Criteria) (n : List ℕ) (c : Criterion) (x : List ℕ) → not (table.contains_key t x) ≡ false
-    → not (table.contains_key (table.insert t n c) x) ≡ false
-has_more t n c x h = rw (table.get-insert nat_list_cmp_total t n c x) (tied (eq_by_cmp (slice_cmp nat_cmp) x n))
-  where
-    tied : (b : Bool) → not (is_some (cond b (Some c) (table.get t x))) ≡ false
-    tied true = refl
-    tied false = h
-
--- what a table has beside a name, it has without it
-has_beside : (t : Criteria) (n x : List ℕ) → eq_by_cmp (slice_cmp nat_cmp) n x ≡ false → not (table.contains_key t x) ≡ false
-    → not (table.contains_key (table.remove t n) x) ≡ false
-has_beside t n x other h =
-    rw (table.get-remove nat_list_cmp_total t n x, (eq_by_cmp_equiv nat_list_cmp_total).symm x n, other) h
-
-stays_known : (t : Criteria) (c : Criterion) (h : HeldEntry) → HasKnownCriteria t h → HasKnownCriteria (table.insert t c.name c) h
-stays_known t c h k = find-none (λ x. not (table.contains_key t x)) (λ x. not (table.contains_key (table.insert t c.name c) x)) (has_more t c.name c) (members h.entry.criteria) k
-
-known_without : (t : Criteria) (n : List ℕ) (h : HeldEntry) → is_named_by n h ≡ false → HasKnownCriteria t h → HasKnownCriteria (table.remove t n) h
-known_without t n h unnamed k =
-    find-none_among (eq_by_cmp (slice_cmp nat_cmp) n) (λ x. not (table.contains_key t x)) (λ x. not (table.contains_key (table.remove t n) x))
-    (has_beside t n) (members h.entry.criteria) (any-members h.entry.criteria n ∙ unnamed) k
-
-both_fail : {X : Type 0} (P Q S : X → Type 0) → ((x : X) → P x → Q x → S x) → (xs : List X) → All P xs → All Q xs → All S xs
-both_fail P Q S f xs p q k d l = f (get_or xs k d) (p k d l) (q k d l)
-
-removed : (s : State) (day : DayValue) (n : List ℕ) → rules s day (RemoveCriterion n) ≡ Ok tt → list_any (is_named_by n) s.facts.entries ≡ false
-removed s day n h =
-    let r = then_told (remove_rules s.facts.criteria n) (λ _. refuse_if (list_any (is_named_by n) s.facts.entries) CriterionInUse) tt h in
-    not_refused (list_any (is_named_by n) s.facts.entries) CriterionInUse r.1
-
--- the entries' criteria are known after the command too
-known_after : (s : State) (day : DayValue) (a : Action) → AreKnown s.facts → references s a ≡ Ok tt → rules s day a ≡ Ok tt → AreKnown (facts_after s a)
-known_after s day (SetCriterion c) k r u = All-weaker (HasKnownCriteria s.facts.criteria) _ (stays_known s.facts.criteria c) s.facts.entries k
-known_after s day (RemoveCriterion n) k r u =
-    both_fail _ _ _ (known_without s.facts.criteria n) s.facts.entries (none_pass (is_named_by n) s.facts.entries (removed s day n u)) k
-known_after s day (AddEntry e) k r u =
-    All-append (HasKnownCriteria s.facts.criteria) s.facts.entries _ k
-    (All-cons (HasKnownCriteria s.facts.criteria) (record { number = s.next_entry; entry = own e }) [] (all_known (least_unknown s.facts.criteria e.criteria) r) (All-nil _))
-known_after s day (DropEntry n) k r u = All-filter (λ h. not (has_number n h)) (HasKnownCriteria s.facts.criteria) s.facts.entries k
-known_after s day (SetPublishers n records) k r u = k
+-- ---- own entries
 
 other_entries : (entries : List HeldEntry) (e : Entry) → number_of entries e ≡ None → All (λ h. h.entry ≢ own e) entries
 other_entries entries e h =
@@ -154,52 +128,133 @@ none_under : (o : Option ℕ) → option_map (λ n. Some n) o ≡ None → o ≡
 none_under None h = refl
 none_under (Some n) h = cc h
 
-later : (entries : List HeldEntry) (n : ℕ) → All (IsGiven n) entries → All (IsGiven (n + 1)) entries
-later entries n h = All-weaker (IsGiven n) (IsGiven (n + 1)) (λ x p. omega (arith, p)) entries h
-
 -- entries that stay
-same_entries : (entries : List HeldEntry) (n : ℕ) (keeps : HeldEntry → Bool) → AreEntries entries n → AreEntries (filter keeps entries) n
+same_entries : (entries : List HeldEntry) (n : ℕ) (keeps : HeldEntry → Bool) → AreEntries Own entries n → AreEntries Own (filter keeps entries) n
 same_entries entries n keeps h = record {
-  own = All-filter keeps IsOwn entries h.own;
+  from = All-filter keeps (IsFrom Own) entries h.from;
   different = AllPairs-filter Differ keeps entries h.different;
   numbers_rise = AllPairs-filter Rise keeps entries h.numbers_rise;
   numbers_given = All-filter keeps (IsGiven n) entries h.numbers_given;
-  few = omega (arith, filter-fewer keeps entries, h.few);
 }
 
 -- one entry more
-one_more : (s : State) (e : Entry) → AreEntries s.facts.entries s.next_entry → EntryLimits s → All (λ h. h.entry ≢ own e) s.facts.entries
-    → AreEntries (facts_after s (AddEntry e)).entries (s.next_entry + 1)
-one_more s e h l other =
-    let new : HeldEntry = record { number = s.next_entry; entry = own e } in
-    let entries = s.facts.entries in
+one_more : (n : ℕ) (e : Entry) (entries : List HeldEntry) → AreEntries Own entries n → All (λ h. h.entry ≢ own e) entries
+    → AreEntries Own (entries ++ (record { number = n; entry = own e }) ∷ []) (n + 1)
+one_more n e entries h other =
+    let new : HeldEntry = record { number = n; entry = own e } in
     record {
-      own = All-append IsOwn entries (new ∷ []) h.own (All-cons IsOwn new [] refl (All-nil _));
+      from = All-append (IsFrom Own) entries (new ∷ []) h.from (All-cons (IsFrom Own) new [] refl (All-nil _));
       different = AllPairs-append Differ entries (new ∷ []) h.different (AllPairs-single Differ new)
           (All-weaker (λ x. x.entry ≢ own e) (λ x. All (Differ x) (new ∷ [])) (λ x d. All-cons (Differ x) new [] d (All-nil _)) entries other);
       numbers_rise = AllPairs-append Rise entries (new ∷ []) h.numbers_rise (AllPairs-single Rise new)
-          (All-weaker (IsGiven s.next_entry) (λ x. All (Rise x) (new ∷ [])) (λ x d. All-cons (Rise x) new [] d (All-nil _)) entries h.numbers_given);
-      numbers_given = All-append (IsGiven (s.next_entry + 1)) entries (new ∷ []) (later entries s.next_entry h.numbers_given)
-          (All-cons (IsGiven (s.next_entry + 1)) new [] (omega arith) (All-nil _));
-      few = rw (length-append entries (new ∷ [])) (omega (arith, l.few));
+          (All-weaker (IsGiven n) (λ x. All (Rise x) (new ∷ [])) (λ x d. All-cons (Rise x) new [] d (All-nil _)) entries h.numbers_given);
+      numbers_given = All-append (IsGiven (n + 1)) entries (new ∷ [])
+          (All-weaker (IsGiven n) (IsGiven (n + 1)) (λ x p. omega (arith, p)) entries h.numbers_given)
+          (All-cons (IsGiven (n + 1)) new [] (omega arith) (All-nil _));
     }
 
 -- the entries after a command
-entries_after : (s : State) (day : DayValue) (a : Action) → Passed s day a → AreEntries s.facts.entries s.next_entry → AreEntries (facts_after s a).entries (number_after s a)
-entries_after s day (SetCriterion c) p h = h
-entries_after s day (RemoveCriterion n) p h = h
-entries_after s day (AddEntry e) p h = one_more s e h (entry_limits_passed s p.limits) (other_entries s.facts.entries e (none_under (number_of s.facts.entries e) p.held))
-entries_after s day (DropEntry n) p h = same_entries s.facts.entries s.next_entry (λ h. not (has_number n h)) h
-entries_after s day (SetPublishers n records) p h = h
+entries_after : (s : State) (day : DayValue) (a : Action) → Passed s day a → AreEntries Own s.facts.entries s.next_entry
+    → AreEntries Own (facts_after s a).entries (number_after s a)
+entries_after s day (SetCriterion c) p h = later_entries Own s.facts.entries s.next_entry _ (omega arith) h
+entries_after s day (RemoveCriterion n) p h = later_entries Own s.facts.entries s.next_entry _ (omega arith) h
+entries_after s day (AddEntry e) p h =
+    one_more s.next_entry e s.facts.entries h (other_entries s.facts.entries e (none_under (number_of s.facts.entries e) p.held))
+entries_after s day (DropEntry n) p h =
+    let keeps : HeldEntry → Bool = λ h. not (has_number n h) in
+    later_entries Own (filter keeps s.facts.entries) s.next_entry _ (omega arith) (same_entries s.facts.entries s.next_entry keeps h)
+entries_after s day (SetPeer settings) p h = later_entries Own s.facts.entries s.next_entry _ (omega arith) h
+entries_after s day (DropPeer n) p h = later_entries Own s.facts.entries s.next_entry _ (omega arith) h
+entries_after s day (ImportPeer n content) p h = later_entries Own s.facts.entries s.next_entry _ (omega arith) h
+entries_after s day (SetPublishers n records) p h = later_entries Own s.facts.entries s.next_entry _ (omega arith) h
 
--- what is held after a command, if its criteria and its publisher records are sound
-pub sound_effect : (s : State) (day : DayValue) (a : Action) → judged s day a ≡ Ok Accepted → AreSound s.facts s.next_entry → IsTable (facts_after s a).criteria
-    → ArePublishers (facts_after s a).publishers → AreSound (facts_after s a) (number_after s a)
-sound_effect s day a e h is are =
+-- ---- peers
+
+-- what is imported is what a reader gives
+abbrev pub IsGivenContent : Action → Type 0
+IsGivenContent (ImportPeer name content) = IsPeerContent content.criteria content.entries
+IsGivenContent _ = Unit {0}
+
+stay : (s : State) (m : ℕ) → s.next_entry ≤ m → PeersSound s.facts.entries s.facts.peers s.next_entry → PeersSound s.facts.entries s.facts.peers m
+stay s m above h = own_changed s.facts.entries s.facts.entries s.facts.peers s.next_entry m above (λ x i. inl i) h
+
+-- the peers after a command
+peers_after : (s : State) (day : DayValue) (a : Action) → Passed s day a → AreEntries Own s.facts.entries s.next_entry → IsGivenContent a
+    → PeersSound s.facts.entries s.facts.peers s.next_entry → PeersSound (facts_after s a).entries (facts_after s a).peers (number_after s a)
+peers_after s day (SetCriterion c) p own given h = stay s _ (omega arith) h
+peers_after s day (RemoveCriterion n) p own given h = stay s _ (omega arith) h
+peers_after s day (AddEntry e) p mine given h =
+    let new : HeldEntry = record { number = s.next_entry; entry = own e } in
+    own_changed s.facts.entries (s.facts.entries ++ new ∷ []) s.facts.peers s.next_entry (s.next_entry + 1) (omega arith)
+    (λ x i. elim (in_append s.facts.entries (new ∷ []) x i) [
+      | inl held ↦ inl held
+      | inr last ↦ elim last [
+        | inl same ↦ (let at : x.number ≡ s.next_entry = ap (λ h. h.number) same in inr (omega (arith, at)))
+        | inr more ↦ absurd more
+      ]
+    ]) h
+peers_after s day (DropEntry n) p own given h =
+    let keeps : HeldEntry → Bool = λ h. not (has_number n h) in
+    own_changed s.facts.entries (filter keeps s.facts.entries) s.facts.peers s.next_entry _ (omega arith) (λ x i. inl (in_filter keeps s.facts.entries x i).0) h
+peers_after s day (SetPeer settings) p own given h =
+    let l = then_told (peer_limit s settings.name) (λ _. step_limit s) tt p.limits in
+    settings_set s.facts.entries s.facts.peers settings s.next_entry h _ (omega arith)
+    (not_refused (is_none (peer_of s.facts.peers settings.name) && nat_lt MOST_PEERS (length s.facts.peers + 1)) (TooLarge limit.Peers) l.0)
+peers_after s day (DropPeer n) p own given h = dropped_peer s.facts.entries s.facts.peers n s.next_entry _ (omega arith) h
+peers_after s day (ImportPeer n content) p own given h =
+    imported_peer s.facts.entries s.facts.peers n s.next_entry content h own.numbers_given given (peer_of s.facts.peers n) refl
+    (not_refused (is_none (peer_of s.facts.peers n)) UnknownPeer p.references)
+peers_after s day (SetPublishers n records) p own given h = stay s _ (omega arith) h
+
+-- ---- how many entries there are
+
+-- an import of a held peer counts its entries in place of those held
+import_counted : (s : State) (name : List ℕ) (content : PeerContentValue) → PeersSound s.facts.entries s.facts.peers s.next_entry
+    → IsPeerContent content.criteria content.entries → length s.facts.entries + entries_of_peers (without_peer name s.facts.peers) + length content.entries ≤ MOST_ENTRIES
+    → (o : Option HeldPeer) → peer_of s.facts.peers name ≡ o → is_none o ≡ false
+    → length s.facts.entries + entries_of_peers (with_content_of o (imported name s.next_entry content (holding_or_none o)) s.facts.peers) ≤ MOST_ENTRIES
+import_counted s name content h is few None e some = absurd (false≢true (sym some))
+import_counted s name content h is few (Some x) e some =
+    let peers = s.facts.peers in
+    let same : x.settings.name ≡ name = found_name peers name x e in
+    let new : HeldPeer = record x { content = imported name s.next_entry content x.content } in
+    let different : AllDiffer x.content.entries = (in_all (IsSoundPeer s.next_entry) peers h.are.sound x (found_in peers name x e)).entries.different in
+    let count : length new.content.entries ≡ length content.entries = (holds_each_once name s.next_entry x.content.entries content is different).1 in
+    let held : length (holding_or_none (peer_of peers name)).entries ≡ length x.content.entries = ap (λ o. length (holding_or_none o).entries) e in
+    let at : length (holding_or_none (peer_of peers x.settings.name)).entries ≡ length x.content.entries =
+    ap (λ o. length (holding_or_none o).entries) (ap (peer_of peers) same ∙ e) in
+    omega (arith, few, count, held, at, entries_with peers new h.are.by_name, entries_without peers name h.are.by_name)
+
+counted_after : (s : State) (day : DayValue) (a : Action) → Passed s day a → IsGivenContent a → PeersSound s.facts.entries s.facts.peers s.next_entry
+    → entries_total s.facts ≤ MOST_ENTRIES → entries_total (facts_after s a) ≤ MOST_ENTRIES
+counted_after s day (SetCriterion c) p given h few = few
+counted_after s day (RemoveCriterion n) p given h few = few
+counted_after s day (AddEntry e) p given h few =
+    let new : HeldEntry = record { number = s.next_entry; entry = own e } in
+    omega (arith, (entry_passed s e p.limits).few, length-append s.facts.entries (new ∷ []))
+counted_after s day (DropEntry n) p given h few = omega (arith, few, filter-fewer (λ h. not (has_number n h)) s.facts.entries)
+counted_after s day (SetPeer settings) p given h few =
+    let new : HeldPeer = record { settings = settings; content = holding_or_none (peer_of s.facts.peers settings.name) } in
+    omega (arith, few, entries_with s.facts.peers new h.are.by_name)
+counted_after s day (DropPeer n) p given h few = omega (arith, few, entries_without s.facts.peers n h.are.by_name)
+counted_after s day (ImportPeer n content) p given h few =
+    import_counted s n content h given (import_passed s n content p.limits).few (peer_of s.facts.peers n) refl
+    (not_refused (is_none (peer_of s.facts.peers n)) UnknownPeer p.references)
+counted_after s day (SetPublishers n records) p given h few = few
+
+-- what is held after a command, if its criteria and its publisher records are sound, and what is imported is what a reader gives
+pub sound_effect : (s : State) (day : DayValue) (a : Action) → judged s day a ≡ Ok Accepted → AreSound s.facts s.next_entry → IsGivenContent a
+    → IsTable (facts_after s a).criteria → ArePublishers (facts_after s a).publishers → AreSound (facts_after s a) (number_after s a)
+sound_effect s day a e h given is are =
     let p = passed s day a e in
+    let now : PeersSound s.facts.entries s.facts.peers s.next_entry = record { are = h.peers; apart = h.apart } in
+    let after = peers_after s day a p h.entries given now in
     record {
       criteria = is;
       known = known_after s day a h.known p.references p.rules;
       entries = entries_after s day a p h.entries;
+      peers = after.are;
+      apart = after.apart;
+      few = counted_after s day a p given now h.few;
       publishers = are;
     }

@@ -4,8 +4,13 @@ pub mod ClassOfFileLemmas
 pub mod Demanded
 pub mod Drops
 pub mod Effects
+pub mod Imports
+pub mod Known
 pub mod Lists
+pub mod PeerEffects
 pub mod Prepared
 pub mod Publishing
+pub mod Readable
+pub mod RepeatLaws
 pub mod Soundness
 pub mod Turns

@@ -13,7 +13,8 @@ use Rattle.vet_base.specs.declared.refusal.Limit.TheVariants.{Input}
 use Rattle.vet_base.specs.declared.refusal.Refusal.TheVariants.{BadName, BadVersion, TooLarge, TooManyCriteria}
 use Rattle.vet_demand.specs.declared.pair.Pair.{Pair}
 use Rattle.vet_entries.specs.declared.entry.Entry.{Entry}
-use Rattle.vet_entries.specs.Facts.{Facts, numbered}
+use Rattle.vet_entries.specs.Facts.{Facts}
+use Rattle.vet_entries.specs.Numbered.{numbered}
 use Rattle.vet_files.specs.Audits.{audits_told}
 use Rattle.vet_files.specs.declared.audits_file.AuditsContent.{AuditsContent}
 use Rattle.vet_graph.specs.Class.{IsClassOfPair}
@@ -42,7 +43,7 @@ checked word content = counted (defined content.criteria) >>= λ _. known (unkno
 
 -- all that is held, where this is the file's content
 abbrev pub facts_of : AuditsContent → Facts
-facts_of content = record { criteria = defined content.criteria; entries = numbered 1 content.entries; publishers = [] }
+facts_of content = record { criteria = defined content.criteria; entries = numbered 1 content.entries; peers = []; publishers = [] }
 
 -- the class of a pair by a file's content
 abbrev pub class_in : AuditsContent → Pair → Told Class

@@ -1,7 +1,10 @@
 pub mod Changes
 pub mod ClassOfFile
+pub mod HeldFiles
+pub mod Importing
 pub mod Machine
 pub mod RegisterView
+pub mod Repeats
 pub mod Runs
 pub mod Sound
 pub mod State

@@ -3,7 +3,10 @@ use Rattle.std.specs.Prelude.{ℕ, ◌+◌, ◌++◌, not, List, [], ◌∷◌, 
 use Rattle.std.specs.FinMap as table
 use Rattle.vet_base.specs.Day.{DayValue}
 use Rattle.vet_entries.specs.Entry.{own}
-use Rattle.vet_entries.specs.Facts.{Facts, has_number}
+use Rattle.vet_entries.specs.Facts.{Facts}
+use Rattle.vet_entries.specs.HeldPeer.{holding_or_none, imported, new_entries, peer_of, with_content, with_settings, without_peer}
+use Rattle.vet_entries.specs.Holding.{HoldingValue}
+use Rattle.vet_entries.specs.Numbered.{has_number}
 use Rattle.vet_entries.specs.PublisherRecords.{with_records}
 use Rattle.vet_graph.specs.declared.moves.Move.{Move}
 use Rattle.vet_graph.specs.declared.touched.Touched.{Touched}
@@ -11,7 +14,7 @@ use Rattle.vet_graph.specs.declared.touched.Touched.TheVariants as touched
 use Rattle.vet_graph.specs.Moves.{moves_between}
 use Rattle.vet_graph.specs.StandingOf.{standing_of}
 use Rattle.vet_register.specs.declared.command.Action.{Action}
-use Rattle.vet_register.specs.declared.command.Action.TheVariants.{SetCriterion, RemoveCriterion, AddEntry, DropEntry, SetPublishers}
+use Rattle.vet_register.specs.declared.command.Action.TheVariants.{SetCriterion, RemoveCriterion, AddEntry, DropEntry, SetPeer, DropPeer, ImportPeer, SetPublishers}
 use Rattle.vet_register.specs.declared.command.Command.{Command}
 use Rattle.vet_register.specs.declared.command.Outcome.{Outcome}
 use Rattle.vet_register.specs.declared.command.Outcome.TheVariants.{Done}
@@ -25,12 +28,19 @@ CommandValue = Command
 abbrev pub ActionValue : Type 0
 ActionValue = Action
 
+-- what is held of the peer of a name: of a new one, nothing
+abbrev pub held_of : Facts → List ℕ → HoldingValue
+held_of facts name = holding_or_none (peer_of facts.peers name)
+
 -- the effect of a command on the facts, where this is the next entry's number
 abbrev pub effect : ℕ → Action → Facts → Facts
 effect number (SetCriterion c) facts = record facts { criteria = table.insert facts.criteria c.name c }
 effect number (RemoveCriterion name) facts = record facts { criteria = table.remove facts.criteria name }
 effect number (AddEntry entry) facts = record facts { entries = facts.entries ++ (record { number = number; entry = own entry }) ∷ [] }
 effect number (DropEntry n) facts = record facts { entries = filter (λ h. not (has_number n h)) facts.entries }
+effect number (SetPeer settings) facts = record facts { peers = with_settings settings facts.peers }
+effect number (DropPeer name) facts = record facts { peers = without_peer name facts.peers }
+effect number (ImportPeer name content) facts = record facts { peers = with_content name (imported name number content (held_of facts name)) facts.peers }
 effect number (SetPublishers name records) facts = record facts { publishers = with_records name records facts.publishers }
 
 -- the facts after a command
@@ -45,19 +55,20 @@ moves_of s action = moves_between (standing s) (standing_of (facts_after s actio
 abbrev pub touched_by : State → Action → Touched
 touched_by s action = touched.All
 
--- the number that a command gives
+-- the number of the entry that a command makes: an import tells none
 abbrev pub number_given : State → Action → Option ℕ
 number_given s (AddEntry entry) = Some s.next_entry
 number_given s _ = None
 
--- the next number, where this was the next one and that one was given, if any
-abbrev pub number_by : ℕ → Option ℕ → ℕ
-number_by next None = next
-number_by next (Some given) = given + 1
+-- how many numbers a command gives: one to an entry that is added, and one to each that is new in an import
+abbrev pub numbers_given : State → Action → ℕ
+numbers_given s (AddEntry entry) = 1
+numbers_given s (ImportPeer name content) = length (new_entries name (held_of s.facts name).entries content.entries)
+numbers_given s _ = 0
 
 -- the next number after a command
 abbrev pub number_after : State → Action → ℕ
-number_after s action = number_by s.next_entry (number_given s action)
+number_after s action = s.next_entry + numbers_given s action
 
 -- a move as it is recorded
 abbrev pub recorded : ℕ → DayValue → Move → RecordedMove

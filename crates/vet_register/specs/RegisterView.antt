@@ -1,5 +1,5 @@
 -- What a register is seen as, and what was prepared for it. This module alone of the machine's knows of room and keepers.
-use Rattle.std.specs.Prelude.{◌≡◌, ℕ, ◌≤◌, List, Result, Ok, Err, MatchResult}
+use Rattle.std.specs.Prelude.{◌≡◌, ◌⊎◌, ℕ, ◌≤◌, Bool, true, false, List, Result, Ok, Err, MatchResult}
 use Rattle.std.specs.Coded.{Coded, code_by, coded×, coded_list, coded_ℕ}
 use Rattle.std.proofs.Common.{refl}
 use Rattle.vet_base.specs.Gives.{Refuses, Told}
@@ -25,7 +25,7 @@ use Rattle.vet_register.specs.Changes.{FitsFacts, FitsMoves, changed}
 use Rattle.vet_register.specs.Machine.{facts_after, next, number_after, number_given, outcome_of, touched_by}
 use Rattle.vet_register.specs.Sound.{AreSound, IsSound}
 use Rattle.vet_register.specs.State.{State, standing}
-use Rattle.vet_register.specs.Verdict.{verdict}
+use Rattle.vet_register.specs.Verdict.{verdict, wants_memory}
 
 -- for how much more of what is held, and for how many more recorded moves, there is room
 pub record Rooms : Type 0 where
@@ -87,15 +87,21 @@ IsAnswer keeping r c (prepared.Already number) = Unit {0}
 IsAnswer keeping r c (prepared.Change change) = IsPrepared keeping r c change
 
 -- before moves are known, the answer is the verdict, and wants memory for nothing but the name of a refusal
-abbrev pub IsExact : {K U : Type 0} → Told Answer → Result (Prepared K U) Refusal → Type 0
-IsExact (Err e) answer = Refuses e answer
-IsExact (Ok (Already number)) answer = answer ≡ Ok (prepared.Already number)
-IsExact (Ok Accepted) answer = Unit {0}
+abbrev pub IsExactly : {K U : Type 0} → Told Answer → Result (Prepared K U) Refusal → Type 0
+IsExactly (Err e) answer = Refuses e answer
+IsExactly (Ok (Already number)) answer = answer ≡ Ok (prepared.Already number)
+IsExactly (Ok Accepted) answer = Unit {0}
+
+-- or else memory is wanting, where a comparison wants it
+abbrev pub IsExact : {K U : Type 0} → Bool → Told Answer → Result (Prepared K U) Refusal → Type 0
+IsExact false told answer = IsExactly told answer
+IsExact true told answer = (answer ≡ Err NoMemory) ⊎ IsExactly told answer
 
 -- an effect is that of a command which was checked: its edit fits, and the facts after it are sound
 pub record IsEffect {K : Type 0} (r : RegisterView K) (action : Action) (e : Effect) : Type 0 where
   pub facts : edited e.edit r.state.facts ≡ facts_after r.state action
   pub number : e.number ≡ number_given r.state action
+  pub next_entry : e.next_entry ≡ number_after r.state action
   pub sound : AreSound (facts_after r.state action) (number_after r.state action)
   pub fits : Fits e.edit (facts_room r)
 
@@ -105,10 +111,18 @@ IsEffectOf r action (asked.Already number) = ⊥
 IsEffectOf r action (asked.Effect e) = IsEffect r action e
 
 -- the answer to an action: what is judged of it, and where that accepts it, its effect
+abbrev pub AsksExactly : {K : Type 0} → RegisterView K → Action → Told Answer → Result Asked Refusal → Type 0
+AsksExactly r action (Err e) answer = Refuses e answer
+AsksExactly r action (Ok (Already number)) answer = answer ≡ Ok (asked.Already number)
+AsksExactly r action (Ok Accepted) answer = MatchResult answer (IsEffectOf r action) (λ e. e ≡ NoMemory)
+
+-- or else memory is wanting, where a comparison wants it
+abbrev pub AsksBy : {K : Type 0} → Bool → RegisterView K → Action → Told Answer → Result Asked Refusal → Type 0
+AsksBy false r action told answer = AsksExactly r action told answer
+AsksBy true r action told answer = (answer ≡ Err NoMemory) ⊎ AsksExactly r action told answer
+
 abbrev pub Asks : {K : Type 0} → RegisterView K → Action → Told Answer → Result Asked Refusal → Type 0
-Asks r action (Err e) answer = Refuses e answer
-Asks r action (Ok (Already number)) answer = answer ≡ Ok (asked.Already number)
-Asks r action (Ok Accepted) answer = MatchResult answer (IsEffectOf r action) (λ e. e ≡ NoMemory)
+Asks r action told answer = AsksBy (wants_memory action) r action told answer
 
 -- a register is stored as the tuple of its keeper, the parts of its state, and its rooms
 abbrev pub register_code : {K : Type 0} → Coded K → Coded FactsRoom → Coded Pair → Coded Counts → Coded RecordedMove → Coded (RegisterView K)

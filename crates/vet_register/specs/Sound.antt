@@ -1,22 +1,33 @@
 -- What holds of each state that the machine reaches (ours), one record for each thing that is held.
-use Rattle.std.specs.Prelude.{◌≡◌, ◌≢◌, ◌⊎◌, ℕ, ◌+◌, ◌<◌, ◌≤◌, true, List, length}
-use Rattle.std.specs.List.{All, AllPairs}
+use Rattle.std.specs.Prelude.{◌≡◌, ◌≢◌, ◌⊎◌, ℕ, ◌+◌, ◌<◌, ◌≤◌, true, List, ◌∷◌, length, map}
+use Rattle.std.specs.List.{All, AllPairs, list_any}
+use Rattle.std.specs.Ordering.{nat_cmp}
+use Rattle.std.specs.Cmp.Lexicographic.{slice_cmp}
 use Rattle.std.specs.declared.cmp.Ordering.TheVariants.{Less}
-use Rattle.vet_base.specs.declared.limits.TheConstants.{MOST_ENTRIES, MOST_MOVES, MOST_PUBLISHERS, LAST_STEP, LAST_NUMBER}
+use Rattle.vet_base.specs.declared.limits.TheConstants.{MOST_ENTRIES, MOST_MOVES, MOST_PEERS, MOST_PUBLISHERS, LAST_STEP, LAST_NUMBER}
 use Rattle.vet_base.specs.Criteria.{IsTable}
 use Rattle.vet_base.specs.CriteriaChanges.{is_built_in}
 use Rattle.vet_demand.specs.declared.pair.Pair.{Pair}
 use Rattle.vet_demand.specs.Pair.{IsInOrder, pair_cmp}
-use Rattle.vet_entries.specs.declared.entry.Source.TheVariants.{Own}
+use Rattle.vet_base.specs.Defined.{defined}
+use Rattle.vet_base.specs.Items.{SameItems}
+use Rattle.vet_base.specs.Keyed.{IsByKey}
+use Rattle.vet_entries.specs.declared.entry.Source.{Source}
+use Rattle.vet_entries.specs.declared.entry.Source.TheVariants.{Own, Peer}
 use Rattle.vet_entries.specs.declared.facts.HeldEntry.{HeldEntry}
-use Rattle.vet_entries.specs.Facts.{Facts}
+use Rattle.vet_entries.specs.declared.held_peer.HeldPeer.{HeldPeer}
+use Rattle.vet_entries.specs.Facts.{Facts, entries_total}
+use Rattle.vet_entries.specs.HeldPeer.{as_peers, peer_name}
+use Rattle.vet_entries.specs.Holding.{HoldingValue}
+use Rattle.vet_entries.specs.Numbered.{AreByNumber, has_number}
+use Rattle.vet_entries.specs.PeerContent.{IsPeerContent, PeerContentValue}
+use Rattle.vet_entries.specs.Step.{AreKnown}
 use Rattle.vet_entries.specs.declared.publisher_records.PackagePublishers.{PackagePublishers}
 use Rattle.vet_entries.specs.PublisherRecords.{IsByName, records_total}
 use Rattle.vet_entries.specs.Publishers as Publishers
 use Rattle.vet_graph.specs.declared.class.Class.{Class}
 use Rattle.vet_graph.specs.Moves.{arrivals_of, departures_of}
 use Rattle.vet_graph.specs.Standing.{count_in, count_of}
-use Rattle.vet_graph.specs.StandingOf.{AreKnown}
 use Rattle.vet_register.specs.declared.moves.RecordedMove.{RecordedMove}
 use Rattle.vet_register.specs.State.{State, changes_of, standing}
 
@@ -29,17 +40,13 @@ abbrev pub IsBalanced : State → Type 0
 IsBalanced s = (class : Class) → count_in class s.first + arrivals_of class (changes_of s.moves)
     ≡ count_of class (standing s) + departures_of class (changes_of s.moves)
 
--- an entry is one's own
-abbrev pub IsOwn : HeldEntry → Type 0
-IsOwn h = h.entry.source ≡ Own
+-- an entry is of a source: one's own, or a peer's
+abbrev pub IsFrom : Source → HeldEntry → Type 0
+IsFrom source h = h.entry.source ≡ source
 
 -- two entries are not the same
 abbrev pub Differ : HeldEntry → HeldEntry → Type 0
 Differ g h = g.entry ≢ h.entry
-
--- an entry's number is lower than another's
-abbrev pub Rise : HeldEntry → HeldEntry → Type 0
-Rise g h = g.number < h.number
 
 -- an entry's number lies below the next one
 abbrev pub IsGiven : ℕ → HeldEntry → Type 0
@@ -49,13 +56,37 @@ IsGiven next h = h.number < next
 abbrev pub IsBy : ℕ → RecordedMove → Type 0
 IsBy step m = m.step ≤ step
 
--- each entry is one's own, and no two are the same; their numbers rise, below the next one; and they are within the limit
-pub record AreEntries (entries : List HeldEntry) (next : ℕ) : Type 0 where
-  pub own : All IsOwn entries
+-- each entry is of the source, and no two are the same; their numbers rise, below the next one
+pub record AreEntries (source : Source) (entries : List HeldEntry) (next : ℕ) : Type 0 where
+  pub from : All (IsFrom source) entries
   pub different : AllPairs Differ entries
-  pub numbers_rise : AllPairs Rise entries
+  pub numbers_rise : AreByNumber entries
   pub numbers_given : All (IsGiven next) entries
-  pub few : length entries ≤ MOST_ENTRIES
+
+-- what is held of a peer is what some content that a reader can give holds: its criteria, and its entries as the peer's
+pub record IsOfContent (name : List ℕ) (content : PeerContentValue) (held : HoldingValue) : Type 0 where
+  pub readable : IsPeerContent content.criteria content.entries
+  pub criteria : held.table ≡ defined content.criteria
+  pub entries : SameItems (as_peers name content.entries) (map (λ (h : HeldEntry). h.entry) held.entries)
+
+-- a peer's entries are sound, and what is held of it is what a reader can give
+pub record IsSoundPeer (next : ℕ) (peer : HeldPeer) : Type 0 where
+  pub entries : AreEntries (Peer peer.settings.name) peer.content.entries next
+  pub content : (content : PeerContentValue) × IsOfContent peer.settings.name content peer.content
+
+-- no number stands among both
+abbrev pub ShareNone : List HeldEntry → List HeldEntry → Type 0
+ShareNone xs ys = (n : ℕ) → list_any (has_number n) xs ≡ true → list_any (has_number n) ys ≡ true → ⊥
+
+-- no number stands in two sources
+abbrev pub AreApart : Facts → Type 0
+AreApart facts = AllPairs ShareNone (facts.entries ∷ map (λ (p : HeldPeer). p.content.entries) facts.peers)
+
+-- peers stand in the order of their names, no name twice; each is sound; and they are within the limit
+pub record ArePeers (peers : List HeldPeer) (next : ℕ) : Type 0 where
+  pub by_name : IsByKey (slice_cmp nat_cmp) peer_name peers
+  pub sound : All (IsSoundPeer next) peers
+  pub few : length peers ≤ MOST_PEERS
 
 -- publisher records are in order, of each package each once, and within the limit
 pub record ArePublishers (publishers : List PackagePublishers) : Type 0 where
@@ -63,11 +94,15 @@ pub record ArePublishers (publishers : List PackagePublishers) : Type 0 where
   pub in_order : All (λ held. Publishers.IsInOrder held.publishers) publishers
   pub few : records_total publishers ≤ MOST_PUBLISHERS
 
--- the criteria are a table, and entries name no others; entries and publisher records are sound
+-- the criteria are a table, and own entries and targets of maps name no others; own entries, peers and publisher records are
+-- sound; no number stands in two sources, and all entries are within the limit
 pub record AreSound (facts : Facts) (next : ℕ) : Type 0 where
   pub criteria : IsTable facts.criteria
   pub known : AreKnown facts
-  pub entries : AreEntries facts.entries next
+  pub entries : AreEntries Own facts.entries next
+  pub peers : ArePeers facts.peers next
+  pub apart : AreApart facts
+  pub few : entries_total facts ≤ MOST_ENTRIES
   pub publishers : ArePublishers facts.publishers
 
 -- pairs are demanded once each, in order, and for built-in criteria

@@ -1,13 +1,13 @@
 -- What a command is told in a state (ours): the first that holds of: it is held already; a limit; what it refers to is
 -- not held; a rule; its moves do not fit; it is accepted.
-use Rattle.std.specs.Prelude.{ℕ, ◌+◌, not, nat_lt, Bool, false, List, Option, Some, None, Ok, if◌then◌else◌, length, option_map, ◌+ℤ◌, pos}
+use Rattle.std.specs.Prelude.{ℕ, ◌+◌, ◌&&◌, not, nat_lt, Bool, true, false, is_none, List, Option, Some, None, Ok, if◌then◌else◌, length, option_map, ◌+ℤ◌, pos}
 use Rattle.std.specs.List.{list_any}
-use Rattle.std.specs.Option.{option_eq}
+use Rattle.std.specs.Option.{option_eq, option_map_or}
 use Rattle.std.specs.Ordering.{int_cmp, is_lt}
 use Rattle.std.specs.FinMap as table
-use Rattle.vet_base.specs.declared.limits.TheConstants.{MOST_ENTRIES, MOST_PUBLISHERS, MOST_WINDOW_DAYS, LAST_STEP, LAST_NUMBER}
+use Rattle.vet_base.specs.declared.limits.TheConstants.{MOST_ENTRIES, MOST_PEERS, MOST_PUBLISHERS, MOST_WINDOW_DAYS, LAST_STEP, LAST_NUMBER}
 use Rattle.vet_base.specs.declared.refusal.Limit.TheVariants as limit
-use Rattle.vet_base.specs.declared.refusal.Refusal.TheVariants.{CriterionInUse, UnknownEntry, EmptyWindow, WindowTooLong, TooLarge, MovesFull}
+use Rattle.vet_base.specs.declared.refusal.Refusal.TheVariants.{CriterionInUse, UnknownEntry, UnknownPeer, EmptyWindow, WindowTooLong, TooLarge, MovesFull}
 use Rattle.vet_base.specs.declared.criterion.Criterion.{Criterion}
 use Rattle.vet_base.specs.Criteria.{Criteria, least_unknown}
 use Rattle.vet_base.specs.CriteriaChanges.{is_built_in, known, remove_references, remove_rules, set_limits, set_references, set_rules}
@@ -18,25 +18,43 @@ use Rattle.vet_entries.specs.declared.kind.Kind.{Kind}
 use Rattle.vet_entries.specs.declared.kind.Kind.TheVariants.{Wildcard, Trusted}
 use Rattle.vet_entries.specs.declared.kind.Window.{Window}
 use Rattle.vet_entries.specs.declared.publisher.Publisher.{Publisher}
-use Rattle.vet_entries.specs.Facts.{has_number, is_named_by, number_of}
+use Rattle.vet_entries.specs.declared.held_peer.HeldPeer.{HeldPeer}
+use Rattle.vet_entries.specs.declared.peer_settings.PeerSettings.{PeerSettings}
+use Rattle.vet_entries.specs.Facts.{Facts, entries_of_peers, entries_total, is_named}
+use Rattle.vet_entries.specs.HeldPeer.{peer_of, without_peer}
+use Rattle.vet_entries.specs.Import.{same_content}
+use Rattle.vet_entries.specs.Numbered.{has_number, number_of}
+use Rattle.vet_entries.specs.PeerContent.{PeerContentValue}
+use Rattle.vet_entries.specs.PeerSettings.{settings_eq}
+use Rattle.vet_entries.specs.PeerWords.{targets}
 use Rattle.vet_entries.specs.PublisherRecords.{records_of, records_total, with_records}
 use Rattle.vet_entries.specs.Publishers.{publishers_eq}
 use Rattle.vet_register.specs.declared.command.Action.{Action}
-use Rattle.vet_register.specs.declared.command.Action.TheVariants.{SetCriterion, RemoveCriterion, AddEntry, DropEntry, SetPublishers}
+use Rattle.vet_register.specs.declared.command.Action.TheVariants.{SetCriterion, RemoveCriterion, AddEntry, DropEntry, SetPeer, DropPeer, ImportPeer, SetPublishers}
 use Rattle.vet_register.specs.declared.command.Command.{Command}
 use Rattle.vet_register.specs.declared.verdict.Answer.{Answer}
 use Rattle.vet_register.specs.declared.verdict.Answer.TheVariants.{Already, Accepted}
 use Rattle.vet_register.specs.State.{State}
-use Rattle.vet_register.specs.Machine.{moves_of}
+use Rattle.vet_register.specs.Machine.{moves_of, numbers_given}
 
 -- whether a criterion is held as it is; of a built-in one nothing is asked
 abbrev pub is_held : Criteria → Criterion → Bool
 is_held criteria c = if is_built_in c.name then false else option_eq criterion_eq (table.get criteria c.name) (Some c)
 
+-- whether the settings of a peer are held as they are
+abbrev pub has_settings : List HeldPeer → PeerSettings → Bool
+has_settings peers settings = option_map_or (λ (p : HeldPeer). settings_eq p.settings settings) (peer_of peers settings.name) false
+
+-- whether a peer is held with a content: the same criteria and the same entries, in whatever order
+abbrev pub has_content : List HeldPeer → List ℕ → PeerContentValue → Bool
+has_content peers name content = option_map_or (λ (p : HeldPeer). same_content name p.content content) (peer_of peers name) false
+
 -- under which number a command's content is held already
 abbrev pub held_as : State → Action → Option (Option ℕ)
 held_as s (SetCriterion c) = if is_held s.facts.criteria c then Some None else None
 held_as s (AddEntry entry) = option_map (λ n. Some n) (number_of s.facts.entries entry)
+held_as s (SetPeer settings) = if has_settings s.facts.peers settings then Some None else None
+held_as s (ImportPeer name content) = if has_content s.facts.peers name content then Some None else None
 held_as s (SetPublishers name records) = if publishers_eq (records_of s.facts.publishers name) records then Some None else None
 held_as s _ = None
 
@@ -44,32 +62,54 @@ held_as s _ = None
 abbrev pub step_limit : State → Told (Unit {0})
 step_limit s = refuse_if (nat_lt LAST_STEP (s.step + 1)) (TooLarge limit.Step)
 
--- there is a number for an entry
-abbrev pub number_limit : State → Told (Unit {0})
-number_limit s = refuse_if (nat_lt LAST_NUMBER s.next_entry) (TooLarge limit.Number)
+-- there are numbers for so many entries
+abbrev pub number_limit : State → ℕ → Told (Unit {0})
+number_limit s count = refuse_if (nat_lt (LAST_NUMBER + 1) (s.next_entry + count)) (TooLarge limit.Number)
 
--- one entry more is not too many
-abbrev pub entry_limit : State → Told (Unit {0})
-entry_limit s = refuse_if (nat_lt MOST_ENTRIES (length s.facts.entries + 1)) (TooLarge limit.Entries)
+-- so many entries are not too many
+abbrev pub entry_limit : ℕ → Told (Unit {0})
+entry_limit count = refuse_if (nat_lt MOST_ENTRIES count) (TooLarge limit.Entries)
+
+-- how many entries there are of all sources but one peer
+abbrev pub entries_beside : Facts → List ℕ → ℕ
+entries_beside facts name = length facts.entries + entries_of_peers (without_peer name facts.peers)
+
+-- the limits of an import of so many entries, so many of them new
+abbrev pub import_limits : State → List ℕ → ℕ → ℕ → Told (Unit {0})
+import_limits s name count new = entry_limit (entries_beside s.facts name + count) >>= λ _. step_limit s >>= λ _. number_limit s new
+
+-- one peer more, if it is a new one, is not too many
+abbrev pub peer_limit : State → List ℕ → Told (Unit {0})
+peer_limit s name = refuse_if (is_none (peer_of s.facts.peers name) && nat_lt MOST_PEERS (length s.facts.peers + 1)) (TooLarge limit.Peers)
 
 -- with these records for a package there are not too many
 abbrev pub publisher_limit : State → List ℕ → List Publisher → Told (Unit {0})
 publisher_limit s name records =
     refuse_if (nat_lt MOST_PUBLISHERS (records_total (with_records name records s.facts.publishers))) (TooLarge limit.Publishers)
 
--- what is held stays within its limit, and there is a step and, for an entry, a number
+-- what is held stays within its limit, and there is a step and, for each new entry, a number; of an import this is asked
+-- as if the peer were held
 abbrev pub limits : State → Action → Told (Unit {0})
 limits s (SetCriterion c) = set_limits s.facts.criteria c.name >>= λ _. step_limit s
-limits s (AddEntry entry) = entry_limit s >>= λ _. step_limit s >>= λ _. number_limit s
+limits s (AddEntry entry) = entry_limit (entries_total s.facts + 1) >>= λ _. step_limit s >>= λ _. number_limit s 1
+limits s (SetPeer settings) = peer_limit s settings.name >>= λ _. step_limit s
+limits s (ImportPeer name content) = import_limits s name (length content.entries) (numbers_given s (ImportPeer name content))
 limits s (SetPublishers name records) = publisher_limit s name records >>= λ _. step_limit s
 limits s _ = step_limit s
 
--- what a command refers to is held; today each entry is one's own
+-- a peer of a name is held
+abbrev pub held_peer : State → List ℕ → Told (Unit {0})
+held_peer s name = refuse_if (is_none (peer_of s.facts.peers name)) UnknownPeer
+
+-- what a command refers to is held; an entry that is dropped is one's own
 abbrev pub references : State → Action → Told (Unit {0})
 references s (SetCriterion c) = set_references s.facts.criteria c
 references s (RemoveCriterion name) = remove_references s.facts.criteria name
 references s (AddEntry entry) = known (least_unknown s.facts.criteria entry.criteria)
 references s (DropEntry n) = refuse_if (not (list_any (has_number n) s.facts.entries)) UnknownEntry
+references s (SetPeer settings) = known (least_unknown s.facts.criteria (targets settings.map))
+references s (DropPeer name) = held_peer s name
+references s (ImportPeer name content) = held_peer s name
 references s (SetPublishers name records) = Ok tt
 
 -- the last day of a window comes before its first
@@ -90,10 +130,11 @@ kind_rules day (Wildcard window grant) = window_rules day window
 kind_rules day (Trusted window) = window_rules day window
 kind_rules day _ = Ok tt
 
--- a built-in criterion is neither set nor removed, nor one that another implies or an entry names removed; a window keeps its rules
+-- a built-in criterion is neither set nor removed, nor one removed that another implies, or that an own entry or a target of
+-- a peer's map names; a window keeps its rules
 abbrev pub rules : State → DayValue → Action → Told (Unit {0})
 rules s day (SetCriterion c) = set_rules c.name
-rules s day (RemoveCriterion name) = remove_rules s.facts.criteria name >>= λ _. refuse_if (list_any (is_named_by name) s.facts.entries) CriterionInUse
+rules s day (RemoveCriterion name) = remove_rules s.facts.criteria name >>= λ _. refuse_if (is_named s.facts name) CriterionInUse
 rules s day (AddEntry entry) = kind_rules day entry.kind
 rules s day _ = Ok tt
 
@@ -105,6 +146,11 @@ checked s day action = limits s action >>= λ _. references s action >>= λ _. r
 abbrev pub held_or : Option (Option ℕ) → Told (Unit {0}) → Told Answer
 held_or (Some number) told = Ok (Already number)
 held_or None told = told >>= λ _. Ok Accepted
+
+-- to compare an import with what is held takes memory
+abbrev pub wants_memory : Action → Bool
+wants_memory (ImportPeer name content) = true
+wants_memory _ = false
 
 -- what a command is told, before its moves are known
 abbrev pub judged : State → DayValue → Action → Told Answer

@@ -4,6 +4,8 @@ use vet_base::criterion::Criterion;
 use vet_base::day::Day;
 use vet_base::name::{Name, PackageName};
 use vet_entries::entry::Entry;
+use vet_entries::peer_content::PeerContent;
+use vet_entries::peer_settings::PeerSettings;
 use vet_entries::publishers::Publishers;
 
 /// A command, and the day on which it is given.
@@ -28,6 +30,13 @@ pub enum Action {
     AddEntry(Entry),
     /// Drops the own entry of this number.
     DropEntry(u64),
+    /// Adds a peer, of which nothing is imported yet, or puts these settings in place of those of the one of its name.
+    SetPeer(PeerSettings),
+    /// Drops the peer of this name, with all that was imported from it.
+    DropPeer(Name),
+    /// Puts this content in place of what was imported from the peer of this name. An entry that was imported before
+    /// keeps its number; whatever source the content's entries name, they are the peer's.
+    ImportPeer(Name, PeerContent),
     /// Puts these publisher records in place of those of the package; where there are none, it has none.
     SetPublishers(PackageName, Publishers),
 }
@@ -39,6 +48,9 @@ impl Drop for Action {
             Action::RemoveCriterion(_) => {}
             Action::AddEntry(_) => {}
             Action::DropEntry(_) => {}
+            Action::SetPeer(_) => {}
+            Action::DropPeer(_) => {}
+            Action::ImportPeer(_, _) => {}
             Action::SetPublishers(_, _) => {}
         }
     }

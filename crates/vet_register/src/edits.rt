@@ -1,10 +1,14 @@
 //! What an accepted command does to what is held: one function a command, which asks for the verdict and then makes
 //! the edit, and room for it. What is held stays.
-ghost use Rattle.std.specs.Prelude.{◌≡◌, Ok, IfOk, IfErr};
+ghost use Rattle.std.specs.Prelude.{◌≡◌, ◌<◌, ◌+◌, ◌^◌, Ok, IfOk, IfErr};
 ghost use Rattle.std.specs.FinMap as map;
 ghost use Rattle.vet_base.specs.Criteria.{IsTable};
 ghost use Rattle.vet_base.specs.CriteriaChanges.{remove_verdict, set_verdict};
 ghost use Rattle.vet_base.specs.Day.{DayValue};
+ghost use Rattle.vet_entries.specs.Facts.{IsHeld};
+ghost use Rattle.vet_entries.specs.HeldPeer.{imported};
+ghost use Rattle.vet_entries.specs.Import.{compared};
+ghost use Rattle.vet_register.specs.Machine.{held_of};
 ghost use Rattle.vet_register.specs.declared.command.Action.TheVariants as action;
 ghost use Rattle.vet_register.specs.RegisterView.{Asks, KeepsRoom};
 ghost use Rattle.vet_register.specs.Verdict.{judged};
@@ -12,7 +16,7 @@ ghost use Rattle.vet_register.specs.Verdict.{judged};
 use crate::command::{Action, Command};
 use crate::register::Register;
 use crate::verdict::Answer;
-use std::alloc::Global;
+use std::alloc::{AllocError, Global};
 use vet_base::criteria_table::CriteriaTable;
 use vet_base::criterion::Criterion;
 use vet_base::day::Day;
@@ -20,14 +24,19 @@ use vet_base::name::{Name, PackageName};
 use vet_base::refusal::Refusal;
 use vet_entries::entry::Entry;
 use vet_entries::facts::Edit;
+use vet_entries::holding::Holding;
+use vet_entries::import::{Comparison, holding_after};
+use vet_entries::peer_content::PeerContent;
+use vet_entries::peer_settings::PeerSettings;
 use vet_entries::publishers::Publishers;
 use vet_graph::keeper::Keeper;
 
-/// An edit of what is held, and the number of the entry that it adds.
+/// An edit of what is held, the number of the entry that a command makes, and the next number after it.
 #[derive(Drop)]
 pub struct Effect {
     pub(crate) edit: Edit,
     pub(crate) number: Option<u64>,
+    pub(crate) next_entry: u64,
 }
 
 /// What an action asks of a register.
@@ -41,7 +50,7 @@ pub enum Asked {
 
 impl<K: Keeper> Register<K> {
     /// What a command asks of the register, and room for it.
-    pub(crate) fn asked_by(&mut self, command: &Command) -> Result<Asked, Refusal>
+    pub(crate) fn asked_by(&mut self, alloc: Global, command: &Command) -> Result<Asked, Refusal>
         ensures asked { Asks self.new command.now.action
             (judged self.old.state command.now.day command.now.action) result }
         ensures state { self.new.state ≡ self.old.state }
@@ -53,6 +62,9 @@ impl<K: Keeper> Register<K> {
             Action::RemoveCriterion(name) => self.remove_criterion(name),
             Action::AddEntry(entry) => self.add_entry(command.day, entry),
             Action::DropEntry(number) => self.drop_entry(*number),
+            Action::SetPeer(settings) => self.set_peer(alloc, settings),
+            Action::DropPeer(name) => self.drop_peer(name),
+            Action::ImportPeer(name, content) => self.import_peer(alloc, name, content),
             Action::SetPublishers(package, publishers) => {
                 self.set_publishers(package, publishers)
             }
@@ -73,6 +85,7 @@ impl<K: Keeper> Register<K> {
         Ok(Asked::Effect(Effect {
             edit: self.facts.edit_of_criteria(table),
             number: None,
+            next_entry: self.next_entry,
         }))
     }
 
@@ -88,6 +101,7 @@ impl<K: Keeper> Register<K> {
         Ok(Asked::Effect(Effect {
             edit: self.facts.edit_of_criteria(table),
             number: None,
+            next_entry: self.next_entry,
         }))
     }
 
@@ -105,6 +119,7 @@ impl<K: Keeper> Register<K> {
         Ok(Asked::Effect(Effect {
             edit: self.facts.edit_adding(self.next_entry, own)?,
             number: Some(self.next_entry),
+            next_entry: self.next_entry + 1,
         }))
     }
 
@@ -119,7 +134,97 @@ impl<K: Keeper> Register<K> {
         Ok(Asked::Effect(Effect {
             edit: self.facts.edit_dropping(place),
             number: None,
+            next_entry: self.next_entry,
         }))
+    }
+
+    fn set_peer(&mut self, alloc: Global, settings: &PeerSettings) -> Result<Asked, Refusal>
+        ensures asked { (day : DayValue) → Asks self.new (action.SetPeer settings.now)
+            (judged self.old.state day (action.SetPeer settings.now)) result }
+        ensures state { self.new.state ≡ self.old.state }
+        ensures keeper { self.new.keeper ≡ self.old.keeper }
+        ensures room_stays { KeepsRoom self.old self.new }
+    {
+        if let Answer::Already(number) = self.judge_settings(settings)? {
+            return Ok(Asked::Already(number));
+        }
+        let copy = settings.clone()?;
+        Ok(Asked::Effect(Effect {
+            edit: self.facts.edit_of_settings(alloc, copy)?,
+            number: None,
+            next_entry: self.next_entry,
+        }))
+    }
+
+    fn drop_peer(&mut self, name: &Name) -> Result<Asked, Refusal>
+        ensures asked { (day : DayValue) → Asks self.new (action.DropPeer name.now)
+            (judged self.old.state day (action.DropPeer name.now)) result }
+        ensures state { self.new.state ≡ self.old.state }
+        ensures keeper { self.new.keeper ≡ self.old.keeper }
+        ensures room_stays { KeepsRoom self.old self.new }
+    {
+        self.judge_peer_drop(name)?;
+        Ok(Asked::Effect(Effect {
+            edit: self.facts.edit_dropping_peer(name),
+            number: None,
+            next_entry: self.next_entry,
+        }))
+    }
+
+    fn import_peer(
+        &mut self,
+        alloc: Global,
+        name: &Name,
+        content: &PeerContent,
+    ) -> Result<Asked, Refusal>
+        ensures asked { (day : DayValue) → Asks self.new (action.ImportPeer name.now content.now)
+            (judged self.old.state day (action.ImportPeer name.now content.now)) result }
+        ensures state { self.new.state ≡ self.old.state }
+        ensures keeper { self.new.keeper ≡ self.old.keeper }
+        ensures room_stays { KeepsRoom self.old self.new }
+    {
+        let _ = content.entries();
+        let Some(comparison) = self.judge_import(alloc, name, content)? else {
+            return Ok(Asked::Already(None));
+        };
+        let next_entry = self.next_entry + comparison.new_count() as u64;
+        let after = self.holding_after(alloc, name, content, &comparison)?;
+        let copy = copied(name)?;
+        Ok(Asked::Effect(Effect {
+            edit: self.facts.edit_of_content(copy, after),
+            number: None,
+            next_entry,
+        }))
+    }
+
+    // What is held of a peer after an import.
+    fn holding_after(
+        &self,
+        alloc: Global,
+        name: &Name,
+        content: &PeerContent,
+        comparison: &Comparison,
+    ) -> Result<Holding, Refusal>
+        requires held { IsHeld name.now self.now.state.facts }
+        requires compared { comparison.now
+            ≡ compared name.now (held_of self.now.state.facts name.now) content.now }
+        requires numbers { self.now.state.next_entry + comparison.now.new_count < 2 ^ 64 }
+        ensures ok { IfOk result (λ h. h ≡ imported name.now self.now.state.next_entry content.now
+            (held_of self.now.state.facts name.now)) }
+        ensures memory { IfErr result (λ e. e ≡ Refusal.NoMemory) }
+    {
+        self.state_is_sound();
+        match self.facts.peer(name) {
+            Some(peer) => holding_after(
+                alloc,
+                name,
+                self.next_entry,
+                &peer.content,
+                content,
+                comparison,
+            ),
+            None => unreachable!(),
+        }
     }
 
     fn set_publishers(
@@ -141,6 +246,7 @@ impl<K: Keeper> Register<K> {
         Ok(Asked::Effect(Effect {
             edit: self.facts.publishers_edit(package, publishers)?,
             number: None,
+            next_entry: self.next_entry,
         }))
     }
 }
@@ -167,4 +273,11 @@ fn without_criterion(table: &CriteriaTable, name: &Name) -> Result<CriteriaTable
     let mut copy = table.clone()?;
     copy.remove(name.clone()?)?;
     Ok(copy)
+}
+
+// A copy of a name.
+fn copied(name: &Name) -> Result<Name, AllocError>
+    ensures { IfOk result (λ copy. copy ≡ name.now) }
+{
+    name.clone()
 }

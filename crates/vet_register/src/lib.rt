@@ -11,18 +11,20 @@ pub mod change;
 pub mod class_of_file;
 pub mod command;
 mod edits;
+pub mod held_files;
 pub mod moves;
 pub mod register;
+pub mod repeats;
 mod verdict;
 
 pub use vet_base::{
-    criteria_table, criterion, day, delta, limits, name, names, package_names, refusal, req, text,
-    texts, version,
+    criteria_table, criterion, day, definitions, delta, limits, name, names, package_names,
+    refusal, req, text, texts, version,
 };
 pub use vet_demand::{demand, dependency_criteria, pair, policies, policy, policy_key};
 pub use vet_entries::{
-    criteria_map, entry, facts, kind, peer_content, peer_settings, publisher, publisher_records,
-    publishers, step, user,
+    criteria_map, entry, facts, held_peer, holding, kind, peer_content, peer_settings, publisher,
+    publisher_records, publishers, step, user,
 };
 pub use vet_files::{audits_file, config_file, found, imports_file, listed, notices};
 pub use vet_graph::{class, keeper, plain, standing, touched};

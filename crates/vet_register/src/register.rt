@@ -25,13 +25,13 @@ ghost use Rattle.vet_graph.specs.Standing.{class_in, counts_of, total_of};
 ghost use Rattle.vet_graph.specs.StandingOf.{StandsAt, standing_of};
 ghost use Rattle.vet_graph.specs.Touched.{SameOutside};
 ghost use Rattle.vet_register.specs.Changes.{FitsFacts, FitsMoves, demand_by, facts_by, first_by, moves_by};
-ghost use Rattle.vet_register.specs.Machine.{CommandValue, moves_of, next, number_after, number_by, number_given, outcome_of, records_of};
+ghost use Rattle.vet_register.specs.Machine.{CommandValue, moves_of, next, number_after, number_given, outcome_of, records_of};
 ghost use Rattle.vet_register.specs.RegisterView.{IsAnswer, IsExact, IsPrepared, KeepsPrepared, KeepsReady, KeepsRoom, answer_of, facts_room};
 ghost use Rattle.vet_register.specs.declared.verdict.Answer.TheVariants as answer;
 ghost use Rattle.vet_register.specs.Runs.{AreTurns, IsTurn};
 ghost use Rattle.vet_register.specs.Sound.{AreSound, IsSound};
 ghost use Rattle.vet_register.specs.State.{all_unvetted, standing, start};
-ghost use Rattle.vet_register.specs.Verdict.{judged, moves_fit, step_limit, verdict};
+ghost use Rattle.vet_register.specs.Verdict.{judged, moves_fit, step_limit, verdict, wants_memory};
 
 use crate::change::{Change, Prepared};
 use crate::command::{Command, Outcome};
@@ -47,6 +47,7 @@ use vet_base::version::VetVersion;
 use vet_demand::demand::Demand;
 use vet_demand::pair::Pair;
 use vet_entries::facts::{Edit, EntryFacts, HeldEntry, edits_fit_with_more_room};
+use vet_entries::held_peer::HeldPeer;
 use vet_entries::publisher_records::PackagePublishers;
 use vet_graph::class::Class;
 use vet_graph::keeper::Keeper;
@@ -74,6 +75,7 @@ impl<K: Keeper> Model for Register<K> {
     ghost use Rattle.vet_register.specs.Sound.{IsSound};
     ghost use Rattle.vet_entries.specs.Facts.{facts_room_code};
     ghost use Rattle.vet_entries.specs.contracts.facts.HeldEntry as held;
+    ghost use Rattle.vet_entries.specs.contracts.held_peer.HeldPeer as peer;
     ghost use Rattle.vet_entries.specs.contracts.publisher_records.PackagePublishers as listed;
     ghost use Rattle.vet_demand.specs.contracts.pair.Pair as pair;
     ghost use Rattle.vet_graph.specs.contracts.standing.Counts as counts;
@@ -81,7 +83,7 @@ impl<K: Keeper> Model for Register<K> {
 
     ghost Value = { RegisterView K };
 
-    ghost coded = { register_code K.code (facts_room_code held.the_row.coded listed.the_row.coded) pair.the_row.coded counts.the_row.coded recorded.the_row.coded };
+    ghost coded = { register_code K.code (facts_room_code held.the_row.coded peer.the_row.coded listed.the_row.coded) pair.the_row.coded counts.the_row.coded recorded.the_row.coded };
 
     ghost view = { λ r. record {
       state = record {
@@ -158,30 +160,36 @@ impl<K: Keeper> Register<K> {
     /// What a command is told, and what it would change. The state stays, whatever is answered; room is taken
     /// for what `install` adds, and what was prepared on this state before can still be installed. The keeper
     /// is told that all packages are touched. Refused, the first that holds: `TooManyCriteria`, `TooLarge` of
-    /// `entries`, `publishers`, `step` or `number`; `UnknownCriterion`, `UnknownEntry`; `BuiltInCriterion`,
-    /// `CriterionInUse`, `EmptyWindow`, `WindowTooLong`; `MovesFull`. `NoMemory` comes in place of
-    /// `UnknownCriterion`, or where none before `MovesFull` holds; a command whose content is held never
-    /// meets it.
+    /// `peers`, `entries`, `publishers`, `step` or `number`; `UnknownCriterion`, `UnknownEntry`, `UnknownPeer`;
+    /// `BuiltInCriterion`, `CriterionInUse`, `EmptyWindow`, `WindowTooLong`; `MovesFull`. `NoMemory` comes in place
+    /// of `UnknownCriterion`, or where none before `MovesFull` holds; a command whose content is held never
+    /// meets it, but for an import, whose comparison with what is held takes memory.
     pub fn prepare(&mut self, alloc: Global, command: &Command) -> Result<Prepared<K>, Refusal>
         ensures told { Gives answer_of (verdict self.old.state command.now) result }
-        ensures exact { IsExact (judged self.old.state command.now.day command.now.action) result }
+        ensures exact { IsExact (wants_memory command.now.action)
+            (judged self.old.state command.now.day command.now.action) result }
         ensures prepared { IfOk result (IsAnswer K.keeping self.new command.now) }
         ensures state { self.new.state ≡ self.old.state }
         ensures room_stays { KeepsRoom self.old self.new }
         ensures ready_stays { KeepsReady K.keeping self.old self.new }
         ensures prepared_stays { KeepsPrepared K.keeping self.old self.new }
     {
-        match self.asked_by(command)? {
+        edits_fit_with_more_room();
+        match self.asked_by(alloc, command)? {
             Asked::Already(number) => Ok(Prepared::Already(number)),
             Asked::Effect(effect) => {
                 moves_are_differences();
                 moves_balance();
                 runs_of_moves_add();
-                edits_fit_with_more_room();
                 self.state_is_sound();
-                let Effect { edit, number } = effect;
+                let Effect {
+                    edit,
+                    number,
+                    next_entry,
+                } = effect;
                 let planned = self.plan(alloc, &Touched::All, edit)?;
-                Ok(Prepared::Change(self.change(alloc, command, number, planned)?))
+                let change = self.change(alloc, command, number, next_entry, planned)?;
+                Ok(Prepared::Change(change))
             }
         }
     }
@@ -298,6 +306,14 @@ impl<K: Keeper> Register<K> {
         self.step
     }
 
+    /// All that is held of packages. Takes no memory.
+    pub fn facts(&self) -> &EntryFacts
+        ensures value { result.now.content ≡ self.now.state.facts }
+        ensures sound { IsSound self.now.state }
+    {
+        &self.facts
+    }
+
     /// The criteria that are held. Takes no memory.
     pub fn criteria(&self) -> &CriteriaTable
         ensures { result.now ≡ self.now.state.facts.criteria }
@@ -305,11 +321,18 @@ impl<K: Keeper> Register<K> {
         self.facts.criteria()
     }
 
-    /// The entries that are held, by their numbers. Takes no memory.
+    /// The organisation's own entries, by their numbers. Takes no memory.
     pub fn entries(&self) -> &[HeldEntry]
         ensures { result.now ≡ self.now.state.facts.entries }
     {
         self.facts.entries()
+    }
+
+    /// The peers that are held, in the order of their names. Takes no memory.
+    pub fn peers(&self) -> &[HeldPeer]
+        ensures { result.now ≡ self.now.state.facts.peers }
+    {
+        self.facts.peers()
     }
 
     /// The packages that have publisher records, in the order of their names. Takes no memory.
@@ -367,8 +390,8 @@ impl<K: Keeper> Register<K> {
         })
     }
 
-    // The state is sound. Does nothing.
-    fn state_is_sound(&self)
+    /// The state is sound. Does nothing.
+    pub(crate) fn state_is_sound(&self)
         ensures { IsSound self.now.state }
     {
         let _ = &self.step;
@@ -380,11 +403,12 @@ impl<K: Keeper> Register<K> {
         alloc: Global,
         command: &Command,
         number: Option<u64>,
+        next_entry: u64,
         planned: Planned<K>,
     ) -> Result<Change<K>, Refusal>
         requires step { step_limit self.old.state ≡ Ok tt }
         requires number { number ≡ number_given self.old.state command.now.action }
-        requires limit { number_after self.old.state command.now.action ≤ LAST_NUMBER + 1 }
+        requires next_entry { next_entry ≡ number_after self.old.state command.now.action }
         requires moves { K.keeping.moves_of planned.update ≡ moves_of self.old.state command.now.action }
         ensures told { Gives (λ c. tt) (moves_fit self.old.state command.now.action) result }
         ensures edit { IfOk result (λ c. c.edit ≡ Some planned.edit) }
@@ -411,7 +435,7 @@ impl<K: Keeper> Register<K> {
                 number,
                 moves: records.len() as u64,
             },
-            next_entry: number_after(self.next_entry, number),
+            next_entry,
             edit: Some(edit),
             demand: None,
             update,
@@ -443,17 +467,6 @@ impl<K: Keeper> Register<K> {
         let records = record(alloc, self.step + 1, command.day, moves)?;
         self.moves.reserve(records.len())?;
         Ok(records)
-    }
-}
-
-// The next number, where this was the next one and that one was given, if any.
-fn number_after(next: u64, given: Option<u64>) -> u64
-    requires { number_by next given ≤ LAST_NUMBER + 1 }
-    ensures { result ≡ number_by next given }
-{
-    match given {
-        Some(number) => number + 1,
-        None => next,
     }
 }
 

@@ -1,25 +1,34 @@
 //! What a command is told before its moves are known: one function a command. Each asks first whether the content is
 //! held already, then for limits, then for what the command refers to, then for rules.
-ghost use Rattle.std.specs.Prelude.{◌≡◌, ◌+ℤ◌, pos, not, Ok, IfErr, IfOk, IsOk, Some};
+ghost use Rattle.std.specs.Prelude.{◌≡◌, ◌≤◌, ◌+◌, ◌+ℤ◌, pos, not, length, Err, None, Ok, IfErr, IfOk, IsOk, Some};
 ghost use Rattle.std.specs.List.{list_any};
 ghost use Rattle.std.specs.Option.{option_copied};
 ghost use Rattle.std.specs.Ordering.{int_cmp, is_lt};
 ghost use Rattle.vet_base.specs.CriteriaChanges.{known, set_rules};
 ghost use Rattle.vet_base.specs.Day.{DayValue, day_number};
 ghost use Rattle.vet_base.specs.Gives.{Answers, Refuses, refuse_if};
-ghost use Rattle.vet_entries.specs.Facts.{place_of};
+ghost use Rattle.vet_entries.specs.Facts.{entries_total};
+ghost use Rattle.vet_entries.specs.HeldPeer.{peer_of};
+ghost use Rattle.vet_entries.specs.Numbered.{place_of};
 ghost use Rattle.vet_register.specs.declared.command.Action.TheVariants as action;
-ghost use Rattle.vet_register.specs.Verdict.{checked, entry_limit, is_held, judged, kind_rules, number_limit, publisher_limit, step_limit, window_rules};
+ghost use Rattle.vet_register.specs.Importing.{IsJudgedImport};
+ghost use Rattle.vet_register.specs.Verdict.{checked, entries_beside, entry_limit, has_settings, held_peer, import_limits, is_held, judged, kind_rules, number_limit, peer_limit, publisher_limit, step_limit, window_rules};
 
 use crate::register::Register;
+use std::alloc::Global;
 use vet_base::criteria_table::{CriteriaTable, is_built_in};
 use vet_base::criterion::Criterion;
 use vet_base::day::Day;
-use vet_base::limits::{LAST_NUMBER, LAST_STEP, MOST_ENTRIES, MOST_PUBLISHERS, MOST_WINDOW_DAYS};
+use vet_base::limits::{
+    LAST_NUMBER, LAST_STEP, MOST_ENTRIES, MOST_PEERS, MOST_PUBLISHERS, MOST_WINDOW_DAYS,
+};
 use vet_base::name::{Name, PackageName};
 use vet_base::refusal::{Limit, Refusal};
 use vet_entries::entry::Entry;
+use vet_entries::import::{Comparison, compare};
 use vet_entries::kind::{Kind, Window};
+use vet_entries::peer_content::PeerContent;
+use vet_entries::peer_settings::PeerSettings;
 use vet_entries::publishers::Publishers;
 use vet_graph::keeper::Keeper;
 
@@ -78,9 +87,9 @@ impl<K: Keeper> Register<K> {
         if let Some(number) = self.facts.number_of(entry) {
             return Ok(Answer::Already(Some(number)));
         }
-        self.check_entry_limit()?;
+        check_entry_limit(self.entries_total(), 1)?;
         self.check_step()?;
-        self.check_number_limit()?;
+        self.check_number_limit(1)?;
         check_known(self.facts.criteria().least_unknown(&entry.criteria))?;
         check_kind(day, &entry.kind)?;
         Ok(Answer::Accepted)
@@ -99,6 +108,62 @@ impl<K: Keeper> Register<K> {
         match self.facts.place_of(number) {
             Some(place) => Ok(place),
             None => Err(Refusal::UnknownEntry),
+        }
+    }
+
+    /// What it is told to set the settings of a peer.
+    pub(crate) fn judge_settings(&self, settings: &PeerSettings) -> Result<Answer, Refusal>
+        ensures { (day : DayValue)
+            → Answers (judged self.now.state day (action.SetPeer settings.now)) result }
+    {
+        if self.has_settings(settings) {
+            return Ok(Answer::Already(None));
+        }
+        self.check_peer_limit(&settings.name)?;
+        self.check_step()?;
+        check_known(settings.map.least_target_outside(self.facts.criteria()))?;
+        Ok(Answer::Accepted)
+    }
+
+    /// Whether it may drop the peer of a name.
+    pub(crate) fn judge_peer_drop(&self, name: &Name) -> Result<(), Refusal>
+        ensures { (day : DayValue)
+            → Answers (checked self.now.state day (action.DropPeer name.now)) result }
+    {
+        self.check_step()?;
+        self.check_peer(name)
+    }
+
+    /// What it is told to import a content from the peer of a name: nothing changes, or the content stands so to what
+    /// is held.
+    pub(crate) fn judge_import(
+        &self,
+        alloc: Global,
+        name: &Name,
+        content: &PeerContent,
+    ) -> Result<Option<Comparison>, Refusal>
+        ensures { (day : DayValue) → IsJudgedImport self.now.state day name.now content.now result }
+    {
+        self.state_is_sound();
+        let Some(peer) = self.facts.peer(name) else {
+            return Err(self.refused_import(name, content));
+        };
+        let comparison = compare(alloc, name, &peer.content, content)?;
+        if comparison.is_same() {
+            return Ok(None);
+        }
+        self.check_import(name, content, comparison.new_count())?;
+        Ok(Some(comparison))
+    }
+
+    // What an import from a peer that isn't held is refused for.
+    fn refused_import(&self, name: &Name, content: &PeerContent) -> Refusal
+        requires { peer_of self.now.state.facts.peers name.now ≡ None }
+        ensures { (day : DayValue) → judged self.now.state day (action.ImportPeer name.now content.now) ≡ Err result }
+    {
+        match self.check_import(name, content, content.entries().len()) {
+            Err(refusal) => refusal,
+            Ok(()) => Refusal::UnknownPeer,
         }
     }
 
@@ -128,20 +193,67 @@ impl<K: Keeper> Register<K> {
         Ok(())
     }
 
-    fn check_entry_limit(&self) -> Result<(), Refusal>
-        ensures { result ≡ entry_limit self.now.state }
+    // Whether the settings of a peer are held as they are.
+    fn has_settings(&self, settings: &PeerSettings) -> bool
+        ensures { result ≡ has_settings self.now.state.facts.peers settings.now }
     {
-        if self.facts.entries().len() >= MOST_ENTRIES {
-            return Err(Refusal::TooLarge(Limit::Entries));
+        match self.facts.peer(&settings.name) {
+            Some(peer) => peer.settings == *settings,
+            None => false,
+        }
+    }
+
+    // How many entries there are of all sources.
+    fn entries_total(&self) -> usize
+        ensures value { result ≡ entries_total self.now.state.facts }
+        ensures few { result ≤ MOST_ENTRIES }
+    {
+        self.state_is_sound();
+        self.facts.entries_total()
+    }
+
+    // The limits that an import meets, where so many of its entries are new.
+    fn check_import(&self, name: &Name, content: &PeerContent, count: usize) -> Result<(), Refusal>
+        ensures { result ≡ import_limits self.now.state name.now (length content.now.entries) count }
+    {
+        check_entry_limit(self.entries_beside(name), content.entries().len())?;
+        self.check_step()?;
+        self.check_number_limit(count)
+    }
+
+    // How many entries there are of all sources but one peer.
+    fn entries_beside(&self, name: &Name) -> usize
+        ensures value { result ≡ entries_beside self.now.state.facts name.now }
+        ensures few { result ≤ MOST_ENTRIES }
+    {
+        self.state_is_sound();
+        self.facts.entries_beside(name)
+    }
+
+    fn check_peer(&self, name: &Name) -> Result<(), Refusal>
+        ensures { result ≡ held_peer self.now.state name.now }
+    {
+        if self.facts.peer(name).is_none() {
+            return Err(Refusal::UnknownPeer);
         }
         Ok(())
     }
 
-    fn check_number_limit(&self) -> Result<(), Refusal>
-        ensures { result ≡ number_limit self.now.state }
+    fn check_number_limit(&self, count: usize) -> Result<(), Refusal>
+        ensures { result ≡ number_limit self.now.state count }
     {
-        if self.next_entry > LAST_NUMBER {
+        self.state_is_sound();
+        if count as u64 > LAST_NUMBER + 1 - self.next_entry {
             return Err(Refusal::TooLarge(Limit::Number));
+        }
+        Ok(())
+    }
+
+    fn check_peer_limit(&self, name: &Name) -> Result<(), Refusal>
+        ensures { result ≡ peer_limit self.now.state name.now }
+    {
+        if self.facts.peer(name).is_none() && self.facts.peers().len() >= MOST_PEERS {
+            return Err(Refusal::TooLarge(Limit::Peers));
         }
         Ok(())
     }
@@ -161,6 +273,17 @@ impl<K: Keeper> Register<K> {
         }
         Ok(())
     }
+}
+
+// So many entries, and so many more, are within their limit.
+fn check_entry_limit(held: usize, more: usize) -> Result<(), Refusal>
+    requires { held ≤ MOST_ENTRIES }
+    ensures { result ≡ entry_limit (held + more) }
+{
+    if more > MOST_ENTRIES - held {
+        return Err(Refusal::TooLarge(Limit::Entries));
+    }
+    Ok(())
 }
 
 // Whether a criterion is held as it is; of a built-in one nothing is asked.

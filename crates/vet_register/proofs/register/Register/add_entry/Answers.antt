@@ -1,8 +1,10 @@
-use Rattle.std.proofs.Common.{◌≡◌, ◌∙◌, ◌++◌, ◌∷◌, [], ap, subst, Ok, Some}
+use Rattle.std.proofs.Common.{◌+◌, arith, ◌≡◌, ◌∙◌, ◌++◌, ◌∷◌, ◌<◌, [], ap, sym, subst, Ok, Some}
+use Rattle.std.specs.List.{All}
 use Rattle.std.proofs.lemmas.Result.{err_from_is_err_and}
 use Rattle.vet_entries.specs.Facts.{edited}
 use Rattle.vet_register.specs.declared.command.Action.TheVariants as action
 use Rattle.vet_register.specs.declared.verdict.Answer.TheVariants.{Accepted}
+use Rattle.vet_register.specs.Machine.{number_after}
 use Rattle.vet_register.specs.RegisterView.{RegisterView}
 use Rattle.vet_register.specs.Sound.{IsSound}
 use Rattle.vet_register.specs.State.{State}
@@ -44,7 +46,15 @@ returns-clause-asked g c =
     let facts = edit ∙ (λ i. record {
       criteria = state.facts.criteria;
       entries = state.facts.entries ++ (record { number = state.next_entry; entry = c.in_ok-own.ensures i }) ∷ [];
+      peers = state.facts.peers;
       publishers = state.facts.publishers;
     }) in
     let number = ap (λ (r : RegisterView _). Some r.state.next_entry) c.self.view_is in
-    effective _ _ _ _ told (effect_is _ _ state c.args.day _ stays sound told facts number added.fits sound.facts.criteria sound.facts.publishers)
+    let held = ap (λ (r : RegisterView _). r.state.next_entry) c.self.view_is in
+    let next : c.self.inside.next_entry + 1 ≡ number_after state asks = omega (arith, held) in
+    effective _ _ _ _ told (effect_is _ _ state c.args.day _ stays sound told tt facts number next added.fits sound.facts.criteria sound.facts.publishers)
+
+pub edit_adding-requires : goal.edit_adding-requires
+edit_adding-requires g c =
+    subst (λ (r : RegisterView _). All (λ h. h.number < r.state.next_entry) r.state.facts.entries) (sym c.self.view_is)
+    (subst (λ (r : RegisterView _). IsSound r.state) c.self.view_is c.self.invariant.1).facts.entries.numbers_given

@@ -1,8 +1,10 @@
-use Rattle.std.proofs.Common.{◌≡◌, ◌∙◌, ◌<◌, ap, refl, sym, subst, length, not, filter, None, Ok}
+use Rattle.std.proofs.Common.{arith, ◌≡◌, ◌∙◌, ◌<◌, ap, refl, sym, subst, length, not, filter, None, Ok}
 use Rattle.std.specs.List.{remove}
-use Rattle.vet_entries.specs.Facts.{Fits, edited, has_number}
+use Rattle.vet_entries.specs.Facts.{Fits, edited}
+use Rattle.vet_entries.specs.Numbered.{has_number}
 use Rattle.vet_register.specs.declared.command.Action.TheVariants as action
 use Rattle.vet_register.specs.declared.verdict.Answer.TheVariants.{Accepted}
+use Rattle.vet_register.specs.Machine.{number_after}
 use Rattle.vet_register.specs.RegisterView.{RegisterView, facts_room}
 use Rattle.vet_register.specs.Sound.{IsSound}
 use Rattle.vet_register.specs.Verdict.{checked, held_or, judged}
@@ -25,6 +27,8 @@ returns-clause-asked g c day =
     dropped c.args.number c.in_ok-place.place state.facts.entries sound.facts.entries.numbers_rise c.in_ok-place.ensures.place in
     let edit = subst (λ (r : RegisterView _). edited c.edit_dropping.result r.state.facts ≡ record r.state.facts { entries = remove r.state.facts.entries c.in_ok-place.place })
     c.self.view_is c.edit_dropping.ensures.edit in
-    let facts = edit ∙ (λ i. record { criteria = state.facts.criteria; entries = gone i; publishers = state.facts.publishers }) in
+    let facts = edit ∙ (λ i. record { criteria = state.facts.criteria; entries = gone i; peers = state.facts.peers; publishers = state.facts.publishers }) in
     let fits = subst (λ (r : RegisterView _). Fits c.edit_dropping.result (facts_room r)) c.self.view_is c.edit_dropping.ensures.fits in
-    effective _ _ _ _ told (effect_is _ _ state day _ refl sound told facts refl fits sound.facts.criteria sound.facts.publishers)
+    let held = ap (λ (r : RegisterView _). r.state.next_entry) c.self.view_is in
+    let next : c.self.inside.next_entry ≡ number_after state asks = omega (arith, held) in
+    effective _ _ _ _ told (effect_is _ _ state day _ refl sound told tt facts refl next fits sound.facts.criteria sound.facts.publishers)

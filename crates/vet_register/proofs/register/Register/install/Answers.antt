@@ -45,3 +45,8 @@ invariant_of-self g c =
       ),
       subst IsSound same prepared.step.sound,
     )
+
+pub make_edit-requires : goal.make_edit-requires
+make_edit-requires g c =
+    let prepared = subst (λ r. IsPrepared g.K.Keeper.keeping r c.requires.0 c.args.change) (sym c.self.view_is) c.requires.1 in
+    prepared.fits

@@ -1,5 +1,5 @@
 use Rattle.std.proofs.Common.{◌≡◌, ◌∙◌, sym, subst, Ok, Some, None}
-use Rattle.vet_entries.specs.Facts.{place_of}
+use Rattle.vet_entries.specs.Numbered.{place_of}
 use Rattle.vet_register.specs.RegisterView.{RegisterView}
 use Rattle.vet_register.specs.Verdict.{step_limit}
 use Rattle.vet_register.proofs.Drops.{drop_passes, drop_refused}

@@ -1,6 +1,6 @@
 use Rattle.std.proofs.Common.{◌≡◌, ◌∙◌, sym, ap, subst}
 use Rattle.vet_entries.specs.Facts.{Facts, edited}
-use Rattle.vet_graph.specs.StandingOf.{AreKnown}
+use Rattle.vet_entries.specs.Step.{AreKnown}
 use Rattle.vet_graph.specs.Touched.{SameOutside}
 use Rattle.vet_register.specs.RegisterView.{RegisterView}
 use Rattle.vet_register.specs.State.{State}

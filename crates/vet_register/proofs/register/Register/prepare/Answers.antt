@@ -1,18 +1,18 @@
-use Rattle.std.proofs.Common.{◌≡◌, ◌∙◌, ◌≤◌, ◌+◌, ap, sym, subst, Ok}
+use Rattle.std.proofs.Common.{◌≡◌, ◌∙◌, ap, sym, subst, Ok}
 use Rattle.std.proofs.lemmas.Result.{err_from_is_err_and}
-use Rattle.vet_base.specs.declared.limits.TheConstants.{LAST_NUMBER}
 use Rattle.vet_entries.specs.Facts.{FactsRoom, Fits}
 use Rattle.vet_register.specs.declared.verdict.Answer.TheVariants.{Accepted}
 use Rattle.vet_register.specs.Changes.{FitsFacts, facts_by}
-use Rattle.vet_register.specs.Machine.{number_after}
+use Rattle.vet_register.specs.Machine.{moves_of, number_after}
 use Rattle.vet_register.specs.RegisterView.{Asks, IsStep, facts_room}
 use Rattle.vet_graph.specs.StandingOf.{standing_of}
-use Rattle.vet_register.specs.State.{State}
+use Rattle.vet_graph.specs.Moves.{moves_between}
+use Rattle.vet_register.specs.State.{State, standing}
 use Rattle.vet_register.specs.Sound.{AreSound}
-use Rattle.vet_register.specs.Verdict.{judged}
-use Rattle.vet_register.proofs.Asking.{accepted, refusal_exact, refusal_told}
-use Rattle.vet_register.proofs.Effects.{next_number_follows, passed}
-use Rattle.vet_register.proofs.Prepared.{AreParts, IsUpdate, is_step}
+use Rattle.vet_register.specs.Verdict.{judged, step_limit}
+use Rattle.vet_register.proofs.Asking.{accepted, accepted_exact, refusal_exact, refusal_told}
+use Rattle.vet_register.proofs.Effects.{passed, step_passed}
+use Rattle.vet_register.proofs.Prepared.{AreParts, IsUpdate, fit_told, fits_told, is_step, prepared_stays}
 use Rattle.vet_register.proofs.Soundness.{MoveLaws}
 use Rattle.vet_register.proofs.register.Register.prepare.Goals as goal
 
@@ -26,21 +26,72 @@ returns-in_err-number-clause-exact g c =
     let passed = err_from_is_err_and c.from_residual.result c.from_residual.ensures.1 in
     rw (passed.1, passed.2) (refusal_exact _ _ _ _ _ c.in_err-number.ensures.asked)
 
-pub change-requires-clause-limit : goal.change-requires-clause-limit
-change-requires-clause-limit g c =
+pub change-requires-clause-step : goal.change-requires-clause-step
+change-requires-clause-step g c =
     let command = c.args.command.now in
     let action = command.action in
     let asks = accepted c.asked_by.new.self action (judged c.args.self.now.state command.day action) c.in-Effect.effect
     (subst (Asks c.asked_by.new.self action (judged c.args.self.now.state command.day action)) (ap Ok c.in-Effect.is) c.in_ok-number.ensures.asked) in
-    let told = subst (λ (s : State). judged s command.day action ≡ Ok Accepted) (sym c.asked_by.ensures.state) asks.0 in
-    subst (λ (s : State). number_after s action ≤ LAST_NUMBER + 1) (sym c.plan.ensures.state)
-    (next_number_follows c.asked_by.new.self.state action (passed c.asked_by.new.self.state command.day action told).limits c.state_is_sound.ensures.next_number)
+    let s = c.args.self.now.state in
+    subst (λ (t : State). step_limit t ≡ Ok tt) (sym (c.plan.ensures.state ∙ c.asked_by.ensures.state)) (step_passed s action (passed s command.day action asks.0).limits)
+
+pub change-requires-clause-next_entry : goal.change-requires-clause-next_entry
+change-requires-clause-next_entry g c =
+    let command = c.args.command.now in
+    let action = command.action in
+    let asks = accepted c.asked_by.new.self action (judged c.args.self.now.state command.day action) c.in-Effect.effect
+    (subst (Asks c.asked_by.new.self action (judged c.args.self.now.state command.day action)) (ap Ok c.in-Effect.is) c.in_ok-number.ensures.asked) in
+    asks.1.next_entry ∙ ap (λ (t : State). number_after t action) (sym c.plan.ensures.state)
+
+pub change-requires-clause-moves : goal.change-requires-clause-moves
+change-requires-clause-moves g c =
+    let command = c.args.command.now in
+    let action = command.action in
+    let asks = accepted c.asked_by.new.self action (judged c.args.self.now.state command.day action) c.in-Effect.effect
+    (subst (Asks c.asked_by.new.self action (judged c.args.self.now.state command.day action)) (ap Ok c.in-Effect.is) c.in_ok-number.ensures.asked) in
+    let s = c.asked_by.new.self.state in
+    c.in_ok-planned-in-Effect.ensures.moves ∙ ap (λ f. moves_between (standing s) (standing_of f s.demand)) asks.1.facts
+    ∙ ap (λ (t : State). moves_of t action) (sym c.plan.ensures.state)
+
+pub returns-in_err-change-in-Effect-clause-told : goal.returns-in_err-change-in-Effect-clause-told
+returns-in_err-change-in-Effect-clause-told g c =
+    let command = c.args.command.now in
+    let action = command.action in
+    let asks = accepted c.asked_by.new.self action (judged c.args.self.now.state command.day action) c.in-Effect.effect
+    (subst (Asks c.asked_by.new.self action (judged c.args.self.now.state command.day action)) (ap Ok c.in-Effect.is) c.in_ok-number.ensures.asked) in
+    let gone = err_from_is_err_and c.from_residual-in_err-change-in-Effect.result c.from_residual-in_err-change-in-Effect.ensures.1 in
+    rw (gone.1, gone.2) (fit_told c.args.self.now.state c.plan.new.self.state command _ (c.plan.ensures.state ∙ c.asked_by.ensures.state) asks.0
+    c.in_err-change-in-Effect.ensures.told)
+
+pub returns-in_err-change-in-Effect-clause-exact : goal.returns-in_err-change-in-Effect-clause-exact
+returns-in_err-change-in-Effect-clause-exact g c =
+    let command = c.args.command.now in
+    let action = command.action in
+    let asks = accepted c.asked_by.new.self action (judged c.args.self.now.state command.day action) c.in-Effect.effect
+    (subst (Asks c.asked_by.new.self action (judged c.args.self.now.state command.day action)) (ap Ok c.in-Effect.is) c.in_ok-number.ensures.asked) in
+    accepted_exact action (judged c.args.self.now.state command.day action) c.from_residual-in_err-change-in-Effect.result asks.0
+
+pub returns-in_ok-change-in-Effect-clause-told : goal.returns-in_ok-change-in-Effect-clause-told
+returns-in_ok-change-in-Effect-clause-told g c =
+    let command = c.args.command.now in
+    let action = command.action in
+    let asks = accepted c.asked_by.new.self action (judged c.args.self.now.state command.day action) c.in-Effect.effect
+    (subst (Asks c.asked_by.new.self action (judged c.args.self.now.state command.day action)) (ap Ok c.in-Effect.is) c.in_ok-number.ensures.asked) in
+    fits_told c.args.self.now.state c.plan.new.self.state command (c.plan.ensures.state ∙ c.asked_by.ensures.state) asks.0 c.in_ok-change-in-Effect.ensures.told
+
+pub returns-in_ok-change-in-Effect-clause-exact : goal.returns-in_ok-change-in-Effect-clause-exact
+returns-in_ok-change-in-Effect-clause-exact g c =
+    let command = c.args.command.now in
+    let action = command.action in
+    let asks = accepted c.asked_by.new.self action (judged c.args.self.now.state command.day action) c.in-Effect.effect
+    (subst (Asks c.asked_by.new.self action (judged c.args.self.now.state command.day action)) (ap Ok c.in-Effect.is) c.in_ok-number.ensures.asked) in
+    accepted_exact action (judged c.args.self.now.state command.day action) _ asks.0
 
 pub returns-in_ok-change-in-Effect-clause-prepared : goal.returns-in_ok-change-in-Effect-clause-prepared
 returns-in_ok-change-in-Effect-clause-prepared g c =
     let command = c.args.command.now in
     let action = command.action in
-    let change = c.in_ok-change-in-Effect.field-0 in
+    let change = c.in_ok-change-in-Effect.change in
     let s = c.asked_by.new.self.state in
     let asks = accepted c.asked_by.new.self action (judged c.args.self.now.state command.day action) c.in-Effect.effect
     (subst (Asks c.asked_by.new.self action (judged c.args.self.now.state command.day action)) (ap Ok c.in-Effect.is) c.in_ok-number.ensures.asked) in
@@ -89,3 +140,8 @@ plan-requires-clause-sound g c =
     let asks = accepted c.asked_by.new.self action (judged c.args.self.now.state command.day action) c.in-Effect.effect
     (subst (Asks c.asked_by.new.self action (judged c.args.self.now.state command.day action)) (ap Ok c.in-Effect.is) c.in_ok-number.ensures.asked) in
     (number_after s action, subst (λ f. AreSound f (number_after s action)) (sym asks.1.facts) asks.1.sound)
+
+pub returns-in_err-number-clause-prepared_stays : goal.returns-in_err-number-clause-prepared_stays
+returns-in_err-number-clause-prepared_stays g c =
+    prepared_stays c.edits_fit_with_more_room.ensures.fits g.K.Keeper.keeping c.args.self.now c.asked_by.new.self c.asked_by.ensures.state c.asked_by.ensures.keeper
+    c.asked_by.ensures.room_stays

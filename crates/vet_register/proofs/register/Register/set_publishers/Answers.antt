@@ -1,8 +1,9 @@
-use Rattle.std.proofs.Common.{◌≡◌, ◌∙◌, ◌<◌, ◌^◌, [], ap, refl, sym, subst, Ok}
+use Rattle.std.proofs.Common.{arith, ◌≡◌, ◌∙◌, ◌<◌, ◌^◌, [], ap, refl, sym, subst, Ok}
 use Rattle.vet_entries.specs.Facts.{edited}
 use Rattle.vet_entries.specs.PublisherRecords.{IsByName, records_of, records_total, with_records}
 use Rattle.vet_register.specs.declared.command.Action.TheVariants as action
 use Rattle.vet_register.specs.declared.verdict.Answer.TheVariants.{Accepted}
+use Rattle.vet_register.specs.Machine.{number_after}
 use Rattle.vet_register.specs.RegisterView.{RegisterView}
 use Rattle.vet_register.specs.Sound.{IsSound}
 use Rattle.vet_register.specs.State.{State}
@@ -49,4 +50,6 @@ returns-clause-asked g c day =
     let named : IsByName (with_records name records state.facts.publishers) =
     subst (λ (r : RegisterView _). IsByName (with_records name records r.state.facts.publishers)) c.self.view_is c.records_stay_in_order.ensures.by_name in
     let are = records_sound state day name records told sound.facts.publishers c.records_stay_in_order.ensures.in_order named in
-    effective _ _ _ _ told (effect_is _ _ state day _ stays sound told facts refl set.fits sound.facts.criteria are)
+    let held = ap (λ (r : RegisterView _). r.state.next_entry) c.self.view_is in
+    let next : c.self.inside.next_entry ≡ number_after state (action.SetPublishers name records) = omega (arith, held) in
+    effective _ _ _ _ told (effect_is _ _ state day _ stays sound told tt facts refl next set.fits sound.facts.criteria are)

@@ -1,0 +1,115 @@
+-- The criteria that own entries name, and those to which the maps of peers lead, are known after each command too.
+use Rattle.std.proofs.Common.{◌≡◌, ℕ, Bool, true, false, ◌||◌, not, cond, is_some, List, [], get_or, Option, Some, None, Ok, refl, sym, ◌∙◌}
+use Rattle.std.specs.List.{All, list_any}
+use Rattle.std.specs.Ordering.{nat_cmp, eq_by_cmp}
+use Rattle.std.specs.Cmp.{eq_by_cmp_equiv}
+use Rattle.std.specs.Cmp.Lexicographic.{slice_cmp, nat_list_cmp_total}
+use Rattle.std.specs.FinMap as table
+use Rattle.std.proofs.lemmas.Bool.{false≢true}
+use Rattle.std.proofs.lemmas.List.Elements.{All-nil, All-cons, All-append, All-weaker, All-filter}
+use Rattle.vet_base.specs.declared.criterion.Criterion.{Criterion}
+use Rattle.vet_base.specs.declared.refusal.Refusal.TheVariants.{CriterionInUse}
+use Rattle.vet_base.specs.Criteria.{Criteria, least_unknown}
+use Rattle.vet_base.specs.CriteriaChanges.{remove_rules}
+use Rattle.vet_base.specs.Day.{DayValue}
+use Rattle.vet_base.specs.Gives.{refuse_if}
+use Rattle.vet_base.specs.NameLaws.{any-members}
+use Rattle.vet_base.specs.Names.{NameSet, members}
+use Rattle.std.specs.FinSet as set
+use Rattle.vet_base.proofs.KeyedParts.{All-with_item, All-without_item, item_found}
+use Rattle.vet_base.proofs.Rising.{R}
+use Rattle.vet_base.proofs.Telling.{all_known, not_refused, then_told}
+use Rattle.vet_entries.specs.declared.held_peer.HeldPeer.{HeldPeer}
+use Rattle.vet_entries.specs.Entry.{own}
+use Rattle.vet_entries.specs.Facts.{is_named, is_named_by, is_target_of}
+use Rattle.vet_entries.specs.HeldPeer.{holding_or_none, imported, peer_name, peer_of, with_content_of}
+use Rattle.vet_entries.specs.Holding.{HoldingValue}
+use Rattle.vet_entries.specs.Numbered.{has_number}
+use Rattle.vet_entries.specs.PeerWords.{targets}
+use Rattle.vet_entries.specs.Step.{AreKnown, HasKnownCriteria, HasKnownTargets}
+use Rattle.vet_register.specs.declared.command.Action.{Action}
+use Rattle.vet_register.specs.declared.command.Action.TheVariants.{SetCriterion, RemoveCriterion, AddEntry, DropEntry, SetPeer, DropPeer, ImportPeer, SetPublishers}
+use Rattle.vet_register.specs.Machine.{facts_after, held_of}
+use Rattle.vet_register.specs.State.{State}
+use Rattle.vet_register.specs.Verdict.{references, rules}
+use Rattle.vet_register.proofs.Lists.{find-none, find-none_among, none_pass}
+
+-- what a table has, it has after one more criterion
+has_more : (t : Criteria) (n : List ℕ) (c : Criterion) (x : List ℕ) → not (table.contains_key t x) ≡ false
+    → not (table.contains_key (table.insert t n c) x) ≡ false
+has_more t n c x h = rw (table.get-insert nat_list_cmp_total t n c x) (tied (eq_by_cmp (slice_cmp nat_cmp) x n))
+  where
+    tied : (b : Bool) → not (is_some (cond b (Some c) (table.get t x))) ≡ false
+    tied true = refl
+    tied false = h
+
+-- what a table has beside a name, it has without it
+has_beside : (t : Criteria) (n x : List ℕ) → eq_by_cmp (slice_cmp nat_cmp) n x ≡ false → not (table.contains_key t x) ≡ false
+    → not (table.contains_key (table.remove t n) x) ≡ false
+has_beside t n x other h =
+    rw (table.get-remove nat_list_cmp_total t n x, (eq_by_cmp_equiv nat_list_cmp_total).symm x n, other) h
+
+stays_known : (t : Criteria) (c : Criterion) (names : NameSet) → least_unknown t names ≡ None → least_unknown (table.insert t c.name c) names ≡ None
+stays_known t c names k = find-none (λ x. not (table.contains_key t x)) (λ x. not (table.contains_key (table.insert t c.name c) x)) (has_more t c.name c) (members names) k
+
+known_without : (t : Criteria) (n : List ℕ) (names : NameSet) → set.contains names n ≡ false → least_unknown t names ≡ None → least_unknown (table.remove t n) names ≡ None
+known_without t n names unnamed k =
+    find-none_among (eq_by_cmp (slice_cmp nat_cmp) n) (λ x. not (table.contains_key t x)) (λ x. not (table.contains_key (table.remove t n) x))
+    (has_beside t n) (members names) (any-members names n ∙ unnamed) k
+
+both_fail : {X : Type 0} (P Q S : X → Type 0) → ((x : X) → P x → Q x → S x) → (xs : List X) → All P xs → All Q xs → All S xs
+both_fail P Q S f xs p q k d l = f (get_or xs k d) (p k d l) (q k d l)
+
+neither : (a b : Bool) → (a || b) ≡ false → (a ≡ false) × (b ≡ false)
+neither true b h = absurd (false≢true (sym h))
+neither false b h = (refl, h)
+
+removed : (s : State) (day : DayValue) (n : List ℕ) → rules s day (RemoveCriterion n) ≡ Ok tt
+    → (list_any (is_named_by n) s.facts.entries ≡ false) × (list_any (is_target_of n) s.facts.peers ≡ false)
+removed s day n h =
+    let r = then_told (remove_rules s.facts.criteria n) (λ _. refuse_if (is_named s.facts n) CriterionInUse) tt h in
+    neither (list_any (is_named_by n) s.facts.entries) (list_any (is_target_of n) s.facts.peers) (not_refused (is_named s.facts n) CriterionInUse r.1)
+
+-- the settings of a peer stay where its content does not
+imported_known : (t : Criteria) (peers : List HeldPeer) (name : List ℕ) (content : HoldingValue) → All (HasKnownTargets t) peers
+    → (o : Option HeldPeer) → peer_of peers name ≡ o → All (HasKnownTargets t) (with_content_of o content peers)
+imported_known t peers name content k None e = k
+imported_known t peers name content k (Some x) e =
+    All-with_item R peer_name (HasKnownTargets t) peers (record x { content = content }) k (item_found R peer_name (HasKnownTargets t) peers name x k e).1
+
+-- what is named is known after the command too
+pub known_after : (s : State) (day : DayValue) (a : Action) → AreKnown s.facts → references s a ≡ Ok tt → rules s day a ≡ Ok tt → AreKnown (facts_after s a)
+known_after s day (SetCriterion c) k r u = record {
+  own = All-weaker (HasKnownCriteria s.facts.criteria) _ (λ h. stays_known s.facts.criteria c h.entry.criteria) s.facts.entries k.own;
+  targets = All-weaker (HasKnownTargets s.facts.criteria) _ (λ p. stays_known s.facts.criteria c (targets p.settings.map)) s.facts.peers k.targets;
+}
+known_after s day (RemoveCriterion n) k r u =
+    let unnamed = removed s day n u in
+    record {
+      own = both_fail _ _ _ (λ h. known_without s.facts.criteria n h.entry.criteria) s.facts.entries (none_pass (is_named_by n) s.facts.entries unnamed.0) k.own;
+      targets = both_fail _ _ _ (λ p. known_without s.facts.criteria n (targets p.settings.map)) s.facts.peers (none_pass (is_target_of n) s.facts.peers unnamed.1) k.targets;
+    }
+known_after s day (AddEntry e) k r u = record {
+  own = All-append (HasKnownCriteria s.facts.criteria) s.facts.entries _ k.own
+      (All-cons (HasKnownCriteria s.facts.criteria) (record { number = s.next_entry; entry = own e }) [] (all_known (least_unknown s.facts.criteria e.criteria) r) (All-nil _));
+  targets = k.targets;
+}
+known_after s day (DropEntry n) k r u = record {
+  own = All-filter (λ h. not (has_number n h)) (HasKnownCriteria s.facts.criteria) s.facts.entries k.own;
+  targets = k.targets;
+}
+known_after s day (SetPeer settings) k r u = record {
+  own = k.own;
+  targets = All-with_item R peer_name (HasKnownTargets s.facts.criteria) s.facts.peers
+      (record { settings = settings; content = holding_or_none (peer_of s.facts.peers settings.name) }) k.targets
+      (all_known (least_unknown s.facts.criteria (targets settings.map)) r);
+}
+known_after s day (DropPeer name) k r u = record {
+  own = k.own;
+  targets = All-without_item R peer_name (HasKnownTargets s.facts.criteria) s.facts.peers name k.targets;
+}
+known_after s day (ImportPeer name content) k r u = record {
+  own = k.own;
+  targets = imported_known s.facts.criteria s.facts.peers name (imported name s.next_entry content (held_of s.facts name)) k.targets (peer_of s.facts.peers name) refl;
+}
+known_after s day (SetPublishers n records) k r u = record { own = k.own; targets = k.targets }

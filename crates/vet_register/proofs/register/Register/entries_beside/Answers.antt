@@ -1,0 +1,11 @@
+use Rattle.std.proofs.Common.{ap, arith}
+use Rattle.vet_entries.proofs.PeerLaws.{entries_without}
+use Rattle.vet_register.specs.RegisterView.{RegisterView}
+use Rattle.vet_register.specs.Verdict.{entries_beside}
+use Rattle.vet_register.proofs.register.Register.entries_beside.Goals as goal
+
+pub returns-clause-few : goal.returns-clause-few
+returns-clause-few g c =
+    let sound = c.state_is_sound.ensures.facts in
+    let here = ap (λ (r : RegisterView _). entries_beside r.state.facts c.args.name.now) c.self.view_is in
+    omega (arith, entries_without c.args.self.now.state.facts.peers c.args.name.now sound.peers.by_name, sound.few, here, c.entries_beside.ensures)

@@ -1,0 +1,25 @@
+-- What is found of an import before it is made (ours).
+use Rattle.std.specs.Prelude.{◌≡◌, ◌⊎◌, ℕ, List, MatchOption, MatchResult, Option, Ok, Err, None, Result}
+use Rattle.vet_base.specs.Day.{DayValue}
+use Rattle.vet_base.specs.declared.refusal.Refusal.{Refusal}
+use Rattle.vet_base.specs.declared.refusal.Refusal.TheVariants.{NoMemory}
+use Rattle.vet_entries.specs.Facts.{IsHeld}
+use Rattle.vet_entries.specs.Import.{ComparisonValue, compared}
+use Rattle.vet_entries.specs.PeerContent.{PeerContentValue}
+use Rattle.vet_register.specs.declared.command.Action.TheVariants.{ImportPeer}
+use Rattle.vet_register.specs.declared.verdict.Answer.TheVariants.{Already, Accepted}
+use Rattle.vet_register.specs.Machine.{held_of}
+use Rattle.vet_register.specs.State.{State}
+use Rattle.vet_register.specs.Verdict.{judged}
+
+-- an import is accepted, and this is how its content stands to what is held of the peer
+pub record IsAccepted (s : State) (day : DayValue) (name : List ℕ) (content : PeerContentValue) (c : ComparisonValue) : Type 0 where
+  pub told : judged s day (ImportPeer name content) ≡ Ok Accepted
+  pub held : IsHeld name s.facts
+  pub compared : c ≡ compared name (held_of s.facts name) content
+
+-- the answer is what is judged, with how the content stands to what is held where that is accepted; or memory is wanting
+abbrev pub IsJudgedImport : State → DayValue → List ℕ → PeerContentValue → Result (Option ComparisonValue) Refusal → Type 0
+IsJudgedImport s day name content answer = MatchResult answer
+    (λ found. MatchOption found (judged s day (ImportPeer name content) ≡ Ok (Already None)) (IsAccepted s day name content))
+    (λ e. (e ≡ NoMemory) ⊎ (judged s day (ImportPeer name content) ≡ Err e))

@@ -1,0 +1,17 @@
+//! When an import changes nothing.
+//!
+//! **An import is told that its content is held already just where the criteria and the entries are those held of
+//! the peer, in whatever order; so after an import the same content changes nothing.**
+ghost use Rattle.vet_register.specs.Repeats.{HeldContentIsAlready, RepeatedImportIsAlready};
+
+/// An import from a held peer changes nothing just where its criteria and its entries are those held, in whatever
+/// order. Does nothing.
+pub fn held_content_is_already()
+    ensures { HeldContentIsAlready }
+{}
+
+/// After an import, an import of the same criteria and the same entries, in whatever order, changes nothing. Does
+/// nothing.
+pub fn repeated_import_is_already()
+    ensures { RepeatedImportIsAlready }
+{}
