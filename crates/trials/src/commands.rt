@@ -8,10 +8,13 @@
 //! - `DAY drop-entry NUMBER` drops one;
 //! - `DAY set-publishers PACKAGE [VERSION,USER,DAY ..]` sets the publisher records of a package, without
 //!   logins and names.
+//!
+//! Those of peers stand in `peers`.
 ghost use Rattle.std.specs.Prelude.{◌≡◌, OnErr};
 
 use crate::fault::Fault;
 use crate::line::{one, words_of};
+use crate::peers::peer_action;
 use std::alloc::Global;
 use vet_base::criterion::Criterion;
 use vet_base::day::Day;
@@ -82,7 +85,7 @@ fn action(alloc: Global, word: &str, texts: &[String]) -> Result<Action, Fault> 
         "add-entry" => add_entry(alloc, texts),
         "drop-entry" => drop_entry(texts),
         "set-publishers" => set_publishers(alloc, texts),
-        _ => Err(Fault::NotUnderstood),
+        _ => peer_action(alloc, word, texts),
     }
 }
 
@@ -242,6 +245,18 @@ pub fn names(alloc: Global, texts: &[String]) -> Result<Names, Refusal> {
     let mut names = Names::new(alloc);
     for text in texts {
         names.insert(Name::parse(alloc, text.as_str())?)?;
+    }
+    Ok(names)
+}
+
+/// The set of the names that stand in a list with commas between them; of an empty list, none. Refused: `BadName`, and
+/// `NoMemory`.
+pub fn names_between_commas(alloc: Global, list: &str) -> Result<Names, Refusal> {
+    let mut names = Names::new(alloc);
+    for name in list.split(',') {
+        if !name.is_empty() {
+            names.insert(Name::parse(alloc, name)?)?;
+        }
     }
     Ok(names)
 }

@@ -58,6 +58,14 @@ pub fn word_of(alloc: Global, text: &str) -> Result<String, Fault> {
     Ok(word)
 }
 
+/// The digit that writes a number below 16.
+pub fn hexadecimal(number: u8) -> char {
+    match char::from_digit(number as u32, 16) {
+        Some(digit) => digit,
+        None => '0',
+    }
+}
+
 fn push_byte(word: &mut String, byte: u8) -> Result<(), Fault> {
     if byte.is_ascii_graphic() && byte != b'%' {
         word.push(byte as char)?;
@@ -67,14 +75,6 @@ fn push_byte(word: &mut String, byte: u8) -> Result<(), Fault> {
     word.push(hexadecimal(byte / 16))?;
     word.push(hexadecimal(byte % 16))?;
     Ok(())
-}
-
-// The digit that writes a number below 16.
-fn hexadecimal(number: u8) -> char {
-    match char::from_digit(number as u32, 16) {
-        Some(digit) => digit,
-        None => '0',
-    }
 }
 
 fn text_of(alloc: Global, word: &str) -> Result<String, Fault> {

@@ -5,24 +5,26 @@
 //! answer and, where there is a command or a demand, in the end what the register holds.
 //! `trials --contents` prints also before each command what it holds. `trials --relay` does as
 //! `trials`, with a keeper that hands all on to the plain one, and `trials --together` gives the commands as
-//! lists. What lines there are stands in `line`,
-//! `setting`, `commands`, `values`, `versions`, `days`, `files`, `written`, `lists` and `tables`. Where memory is wanting,
-//! the run ends with that refusal and what the register holds then, and with status 1, as it does where
-//! the demand is refused. At other words, an input that can't be read, or a line that isn't understood,
-//! a message goes to standard error, with status 2.
+//! lists. What lines there are stands in `line`, `setting`, `commands`, `peers`, `values`, `steps`, `versions`,
+//! `days`, `files`, `written`, `lists` and `tables`. Where memory is wanting, the run ends with that refusal and
+//! what the register holds then, and with status 1, as it does where the demand is refused. At other words, an
+//! input that can't be read, or a line that isn't understood, a message goes to standard error, with status 2.
 #![tactic(auto)]
 
 mod commands;
 mod days;
 mod fault;
 mod files;
+mod held;
 mod input;
 mod line;
 mod lists;
+mod peers;
 mod print;
 mod relay;
 mod run;
 mod setting;
+mod steps;
 mod tables;
 mod together;
 mod values;

@@ -1,11 +1,10 @@
 //! What a run prints, a line at a time. Printing takes no memory.
 
+use crate::held::{print_entries, print_names, print_peers};
 use std::io;
 use vet_base::criteria_table::CriteriaTable;
-use vet_base::name::{Name, PackageName};
+use vet_base::name::PackageName;
 use vet_base::refusal::Refusal;
-use vet_entries::facts::HeldEntry;
-use vet_entries::kind::{Kind, Window};
 use vet_entries::publisher_records::PackagePublishers;
 use vet_entries::publishers::Publishers;
 use vet_graph::class::Class;
@@ -53,8 +52,8 @@ fn print_details(rt: &impl Print, refusal: &Refusal) -> io::Result<()> {
     }
 }
 
-/// Prints what a register holds: its step, criteria, entries, publisher records, demanded pairs, counts and
-/// recorded moves.
+/// Prints what a register holds: its step, criteria, own entries, peers, publisher records, demanded pairs, counts
+/// and recorded moves.
 pub fn print_contents<K: Keeper>(rt: &impl Print, register: &Register<K>) -> io::Result<()> {
     println!(rt; "step {}", register.step())?;
     print_held(rt, register)?;
@@ -64,6 +63,7 @@ pub fn print_contents<K: Keeper>(rt: &impl Print, register: &Register<K>) -> io:
 fn print_held<K: Keeper>(rt: &impl Print, register: &Register<K>) -> io::Result<()> {
     print_criteria(rt, register.criteria())?;
     print_entries(rt, register.entries())?;
+    print_peers(rt, register.peers())?;
     print_packages(rt, register.publishers())
 }
 
@@ -85,37 +85,6 @@ fn print_criteria(rt: &impl Print, criteria: &CriteriaTable) -> io::Result<()> {
     Ok(())
 }
 
-fn print_entries(rt: &impl Print, entries: &[HeldEntry]) -> io::Result<()> {
-    for held in entries {
-        print_entry(rt, held)?;
-    }
-    Ok(())
-}
-
-fn print_entry(rt: &impl Print, held: &HeldEntry) -> io::Result<()> {
-    let entry = &held.entry;
-    print!(rt; "entry {} {}", held.number, entry.package)?;
-    print_kind(rt, &entry.kind)?;
-    print_names(rt, entry.criteria.as_slice())?;
-    println!(rt; "")
-}
-
-fn print_kind(rt: &impl Print, kind: &Kind) -> io::Result<()> {
-    match kind {
-        Kind::Full(version, _) => print!(rt; " full {version}"),
-        Kind::Delta(delta, _) => print!(rt; " delta {} {}", delta.from, delta.to),
-        Kind::Violation(req, _) => print!(rt; " violation {req}"),
-        Kind::Wildcard(window, _) => print_window(rt, "wildcard", *window),
-        Kind::Trusted(window) => print_window(rt, "trusted", *window),
-        Kind::Exemption { version, .. } => print!(rt; " exemption {version}"),
-    }
-}
-
-fn print_window(rt: &impl Print, word: &str, window: Window) -> io::Result<()> {
-    let user = window.user.number();
-    print!(rt; " {word} {user} {} {}", window.first, window.last)
-}
-
 fn print_packages(rt: &impl Print, packages: &[PackagePublishers]) -> io::Result<()> {
     for listed in packages {
         print_publishers(rt, &listed.package, &listed.publishers)?;
@@ -134,13 +103,6 @@ fn print_publishers(
             "publisher {package} {} {user} {}",
             published.version, published.day
         )?;
-    }
-    Ok(())
-}
-
-fn print_names(rt: &impl Print, names: &[Name]) -> io::Result<()> {
-    for name in names {
-        print!(rt; " {name}")?;
     }
     Ok(())
 }

@@ -6,6 +6,7 @@ use crate::line::{is_command, is_remark};
 use crate::print::{print_contents, print_outcome, print_refusal};
 use crate::setting::{is_setting, register_of};
 use crate::values::value;
+use crate::written::{IMPORTS_FILE, imports_file};
 use std::alloc::Global;
 use std::io;
 use vet_base::refusal::Refusal;
@@ -122,13 +123,21 @@ fn give<K: Keeper>(
     if is_command(line) {
         return give_command(rt, alloc, register, line, contents);
     }
-    match value(alloc, register.criteria(), line) {
+    match line_told(alloc, register, line) {
         Ok(told) => {
             println!(rt; "{told}")?;
             Ok(Told::Answer)
         }
         Err(fault) => tell_fault(rt, &fault),
     }
+}
+
+// What a line is told that asks for a value, or for a file of what is held.
+fn line_told<K: Keeper>(alloc: Global, register: &Register<K>, line: &str) -> Result<String, Fault> {
+    if line == IMPORTS_FILE {
+        return imports_file(alloc, register);
+    }
+    value(alloc, register.facts(), line)
 }
 
 fn give_command<K: Keeper>(

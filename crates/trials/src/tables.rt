@@ -5,6 +5,7 @@
 //! `moves BEFORE AFTER` tells the moves from one standing to the other. Of these each is a list of
 //! `PACKAGE,VERSION,CRITERION,CLASS` with a `;` behind each, in the order of the pairs.
 
+use crate::commands::names_between_commas;
 use crate::fault::Fault;
 use crate::line::two;
 use crate::print::class_word;
@@ -12,7 +13,6 @@ use std::alloc::Global;
 use vet_base::criteria_table::CriteriaTable;
 use vet_base::criterion::Criterion;
 use vet_base::name::{Name, PackageName};
-use vet_base::names::Names;
 use vet_base::version::VetVersion;
 use vet_demand::pair::Pair;
 use vet_graph::class::Class;
@@ -52,18 +52,11 @@ fn criterion(alloc: Global, text: &str) -> Result<Criterion, Fault> {
     let Some((name, implied)) = text.split_once('=') else {
         return Err(Fault::NotUnderstood);
     };
-    let name = Name::parse(alloc, name)?;
-    let mut implies = Names::new(alloc);
-    for text in implied.split(',') {
-        if !text.is_empty() {
-            implies.insert(Name::parse(alloc, text)?)?;
-        }
-    }
     Ok(Criterion {
-        name,
+        name: Name::parse(alloc, name)?,
         description: None,
         url: None,
-        implies,
+        implies: names_between_commas(alloc, implied)?,
     })
 }
 

@@ -2,7 +2,8 @@
 //!
 //! `name TEXT`, `package TEXT` and `key TEXT` tell the value as it is printed; `texts [TEXT ..]`
 //! tells a set of texts, how many it holds and each in brackets, and `text-of N` how many bytes a
-//! text of N letters has; `closure NAME ..` tells the names of the closure in the register's table.
+//! text of N letters has; `closure NAME ..` tells the names of the closure in the register's table. Lines of other
+//! values stand in the other modules, and of these `steps` asks for what the register holds, too.
 
 use crate::commands::names;
 use crate::days::{day, day_number, day_of_parts, day_order, plus};
@@ -10,29 +11,30 @@ use crate::fault::Fault;
 use crate::files::{peer_file, policy_key};
 use crate::line::{one, words_of};
 use crate::lists::{edited, names_of, packages_of, texts_of, touched};
+use crate::steps::{condemned_criteria, steps, told_criteria};
 use crate::tables::{moves, table, table_of};
 use crate::versions::{delta, equal, matches, order, requirement, version};
 use crate::written::{written_audits, written_config, written_imports};
 use std::alloc::Global;
-use vet_base::criteria_table::CriteriaTable;
 use vet_base::key_text::KeyText;
 use vet_base::name::{Name, PackageName};
 use vet_base::text::Text;
 use vet_base::texts::Texts;
+use vet_entries::facts::EntryFacts;
 
 /// What a line is told that asks for a value. Refused: what its texts are refused for, and `NoMemory`.
-pub fn value(alloc: Global, table: &CriteriaTable, line: &str) -> Result<String, Fault> {
+pub fn value(alloc: Global, facts: &EntryFacts, line: &str) -> Result<String, Fault> {
     let words = words_of(alloc, line)?;
     let [word, texts @ ..] = words.as_slice() else {
         return Err(Fault::NotUnderstood);
     };
-    value_of(alloc, table, word.as_str(), texts)
+    value_of(alloc, facts, word.as_str(), texts)
 }
 
 // What a line of this word is told.
 fn value_of(
     alloc: Global,
-    table: &CriteriaTable,
+    facts: &EntryFacts,
     word: &str,
     texts: &[String],
 ) -> Result<String, Fault> {
@@ -42,7 +44,9 @@ fn value_of(
         "key" => key(alloc, texts),
         "texts" => set_of_texts(alloc, texts),
         "text-of" => text_of(alloc, texts),
-        "closure" => closure(alloc, table, texts),
+        "closure" => closure(alloc, facts, texts),
+        "steps" => steps(alloc, facts, texts),
+        "condemned" => condemned_criteria(alloc, facts, texts),
         _ => version_value(alloc, word, texts),
     }
 }
@@ -143,21 +147,8 @@ fn text_of(alloc: Global, texts: &[String]) -> Result<String, Fault> {
     Ok(text.as_str().len().to_string(alloc)?)
 }
 
-fn closure(alloc: Global, table: &CriteriaTable, texts: &[String]) -> Result<String, Fault> {
+fn closure(alloc: Global, facts: &EntryFacts, texts: &[String]) -> Result<String, Fault> {
+    let table = facts.criteria();
     let closure = table.closure(&names(alloc, texts)?)?;
-    let mut told = String::new(alloc);
-    for name in table.names() {
-        if closure.contains(name, table) {
-            push_word(&mut told, name.as_str())?;
-        }
-    }
-    Ok(told)
-}
-
-fn push_word(told: &mut String, word: &str) -> Result<(), Fault> {
-    if !told.is_empty() {
-        told.push_str(" ")?;
-    }
-    told.push_str(word)?;
-    Ok(())
+    told_criteria(alloc, table, &closure)
 }

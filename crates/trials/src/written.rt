@@ -4,6 +4,9 @@
 //! of a config file, whose peers give the settings, and of an imports file. Each tells the text that is written of
 //! what the file holds, as the word that writes it; how much that text holds and what is passed over in it; and
 //! `same` where what it holds is written as the same text again, else `other`.
+//!
+//! The line `imports-file` has nothing behind it, and tells the text of the imports file of what the register holds, as
+//! the word that writes it.
 
 use crate::fault::Fault;
 use crate::line::{one, two, word_of};
@@ -14,6 +17,11 @@ use vet_files::config_file::{ConfigContent, read_config, write_config};
 use vet_files::imports_file::{ImportsContent, read_imports, write_imports};
 use vet_files::listed::Listed;
 use vet_files::notices::Notices;
+use vet_graph::keeper::Keeper;
+use vet_register::register::Register;
+
+/// The line that asks for the imports file of what is held.
+pub const IMPORTS_FILE: &str = "imports-file";
 
 // A file that was read and written.
 struct Written {
@@ -55,6 +63,13 @@ pub fn written_imports(alloc: Global, texts: &[String]) -> Result<String, Fault>
     let (config, imports) = two(texts)?;
     let config = read_config(alloc, config.as_bytes())?;
     imports_told(alloc, config.content.peers.as_slice(), imports)
+}
+
+/// What is written of the imports file of what a register holds. Refused: `NoMemory`.
+pub fn imports_file<K: Keeper>(alloc: Global, register: &Register<K>) -> Result<String, Fault> {
+    let held = register.held_imports(alloc)?;
+    let text = write_imports(alloc, held.settings.as_slice(), &held.content)?;
+    word_of(alloc, text.as_str())
 }
 
 fn imports_told(alloc: Global, settings: &[PeerSettings], imports: &str) -> Result<String, Fault> {

@@ -1,0 +1,86 @@
+//! The commands that are timed.
+
+use crate::demand::{CRITERION, VERSION, package_name};
+use std::alloc::Global;
+use vet_base::criterion::Criterion;
+use vet_base::day::Day;
+use vet_base::name::Name;
+use vet_base::names::Names;
+use vet_base::package_names::PackageNames;
+use vet_base::refusal::Refusal;
+use vet_base::text::Text;
+use vet_base::texts::Texts;
+use vet_base::version::VetVersion;
+use vet_entries::criteria_map::CriteriaMap;
+use vet_entries::entry::{Entry, Source};
+use vet_entries::kind::{Audit, Kind};
+use vet_entries::peer_content::PeerContent;
+use vet_entries::peer_settings::PeerSettings;
+use vet_register::command::{Action, Command};
+
+const DAY: &str = "2024-05-01";
+
+const PEER: &str = "harbour";
+
+const UNUSED: &str = "unused";
+
+/// Sets a criterion that nothing names, with a description of its own: what is planned anew, and no more.
+pub fn set_criterion(alloc: Global, round: usize, place: usize) -> Result<Command, Refusal> {
+    let description = format!(in alloc; "{round} {place}")?;
+    command(Action::SetCriterion(Criterion {
+        name: Name::parse(alloc, UNUSED)?,
+        description: Some(Text::parse(alloc, description.as_str())?),
+        url: None,
+        implies: Names::new(alloc),
+    }))
+}
+
+/// Sets the peer, without a map.
+pub fn set_peer(alloc: Global) -> Result<Command, Refusal> {
+    command(Action::SetPeer(PeerSettings {
+        name: Name::parse(alloc, PEER)?,
+        url: Texts::new(alloc),
+        exclude: PackageNames::new(alloc),
+        map: CriteriaMap::new(alloc),
+    }))
+}
+
+/// Drops the peer.
+pub fn drop_peer(alloc: Global) -> Result<Command, Refusal> {
+    command(Action::DropPeer(Name::parse(alloc, PEER)?))
+}
+
+/// Imports a content from the peer.
+pub fn import_peer(alloc: Global, content: PeerContent) -> Result<Command, Refusal> {
+    command(Action::ImportPeer(Name::parse(alloc, PEER)?, content))
+}
+
+/// Adds the own entry that vouches for the demanded version of a package.
+pub fn add_demanded(alloc: Global, place: usize) -> Result<Command, Refusal> {
+    add_entry(alloc, place, VetVersion::parse(alloc, VERSION)?)
+}
+
+/// Adds an entry for a version that no file and no demand has.
+pub fn add_other(alloc: Global, round: usize) -> Result<Command, Refusal> {
+    let version = format!(in alloc; "3.{round}.0")?;
+    add_entry(alloc, 0, VetVersion::parse(alloc, version.as_str())?)
+}
+
+fn add_entry(alloc: Global, place: usize, version: VetVersion) -> Result<Command, Refusal> {
+    let mut criteria = Names::new(alloc);
+    criteria.insert(Name::parse(alloc, CRITERION)?)?;
+    command(Action::AddEntry(Entry {
+        source: Source::Own,
+        package: package_name(alloc, place)?,
+        kind: Kind::Full(version, Audit::anonymous(alloc)),
+        criteria,
+        notes: None,
+    }))
+}
+
+fn command(action: Action) -> Result<Command, Refusal> {
+    Ok(Command {
+        day: Day::parse(DAY)?,
+        action,
+    })
+}

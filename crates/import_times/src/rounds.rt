@@ -1,0 +1,102 @@
+//! The rounds, and the time of each command.
+
+use crate::commands::{add_demanded, add_other, drop_peer, import_peer, set_criterion, set_peer};
+use crate::demand::demand_of;
+use crate::fault::Fault;
+use crate::input::Sizes;
+use std::alloc::Global;
+use std::io;
+use std::time::Instant;
+use vet_base::limits::MOST_MOVES;
+use vet_entries::peer_content::PeerContent;
+use vet_graph::plain::PlainKeeper;
+use vet_register::command::{Command, Outcome};
+use vet_register::register::Register;
+
+/// Tells how much each content holds, and times the rounds of commands.
+pub fn run(rt: &HostRuntime, sizes: Sizes, contents: Vec<PeerContent>) -> Result<(), Fault> {
+    print_counts(rt, contents.as_slice())?;
+    if sizes.rounds == 0 {
+        return Ok(());
+    }
+    let imports = imports_of(rt.alloc(), contents)?;
+    let mut register = register_of(rt.alloc(), sizes.own)?;
+    for round in 0..sizes.rounds {
+        run_round(rt, &mut register, round, imports.as_slice())?;
+    }
+    Ok(())
+}
+
+fn print_counts(rt: &HostRuntime, contents: &[PeerContent]) -> io::Result<()> {
+    for content in contents {
+        let count = content.entries().len();
+        println!(rt; "read {count}")?;
+    }
+    Ok(())
+}
+
+fn imports_of(alloc: Global, contents: Vec<PeerContent>) -> Result<Vec<Command>, Fault> {
+    let mut imports = Vec::new(alloc);
+    for content in contents {
+        imports.push(import_peer(alloc, content)?)?;
+    }
+    Ok(imports)
+}
+
+// A register of one own entry and one demanded pair of each of some packages.
+fn register_of(alloc: Global, own: usize) -> Result<Register<PlainKeeper>, Fault> {
+    let demand = demand_of(alloc, own)?;
+    let mut register = Register::new(alloc, MOST_MOVES, demand)?;
+    for place in 0..own {
+        register.run(alloc, &add_demanded(alloc, place)?)?;
+    }
+    Ok(register)
+}
+
+fn run_round(
+    rt: &HostRuntime,
+    register: &mut Register<PlainKeeper>,
+    round: usize,
+    imports: &[Command],
+) -> Result<(), Fault> {
+    let alloc = rt.alloc();
+    timed(rt, register, "set-peer", &set_peer(alloc)?)?;
+    timed(
+        rt,
+        register,
+        "plan-without",
+        &set_criterion(alloc, round, 0)?,
+    )?;
+    import_all(rt, register, imports)?;
+    timed(rt, register, "plan", &set_criterion(alloc, round, 1)?)?;
+    timed(rt, register, "add-entry", &add_other(alloc, round)?)?;
+    timed(rt, register, "drop-peer", &drop_peer(alloc)?)
+}
+
+fn import_all(
+    rt: &HostRuntime,
+    register: &mut Register<PlainKeeper>,
+    imports: &[Command],
+) -> Result<(), Fault> {
+    for import in imports {
+        timed(rt, register, "import", import)?;
+    }
+    Ok(())
+}
+
+// Runs a command, and prints how long that took and what came of it.
+fn timed(
+    rt: &HostRuntime,
+    register: &mut Register<PlainKeeper>,
+    what: &str,
+    command: &Command,
+) -> Result<(), Fault> {
+    let begun = Instant::now(rt)?;
+    let outcome = register.run(rt.alloc(), command)?;
+    let nanos = begun.elapsed(rt)?.as_nanos();
+    match outcome {
+        Outcome::Done { moves, .. } => println!(rt; "{what} {nanos} done {moves}")?,
+        Outcome::Already(_) => println!(rt; "{what} {nanos} already")?,
+    }
+    Ok(())
+}

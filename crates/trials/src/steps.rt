@@ -1,0 +1,96 @@
+//! Lines that ask what the entries say of a package.
+//!
+//! `steps PACKAGE` tells its steps, a line each: where it starts or `-`, where it leads, `exempt` or `-`, and its
+//! criteria in the order of the table. `condemned PACKAGE VERSION` tells the criteria for which a version is condemned.
+//! Where there is nothing to tell, each tells `-`.
+
+use crate::fault::Fault;
+use crate::line::{one, two};
+use std::alloc::Global;
+use vet_base::criteria_set::CriteriaSet;
+use vet_base::criteria_table::CriteriaTable;
+use vet_base::name::PackageName;
+use vet_base::version::VetVersion;
+use vet_entries::condemned::condemned;
+use vet_entries::facts::EntryFacts;
+use vet_entries::step::{Step, steps_of};
+
+/// The steps of a package. Refused: `BadName`, and `NoMemory`.
+pub fn steps(alloc: Global, facts: &EntryFacts, texts: &[String]) -> Result<String, Fault> {
+    let package = PackageName::parse(alloc, one(texts)?)?;
+    let steps = steps_of(alloc, &package, facts)?;
+    told_steps(alloc, facts.criteria(), steps.as_slice())
+}
+
+/// The criteria for which a version of a package is condemned. Refused: `BadName`, `BadVersion`, and `NoMemory`.
+pub fn condemned_criteria(
+    alloc: Global,
+    facts: &EntryFacts,
+    texts: &[String],
+) -> Result<String, Fault> {
+    let (package, version) = two(texts)?;
+    let package = PackageName::parse(alloc, package)?;
+    let version = VetVersion::parse(alloc, version)?;
+    let criteria = condemned(&package, &version, facts);
+    let told = told_criteria(alloc, facts.criteria(), &criteria)?;
+    or_none(alloc, told)
+}
+
+/// The names of some criteria in the order of the table, with a space between them. Refused: `NoMemory`.
+pub fn told_criteria(
+    alloc: Global,
+    table: &CriteriaTable,
+    criteria: &CriteriaSet,
+) -> Result<String, Fault> {
+    let mut told = String::new(alloc);
+    for name in table.names() {
+        if criteria.contains(name, table) {
+            push_behind(&mut told, " ", name.as_str())?;
+        }
+    }
+    Ok(told)
+}
+
+fn told_steps(alloc: Global, table: &CriteriaTable, steps: &[Step]) -> Result<String, Fault> {
+    let mut told = String::new(alloc);
+    for step in steps {
+        let line = told_step(alloc, table, step)?;
+        push_behind(&mut told, "\n", line.as_str())?;
+    }
+    or_none(alloc, told)
+}
+
+fn told_step(alloc: Global, table: &CriteriaTable, step: &Step) -> Result<String, Fault> {
+    let mut told = origin(alloc, &step.origin)?;
+    let target = step.target.to_string(alloc)?;
+    push_behind(&mut told, " ", target.as_str())?;
+    push_behind(&mut told, " ", if step.exempt { "exempt" } else { "-" })?;
+    let criteria = told_criteria(alloc, table, &step.criteria)?;
+    if !criteria.is_empty() {
+        push_behind(&mut told, " ", criteria.as_str())?;
+    }
+    Ok(told)
+}
+
+fn origin(alloc: Global, origin: &Option<VetVersion>) -> Result<String, Fault> {
+    match origin {
+        Some(version) => Ok(version.to_string(alloc)?),
+        None => Ok(String::from_str(alloc, "-")?),
+    }
+}
+
+// Adds a text, behind a separator where something stands before it.
+fn push_behind(told: &mut String, separator: &str, text: &str) -> Result<(), Fault> {
+    if !told.is_empty() {
+        told.push_str(separator)?;
+    }
+    told.push_str(text)?;
+    Ok(())
+}
+
+fn or_none(alloc: Global, told: String) -> Result<String, Fault> {
+    if told.is_empty() {
+        return Ok(String::from_str(alloc, "-")?);
+    }
+    Ok(told)
+}
