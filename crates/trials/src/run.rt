@@ -133,7 +133,11 @@ fn give<K: Keeper>(
 }
 
 // What a line is told that asks for a value, or for a file of what is held.
-fn line_told<K: Keeper>(alloc: Global, register: &Register<K>, line: &str) -> Result<String, Fault> {
+fn line_told<K: Keeper>(
+    alloc: Global,
+    register: &Register<K>,
+    line: &str,
+) -> Result<String, Fault> {
     if line == IMPORTS_FILE {
         return imports_file(alloc, register);
     }
