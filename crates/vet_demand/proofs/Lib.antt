@@ -2,6 +2,7 @@ pub mod Closing
 pub mod Collecting
 pub mod DemandLaws
 pub mod DemandLemmas
+pub mod FieldLemmas
 pub mod Flowing
 pub mod KeyLemmas
 pub mod KeyText
@@ -9,4 +10,7 @@ pub mod KnownLists
 pub mod Lists
 pub mod NeedsLaws
 pub mod PairsInOrder
+pub mod PlacingLemmas
+pub mod ReadingLemmas
 pub mod Spreading
+pub mod TableLemmas

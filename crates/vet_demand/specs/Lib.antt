@@ -2,6 +2,9 @@ pub mod Collected
 pub mod Demand
 pub mod DemandOf
 pub mod DependencyCriteria
+pub mod DependencyIndex
+pub mod DependencyRecord
+pub mod DependencyTable
 pub mod Flow
 pub mod NamedProject
 pub mod Needs
@@ -11,5 +14,6 @@ pub mod Policies
 pub mod Policy
 pub mod PolicyKey
 pub mod Project
+pub mod RecordsLeft
 pub mod Spread
 pub mod Terms

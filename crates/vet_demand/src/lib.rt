@@ -3,20 +3,24 @@
 //! **A demand holds exactly the pairs that it was given, or that projects ask for by policies, each once, in the
 //! order of reports; what projects ask for is the least that the rules do.**
 //!
-//! Scope of this crate: pairs and demands, policies with their keys, and projects. The reader and the writer of
-//! dependency tables come here.
+//! Scope of this crate: pairs and demands, policies with their keys, projects, and the reader of dependency tables.
+//! Their writer comes here.
 #![tactic(auto)]
 
 pub mod demand;
 pub mod demand_of;
 pub mod dependency_criteria;
+mod dependency_record;
+mod dependency_table;
 mod flow;
 pub mod needs;
 pub mod pair;
 mod passed;
+mod placing;
 pub mod policies;
 pub mod policy;
 pub mod policy_key;
 pub mod project;
 mod spread;
+pub mod table_reader;
 mod terms;
