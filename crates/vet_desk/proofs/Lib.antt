@@ -1,0 +1,7 @@
+pub mod Demanded
+pub mod DeskLaws
+pub mod Prepared
+pub mod Restored
+pub mod Reviews
+pub mod Soundness
+pub mod Told

@@ -1,0 +1,6 @@
+pub mod Desk
+pub mod DeskLaws
+pub mod DeskVerdict
+pub mod DeskView
+pub mod Review
+pub mod SoundDesk

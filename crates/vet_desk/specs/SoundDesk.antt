@@ -1,0 +1,63 @@
+-- What holds of each desk (ours), and what its register keeps of it beside that.
+use Rattle.std.specs.Prelude.{◌≡◌, ℕ, ◌+◌, ◌<◌, ◌≤◌, true, false, List, None, length}
+use Rattle.std.specs.List.{All}
+use Rattle.std.specs.Ordering.{nat_cmp}
+use Rattle.std.specs.Cmp.Lexicographic.{slice_cmp}
+use Rattle.vet_base.specs.declared.limits.TheConstants.{LAST_NUMBER, MOST_MEMBERS, MOST_REVIEWS}
+use Rattle.vet_base.specs.Criteria.{Criteria, least_unknown}
+use Rattle.vet_base.specs.Keyed.{IsByKey}
+use Rattle.vet_desk.specs.declared.review.Review.{Review}
+use Rattle.vet_desk.specs.declared.review.ReviewState.{ReviewState}
+use Rattle.vet_desk.specs.declared.review.ReviewState.TheVariants.{Assigned, Finished}
+use Rattle.vet_desk.specs.Desk.{DeskState, is_member, own_name}
+use Rattle.vet_desk.specs.Review.{is_closed, review_number}
+
+-- whoever a review is assigned to is a member
+abbrev pub IsByMember : List (List ℕ) → ReviewState → Type 0
+IsByMember members (Assigned member) = is_member members member ≡ true
+IsByMember members _ = Unit {0}
+
+abbrev pub HasMember : List (List ℕ) → Review → Type 0
+HasMember members review = IsByMember members review.state
+
+-- a review's number lies below the next one
+abbrev pub IsNumberGiven : ℕ → Review → Type 0
+IsNumberGiven next review = review.number < next
+
+-- members stand in the order of their names, no name twice, and within the limit
+pub record AreMembers (members : List (List ℕ)) : Type 0 where
+  pub by_name : IsByKey (slice_cmp nat_cmp) own_name members
+  pub few : length members ≤ MOST_MEMBERS
+
+-- the numbers of reviews rise, below the next one; an assigned one is a member's; and they are within the limit
+pub record AreReviews (members : List (List ℕ)) (reviews : List Review) (next : ℕ) : Type 0 where
+  pub numbers_rise : IsByKey nat_cmp review_number reviews
+  pub numbers_given : All (IsNumberGiven next) reviews
+  pub by_members : All (HasMember members) reviews
+  pub few : length reviews ≤ MOST_REVIEWS
+
+-- members and reviews are sound, and the next number is within the limit
+pub record IsSoundDesk (d : DeskState) : Type 0 where
+  pub members : AreMembers d.members
+  pub reviews : AreReviews d.members d.reviews d.next_review
+  pub next_number : d.next_review ≤ LAST_NUMBER + 1
+
+-- ---- what the register keeps of reviews
+
+-- the criteria of a review are in a table, unless it is closed
+abbrev pub IsKnownTo : Criteria → Review → Type 0
+IsKnownTo criteria review = is_closed review.state ≡ false → least_unknown criteria review.criteria ≡ None
+
+abbrev pub AreKnownTo : Criteria → List Review → Type 0
+AreKnownTo criteria reviews = All (IsKnownTo criteria) reviews
+
+-- the entry of a finished review has a number below the next one; it may have been dropped since
+abbrev pub IsEntryGiven : ℕ → ReviewState → Type 0
+IsEntryGiven next (Finished entry) = entry < next
+IsEntryGiven next _ = Unit {0}
+
+abbrev pub HasEntryGiven : ℕ → Review → Type 0
+HasEntryGiven next review = IsEntryGiven next review.state
+
+abbrev pub HaveEntriesGiven : ℕ → List Review → Type 0
+HaveEntriesGiven next reviews = All (HasEntryGiven next) reviews

@@ -1,0 +1,244 @@
+//! What the desk holds, and how it is asked and changed.
+//!
+//! **What is prepared and then installed is one step of the desk.**
+//!
+//! A command goes in two calls, as in the register that the desk is a part of. `prepare` judges it, copies what will
+//! be held and takes room for it; what the desk holds stays. `install` makes the change, takes no memory and can't
+//! fail. Reviews stand in the order of their numbers: one is found by halving, is changed where it stands, and a new
+//! one comes last, so that no command walks over the others.
+ghost use Rattle.std.specs.Prelude.{◌≡◌, ◌<◌, IfErr, IfOk, is_some, length, vec_capacity, vec_len};
+ghost use Rattle.std.specs.Option.{option_copied};
+ghost use Rattle.std.specs.Ordering.{nat_cmp};
+ghost use Rattle.std.specs.Cmp.Lexicographic.{slice_cmp};
+ghost use Rattle.vet_base.specs.Day.{DayValue};
+ghost use Rattle.vet_base.specs.Keyed.{Fits, IsPlace, edited};
+ghost use Rattle.vet_desk.specs.Desk.{DeskCommandValue, desk_after, empty_desk, is_member, own_name};
+ghost use Rattle.vet_desk.specs.DeskVerdict.{desk_verdict};
+ghost use Rattle.vet_desk.specs.DeskView.{IsDeskChange, IsStepOf, KeepsDeskChanges, TellsDesk, entry_in, turned};
+ghost use Rattle.vet_desk.specs.Review.{are_open_beyond, are_open_for, review_number, review_of};
+ghost use Rattle.vet_desk.specs.SoundDesk.{IsSoundDesk};
+
+use crate::change::{DeskChange, DeskStep};
+use crate::command::DeskCommand;
+use crate::review::{Review, ReviewState};
+use crate::verdict::DeskAnswer;
+use std::alloc::Global;
+use std::marker::Model;
+use vet_base::criteria_table::CriteriaTable;
+use vet_base::day::Day;
+use vet_base::keyed::{Keyed, KeyedEdit};
+use vet_base::name::Name;
+use vet_base::refusal::Refusal;
+use vet_demand::demand::Demand;
+
+/// The members of an organisation, and its reviews.
+pub struct Desk {
+    pub(crate) members: Keyed<Name>,
+    pub(crate) reviews: Vec<Review>,
+    pub(crate) next_review: u64,
+}
+
+impl Model for Desk {
+    ghost use Rattle.std.specs.Prelude.{◌-◌, vec_len, vec_capacity};
+    ghost use Rattle.vet_desk.specs.DeskView.{DeskView, desk_code};
+    ghost use Rattle.vet_desk.specs.SoundDesk.{IsSoundDesk};
+    ghost use Rattle.vet_desk.specs.contracts.review.Review as review;
+
+    ghost Value = { DeskView };
+
+    ghost coded = { desk_code review.the_row.coded };
+
+    ghost view = { λ d. record {
+      content = record { members = d.members.items; reviews = d.reviews.items; next_review = d.next_review };
+      room = record { members = d.members.room; reviews = vec_capacity d.reviews - vec_len d.reviews };
+    } };
+
+    ghost invariant = { λ d. IsSoundDesk
+        (record { members = d.members.items; reviews = d.reviews.items; next_review = d.next_review }) };
+}
+
+impl Drop for Desk {
+    fn drop(self) {
+        let Desk {
+            members: _,
+            reviews: _,
+            next_review: _,
+        } = self;
+    }
+}
+
+impl Desk {
+    /// A desk without members and reviews. Takes no memory.
+    pub fn new(alloc: Global) -> Desk
+        ensures { result.content ≡ empty_desk }
+    {
+        Desk {
+            members: Keyed::new(alloc),
+            reviews: Vec::new(alloc),
+            next_review: 1,
+        }
+    }
+
+    /// The desk of these members, reviews and next number of a review. Asks that they are sound. Refused:
+    /// `NoMemory`.
+    pub fn restore(
+        alloc: Global,
+        members: Vec<Name>,
+        reviews: Vec<Review>,
+        next_review: u64,
+    ) -> Result<Desk, Refusal>
+        requires { IsSoundDesk (record {
+          members = members.items;
+          reviews = reviews.items;
+          next_review = next_review;
+        }) }
+        ensures ok { IfOk result (λ d. d.content
+            ≡ record { members = members.items; reviews = reviews.items; next_review = next_review }) }
+        ensures memory { IfErr result (λ e. e ≡ Refusal.NoMemory) }
+    {
+        Ok(Desk {
+            members: Keyed::of(alloc, members)?,
+            reviews,
+            next_review,
+        })
+    }
+
+    /// What a command on a day is told, with these criteria and this demand, and what it would change. What the desk
+    /// holds stays, whatever is answered; room is taken for what `install` adds, and what was prepared before can
+    /// still be installed. Refused: what `judge` refuses, and `NoMemory`, never where the content is held already.
+    pub fn prepare(
+        &mut self,
+        alloc: Global,
+        command: &DeskCommand,
+        day: Day,
+        criteria: &CriteriaTable,
+        demand: &Demand,
+    ) -> Result<DeskStep, Refusal>
+        ensures told { TellsDesk (desk_verdict criteria.now demand.now self.old.content command.now) result }
+        ensures prepared { IfOk result (IsStepOf self.new day command.now) }
+        ensures content { self.new.content ≡ self.old.content }
+        ensures prepared_stays { KeepsDeskChanges self.old self.new }
+    {
+        match self.judge(command, criteria, demand)? {
+            DeskAnswer::Already => Ok(DeskStep::Already),
+            DeskAnswer::Accepted => {
+                let change = self.change(alloc, day, command)?;
+                Ok(DeskStep::Change(change))
+            }
+        }
+    }
+
+    /// Makes a change that this desk prepared on this state: one step of the desk. The number is that of the entry of
+    /// a finished review, and is there exactly where the change has an entry. Takes no memory.
+    pub fn install(&mut self, change: DeskChange, entry: Option<u64>)
+        requires prepared { (day : DayValue) × ((command : DeskCommandValue)
+            × IsDeskChange self.old day command change) }
+        requires entry { is_some entry ≡ is_some (entry_in change) }
+        ensures { (day : DayValue) (command : DeskCommandValue)
+            → IsDeskChange self.old day command change
+            → self.new.content ≡ desk_after day entry command self.old.content }
+    {
+        match change {
+            DeskChange::Join(edit) => join(&mut self.members, edit),
+            DeskChange::Open(review) => {
+                self.reviews.push_reserved(review);
+                self.next_review += 1;
+            }
+            DeskChange::Turn(place, state) => turn(&mut self.reviews, place, state),
+            DeskChange::Finish(place, _) => {
+                if let Some(entry) = entry {
+                    turn(&mut self.reviews, place, ReviewState::Finished(entry));
+                }
+            }
+        }
+    }
+}
+
+impl Desk {
+    /// The members in the order of their names. Takes no memory.
+    pub fn members(&self) -> &[Name]
+        ensures value { result.now ≡ self.now.content.members }
+        ensures sound { IsSoundDesk self.now.content }
+    {
+        let _ = &self.next_review;
+        self.members.items()
+    }
+
+    /// The reviews in the order of their numbers. Takes no memory.
+    pub fn reviews(&self) -> &[Review]
+        ensures value { result.now ≡ self.now.content.reviews }
+        ensures sound { IsSoundDesk self.now.content }
+    {
+        self.reviews.as_slice()
+    }
+
+    /// The number of the next review. Takes no memory.
+    pub fn next_review(&self) -> u64
+        ensures value { result ≡ self.now.content.next_review }
+        ensures sound { IsSoundDesk self.now.content }
+    {
+        self.next_review
+    }
+
+    /// Whether a name is that of a member. Takes no memory, and a time of log n.
+    pub fn has_member(&self, name: &Name) -> bool
+        ensures { result ≡ is_member self.now.content.members name.now }
+    {
+        self.members.has(name)
+    }
+
+    /// The review of a number, if it is held. Takes no memory, and a time of log n.
+    pub fn review(&self, number: u64) -> Option<&Review>
+        ensures { option_copied result ≡ review_of self.now.content.reviews number }
+    {
+        match self.place_of(number) {
+            Ok(place) => Some(&self.reviews[place]),
+            Err(_) => None,
+        }
+    }
+
+    /// Whether a review that isn't closed names a criterion. Takes no memory. Costs a look at each review, up to the
+    /// first that does.
+    pub fn names_criterion(&self, name: &Name) -> bool
+        ensures { result ≡ are_open_for self.now.content.reviews name.now }
+    {
+        self.reviews.iter().any(|review| review.is_open_for(name))
+    }
+
+    /// Whether a review that isn't closed names a criterion that a table lacks. Takes no memory. Costs a look at each
+    /// review, up to the first that does.
+    pub fn names_beyond(&self, criteria: &CriteriaTable) -> bool
+        ensures { result ≡ are_open_beyond criteria.now self.now.content.reviews }
+    {
+        self.reviews
+            .iter()
+            .any(|review| review.is_open_beyond(criteria))
+    }
+
+    // Where the review of a number stands, or would belong.
+    pub(crate) fn place_of(&self, number: u64) -> Result<usize, usize>
+        ensures place { IsPlace nat_cmp review_number self.now.content.reviews number result }
+        ensures sound { IsSoundDesk self.now.content }
+    {
+        self.reviews
+            .binary_search_by(|review| review.number.cmp(&number))
+    }
+}
+
+// Makes an edit of the members, for which there is room.
+fn join(members: &mut Keyed<Name>, edit: KeyedEdit<Name>)
+    requires { Fits (slice_cmp nat_cmp) own_name edit members.old }
+    ensures { members.new.items ≡ edited edit members.old.items }
+{
+    let _ = members.apply(edit);
+}
+
+// Brings the review at a place into a state.
+fn turn(reviews: &mut Vec<Review>, place: usize, state: ReviewState)
+    requires { place < length reviews.old.items }
+    ensures items { reviews.new.items ≡ turned place state reviews.old.items }
+    ensures len { vec_len reviews.new ≡ vec_len reviews.old }
+    ensures capacity { vec_capacity reviews.new ≡ vec_capacity reviews.old }
+{
+    reviews[place].state = state;
+}

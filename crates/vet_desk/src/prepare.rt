@@ -1,0 +1,162 @@
+//! What an accepted command changes, and room for it: one function a command. What the desk holds stays.
+ghost use Rattle.std.specs.Prelude.{◌≡◌, ◌<◌, ◌≤◌, ℕ, IfErr, IfOk, List, Ok, is_some, length, true};
+ghost use Rattle.std.specs.Ordering.{nat_cmp};
+ghost use Rattle.vet_base.specs.Day.{DayValue};
+ghost use Rattle.vet_base.specs.Keyed.{IsPlace};
+ghost use Rattle.vet_desk.specs.declared.command.DeskCommand.TheVariants as command;
+ghost use Rattle.vet_desk.specs.Desk.{is_member, opened};
+ghost use Rattle.vet_desk.specs.DeskView.{HoldsDeskRoom, IsAcceptable, IsDeskChange};
+ghost use Rattle.vet_desk.specs.Review.{review_number, review_of};
+ghost use Rattle.vet_desk.specs.SoundDesk.{IsSoundDesk};
+
+use crate::change::DeskChange;
+use crate::command::{DeskCommand, Reviewed};
+use crate::desk::Desk;
+use crate::finished::entry_by;
+use crate::review::{Review, ReviewState};
+use std::alloc::{AllocError, Global};
+use vet_base::day::Day;
+use vet_base::limits::{LAST_NUMBER, MOST_MEMBERS, MOST_REVIEWS};
+use vet_base::name::{Name, PackageName};
+use vet_base::names::Names;
+use vet_base::refusal::Refusal;
+use vet_base::version::VetVersion;
+
+impl Desk {
+    /// What a command on a day changes, and room for it.
+    pub(crate) fn change(
+        &mut self,
+        alloc: Global,
+        day: Day,
+        command: &DeskCommand,
+    ) -> Result<DeskChange, Refusal>
+        requires { IsAcceptable self.old.content command.now }
+        ensures change { IfOk result (IsDeskChange self.new day command.now) }
+        ensures memory { IfErr result (λ e. e ≡ Refusal.NoMemory) }
+        ensures content { self.new.content ≡ self.old.content }
+        ensures room_stays { HoldsDeskRoom self.old.room self.new.room }
+    {
+        match command {
+            DeskCommand::AddMember(name) => self.join(name),
+            DeskCommand::OpenReview {
+                package,
+                version,
+                criteria,
+            } => self.open(day, package, version, criteria),
+            DeskCommand::AssignReview { review, member } => self.assign(*review, member),
+            DeskCommand::FinishReview {
+                review,
+                member,
+                reviewed,
+            } => self.finish(alloc, *review, member, reviewed),
+            DeskCommand::WithdrawReview { review, .. } => Ok(self.withdraw(*review)),
+        }
+    }
+
+    fn join(&mut self, name: &Name) -> Result<DeskChange, Refusal>
+        requires { length self.old.content.members < MOST_MEMBERS }
+        ensures change { (day : DayValue) → IfOk result (IsDeskChange self.new day (command.AddMember name.now)) }
+        ensures memory { IfErr result (λ e. e ≡ Refusal.NoMemory) }
+        ensures content { self.new.content ≡ self.old.content }
+        ensures room_stays { HoldsDeskRoom self.old.room self.new.room }
+    {
+        self.members.reserve()?;
+        Ok(DeskChange::Join(self.members.edit_setting(copied(name)?)))
+    }
+
+    fn open(
+        &mut self,
+        day: Day,
+        package: &PackageName,
+        version: &VetVersion,
+        criteria: &Names,
+    ) -> Result<DeskChange, Refusal>
+        requires few { length self.old.content.reviews < MOST_REVIEWS }
+        requires number { self.old.content.next_review ≤ LAST_NUMBER }
+        ensures change { IfOk result (IsDeskChange self.new day
+            (command.OpenReview «package».now version.now criteria.now)) }
+        ensures memory { IfErr result (λ e. e ≡ Refusal.NoMemory) }
+        ensures content { self.new.content ≡ self.old.content }
+        ensures room_stays { HoldsDeskRoom self.old.room self.new.room }
+    {
+        self.reviews.reserve(1)?;
+        let review = opened(self.next_review, day, package, version, criteria)?;
+        Ok(DeskChange::Open(review))
+    }
+
+    fn assign(&self, number: u64, member: &Name) -> Result<DeskChange, Refusal>
+        requires member { is_member self.now.content.members member.now ≡ true }
+        requires held { is_some (review_of self.now.content.reviews number) ≡ true }
+        ensures change { (day : DayValue)
+            → IfOk result (IsDeskChange self.now day (command.AssignReview number member.now)) }
+        ensures memory { IfErr result (λ e. e ≡ Refusal.NoMemory) }
+    {
+        let place = self.place_held(number);
+        let state = ReviewState::Assigned(copied(member)?);
+        Ok(DeskChange::Turn(place, state))
+    }
+
+    fn finish(
+        &self,
+        alloc: Global,
+        number: u64,
+        member: &Name,
+        reviewed: &Reviewed,
+    ) -> Result<DeskChange, Refusal>
+        requires held { is_some (review_of self.now.content.reviews number) ≡ true }
+        ensures change { (day : DayValue)
+            → IfOk result (IsDeskChange self.now day (command.FinishReview number member.now reviewed.now)) }
+        ensures memory { IfErr result (λ e. e ≡ Refusal.NoMemory) }
+    {
+        let place = self.place_held(number);
+        let entry = entry_by(alloc, member, reviewed, &self.reviews[place])?;
+        Ok(DeskChange::Finish(place, entry))
+    }
+
+    fn withdraw(&self, number: u64) -> DeskChange
+        requires held { is_some (review_of self.now.content.reviews number) ≡ true }
+        ensures { (day : DayValue) (member : List ℕ)
+            → IsDeskChange self.now day (command.WithdrawReview number member) result }
+    {
+        DeskChange::Turn(self.place_held(number), ReviewState::Withdrawn)
+    }
+
+    // Where the review of a number stands, which is held.
+    fn place_held(&self, number: u64) -> usize
+        requires { is_some (review_of self.now.content.reviews number) ≡ true }
+        ensures place { IsPlace nat_cmp review_number self.now.content.reviews number (Ok result) }
+        ensures sound { IsSoundDesk self.now.content }
+    {
+        match self.place_of(number) {
+            Ok(place) => place,
+            Err(_) => unreachable!(),
+        }
+    }
+}
+
+// A review that nobody has begun, of copies.
+fn opened(
+    number: u64,
+    day: Day,
+    package: &PackageName,
+    version: &VetVersion,
+    criteria: &Names,
+) -> Result<Review, AllocError>
+    ensures { IfOk result (λ r. r ≡ opened number day «package».now version.now criteria.now) }
+{
+    Ok(Review {
+        number,
+        package: package.clone()?,
+        version: version.clone()?,
+        criteria: criteria.clone()?,
+        day,
+        state: ReviewState::Waiting,
+    })
+}
+
+// A copy of a name.
+fn copied(name: &Name) -> Result<Name, AllocError>
+    ensures { IfOk result (λ copy. copy ≡ name.now) }
+{
+    name.clone()
+}

@@ -1,0 +1,107 @@
+//! Reviews: what is to be reviewed, and how far that has come.
+ghost use Rattle.std.specs.Prelude.{◌≡◌};
+ghost use Rattle.vet_desk.specs.Review.{is_anothers, is_assigned_to, is_closed, is_open_beyond, is_open_for};
+
+use vet_base::criteria_table::CriteriaTable;
+use vet_base::day::Day;
+use vet_base::name::{Name, PackageName};
+use vet_base::names::Names;
+use vet_base::version::VetVersion;
+
+/// A version of a package that is to be reviewed for some criteria.
+pub struct Review {
+    pub number: u64,
+    pub package: PackageName,
+    pub version: VetVersion,
+    pub criteria: Names,
+    /// The day on which it was opened.
+    pub day: Day,
+    pub state: ReviewState,
+}
+
+impl Drop for Review {
+    fn drop(self) {
+        let Review {
+            number: _,
+            package: _,
+            version: _,
+            criteria: _,
+            day: _,
+            state: _,
+        } = self;
+    }
+}
+
+/// How far a review has come. One that is finished or withdrawn is closed: it doesn't change any more, and shows no
+/// member.
+pub enum ReviewState {
+    /// Nobody has begun.
+    Waiting,
+    /// This member is to do it.
+    Assigned(Name),
+    /// It is done: the own entry of this number vouches, or did so until it was dropped.
+    Finished(u64),
+    /// It won't be done.
+    Withdrawn,
+}
+
+impl Drop for ReviewState {
+    fn drop(self) {
+        match self {
+            ReviewState::Waiting => {}
+            ReviewState::Assigned(_) => {}
+            ReviewState::Finished(_) => {}
+            ReviewState::Withdrawn => {}
+        }
+    }
+}
+
+impl ReviewState {
+    /// Whether the review is finished or withdrawn.
+    pub fn is_closed(&self) -> bool
+        ensures { result ≡ is_closed self.now }
+    {
+        match self {
+            ReviewState::Waiting => false,
+            ReviewState::Assigned(_) => false,
+            ReviewState::Finished(_) => true,
+            ReviewState::Withdrawn => true,
+        }
+    }
+
+    /// Whether the review is assigned to this member.
+    pub fn is_assigned_to(&self, name: &Name) -> bool
+        ensures { result ≡ is_assigned_to name.now self.now }
+    {
+        match self {
+            ReviewState::Assigned(member) => member == name,
+            _ => false,
+        }
+    }
+
+    /// Whether the review is assigned to another than this member.
+    pub fn is_anothers(&self, name: &Name) -> bool
+        ensures { result ≡ is_anothers name.now self.now }
+    {
+        match self {
+            ReviewState::Assigned(member) => member != name,
+            _ => false,
+        }
+    }
+}
+
+impl Review {
+    /// Whether it isn't closed and names a criterion.
+    pub fn is_open_for(&self, name: &Name) -> bool
+        ensures { result ≡ is_open_for name.now self.now }
+    {
+        !self.state.is_closed() && self.criteria.contains(name)
+    }
+
+    /// Whether it isn't closed and names a criterion that a table lacks.
+    pub fn is_open_beyond(&self, criteria: &CriteriaTable) -> bool
+        ensures { result ≡ is_open_beyond criteria.now self.now }
+    {
+        !self.state.is_closed() && criteria.least_unknown(&self.criteria).is_some()
+    }
+}
