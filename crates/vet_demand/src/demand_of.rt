@@ -12,7 +12,8 @@ use crate::demand::Demand;
 use crate::flow::{needs_of, policies_of};
 use crate::pair::Pair;
 use crate::passed::is_audited;
-use crate::policies::Policies;
+use crate::policies::KeyedPolicy;
+use vet_base::keyed::Keyed;
 use crate::policy::Policy;
 use crate::project::{NamedProject, Node, Project};
 use crate::terms::Terms;
@@ -28,12 +29,12 @@ use vet_base::refusal::Refusal;
 pub fn demand(
     alloc: Global,
     projects: &[NamedProject],
-    policies: &Policies,
+    policies: &Keyed<KeyedPolicy>,
     criteria: &CriteriaTable,
 ) -> Result<Demand, Refusal>
-    requires known { PoliciesAreKnown criteria.now policies.now }
-    ensures least { IfOk result (λ d. IsLeastDemand projects.now policies.now criteria.now d) }
-    ensures value { IfOk result (λ d. d ≡ demand_of projects.now policies.now criteria.now) }
+    requires known { PoliciesAreKnown criteria.now policies.now.items }
+    ensures least { IfOk result (λ d. IsLeastDemand projects.now policies.now.items criteria.now d) }
+    ensures value { IfOk result (λ d. d ≡ demand_of projects.now policies.now.items criteria.now) }
     ensures memory { IfErr result (λ e. e ≡ Refusal.NoMemory) }
 {
     let terms = Terms::of(alloc, policies, criteria)?;
@@ -64,8 +65,8 @@ fn add_project(
     pairs: &mut Vec<Pair>,
 ) -> Result<(), Refusal>
     requires terms { AreTerms terms.now }
-    requires known { PoliciesAreKnown terms.now.criteria.now terms.now.policies.now }
-    ensures ok { IfOk result (λ _. Adds (IsDemandedBy terms.now.policies.now terms.now.criteria.now project.now)
+    requires known { PoliciesAreKnown terms.now.criteria.now terms.now.policies.now.items }
+    ensures ok { IfOk result (λ _. Adds (IsDemandedBy terms.now.policies.now.items terms.now.criteria.now project.now)
         pairs.old.items pairs.new.items) }
     ensures memory { IfErr result (λ e. e ≡ Refusal.NoMemory) }
 {

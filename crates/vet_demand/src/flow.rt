@@ -14,7 +14,8 @@ ghost use Rattle.vet_demand.specs.Spread.{lists_in};
 ghost use Rattle.vet_demand.specs.Terms.{AreTerms};
 
 use crate::passed::{own_set, passed, policy_for, takes};
-use crate::policies::Policies;
+use crate::policies::KeyedPolicy;
+use vet_base::keyed::Keyed;
 use crate::policy::Policy;
 use crate::project::{Edge, Node, Project};
 use crate::spread::spread_all;
@@ -33,10 +34,10 @@ struct Flow {
 /// The policies of some nodes. Refused: `NoMemory`.
 pub(crate) fn policies_of<'p>(
     alloc: Global,
-    policies: &'p Policies,
+    policies: &'p Keyed<KeyedPolicy>,
     nodes: &[Node],
 ) -> Result<Vec<Option<&'p Policy>>, Refusal>
-    ensures ok { IfOk result (λ found. ArePoliciesOf policies.now nodes.now found.items) }
+    ensures ok { IfOk result (λ found. ArePoliciesOf policies.now.items nodes.now found.items) }
     ensures memory { IfErr result (λ e. e ≡ Refusal.NoMemory) }
 {
     let mut found = Vec::new(alloc);
@@ -56,8 +57,8 @@ pub(crate) fn needs_of(
     found: &[Option<&Policy>],
 ) -> Result<Vec<CriteriaSet>, Refusal>
     requires terms { AreTerms terms.now }
-    requires found { ArePoliciesOf terms.now.policies.now project.now.nodes found.now }
-    ensures ok { IfOk result (λ needs. AreNeeds terms.now.policies.now terms.now.criteria.now project.now needs.items) }
+    requires found { ArePoliciesOf terms.now.policies.now.items project.now.nodes found.now }
+    ensures ok { IfOk result (λ needs. AreNeeds terms.now.policies.now.items terms.now.criteria.now project.now needs.items) }
     ensures memory { IfErr result (λ e. e ≡ Refusal.NoMemory) }
 {
     let mut flow = flow_of(alloc, terms, project.nodes(), project.edges(), found)?;
@@ -80,8 +81,8 @@ fn flow_of(
 ) -> Result<Flow, Refusal>
     requires terms { AreTerms terms.now }
     requires within { All (IsWithin (length nodes.now)) edges.now }
-    requires found { ArePoliciesOf terms.now.policies.now nodes.now found.now }
-    ensures ok { IfOk result (λ flow. IsFlow terms.now.policies.now terms.now.criteria.now nodes.now edges.now
+    requires found { ArePoliciesOf terms.now.policies.now.items nodes.now found.now }
+    ensures ok { IfOk result (λ flow. IsFlow terms.now.policies.now.items terms.now.criteria.now nodes.now edges.now
         flow.needs.items (lists_in flow.onward.items)) }
     ensures memory { IfErr result (λ e. e ≡ Refusal.NoMemory) }
 {
@@ -103,9 +104,9 @@ fn own_needs(
     found: &[Option<&Policy>],
 ) -> Result<Vec<CriteriaSet>, Refusal>
     requires terms { AreTerms terms.now }
-    requires found { ArePoliciesOf terms.now.policies.now nodes.now found.now }
+    requires found { ArePoliciesOf terms.now.policies.now.items nodes.now found.now }
     ensures ok { IfOk result (λ needs.
-        needs.items ≡ map (own_places terms.now.policies.now terms.now.criteria.now) nodes.now) }
+        needs.items ≡ map (own_places terms.now.policies.now.items terms.now.criteria.now) nodes.now) }
     ensures memory { IfErr result (λ e. e ≡ Refusal.NoMemory) }
 {
     let mut needs = Vec::new(alloc);
@@ -136,10 +137,10 @@ fn follow(
 ) -> Result<(), Refusal>
     requires terms { AreTerms terms.now }
     requires within { IsWithin (length nodes.now) edge.now }
-    requires found { ArePoliciesOf terms.now.policies.now nodes.now found.now }
+    requires found { ArePoliciesOf terms.now.policies.now.items nodes.now found.now }
     requires count { length flow.old.needs.items ≡ length nodes.now }
     requires lists { length flow.old.onward.items ≡ length nodes.now }
-    ensures ok { IfOk result (λ _. Follows terms.now.policies.now terms.now.criteria.now nodes.now edge.now
+    ensures ok { IfOk result (λ _. Follows terms.now.policies.now.items terms.now.criteria.now nodes.now edge.now
         flow.old.needs.items (lists_in flow.old.onward.items) flow.new.needs.items (lists_in flow.new.onward.items)) }
     ensures memory { IfErr result (λ e. e ≡ Refusal.NoMemory) }
 {

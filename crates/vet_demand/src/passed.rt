@@ -5,7 +5,8 @@ ghost use Rattle.vet_demand.specs.DemandOf.{is_audited};
 ghost use Rattle.vet_demand.specs.Passed.{dev_criteria, dev_passed, listed_criteria, own_criteria, passed_criteria, policy_for, settled_criteria, takes};
 ghost use Rattle.vet_demand.specs.Terms.{AreTerms, closed_places};
 
-use crate::policies::Policies;
+use crate::policies::KeyedPolicy;
+use vet_base::keyed::Keyed;
 use crate::policy::Policy;
 use crate::policy_key::PolicyKey;
 use crate::project::{EdgeKind, Node, Party};
@@ -18,10 +19,10 @@ use vet_base::refusal::Refusal;
 /// The policy of a node: the one of its version where there is one, else the one of its package, whole.
 /// Refused: `NoMemory`.
 pub(crate) fn policy_for<'p>(
-    policies: &'p Policies,
+    policies: &'p Keyed<KeyedPolicy>,
     node: &Node,
 ) -> Result<Option<&'p Policy>, Refusal>
-    ensures ok { IfOk result (λ policy. option_copied policy ≡ policy_for policies.now node.now) }
+    ensures ok { IfOk result (λ policy. option_copied policy ≡ policy_for policies.now.items node.now) }
     ensures memory { IfErr result (λ e. e ≡ Refusal.NoMemory) }
 {
     let key = PolicyKey {

@@ -4,7 +4,8 @@ ghost use Rattle.vet_base.specs.Name.{is_name};
 ghost use Rattle.vet_demand.specs.Passed.{only};
 ghost use Rattle.vet_demand.specs.Terms.{AreTerms, closed_places};
 
-use crate::policies::Policies;
+use crate::policies::KeyedPolicy;
+use vet_base::keyed::Keyed;
 use std::alloc::Global;
 use vet_base::closures::Closures;
 use vet_base::criteria_set::CriteriaSet;
@@ -16,7 +17,7 @@ use vet_base::refusal::Refusal;
 /// Policies and a table, and what is found of them once for many looks.
 #[derive(Drop)]
 pub(crate) struct Terms<'t> {
-    pub(crate) policies: &'t Policies,
+    pub(crate) policies: &'t Keyed<KeyedPolicy>,
     pub(crate) criteria: &'t CriteriaTable,
     /// The names of the table.
     pub(crate) names: &'t [Name],
@@ -31,7 +32,7 @@ impl<'t> Terms<'t> {
     /// The terms of these policies and this table. Refused: `NoMemory`.
     pub(crate) fn of(
         alloc: Global,
-        policies: &'t Policies,
+        policies: &'t Keyed<KeyedPolicy>,
         criteria: &'t CriteriaTable,
     ) -> Result<Terms<'t>, Refusal>
         ensures terms { IfOk result AreTerms }

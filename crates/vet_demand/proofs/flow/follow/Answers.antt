@@ -9,7 +9,7 @@ use Rattle.vet_demand.proofs.flow.follow.Goals as goal
 
 pub returns-then-not-takes-clause-ok : goal.returns-then-not-takes-clause-ok
 returns-then-not-takes-clause-ok c =
-    let policies = c.args.terms.now.policies.now in
+    let policies = c.args.terms.now.policies.now.items in
     let criteria = c.args.terms.now.criteria.now in
     let nodes = c.args.nodes.now in
     let e = c.args.edge.now in
@@ -18,7 +18,7 @@ returns-then-not-takes-clause-ok c =
 
 pub returns-in-Some-clause-ok : goal.returns-in-Some-clause-ok
 returns-in-Some-clause-ok c =
-    let policies = c.args.terms.now.policies.now in
+    let policies = c.args.terms.now.policies.now.items in
     let criteria = c.args.terms.now.criteria.now in
     let nodes = c.args.nodes.now in
     let e = c.args.edge.now in
@@ -34,7 +34,7 @@ returns-in-Some-clause-ok c =
 
 pub returns-in_ok-push_at-in-None-clause-ok : goal.returns-in_ok-push_at-in-None-clause-ok
 returns-in_ok-push_at-in-None-clause-ok c =
-    let policies = c.args.terms.now.policies.now in
+    let policies = c.args.terms.now.policies.now.items in
     let criteria = c.args.terms.now.criteria.now in
     let nodes = c.args.nodes.now in
     let e = c.args.edge.now in

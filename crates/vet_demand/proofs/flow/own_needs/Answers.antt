@@ -8,7 +8,7 @@ use Rattle.vet_demand.proofs.flow.own_needs.Goals as goal
 
 pub nodes-preserved : goal.nodes-preserved
 nodes-preserved c =
-    let policies = c.args.terms.now.policies.now in
+    let policies = c.args.terms.now.policies.now.items in
     let criteria = c.args.terms.now.criteria.now in
     own_next policies criteria c.args.nodes.now c.nodes.place c.nodes.needs.items c.push.new.self.items c.own_set.result c.nodes-test.true c.nodes.invariant
     (c.own_set.ensures
