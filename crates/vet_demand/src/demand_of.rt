@@ -13,13 +13,13 @@ use crate::flow::{needs_of, policies_of};
 use crate::pair::Pair;
 use crate::passed::is_audited;
 use crate::policies::KeyedPolicy;
-use vet_base::keyed::Keyed;
 use crate::policy::Policy;
 use crate::project::{NamedProject, Node, Project};
 use crate::terms::Terms;
 use std::alloc::Global;
 use vet_base::criteria_set::CriteriaSet;
 use vet_base::criteria_table::CriteriaTable;
+use vet_base::keyed::Keyed;
 use vet_base::name::Name;
 use vet_base::refusal::Refusal;
 

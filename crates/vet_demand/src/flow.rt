@@ -15,13 +15,13 @@ ghost use Rattle.vet_demand.specs.Terms.{AreTerms};
 
 use crate::passed::{own_set, passed, policy_for, takes};
 use crate::policies::KeyedPolicy;
-use vet_base::keyed::Keyed;
 use crate::policy::Policy;
 use crate::project::{Edge, Node, Project};
 use crate::spread::spread_all;
 use crate::terms::Terms;
 use std::alloc::Global;
 use vet_base::criteria_set::CriteriaSet;
+use vet_base::keyed::Keyed;
 use vet_base::refusal::Refusal;
 
 // For each node what begins there, and the nodes to which it passes what it needs.
@@ -58,7 +58,8 @@ pub(crate) fn needs_of(
 ) -> Result<Vec<CriteriaSet>, Refusal>
     requires terms { AreTerms terms.now }
     requires found { ArePoliciesOf terms.now.policies.now.items project.now.nodes found.now }
-    ensures ok { IfOk result (λ needs. AreNeeds terms.now.policies.now.items terms.now.criteria.now project.now needs.items) }
+    ensures ok { IfOk result (λ needs.
+        AreNeeds terms.now.policies.now.items terms.now.criteria.now project.now needs.items) }
     ensures memory { IfErr result (λ e. e ≡ Refusal.NoMemory) }
 {
     let mut flow = flow_of(alloc, terms, project.nodes(), project.edges(), found)?;

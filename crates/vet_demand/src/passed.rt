@@ -5,13 +5,13 @@ ghost use Rattle.vet_demand.specs.DemandOf.{is_audited};
 ghost use Rattle.vet_demand.specs.Passed.{dev_criteria, dev_passed, listed_criteria, own_criteria, passed_criteria, policy_for, settled_criteria, takes};
 ghost use Rattle.vet_demand.specs.Terms.{AreTerms, closed_places};
 
-use crate::policies::KeyedPolicy;
-use vet_base::keyed::Keyed;
+use crate::policies::{KeyedPolicy, policy_of};
 use crate::policy::Policy;
 use crate::policy_key::PolicyKey;
 use crate::project::{EdgeKind, Node, Party};
 use crate::terms::Terms;
 use vet_base::criteria_set::CriteriaSet;
+use vet_base::keyed::Keyed;
 use vet_base::name::PackageName;
 use vet_base::names::Names;
 use vet_base::refusal::Refusal;
@@ -29,14 +29,14 @@ pub(crate) fn policy_for<'p>(
         package: node.package.clone()?,
         version: Some(node.version.clone()?),
     };
-    if let Some(policy) = policies.get(&key) {
+    if let Some(policy) = policy_of(policies, &key) {
         return Ok(Some(policy));
     }
     let key = PolicyKey {
         package: node.package.clone()?,
         version: None,
     };
-    Ok(policies.get(&key))
+    Ok(policy_of(policies, &key))
 }
 
 /// Whether what a node needs is demanded: where it is third-party, or its policy says that it is audited.

@@ -115,14 +115,11 @@ impl Policies {
     pub fn get(&self, key: &PolicyKey) -> Option<&Policy>
         ensures { option_copied result ≡ policy_of self.now key.now }
     {
-        match self.policies.get(key) {
-            Some(held) => Some(&held.policy),
-            None => None,
-        }
+        policy_of(&self.policies, key)
     }
 
-    /// Adds the policy of a key, or puts it in place of the one of this key, which takes no memory. Costs a binary search, and moves
-    /// what stands behind the key. Where there is no memory, all stays.
+    /// Adds the policy of a key, or puts it in place of the one of this key, which takes no memory. Costs a
+    /// binary search, and moves what stands behind the key. Where there is no memory, all stays.
     pub fn insert(&mut self, key: PolicyKey, policy: Policy) -> Result<(), AllocError>
         ensures ok { OnOk result (self.new ≡ with_policy self.old key policy) }
         ensures held { IsTrue (has_policy self.old key) → result ≡ Ok tt }
@@ -179,6 +176,16 @@ impl PartialEq for Policies {
 
 impl Eq for Policies {
     ghost laws = { decided policies_eq policies_eq-Decides };
+}
+
+/// The policy of a key among policies that are held by key, if there is one. Takes no memory, and a time of log n.
+pub fn policy_of<'p>(policies: &'p Keyed<KeyedPolicy>, key: &PolicyKey) -> Option<&'p Policy>
+    ensures { option_copied result ≡ policy_of policies.now.items key.now }
+{
+    match policies.get(key) {
+        Some(held) => Some(&held.policy),
+        None => None,
+    }
 }
 
 /// A policy is found at its key, and at each other key what was found there stays.

@@ -5,11 +5,11 @@ ghost use Rattle.vet_demand.specs.Passed.{only};
 ghost use Rattle.vet_demand.specs.Terms.{AreTerms, closed_places};
 
 use crate::policies::KeyedPolicy;
-use vet_base::keyed::Keyed;
 use std::alloc::Global;
 use vet_base::closures::Closures;
 use vet_base::criteria_set::CriteriaSet;
 use vet_base::criteria_table::CriteriaTable;
+use vet_base::keyed::Keyed;
 use vet_base::name::Name;
 use vet_base::names::Names;
 use vet_base::refusal::Refusal;

@@ -4,4 +4,4 @@ use Rattle.vet_demand.specs.Flow.{ArePoliciesOf}
 use Rattle.vet_demand.proofs.flow.policies_of.Given as goal
 
 abbrev pub invariant-nodes : goal.invariant-nodes
-invariant-nodes l = ArePoliciesOf l.policies (take l.node-index l.nodes) l.found.items
+invariant-nodes l = ArePoliciesOf l.policies.items (take l.node-index l.nodes) l.found.items
