@@ -14,6 +14,7 @@ pub mod ItemLemmas
 pub mod Kept
 pub mod KeyedLemmas
 pub mod KeyedParts
+pub mod LeastNames
 pub mod Meeting
 pub mod OrderLemmas
 pub mod ReqLemmas

@@ -1,33 +1,28 @@
 -- What the names of a peer stand for, name by name.
-use Rattle.std.proofs.Common.{◌≡◌, ℕ, ◌<◌, Bool, true, false, ◌||◌, ◌&&◌, not, nat_lt, List, [], ◌∷◌, length, get_or, None, refl, sym, ap, ◌∙◌, arith, lt-ltb, ltb-true}
+use Rattle.std.proofs.Common.{◌≡◌, ℕ, ◌<◌, Bool, true, false, ◌||◌, ◌&&◌, nat_lt, List, [], ◌∷◌, length, get_or, None, refl, sym, ap, ◌∙◌, arith, lt-ltb, ltb-true}
 use Rattle.std.specs.List.{list_any}
 use Rattle.std.specs.Option.{option_map_or}
-use Rattle.std.specs.Ordering.{nat_cmp, eq_by_cmp}
+use Rattle.std.specs.Ordering.{nat_cmp}
 use Rattle.std.specs.Cmp.{nat_cmp_total}
 use Rattle.std.specs.FinSet as set
 use Rattle.std.specs.FinMap as map
 use Rattle.std.proofs.lemmas.Cmp.{nat_list_cmp_total}
 use Rattle.std.proofs.lemmas.Bool.{and_parts, cond-false}
 use Rattle.std.proofs.lemmas.List.Folds.{Any-from_list_any, list_any_at}
-use Rattle.vet_base.specs.Criteria.{Criteria, least_unknown, placed}
+use Rattle.vet_base.specs.Criteria.{Criteria, placed}
 use Rattle.vet_base.specs.CriteriaChanges.{is_built_in}
 use Rattle.vet_base.specs.CriteriaSet.{has}
-use Rattle.vet_base.specs.NameLaws.{any-members}
 use Rattle.vet_base.specs.Names.{NameSet, members}
 use Rattle.vet_base.specs.PlaceLaws.{same_places}
 use Rattle.vet_base.proofs.Closing.{alone}
-use Rattle.vet_base.proofs.Rising.{R, eq-itself}
+use Rattle.vet_base.proofs.LeastNames.{member_in}
+use Rattle.vet_base.proofs.Rising.{R}
 use Rattle.vet_base.proofs.Tables.{contains-placed, len-keys, placed-empty}
-use Rattle.vet_base.proofs.Walks.{among_members, find_none}
+use Rattle.vet_base.proofs.Walks.{among_members}
 use Rattle.vet_entries.specs.CriteriaMap.{NamesByName}
 use Rattle.vet_entries.specs.Mapped.{all_mapped, mapped, mapped_name, unlisted}
 
 -- ---- the members of a set
-
-pub member_in : (s : NameSet) (i : ℕ) (d : List ℕ) → i < length (members s) → set.contains s (get_or (members s) i d) ≡ true
-member_in s i d l =
-    let n = get_or (members s) i d in
-    sym (any-members s n) ∙ list_any_at (eq_by_cmp R n) (members s) i d l (eq-itself n)
 
 -- a name for which one of a set passes a test
 pub one_passes : (p : List ℕ → Bool) (s : NameSet) → list_any p (members s) ≡ true → (n : List ℕ) × (set.contains s n ≡ true) × (p n ≡ true)
@@ -100,8 +95,3 @@ module _ (table : Criteria) where
   has-all_mapped m [] q = none_placed q
   has-all_mapped m (n ∷ rest) q =
       has-placed_union (mapped_name m n) (all_mapped m rest) q ∙ ap (λ b. has q (placed table (mapped_name m n)) || b) (has-all_mapped m rest q)
-
--- ---- what is known
-
-pub least_none : (table : Criteria) (names : NameSet) → ((n : List ℕ) → set.contains names n ≡ true → map.contains_key table n ≡ true) → least_unknown table names ≡ None
-least_none table names f = find_none (λ n. not (map.contains_key table n)) (members names) (λ k l. ap not (f (get_or (members names) k []) (member_in names k [] l)))

@@ -1,14 +1,11 @@
 use Rattle.std.proofs.Common.{sym, ◌∙◌}
-use Rattle.std.specs.FinSet as set
-use Rattle.std.proofs.lemmas.Bool.{false≢true}
 use Rattle.vet_base.specs.Defined.{lesser}
-use Rattle.vet_base.proofs.Rising.{R}
-use Rattle.vet_entries.proofs.MappedNames.{least_none}
+use Rattle.vet_base.proofs.LeastNames.{least_of_none}
 use Rattle.vet_entries.proofs.Targets.{least_target_more}
 use Rattle.vet_entries.proofs.criteria_map.CriteriaMap.least_target_outside.Goals as goal
 
 pub loop-item-init : goal.loop-item-init
-loop-item-init c = sym (least_none c.args.table.now set.empty (λ n h. absurd (false≢true (sym (set.contains-empty R n) ∙ h))))
+loop-item-init c = sym (least_of_none c.args.table.now)
 
 pub loop-item-preserved : goal.loop-item-preserved
 loop-item-preserved c =
