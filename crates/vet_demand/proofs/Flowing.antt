@@ -1,5 +1,5 @@
 -- How the flow of a project grows edge by edge, and what it leads to in the end.
-use Rattle.std.proofs.Common.{◌≡◌, ◌≢◌, ◌⊎◌, ◌↔◌, ℕ, ◌+◌, ◌<◌, ◌||◌, true, false, List, [], ◌∷◌, ◌++◌, Option, Some, None, Bor, length, get_or, map, replicate, set, refl, sym, ap, subst, ◌∙◌, inl, inr, arith, nat_lt, lt-ltb, take}
+use Rattle.std.proofs.Common.{◌≡◌, ◌⊎◌, ◌↔◌, ℕ, ◌+◌, ◌<◌, ◌||◌, true, false, List, [], ◌∷◌, ◌++◌, Option, Some, None, Bor, length, get_or, map, replicate, set, refl, sym, ap, subst, ◌∙◌, inl, inr, arith, nat_lt, lt-ltb, take}
 use Rattle.std.specs.Cmp.{nat_cmp_total}
 use Rattle.std.specs.FinMap as table
 use Rattle.std.specs.FinSet as places

@@ -8,6 +8,7 @@ pub mod KeyLemmas
 pub mod KeyText
 pub mod KnownLists
 pub mod Lists
+pub mod Naming
 pub mod NeedsLaws
 pub mod PairsInOrder
 pub mod PlacingLemmas

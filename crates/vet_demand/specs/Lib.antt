@@ -13,6 +13,7 @@ pub mod Passed
 pub mod Policies
 pub mod Policy
 pub mod PolicyKey
+pub mod PolicyNames
 pub mod Project
 pub mod RecordsLeft
 pub mod Spread

@@ -20,6 +20,7 @@ mod placing;
 pub mod policies;
 pub mod policy;
 pub mod policy_key;
+pub mod policy_names;
 pub mod project;
 mod spread;
 pub mod table_reader;

@@ -1,0 +1,94 @@
+//! Which criteria policies name.
+ghost use Rattle.std.specs.Prelude.{◌≡◌};
+ghost use Rattle.std.specs.FinSet as set;
+ghost use Rattle.std.specs.List.{list_any};
+ghost use Rattle.std.specs.Option.{option_copied};
+ghost use Rattle.vet_base.specs.Criteria.{least_unknown};
+ghost use Rattle.vet_demand.specs.PolicyNames.{KnownByFewerCriteria, KnownByMoreCriteria, KnownWithSet, KnownWithoutDropped, names_in, names_listed, names_passed, policy_names};
+
+use crate::dependency_criteria::DependencyItem;
+use crate::policies::KeyedPolicy;
+use crate::policy::Policy;
+use vet_base::criteria_table::CriteriaTable;
+use vet_base::defined::lesser;
+use vet_base::name::Name;
+use vet_base::names::Names;
+
+/// The least criterion that a policy names, in whatever list, and that a table lacks. Takes no memory. Costs a look
+/// at each name of each list, up to the first that the table lacks.
+pub fn least_unknown_of<'p>(policy: &'p Policy, criteria: &CriteriaTable) -> Option<&'p Name>
+    ensures { option_copied result ≡ least_unknown criteria.now (names_in policy.now) }
+{
+    let own = least_listed(&policy.criteria, criteria);
+    let dev = least_listed(&policy.dev_criteria, criteria);
+    let passed = least_passed(policy.dependency_criteria.items(), criteria);
+    lesser(lesser(own, dev), passed)
+}
+
+/// Whether one of some policies names a criterion. Takes no memory. Costs a search in each of their lists, up to the
+/// first that has it.
+pub fn names_criterion(policies: &[KeyedPolicy], name: &Name) -> bool
+    ensures { result ≡ list_any (policy_names name.now) policies.now }
+{
+    policies.iter().any(|held| names(&held.policy, name))
+}
+
+/// Policies that name only criteria of a table still do where a policy that does so is set, where one is dropped,
+/// where a criterion is set, and where one goes that none of them names. Does nothing.
+pub fn policies_stay_known()
+    ensures set { KnownWithSet }
+    ensures dropped { KnownWithoutDropped }
+    ensures more_criteria { KnownByMoreCriteria }
+    ensures fewer_criteria { KnownByFewerCriteria }
+{}
+
+// The least name of a list, if there is one, that a table lacks.
+fn least_listed<'p>(names: &'p Option<Names>, criteria: &CriteriaTable) -> Option<&'p Name>
+    ensures { option_copied result ≡ least_unknown criteria.now (names_listed names.now) }
+{
+    match names {
+        Some(names) => criteria.least_unknown(names),
+        None => None,
+    }
+}
+
+// The least name of the lists for dependencies that a table lacks.
+fn least_passed<'p>(items: &'p [DependencyItem], criteria: &CriteriaTable) -> Option<&'p Name>
+    ensures { option_copied result ≡ least_unknown criteria.now (names_passed items.now) }
+{
+    let mut least = None;
+    'items: for item in items {
+        least = lesser(least, criteria.least_unknown(&item.criteria));
+    }
+    least
+}
+
+// Whether a policy names a criterion.
+fn names(policy: &Policy, name: &Name) -> bool
+    ensures { result ≡ set.contains (names_in policy.now) name.now }
+{
+    if is_listed(&policy.criteria, name) {
+        return true;
+    }
+    if is_listed(&policy.dev_criteria, name) {
+        return true;
+    }
+    is_passed(policy.dependency_criteria.items(), name)
+}
+
+// Whether a list, if there is one, has a name.
+fn is_listed(names: &Option<Names>, name: &Name) -> bool
+    ensures { result ≡ set.contains (names_listed names.now) name.now }
+{
+    match names {
+        Some(names) => names.contains(name),
+        None => false,
+    }
+}
+
+// Whether one of the lists for dependencies has a name.
+fn is_passed(items: &[DependencyItem], name: &Name) -> bool
+    ensures { result ≡ list_any (λ i. set.contains i.criteria name.now) items.now }
+{
+    items.iter().any(|item| item.criteria.contains(name))
+}
