@@ -1,7 +1,7 @@
 -- The function of the demand tells the least demand.
-use Rattle.std.proofs.Common.{◌≡◌, ◌↔◌, ℕ, true, List, [], ◌∷◌, length, sym, ap, subst, ◌∙◌, inl, inr, arith}
+use Rattle.std.proofs.Common.{◌≡◌, ◌↔◌, ℕ, true, List, [], ◌∷◌, length, refl, sym, ap, subst, ◌∙◌, inl, inr, arith}
 use Rattle.std.specs.FinMap as map
-use Rattle.std.specs.List.{All, Contains, flat_map, range_with_len}
+use Rattle.std.specs.List.{Contains, flat_map, range_with_len}
 use Rattle.std.specs.Ordering.{eq_by_cmp, nat_cmp}
 use Rattle.std.specs.Cmp.Lexicographic.{slice_cmp}
 use Rattle.std.specs.Prelude.{if◌then◌else◌}
@@ -12,7 +12,7 @@ use Rattle.vet_demand.proofs.KnownLists.{needed_known}
 use Rattle.vet_demand.proofs.Lists.{any_from, below_range, from_any, from_flat_map, from_if, in_none, in_range, head_or_tail, to_flat_map, to_if}
 use Rattle.vet_demand.proofs.NeedsLaws.{needs-iff}
 use Rattle.vet_demand.proofs.PairsInOrder.{in_order-AreThePairs, same_pairs}
-use Rattle.vet_demand.specs.DemandOf.{HasDemanded, IsDemanded, IsDemandedIn, IsLeastDemand, PoliciesAreKnown, demand_of, in_order, is_audited_node, pair_of, pairs_at, pairs_in}
+use Rattle.vet_demand.specs.DemandOf.{HasDemanded, IsDemanded, IsDemandedIn, IsLeastDemand, PoliciesAreKnown, demand_of, is_audited_node, pair_of, pairs_at, pairs_in}
 use Rattle.vet_demand.specs.Needs.{is_needed, node_at}
 use Rattle.vet_demand.specs.Pair.{IsInOrder}
 use Rattle.vet_demand.specs.Project.{ProjectValue}
@@ -112,3 +112,7 @@ module _ (projects : List NamedProject) (policies : List KeyedPolicy) (criteria 
 
   pub demanded_known : HasDemanded criteria (demand_of projects policies criteria)
   demanded_known k d low = has_key criteria _ (from_demand _ (All-contains_itself (demand_of projects policies criteria) k d low)).0
+
+pub nothing_demanded : (policies : List KeyedPolicy) (criteria : Criteria) → demand_of [] policies criteria ≡ []
+unfolding demand_of
+nothing_demanded policies criteria = refl

@@ -115,3 +115,7 @@ LeastDemandIsOnly =
 -- the table has each criterion of the demand
 abbrev pub DemandedAreKnown : Type 0
 DemandedAreKnown = (projects : List NamedProject) (policies : List KeyedPolicy) (criteria : Criteria) → HasDemanded criteria (demand_of projects policies criteria)
+
+-- where there are no projects, nothing is demanded
+abbrev pub NothingIsDemanded : Type 0
+NothingIsDemanded = (policies : List KeyedPolicy) (criteria : Criteria) → demand_of [] policies criteria ≡ []

@@ -1,5 +1,5 @@
 //! What is demanded: pairs, in the order of reports.
-ghost use Rattle.std.specs.Prelude.{◌≡◌, ◌↔◌, IsTrue, IfOk, IfErr, length};
+ghost use Rattle.std.specs.Prelude.{◌≡◌, ◌↔◌, [], IsTrue, IfOk, IfErr, length};
 ghost use Rattle.std.specs.List.{Contains};
 ghost use Rattle.vet_demand.specs.Demand.{AreThePairs};
 ghost use Rattle.vet_demand.specs.Pair.{IsInOrder};
@@ -31,6 +31,15 @@ impl Model for Demand {
 }
 
 impl Demand {
+    /// The demand of nothing. Takes no memory.
+    pub fn none(alloc: Global) -> Demand
+        ensures { result ≡ [] }
+    {
+        Demand {
+            pairs: Vec::new(alloc),
+        }
+    }
+
     /// The demand of some pairs, which may repeat and stand in any order. Takes a time of n log n.
     /// Refused: `NoMemory`.
     pub fn of_pairs(alloc: Global, pairs: Vec<Pair>) -> Result<Demand, Refusal>

@@ -5,7 +5,7 @@
 ghost use Rattle.std.specs.Prelude.{◌≡◌, ◌++◌, ◌∷◌, [], IfOk, IfErr, cond};
 ghost use Rattle.std.specs.Option.{option_copied};
 ghost use Rattle.vet_demand.specs.Collected.{Adds, IsAuditedPair};
-ghost use Rattle.vet_demand.specs.DemandOf.{DemandIsLeast, DemandedAreKnown, IsDemandedBy, IsLeastDemand, LeastDemandIsOnly, PoliciesAreKnown, demand_of, pair_of};
+ghost use Rattle.vet_demand.specs.DemandOf.{DemandIsLeast, DemandedAreKnown, IsDemandedBy, IsLeastDemand, LeastDemandIsOnly, NothingIsDemanded, PoliciesAreKnown, demand_of, pair_of};
 ghost use Rattle.vet_demand.specs.Terms.{AreTerms};
 
 use crate::demand::Demand;
@@ -55,6 +55,11 @@ pub fn demand_is_least()
 /// Each demanded criterion is in the table.
 pub fn demanded_are_known()
     ensures { DemandedAreKnown }
+{}
+
+/// Where there are no projects, nothing is demanded.
+pub fn nothing_is_demanded()
+    ensures { NothingIsDemanded }
 {}
 
 // Adds the pairs that a project demands.
