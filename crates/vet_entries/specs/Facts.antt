@@ -1,5 +1,5 @@
 -- What is held of packages (ours): a table of criteria, one's own entries, peers with theirs, and publisher records.
-use Rattle.std.specs.Prelude.{ℕ, ◌≡◌, ◌<◌, ◌≤◌, ◌+◌, ◌-◌, ◌||◌, Bool, true, List, [], ◌∷◌, length, insert, is_some, remove}
+use Rattle.std.specs.Prelude.{ℕ, ◌≡◌, ◌<◌, ◌≤◌, ◌+◌, ◌-◌, ◌||◌, Bool, false, true, List, [], ◌∷◌, length, insert, is_some, remove}
 use Rattle.std.specs.List.{list_any, sum_by}
 use Rattle.std.specs.Coded.{Coded, code_by, coded×, coded_list, coded_ℕ}
 use Rattle.std.specs.FinMap as map
@@ -94,6 +94,16 @@ edited (edit.Peer change) facts = record facts { peers = keyed.edited change fac
 edited (edit.Settings settings) facts = record facts { peers = with_settings settings facts.peers }
 edited (edit.Content name content) facts = record facts { peers = with_content name content facts.peers }
 edited (edit.Publishers change) facts = record facts { publishers = keyed.edited change facts.publishers }
+
+-- whether the table of criteria stays
+abbrev pub keeps_criteria : Edit → Bool
+keeps_criteria (edit.Criteria table) = false
+keeps_criteria (edit.Insert place held) = true
+keeps_criteria (edit.Remove place) = true
+keeps_criteria (edit.Peer change) = true
+keeps_criteria (edit.Settings settings) = true
+keeps_criteria (edit.Content name content) = true
+keeps_criteria (edit.Publishers change) = true
 
 -- a peer of a name is held
 abbrev pub IsHeld : List ℕ → Facts → Type 0

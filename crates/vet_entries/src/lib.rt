@@ -11,6 +11,7 @@ mod by_package;
 pub mod condemned;
 pub mod criteria_map;
 pub mod distinct;
+mod edit;
 pub mod entry;
 pub mod facts;
 pub mod held_peer;
