@@ -1,5 +1,5 @@
 -- What is held of packages (ours): a table of criteria, one's own entries, peers with theirs, and publisher records.
-use Rattle.std.specs.Prelude.{ℕ, ◌≡◌, ◌<◌, ◌≤◌, ◌+◌, ◌-◌, ◌||◌, Bool, false, true, List, [], ◌∷◌, length, insert, is_some, remove}
+use Rattle.std.specs.Prelude.{ℕ, ◌≡◌, ◌<◌, ◌≤◌, ◌+◌, ◌-◌, ◌||◌, Bool, false, true, List, [], length, insert, is_some, remove}
 use Rattle.std.specs.List.{list_any, sum_by}
 use Rattle.std.specs.Coded.{Coded, code_by, coded×, coded_list, coded_ℕ}
 use Rattle.std.specs.FinMap as map

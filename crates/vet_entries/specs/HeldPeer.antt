@@ -1,7 +1,6 @@
 -- Peers as they are held (ours): how each is imported, and what was imported from it, in its own words.
-use Rattle.std.specs.Prelude.{◌≡◌, ◌&&◌, ℕ, Bool, not, List, [], ◌∷◌, ◌++◌, Option, Some, None, filter, map}
+use Rattle.std.specs.Prelude.{ℕ, Bool, not, List, ◌++◌, Option, Some, None, filter, map}
 use Rattle.std.specs.List.{list_any}
-use Rattle.std.specs.FinMap as table
 use Rattle.std.specs.Ordering.{nat_cmp}
 use Rattle.std.specs.Cmp.Lexicographic.{slice_cmp}
 use Rattle.vet_base.specs.Defined.{defined}

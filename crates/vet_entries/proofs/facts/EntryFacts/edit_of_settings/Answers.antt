@@ -1,4 +1,4 @@
-use Rattle.std.proofs.Common.{◌≡◌, true, is_some, None, sym, ap, ◌∙◌}
+use Rattle.std.proofs.Common.{◌≡◌, is_some, None, sym, ap, ◌∙◌}
 use Rattle.std.proofs.lemmas.Bool.{false≢true}
 use Rattle.vet_entries.specs.HeldPeer.{holding_or_none, peer_of, with_peer}
 use Rattle.vet_entries.proofs.PeerLaws.{none_of}
