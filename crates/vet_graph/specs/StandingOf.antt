@@ -1,8 +1,7 @@
 -- The class of each demanded pair, as chains of the entries' steps give it (ours).
-use Rattle.std.specs.Prelude.{◌≡◌, ℕ, true, List, MatchOption, Option, map}
-use Rattle.std.specs.FinMap as table
+use Rattle.std.specs.Prelude.{◌≡◌, ℕ, List, MatchOption, Option, map}
 use Rattle.std.specs.Option.{option_map_or}
-use Rattle.std.specs.List.{All, Contains}
+use Rattle.std.specs.List.{Contains}
 use Rattle.vet_base.specs.Criteria.{Criteria, place_of}
 use Rattle.vet_demand.specs.declared.pair.Pair.{Pair}
 use Rattle.vet_entries.specs.Condemned.{is_condemned}
@@ -32,10 +31,6 @@ class_of_pair facts p = class_by facts.criteria (steps_of facts p.«package») (
 -- the standing: each demanded pair with its class, in the order of the pairs
 abbrev pub standing_of : Facts → List Pair → List Stand
 standing_of facts demand = map (λ p. record { pair = p; class = class_of_pair facts p }) demand
-
--- the table has each demanded criterion
-abbrev pub HasDemanded : Criteria → List Pair → Type 0
-HasDemanded criteria demand = All (λ p. table.contains_key criteria p.criterion ≡ true) demand
 
 -- nothing is held, so each class is the last
 abbrev pub NoneIsVetted : Facts → Type 0

@@ -7,13 +7,14 @@
 //! the moves to it, and does all that can fail; the standing stays. `apply` makes the planned standing the
 //! keeper's. Whoever keeps the classes in another way implements this trait, and callers stay as they are.
 ghost use Rattle.std.specs.Prelude.{◌≡◌, [], List, IfOk, IfErr};
+ghost use Rattle.vet_demand.specs.DemandOf.{HasDemanded};
 ghost use Rattle.vet_demand.specs.declared.pair.Pair.{Pair};
 ghost use Rattle.vet_entries.specs.Facts.{Facts};
 ghost use Rattle.vet_entries.specs.Step.{AreKnown};
 ghost use Rattle.vet_graph.specs.Keeping.{Keeping};
 ghost use Rattle.vet_graph.specs.Moves.{moves_between};
 ghost use Rattle.vet_graph.specs.Standing.{IsStanding, class_in, counts_of};
-ghost use Rattle.vet_graph.specs.StandingOf.{HasDemanded, standing_of};
+ghost use Rattle.vet_graph.specs.StandingOf.{standing_of};
 ghost use Rattle.vet_graph.specs.Touched.{GiveNothing, SameOutside};
 
 use crate::class::Class;

@@ -6,8 +6,8 @@ use Rattle.std.specs.FinMap as table
 use Rattle.std.proofs.lemmas.List.Elements.{All-weaker}
 use Rattle.vet_base.specs.Criteria.{Criteria, IsTable, safe_to_run, safe_to_deploy}
 use Rattle.vet_base.specs.CriteriaChanges.{is_built_in}
+use Rattle.vet_demand.specs.DemandOf.{HasDemanded}
 use Rattle.vet_demand.specs.declared.pair.Pair.{Pair}
-use Rattle.vet_graph.specs.StandingOf.{HasDemanded}
 
 either : (a b : Bool) → (a || b) ≡ true → (a ≡ true) ⊎ (b ≡ true)
 either true b h = inl refl
