@@ -17,4 +17,6 @@ pub mod PolicyNames
 pub mod Project
 pub mod RecordsLeft
 pub mod Spread
+pub mod TableByExample
 pub mod Terms
+pub mod WrittenProject

@@ -3,8 +3,8 @@
 //! **A demand holds exactly the pairs that it was given, or that projects ask for by policies, each once, in the
 //! order of reports; what projects ask for is the least that the rules do.**
 //!
-//! Scope of this crate: pairs and demands, policies with their keys, projects, and the reader of dependency tables.
-//! Their writer comes here.
+//! Scope of this crate: pairs and demands, policies with their keys, projects, and the reader and the writer of
+//! dependency tables.
 #![tactic(auto)]
 
 pub mod demand;
@@ -24,4 +24,5 @@ pub mod policy_names;
 pub mod project;
 mod spread;
 pub mod table_reader;
+pub mod table_writer;
 mod terms;

@@ -1,0 +1,29 @@
+-- A project and its dependency table, by example.
+use Rattle.std.specs.Prelude.{ℕ, List, [], ◌∷◌, None, codes}
+use Rattle.vet_base.specs.Version.{VersionValue}
+use Rattle.vet_demand.specs.Project.{ProjectValue}
+use Rattle.vet_demand.specs.declared.project.EdgeKind.TheVariants.{Normal, Dev}
+use Rattle.vet_demand.specs.declared.project.Party.TheVariants.{Root, Third}
+
+abbrev pub one : VersionValue
+one = record { parts = (1, 0, 0, [], []); revision = None }
+
+abbrev pub one_tenth : VersionValue
+one_tenth = record { parts = (0, 1, 0, [], []); revision = None }
+
+-- a program, what it is tested by, and what that stands on
+abbrev pub example_project : ProjectValue
+example_project = record {
+  nodes =
+      record { «package» = codes "a"; version = one; party = Third }
+      ∷ record { «package» = codes "app"; version = one_tenth; party = Root }
+      ∷ record { «package» = codes "b"; version = one; party = Third } ∷ [];
+  edges = record { from = 0; to = 2; kind = Normal } ∷ record { from = 1; to = 0; kind = Dev } ∷ [];
+}
+
+abbrev pub example_table : List ℕ
+example_table = codes "what,n,p,q,r\nnode,0,a,1.0.0,third\nnode,1,app,0.1.0,root\nnode,2,b,1.0.0,third\nedge,0,2,normal,\nedge,1,0,dev,\n"
+
+-- the same by other numbers, with an edge twice, leading zeros, a needless quote and another end of a line
+abbrev pub other_table : List ℕ
+other_table = codes "what,n,p,q,r\nnode,0,app,0.1.0,root\nnode,001,\"b\",1.0.0,third\nedge,0,02,dev,\r\n\nedge,2,1,normal,\nnode,2,a,1.0.0,third\nedge,2,1,normal,"
