@@ -11,10 +11,15 @@ pub mod KnownLists
 pub mod Lists
 pub mod Naming
 pub mod NeedsLaws
+pub mod NumberingLaw
 pub mod PairsInOrder
 pub mod PlacingLemmas
 pub mod PlainFields
+pub mod ReadOn
+pub mod ReadParts
 pub mod ReadingLemmas
+pub mod Renumbered
+pub mod SameKeys
 pub mod Spreading
 pub mod TableLemmas
 pub mod WrittenLines

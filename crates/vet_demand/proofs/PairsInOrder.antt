@@ -1,11 +1,11 @@
 -- Pairs, each put where it belongs, and lists in order with the same pairs.
 use Rattle.std.proofs.Common.{◌≡◌, ◌⊎◌, suc, List, [], ◌∷◌, refl, sym, ap, ◌∙◌, inl, inr, Ordering, Less, Equal, Greater, arith}
 use Rattle.std.specs.List.{All, Contains}
-use Rattle.std.specs.Cmp.{tied_itself}
 use Rattle.std.specs.Ordering.{match_ordering, ordering_reverse}
 use Rattle.std.proofs.lemmas.List.Elements.{All-nil, All-cons, All-head, All-tail, All-contains, All-contains_itself}
 use Rattle.std.proofs.lemmas.List.Kept.{AllPairs-cons}
 use Rattle.vet_demand.proofs.Lists.{head_or_tail, in_tail}
+use Rattle.vet_demand.proofs.SameKeys.{same_keys}
 use Rattle.vet_demand.specs.Demand.{AreThePairs}
 use Rattle.vet_demand.specs.DemandOf.{in_order, put_in_order}
 use Rattle.vet_demand.specs.Pair.{IsInOrder, pair_cmp, pair_cmp-IsAntisymmetric, pair_total}
@@ -96,41 +96,6 @@ in_order-AreThePairs (p ∷ rest) =
 
 -- ---- lists in order with the same pairs are the same
 
-later : (x : Pair) (xs : List Pair) (p : Pair) → IsInOrder (x ∷ xs) → Contains xs p → Rises x p
-later x xs p up held = ap (pair_cmp x) (sym held.2) ∙ up 0 (suc held.0) p (omega arith) (omega (arith, held.1))
-
-not_both : (p q : Pair) → Rises p q → Rises q p → ⊥
-not_both p q first second = cc (sym first ∙ pair_total.antisymm p q ∙ ap ordering_reverse second)
-
-not_itself : (p q : Pair) → p ≡ q → Rises p q → ⊥
-not_itself p q same up = cc (sym up ∙ ap (λ r. pair_cmp r q) same ∙ tied_itself pair_total q)
-
-same_heads : (x : Pair) (xs : List Pair) (y : Pair) (ys : List Pair) → IsInOrder (x ∷ xs) → IsInOrder (y ∷ ys)
-    → Contains (y ∷ ys) x → Contains (x ∷ xs) y → x ≡ y
-same_heads x xs y ys up_x up_y x_held y_held = elim (head_or_tail y ys x x_held) [
-  | inl same ↦ sym same
-  | inr x_later ↦ elim (head_or_tail x xs y y_held) [
-    | inl same ↦ same
-    | inr y_later ↦ absurd (not_both x y (later x xs y up_x y_later) (later y ys x up_y x_later))
-  ]
-]
-
--- what is behind one head is behind the other
-tail_held : (x : Pair) (xs : List Pair) (y : Pair) (ys : List Pair) → IsInOrder (x ∷ xs) → x ≡ y → (p : Pair) → Contains xs p
-    → Contains (y ∷ ys) p → Contains ys p
-tail_held x xs y ys up same p held among = elim (head_or_tail y ys p among) [
-  | inl head ↦ absurd (not_itself x p (same ∙ head) (later x xs p up held))
-  | inr tail ↦ tail
-]
-
 pub same_pairs : (xs ys : List Pair) → IsInOrder xs → IsInOrder ys → ((p : Pair) → Contains xs p → Contains ys p)
     → ((p : Pair) → Contains ys p → Contains xs p) → xs ≡ ys
-same_pairs [] [] up_x up_y there back = refl
-same_pairs [] (y ∷ ys) up_x up_y there back = (let held = back y (0, omega arith, refl) in absurd (omega (arith, held.1)))
-same_pairs (x ∷ xs) [] up_x up_y there back = (let held = there x (0, omega arith, refl) in absurd (omega (arith, held.1)))
-same_pairs (x ∷ xs) (y ∷ ys) up_x up_y there back =
-    let same = same_heads x xs y ys up_x up_y (there x (0, omega arith, refl)) (back y (0, omega arith, refl)) in
-    let rest = same_pairs xs ys (in_order_tail x xs up_x) (in_order_tail y ys up_y)
-    (λ p held. tail_held x xs y ys up_x same p held (there p (in_tail x xs p held)))
-    (λ p held. tail_held y ys x xs up_y (sym same) p held (back p (in_tail y ys p held))) in
-    λ i. same i ∷ rest i
+same_pairs = same_keys pair_cmp pair_total

@@ -230,7 +230,7 @@ order_length keys (e ∷ es) =
     let one = length_put keys e in
     omega (arith, more, one)
 
-in_order_told : (t : Told (List Edge)) (keys : List Edge) → (t >>= (λ between. Ok (in_edge_order between))) ≡ Ok keys
+pub in_order_told : (t : Told (List Edge)) (keys : List Edge) → (t >>= (λ between. Ok (in_edge_order between))) ≡ Ok keys
     → (between : List Edge) × (t ≡ Ok between) × (in_edge_order between ≡ keys)
 in_order_told (Err x) keys h = cc h
 in_order_told (Ok between) keys h = (between, refl, (cc h))

@@ -73,7 +73,7 @@ without_fault number nodes n h =
 
 -- ---- one node more
 
-length_put : (n : NumberedNode) (nodes : List NumberedNode) → before nodes n ≡ None → length (insert_key numbered_cmp nodes n) ≡ suc (length nodes)
+pub length_put : (n : NumberedNode) (nodes : List NumberedNode) → before nodes n ≡ None → length (insert_key numbered_cmp nodes n) ≡ suc (length nodes)
 length_put n [] h = refl
 length_put n (m ∷ rest) h = step (length_put n rest) (numbered_cmp n m) h
   where

@@ -1,23 +1,22 @@
 -- What the records that are written of a project state is that project.
-use Rattle.std.proofs.Common.{◌≡◌, ◌≢◌, ◌<◌, ◌≤◌, ◌^◌, ◌+◌, ℕ, zero, suc, Bool, true, false, cond, List, [], ◌∷◌, ◌++◌, length, map, get_or, Option, Some, None, Ok, Err, Ordering, Less, Equal, Greater, refl, sym, ap, subst, arith, ◌∙◌, append_assoc, append-nil, inl, inr}
-use Rattle.std.specs.Prelude.{◌==◌, find, nat_le, not, option_and_then, option_map}
+use Rattle.std.proofs.Common.{◌≡◌, ◌≢◌, ◌<◌, ◌≤◌, ◌+◌, ℕ, suc, Bool, true, false, cond, List, [], ◌∷◌, ◌++◌, length, map, get_or, Option, Some, None, Ok, Less, refl, sym, ap, subst, arith, ◌∙◌, append_assoc, append-nil, inl, inr}
+use Rattle.std.specs.Prelude.{◌==◌, find, nat_le, option_and_then, option_map}
 use Rattle.std.specs.BTreeSet.{insert_key}
-use Rattle.std.specs.List.{All, AllPairs, list_any, position_from}
+use Rattle.std.specs.List.{All, position_from}
 use Rattle.std.specs.Ordering.{is_eq}
 use Rattle.std.proofs.lemmas.Bool.{cases_Bool, eqb-true, false≢true}
 use Rattle.std.proofs.lemmas.Bool.Decides.{Decides-eqb, nat_tests}
 use Rattle.std.proofs.lemmas.List.{length-append}
 use Rattle.std.proofs.lemmas.List.Elements.{All-cons, All-head, All-nil, All-tail}
 use Rattle.csv.specs.Records.{field_at}
-use Rattle.csv.specs.Reading.{default_config, records, strip_bom}
+use Rattle.csv.specs.Reading.{strip_bom}
 use Rattle.vet_base.specs.Gives.{Told, found_or, refuse_if, ◌>>=◌}
 use Rattle.vet_base.specs.declared.limits.TheConstants.{MOST_NODES, MOST_EDGES}
-use Rattle.vet_base.specs.declared.refusal.Limit.TheVariants.{Nodes, Edges}
-use Rattle.vet_base.specs.declared.refusal.Refusal.TheVariants.{CsvRefused, TooLarge, UnknownNode}
+use Rattle.vet_base.specs.declared.refusal.Refusal.TheVariants.{CsvRefused, UnknownNode}
 use Rattle.vet_demand.specs.DependencyRecord.{numbered_cmp, numbered_total, record_stated}
-use Rattle.vet_demand.specs.DependencyTable.{StatedValue, double_told, edge_told, edges_told, fields_told, in_edge_order, is_stated, node_told, nothing_stated, place_of, placed, placed_told, project_of_bytes, project_told, record_told, records_told, stated_told, table_told, with_edge, with_record}
-use Rattle.vet_demand.specs.Project.{AreInEdgeOrder, AreInNodeOrder, IsProject, IsWithin, ProjectValue, edge_cmp, edge_eq, edge_total, node_cmp}
-use Rattle.vet_demand.specs.WrittenProject.{IsNamed, edge_fields, header_record, lines, node_fields, node_records, written_records, written_text}
+use Rattle.vet_demand.specs.DependencyTable.{StatedValue, edge_told, fields_told, in_edge_order, is_stated, node_told, place_of, placed, placed_told, project_of_bytes, project_told, record_told, records_told, stated_told, table_told, with_edge, with_record}
+use Rattle.vet_demand.specs.Project.{AreInEdgeOrder, AreInNodeOrder, IsProject, IsWithin, ProjectValue, edge_cmp, edge_total, node_cmp}
+use Rattle.vet_demand.specs.WrittenProject.{IsNamed, edge_fields, node_fields, node_records, written_records, written_text}
 use Rattle.vet_demand.specs.declared.dependency_record.DependencyRecord.{DependencyRecord}
 use Rattle.vet_demand.specs.declared.dependency_record.DependencyRecord.TheVariants.{NodeRecord, EdgeRecord}
 use Rattle.vet_demand.specs.declared.dependency_record.NumberedNode.{NumberedNode}
@@ -71,7 +70,7 @@ no_fault number s more fields found read told same =
     taken : Told DependencyRecord → Told StatedValue
     taken t = t >>= (λ found. record_told number s found >>= (λ _. Ok (with_record s found)))
 
-node_told_ok : (number : ℕ) (nodes : List NumberedNode) (n : NumberedNode) → n.number ≡ length nodes → find (λ m. is_eq (numbered_cmp n m)) nodes ≡ None
+pub node_told_ok : (number : ℕ) (nodes : List NumberedNode) (n : NumberedNode) → n.number ≡ length nodes → find (λ m. is_eq (numbered_cmp n m)) nodes ≡ None
     → length nodes < MOST_NODES → node_told number nodes n ≡ Ok (tt {0})
 node_told_ok number nodes n own new few =
     let counted : (n.number == length nodes) ≡ true = (Decides-eqb n.number (length nodes)).1 own in

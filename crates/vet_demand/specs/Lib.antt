@@ -8,6 +8,7 @@ pub mod DependencyTable
 pub mod Flow
 pub mod NamedProject
 pub mod Needs
+pub mod Numbering
 pub mod Pair
 pub mod Passed
 pub mod Policies

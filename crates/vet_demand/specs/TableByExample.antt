@@ -1,5 +1,5 @@
 -- A project and its dependency table, by example.
-use Rattle.std.specs.Prelude.{ℕ, List, [], ◌∷◌, None, codes}
+use Rattle.std.specs.Prelude.{ℕ, List, [], ◌∷◌, ◌++◌, None, codes}
 use Rattle.vet_base.specs.Version.{VersionValue}
 use Rattle.vet_demand.specs.Project.{ProjectValue}
 use Rattle.vet_demand.specs.declared.project.EdgeKind.TheVariants.{Normal, Dev}
@@ -22,8 +22,21 @@ example_project = record {
 }
 
 abbrev pub example_table : List ℕ
-example_table = codes "what,n,p,q,r\nnode,0,a,1.0.0,third\nnode,1,app,0.1.0,root\nnode,2,b,1.0.0,third\nedge,0,2,normal,\nedge,1,0,dev,\n"
+example_table =
+    codes "what,n,p,q,r\n"
+    ++ codes "node,0,a,1.0.0,third\n"
+    ++ codes "node,1,app,0.1.0,root\n"
+    ++ codes "node,2,b,1.0.0,third\n"
+    ++ codes "edge,0,2,normal,\n"
+    ++ codes "edge,1,0,dev,\n"
 
--- the same by other numbers, with an edge twice, leading zeros, a needless quote and another end of a line
+-- the same by other numbers: an edge stands twice, and a number, a field and ends of lines are spelled otherwise
 abbrev pub other_table : List ℕ
-other_table = codes "what,n,p,q,r\nnode,0,app,0.1.0,root\nnode,001,\"b\",1.0.0,third\nedge,0,02,dev,\r\n\nedge,2,1,normal,\nnode,2,a,1.0.0,third\nedge,2,1,normal,"
+other_table =
+    codes "what,n,p,q,r\n"
+    ++ codes "node,0,app,0.1.0,root\n"
+    ++ codes "node,001,\"b\",1.0.0,third\n"
+    ++ codes "edge,0,2,dev,\r\n\n"
+    ++ codes "edge,2,1,normal,\n"
+    ++ codes "node,2,a,1.0.0,third\n"
+    ++ codes "edge,2,1,normal,"

@@ -1,4 +1,4 @@
--- The text of a dependency table (RFC 4180 for records; their forms are ours), and the table that is written of a project.
+-- The dependency table that is written of a project (RFC 4180 for its lines; the forms of records are ours).
 use Rattle.std.specs.Prelude.{ℕ, ◌≡◌, ◌+◌, true, List, [], ◌∷◌, ◌++◌, codes, map}
 use Rattle.std.specs.Fmt.{decimal}
 use Rattle.std.specs.List.{flat_map}

@@ -14,6 +14,7 @@ mod dependency_record;
 mod dependency_table;
 mod flow;
 pub mod needs;
+pub mod numbering;
 pub mod pair;
 mod passed;
 mod placing;

@@ -13,9 +13,7 @@ use vet_base::version::version_text_reads_back;
 /// The dependency table of a project, as CSV (RFC 4180): the header `what,n,p,q,r`; then a record
 /// `node,N,NAME,VERSION,PARTY` for each node in order, where N is its place, from 0; then a record
 /// `edge,FROM,TO,KIND,` for each edge in order. Each line ends with a line feed, and no field needs quotes.
-/// It is read as the same project again. Costs one walk over the project.
-///
-/// Refused: `NoMemory`.
+/// **It is read as the same project again.** Costs one walk over the project. Refused: `NoMemory`.
 pub fn write_project(alloc: Global, project: &Project) -> Result<String, Refusal>
     ensures text { IfOk result (λ text. string_bytes text ≡ written_text project.now) }
     ensures read_again { IfOk result (λ text. project_of_bytes (string_bytes text) ≡ Ok project.now) }
@@ -46,7 +44,7 @@ fn write_node(place: usize, node: &Node, text: &mut String) -> Result<(), AllocE
     let name = node.package.as_str();
     let version = &node.version;
     let party = party_word(node.party);
-    write!(text, "node,{place},{name},{version},{party}\n")
+    writeln!(text, "node,{place},{name},{version},{party}")
 }
 
 // Adds the lines of a project's edges.
@@ -65,7 +63,7 @@ fn write_edge(edge: Edge, text: &mut String) -> Result<(), AllocError>
     let from = edge.from;
     let to = edge.to;
     let kind = kind_word(edge.kind);
-    write!(text, "edge,{from},{to},{kind},\n")
+    writeln!(text, "edge,{from},{to},{kind},")
 }
 
 fn party_word(party: Party) -> &'static str
@@ -88,7 +86,7 @@ fn kind_word(kind: EdgeKind) -> &'static str
     }
 }
 
-/// A table by example: a law, so that its definition can be read beside a text.
+/// What is written of a project, and what is read, by example.
 pub fn table_by_example()
     ensures written { written_text example_project ≡ example_table }
     ensures read { project_of_bytes example_table ≡ Ok example_project }

@@ -1,4 +1,4 @@
-use Rattle.std.proofs.Common.{arith, ◌∙◌}
+use Rattle.std.proofs.Common.{arith}
 use Rattle.std.specs.Prelude.{string_bytes}
 use Rattle.vet_demand.proofs.WrittenLines.{next_named, node_written, nodes_written}
 use Rattle.vet_demand.proofs.table_writer.write_nodes.Goals as goal

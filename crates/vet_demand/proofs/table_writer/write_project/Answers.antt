@@ -1,8 +1,8 @@
-use Rattle.std.proofs.Common.{◌≡◌, ap, rules, subst, ◌++◌, ◌∙◌, map}
+use Rattle.std.proofs.Common.{◌≡◌, ap, subst, ◌++◌, ◌∙◌, map}
 use Rattle.std.specs.List.{All}
 use Rattle.std.specs.Prelude.{string_bytes}
 use Rattle.vet_demand.specs.DependencyTable.{project_of_bytes}
-use Rattle.vet_demand.specs.WrittenProject.{IsNamed, edge_fields, header_record, line, lines, node_records, written_text}
+use Rattle.vet_demand.specs.WrittenProject.{IsNamed, edge_fields, header_record, line, lines, node_records}
 use Rattle.vet_demand.proofs.WrittenLines.{all_written}
 use Rattle.vet_demand.proofs.WrittenTable.{written_is_read}
 use Rattle.vet_demand.proofs.table_writer.write_project.Goals as goal
