@@ -9,5 +9,6 @@ ghost use Rattle.vet_demand.specs.Project.{ProjectValue};
 /// that the first states is the one that the second states.
 pub fn numbering_is_free()
     ensures { (rename : ℕ → ℕ) (header : List (List ℕ)) (rows others : List (List (List ℕ))) (p : ProjectValue)
-        → AreRenumbered rename rows others → project_told (header ∷ rows) ≡ Ok p → project_told (header ∷ others) ≡ Ok p }
+        → AreRenumbered rename rows others → project_told (header ∷ rows) ≡ Ok p
+        → project_told (header ∷ others) ≡ Ok p }
 {}
