@@ -1,8 +1,8 @@
 //! The commands that are timed.
 
-use crate::demand::{CRITERION, VERSION, package_name};
+use crate::fault::Fault;
+use crate::project::{VERSION, package_name, project_of};
 use std::alloc::Global;
-use vet_base::criterion::Criterion;
 use vet_base::day::Day;
 use vet_base::name::Name;
 use vet_base::names::Names;
@@ -22,16 +22,22 @@ const DAY: &str = "2024-05-01";
 
 const PEER: &str = "harbour";
 
-const UNUSED: &str = "unused";
+const OTHER_PEER: &str = "unused";
 
-/// Sets a criterion that nothing names, with a description of its own: what is planned anew, and no more.
-pub fn set_criterion(alloc: Global, round: usize, place: usize) -> Result<Command, Refusal> {
-    let description = format!(in alloc; "{round} {place}")?;
-    command(Action::SetCriterion(Criterion {
-        name: Name::parse(alloc, UNUSED)?,
-        description: Some(Text::parse(alloc, description.as_str())?),
-        url: None,
-        implies: Names::new(alloc),
+// The criterion of the own entries.
+const CRITERION: &str = "safe-to-deploy";
+
+/// Sets another peer, from which nothing is imported, with a url of its own: all is planned anew by the same demand,
+/// and no more.
+pub fn set_other_peer(alloc: Global, round: usize, place: usize) -> Result<Command, Refusal> {
+    let text = format!(in alloc; "{round} {place}")?;
+    let mut url = Texts::new(alloc);
+    url.insert(Text::parse(alloc, text.as_str())?)?;
+    command(Action::SetPeer(PeerSettings {
+        name: Name::parse(alloc, OTHER_PEER)?,
+        url,
+        exclude: PackageNames::new(alloc),
+        map: CriteriaMap::new(alloc),
     }))
 }
 
@@ -53,6 +59,11 @@ pub fn drop_peer(alloc: Global) -> Result<Command, Refusal> {
 /// Imports a content from the peer.
 pub fn import_peer(alloc: Global, content: PeerContent) -> Result<Command, Refusal> {
     command(Action::ImportPeer(Name::parse(alloc, PEER)?, content))
+}
+
+/// Loads the project that demands a version of each of so many packages.
+pub fn load_project(alloc: Global, count: usize) -> Result<Command, Fault> {
+    Ok(command(Action::LoadProject(project_of(alloc, count)?))?)
 }
 
 /// Adds the own entry that vouches for the demanded version of a package.

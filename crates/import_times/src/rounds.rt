@@ -1,7 +1,8 @@
 //! The rounds, and the time of each command.
 
-use crate::commands::{add_demanded, add_other, drop_peer, import_peer, set_criterion, set_peer};
-use crate::demand::demand_of;
+use crate::commands::{
+    add_demanded, add_other, drop_peer, import_peer, load_project, set_other_peer, set_peer,
+};
 use crate::fault::Fault;
 use crate::input::Sizes;
 use std::alloc::Global;
@@ -43,10 +44,10 @@ fn imports_of(alloc: Global, contents: Vec<PeerContent>) -> Result<Vec<Command>,
     Ok(imports)
 }
 
-// A register of one own entry and one demanded pair of each of some packages.
+// A register of one demanded pair and one own entry of each of some packages.
 fn register_of(alloc: Global, own: usize) -> Result<Register<PlainKeeper>, Fault> {
-    let demand = demand_of(alloc, own)?;
-    let mut register = Register::new(alloc, MOST_MOVES, demand)?;
+    let mut register = Register::new(alloc, MOST_MOVES)?;
+    register.run(alloc, &load_project(alloc, own)?)?;
     for place in 0..own {
         register.run(alloc, &add_demanded(alloc, place)?)?;
     }
@@ -65,10 +66,10 @@ fn run_round(
         rt,
         register,
         "plan-without",
-        &set_criterion(alloc, round, 0)?,
+        &set_other_peer(alloc, round, 0)?,
     )?;
     import_all(rt, register, imports)?;
-    timed(rt, register, "plan", &set_criterion(alloc, round, 1)?)?;
+    timed(rt, register, "plan", &set_other_peer(alloc, round, 1)?)?;
     timed(rt, register, "add-entry", &add_other(alloc, round)?)?;
     timed(rt, register, "drop-peer", &drop_peer(alloc)?)
 }

@@ -1,1 +1,1 @@
-pub mod Demanded
+pub mod KnownPolicies

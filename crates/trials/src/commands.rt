@@ -9,12 +9,12 @@
 //! - `DAY set-publishers PACKAGE [VERSION,USER,DAY ..]` sets the publisher records of a package, without
 //!   logins and names.
 //!
-//! Those of peers stand in `peers`.
+//! Those of policies and projects stand in `demands`, and those of peers in `peers`.
 ghost use Rattle.std.specs.Prelude.{◌≡◌, OnErr};
 
+use crate::demands::demand_action;
 use crate::fault::Fault;
 use crate::line::{one, words_of};
-use crate::peers::peer_action;
 use std::alloc::Global;
 use vet_base::criterion::Criterion;
 use vet_base::day::Day;
@@ -85,7 +85,7 @@ fn action(alloc: Global, word: &str, texts: &[String]) -> Result<Action, Fault> 
         "add-entry" => add_entry(alloc, texts),
         "drop-entry" => drop_entry(texts),
         "set-publishers" => set_publishers(alloc, texts),
-        _ => peer_action(alloc, word, texts),
+        _ => demand_action(alloc, word, texts),
     }
 }
 

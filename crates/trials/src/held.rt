@@ -98,7 +98,8 @@ fn print_grant(rt: &impl Print, grant: &Grant) -> io::Result<()> {
     print_flag(rt, "renew", grant.renew)
 }
 
-fn print_flag(rt: &impl Print, key: &str, flag: Option<bool>) -> io::Result<()> {
+/// Prints a truth value, if there is one, behind its key.
+pub fn print_flag(rt: &impl Print, key: &str, flag: Option<bool>) -> io::Result<()> {
     match flag {
         Some(flag) => print!(rt; " {key}={flag}"),
         None => Ok(()),
@@ -112,8 +113,8 @@ fn print_texts(rt: &impl Print, key: &str, texts: &[Text]) -> io::Result<()> {
     Ok(())
 }
 
-// The text as a word of a line writes it.
-fn print_text(rt: &impl Print, key: &str, text: &Text) -> io::Result<()> {
+/// Prints a text behind its key, as a word of a line writes it.
+pub fn print_text(rt: &impl Print, key: &str, text: &Text) -> io::Result<()> {
     print!(rt; " {key}=")?;
     if text.as_str().is_empty() {
         return print!(rt; "%");

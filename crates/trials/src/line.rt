@@ -30,6 +30,22 @@ pub fn words_of(alloc: Global, line: &str) -> Result<Vec<String>, Fault> {
     Ok(words)
 }
 
+/// The bytes that a word writes. Refused: `NoMemory`.
+pub fn bytes_of(alloc: Global, word: &str) -> Result<Vec<u8>, Fault> {
+    let mut bytes = Vec::new(alloc);
+    if word == "%" {
+        return Ok(bytes);
+    }
+    let mut parts = word.split('%');
+    if let Some(first) = parts.next() {
+        bytes.extend_from_slice(first.as_bytes())?;
+    }
+    for part in parts {
+        push_escaped(&mut bytes, part.as_bytes())?;
+    }
+    Ok(bytes)
+}
+
 /// The one text that is given.
 pub fn one(texts: &[String]) -> Result<&str, Fault> {
     match texts {
@@ -78,18 +94,7 @@ fn push_byte(word: &mut String, byte: u8) -> Result<(), Fault> {
 }
 
 fn text_of(alloc: Global, word: &str) -> Result<String, Fault> {
-    if word == "%" {
-        return Ok(String::new(alloc));
-    }
-    let mut bytes = Vec::new(alloc);
-    let mut parts = word.split('%');
-    if let Some(first) = parts.next() {
-        bytes.extend_from_slice(first.as_bytes())?;
-    }
-    for part in parts {
-        push_escaped(&mut bytes, part.as_bytes())?;
-    }
-    match String::from_utf8(bytes) {
+    match String::from_utf8(bytes_of(alloc, word)?) {
         Ok(text) => Ok(text),
         Err(_) => Err(Fault::NotUnderstood),
     }

@@ -2,25 +2,31 @@
 //! of the product.
 //!
 //! `trials` reads an example on standard input, gives its lines in their order, and prints each
-//! answer and, where there is a command or a demand, in the end what the register holds.
+//! answer and, where there is a command, in the end what the register holds.
 //! `trials --contents` prints also before each command what it holds. `trials --relay` does as
 //! `trials`, with a keeper that hands all on to the plain one, and `trials --together` gives the commands as
-//! lists. What lines there are stands in `line`, `setting`, `commands`, `peers`, `values`, `steps`, `versions`,
-//! `days`, `files`, `written`, `lists` and `tables`. Where memory is wanting, the run ends with that refusal and
-//! what the register holds then, and with status 1, as it does where the demand is refused. At other words, an
+//! lists. What lines there are stands in `line`, `setting`, `commands`, `demands`, `peers`, `values`, `steps`,
+//! `versions`, `days`, `files`, `projects`, `written`, `lists` and `tables`. `trials --demand` has no register, asks
+//! what projects demand, and has the lines of `workspace`, with the words of `policies` and `projects`. Where memory is
+//! wanting, the run ends with that refusal and what the register holds then, and with status 1. At other words, an
 //! input that can't be read, or a line that isn't understood, a message goes to standard error, with status 2.
 #![tactic(auto)]
 
 mod commands;
 mod days;
+mod demands;
 mod fault;
 mod files;
 mod held;
+mod held_projects;
 mod input;
+mod known;
 mod line;
 mod lists;
 mod peers;
+mod policies;
 mod print;
+mod projects;
 mod relay;
 mod run;
 mod setting;
@@ -30,6 +36,7 @@ mod together;
 mod values;
 mod versions;
 mod words;
+mod workspace;
 mod written;
 
 use input::{Input, read_input};
@@ -43,6 +50,7 @@ use vet_base::refusal::Refusal;
 use vet_graph::keeper::Keeper;
 use vet_graph::plain::PlainKeeper;
 use words::{Words, read_words};
+use workspace::run_workspace;
 
 /// The status of a run of something that isn't understood.
 const NOT_UNDERSTOOD: u8 = 2;
@@ -56,7 +64,7 @@ fn main(rt: HostRuntime) -> io::Result<ExitCode> {
             Ok(ExitCode::from(NOT_UNDERSTOOD))
         }
         Ending::Words => {
-            eprintln!(rt; "trials takes no words but --contents, --relay or --together")?;
+            eprintln!(rt; "trials takes no words but --contents, --relay, --together or --demand")?;
             Ok(ExitCode::from(NOT_UNDERSTOOD))
         }
         Ending::Input => {
@@ -71,6 +79,7 @@ fn run_whole(rt: &HostRuntime) -> io::Result<Ending> {
         Words::Contents(contents) => run_input::<PlainKeeper>(rt, contents),
         Words::Relay => run_input::<RelayKeeper>(rt, Contents::AtEnd),
         Words::Together => run_input_together(rt),
+        Words::Demand => run_input_workspace(rt),
         Words::Other => Ok(Ending::Words),
         Words::NoMemory => ended_for_memory(rt),
     }
@@ -79,6 +88,14 @@ fn run_whole(rt: &HostRuntime) -> io::Result<Ending> {
 fn run_input_together(rt: &HostRuntime) -> io::Result<Ending> {
     match read_input(rt.alloc(), &mut rt.reader()) {
         Input::Text(text) => run_together::<PlainKeeper>(rt, rt.alloc(), text.as_str()),
+        Input::Other => Ok(Ending::Input),
+        Input::NoMemory => ended_for_memory(rt),
+    }
+}
+
+fn run_input_workspace(rt: &HostRuntime) -> io::Result<Ending> {
+    match read_input(rt.alloc(), &mut rt.reader()) {
+        Input::Text(text) => run_workspace(rt, rt.alloc(), text.as_str()),
         Input::Other => Ok(Ending::Input),
         Input::NoMemory => ended_for_memory(rt),
     }

@@ -1,6 +1,7 @@
 //! What a run prints, a line at a time. Printing takes no memory.
 
 use crate::held::{print_entries, print_names, print_peers};
+use crate::held_projects::{print_policies, print_projects};
 use std::io;
 use vet_base::criteria_table::CriteriaTable;
 use vet_base::name::PackageName;
@@ -52,8 +53,8 @@ fn print_details(rt: &impl Print, refusal: &Refusal) -> io::Result<()> {
     }
 }
 
-/// Prints what a register holds: its step, criteria, own entries, peers, publisher records, demanded pairs, counts
-/// and recorded moves.
+/// Prints what a register holds: its step, criteria, own entries, peers, publisher records, policies, projects,
+/// demanded pairs, counts and recorded moves.
 pub fn print_contents<K: Keeper>(rt: &impl Print, register: &Register<K>) -> io::Result<()> {
     println!(rt; "step {}", register.step())?;
     print_held(rt, register)?;
@@ -64,7 +65,9 @@ fn print_held<K: Keeper>(rt: &impl Print, register: &Register<K>) -> io::Result<
     print_criteria(rt, register.criteria())?;
     print_entries(rt, register.entries())?;
     print_peers(rt, register.peers())?;
-    print_packages(rt, register.publishers())
+    print_packages(rt, register.publishers())?;
+    print_policies(rt, register.policies())?;
+    print_projects(rt, register.projects())
 }
 
 fn print_standing<K: Keeper>(rt: &impl Print, register: &Register<K>) -> io::Result<()> {

@@ -27,7 +27,7 @@ pub enum Contents {
 pub enum Ending {
     /// Each line was given.
     Whole,
-    /// The demand was refused, or a line for want of memory, and none was given after it.
+    /// A line was refused for want of memory, and none was given after it.
     Refused,
     /// The line of this number, counted from 1, was not understood.
     Line(usize),
@@ -49,7 +49,7 @@ pub enum Told {
 }
 
 /// Gives an example's lines in their order, up to one that is refused for want of memory, and prints the
-/// answers and, where it has a command or demands something, what the register holds.
+/// answers and, where it has a command, what the register holds.
 pub fn run<K: Keeper>(
     rt: &impl Print,
     alloc: Global,
@@ -77,7 +77,7 @@ fn run_on<K: Keeper>(
     if let Ending::Line(_) = ending {
         return Ok(ending);
     }
-    if has_commands(text) || !register.demand().is_empty() {
+    if has_commands(text) {
         print_contents(rt, register)?;
     }
     Ok(ending)

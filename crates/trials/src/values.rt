@@ -11,10 +11,11 @@ use crate::fault::Fault;
 use crate::files::{peer_file, policy_key};
 use crate::line::{one, words_of};
 use crate::lists::{edited, names_of, packages_of, texts_of, touched};
+use crate::projects::{project, table_word};
 use crate::steps::{condemned_criteria, steps, told_criteria};
 use crate::tables::{moves, table, table_of};
 use crate::versions::{delta, equal, matches, order, requirement, version};
-use crate::written::{written_audits, written_config, written_imports};
+use crate::written::{written_audits, written_config, written_imports, written_project};
 use std::alloc::Global;
 use vet_base::key_text::KeyText;
 use vet_base::name::{Name, PackageName};
@@ -24,6 +25,10 @@ use vet_entries::facts::EntryFacts;
 
 /// What a line is told that asks for a value. Refused: what its texts are refused for, and `NoMemory`.
 pub fn value(alloc: Global, facts: &EntryFacts, line: &str) -> Result<String, Fault> {
+    // a table is of any bytes, and the words of other lines are texts
+    if let Some(word) = table_word(line) {
+        return project(alloc, word);
+    }
     let words = words_of(alloc, line)?;
     let [word, texts @ ..] = words.as_slice() else {
         return Err(Fault::NotUnderstood);
@@ -84,6 +89,7 @@ fn file_value(alloc: Global, word: &str, texts: &[String]) -> Result<String, Fau
         "written-audits" => written_audits(alloc, texts),
         "written-config" => written_config(alloc, texts),
         "written-imports" => written_imports(alloc, texts),
+        "written-project" => written_project(alloc, texts),
         _ => list_value(alloc, word, texts),
     }
 }

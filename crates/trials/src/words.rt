@@ -13,6 +13,8 @@ pub enum Words {
     Relay,
     /// A run that gives the commands as lists.
     Together,
+    /// A run that asks what projects demand.
+    Demand,
     /// Anything else.
     Other,
     /// There was no memory to read them.
@@ -37,18 +39,17 @@ fn meaning(words: Args) -> Words {
     let mut words = words.skip(1);
     match (words.next(), words.next()) {
         (None, _) => Words::Contents(Contents::AtEnd),
-        (Some(flag), None) => {
-            if flag.as_str() == "--contents" {
-                return Words::Contents(Contents::RoundEach);
-            }
-            if flag.as_str() == "--relay" {
-                return Words::Relay;
-            }
-            if flag.as_str() == "--together" {
-                return Words::Together;
-            }
-            Words::Other
-        }
+        (Some(flag), None) => meaning_of(flag.as_str()),
+        _ => Words::Other,
+    }
+}
+
+fn meaning_of(flag: &str) -> Words {
+    match flag {
+        "--contents" => Words::Contents(Contents::RoundEach),
+        "--relay" => Words::Relay,
+        "--together" => Words::Together,
+        "--demand" => Words::Demand,
         _ => Words::Other,
     }
 }

@@ -5,12 +5,17 @@
 //! what the file holds, as the word that writes it; how much that text holds and what is passed over in it; and
 //! `same` where what it holds is written as the same text again, else `other`.
 //!
+//! `written-project TABLE` has the text of a dependency table, and tells the table that is written of the project which it
+//! states, as the word that writes it, and `same` where that is read as the same project, else `other`.
+//!
 //! The line `imports-file` has nothing behind it, and tells the text of the imports file of what the register holds, as
 //! the word that writes it.
 
 use crate::fault::Fault;
 use crate::line::{one, two, word_of};
 use std::alloc::Global;
+use vet_demand::table_reader::read_project;
+use vet_demand::table_writer::write_project;
 use vet_entries::peer_settings::PeerSettings;
 use vet_files::audits_file::{AuditsContent, read_audits, write_audits};
 use vet_files::config_file::{ConfigContent, read_config, write_config};
@@ -63,6 +68,16 @@ pub fn written_imports(alloc: Global, texts: &[String]) -> Result<String, Fault>
     let (config, imports) = two(texts)?;
     let config = read_config(alloc, config.as_bytes())?;
     imports_told(alloc, config.content.peers.as_slice(), imports)
+}
+
+/// What is written of the project of a dependency table. Refused: what the table is refused for, and `NoMemory`.
+pub fn written_project(alloc: Global, texts: &[String]) -> Result<String, Fault> {
+    let project = read_project(alloc, one(texts)?.as_bytes())?;
+    let text = write_project(alloc, &project)?;
+    let again = read_project(alloc, text.as_bytes())?;
+    let word = word_of(alloc, text.as_str())?;
+    let compared = if again == project { "same" } else { "other" };
+    Ok(format!(in alloc; "{word} {compared}")?)
 }
 
 /// What is written of the imports file of what a register holds. Refused: `NoMemory`.

@@ -12,7 +12,8 @@ use Rattle.vet_base.specs.Day.{DayValue}
 use Rattle.vet_base.specs.Gives.{Answers, Refuses, Told, refuse_if, ◌>>=◌}
 use Rattle.vet_base.proofs.Telling.{not_refused, then_told}
 use Rattle.vet_entries.specs.declared.publisher.Publisher.{Publisher}
-use Rattle.vet_entries.specs.Facts.{Fits, edited, is_named}
+use Rattle.vet_entries.specs.declared.facts.Edit.{Edit}
+use Rattle.vet_entries.specs.Facts as facts
 use Rattle.vet_entries.specs.PublisherRecords.{IsByName, records_of, records_total, with_records}
 use Rattle.vet_entries.specs.Publishers as Publishers
 use Rattle.vet_entries.specs.Publishers.{publishers_eq, publishers_eq-Decides}
@@ -24,12 +25,15 @@ use Rattle.vet_register.specs.declared.edits.Asked.TheVariants as asked
 use Rattle.vet_register.specs.declared.edits.Effect.{Effect}
 use Rattle.vet_register.specs.declared.verdict.Answer.{Answer}
 use Rattle.vet_register.specs.declared.verdict.Answer.TheVariants.{Already, Accepted}
-use Rattle.vet_register.specs.Machine.{facts_after, number_after, number_given}
-use Rattle.vet_register.specs.RegisterView.{Asks, AsksBy, AsksExactly, IsEffect, IsExact, IsExactly, RegisterView, facts_room}
-use Rattle.vet_register.specs.Sound.{ArePublishers, AreSound, IsSound}
+use Rattle.vet_register.specs.declared.held.HeldEdit.TheVariants as edit
+use Rattle.vet_register.specs.Held.{Fits, edited}
+use Rattle.vet_register.specs.Machine.{facts_after, held_after, number_after, number_given, policies_by, projects_by}
+use Rattle.vet_register.specs.RegisterView.{Asks, AsksBy, AsksExactly, IsEffect, IsExact, IsExactly, RegisterView, held_room}
+use Rattle.vet_register.specs.Sound.{ArePublishers, IsSound, IsSoundHeld}
 use Rattle.vet_register.specs.State.{State}
-use Rattle.vet_register.specs.Verdict.{judged, publisher_limit, step_limit, wants_memory}
-use Rattle.vet_register.proofs.Effects.{IsGivenContent, passed, sound_effect}
+use Rattle.vet_register.specs.Verdict.{is_used, judged, publisher_limit, step_limit, wants_memory}
+use Rattle.vet_register.proofs.Effects.{IsGivenContent, passed}
+use Rattle.vet_register.proofs.HeldEffects.{sound_held}
 use Rattle.vet_register.proofs.Publishing.{are_publishers}
 
 -- ---- answers
@@ -127,19 +131,29 @@ module _ {K : Type 0} (r : RegisterView K) (a : Action) where
       by true (inr h) = inr (exact_exactly U t f h)
       by false h = exact_exactly U t f h
 
-  -- the effect of what is accepted in a state that stays, if criteria and publisher records are sound after it
-  pub effect_is : (s : State) (day : DayValue) (e : Effect) → r.state ≡ s → IsSound s → judged s day a ≡ Ok Accepted → IsGivenContent a
-      → edited e.edit s.facts ≡ facts_after s a → e.number ≡ number_given s a → e.next_entry ≡ number_after s a → Fits e.edit (facts_room r)
-      → IsTable (facts_after s a).criteria → ArePublishers (facts_after s a).publishers → IsEffect r a e
-  effect_is s day e stays sound told given facts number next fits is are =
+  -- the effect of what is accepted in a state that stays, if what is held after it is sound
+  pub effect_is : (s : State) (e : Effect) → r.state ≡ s → edited e.edit s.held ≡ held_after s a → e.number ≡ number_given s a → e.next_entry ≡ number_after s a
+      → Fits e.edit (held_room r) → IsSoundHeld (held_after s a) (number_after s a) → IsEffect r a e
+  effect_is s e stays held number next fits sound =
       let same : s ≡ r.state = sym stays in
       record {
-        facts = subst (λ (t : State). edited e.edit t.facts ≡ facts_after t a) same facts;
+        held = subst (λ (t : State). edited e.edit t.held ≡ held_after t a) same held;
         number = subst (λ (t : State). e.number ≡ number_given t a) same number;
         next_entry = subst (λ (t : State). e.next_entry ≡ number_after t a) same next;
-        sound = subst (λ (t : State). AreSound (facts_after t a) (number_after t a)) same (sound_effect s day a told sound.facts given is are);
+        sound = subst (λ (t : State). IsSoundHeld (held_after t a) (number_after t a)) same sound;
         fits = fits;
       }
+
+  -- that of an edit of facts, where policies and projects stay, if criteria and publisher records are sound after it
+  pub facts_effect : (s : State) (day : DayValue) (change : Edit) (number : Option ℕ) (next : ℕ) → r.state ≡ s → IsSound s → judged s day a ≡ Ok Accepted
+      → IsGivenContent a → facts.edited change s.held.facts ≡ facts_after s a → policies_by a s.held.policies ≡ s.held.policies
+      → projects_by a s.held.projects ≡ s.held.projects → number ≡ number_given s a → next ≡ number_after s a → facts.Fits change (held_room r).facts
+      → IsTable (facts_after s a).criteria → ArePublishers (facts_after s a).publishers
+      → IsEffect r a (record { edit = edit.Facts change; number = number; next_entry = next })
+  facts_effect s day change number next stays sound told given becomes policies projects numbered follows fits is are =
+      effect_is s (record { edit = edit.Facts change; number = number; next_entry = next }) stays
+      (λ i. record { facts = becomes i; policies = sym policies i; projects = sym projects i }) numbered follows fits
+      (sound_held s day a told sound.held given is are)
 
 -- ---- what was passed
 
@@ -148,36 +162,36 @@ pub some_day : DayValue
 some_day = record { year = 0; month = 1; day = 1 }
 
 -- a criterion that is set passes all that the table asks
-pub set_passed : (s : State) (day : DayValue) (c : Criterion) → judged s day (SetCriterion c) ≡ Ok Accepted → set_verdict s.facts.criteria c ≡ Ok tt
+pub set_passed : (s : State) (day : DayValue) (c : Criterion) → judged s day (SetCriterion c) ≡ Ok Accepted → set_verdict s.held.facts.criteria c ≡ Ok tt
 set_passed s day c told =
     let p = passed s day (SetCriterion c) told in
-    let l = then_told (set_limits s.facts.criteria c.name) (λ _. step_limit s) tt p.limits in
-    ap (λ t. t >>= λ _. set_references s.facts.criteria c >>= λ _. set_rules c.name) l.0 ∙ ap (λ t. t >>= λ _. set_rules c.name) p.references ∙ p.rules
+    let l = then_told (set_limits s.held.facts.criteria c.name) (λ _. step_limit s) tt p.limits in
+    ap (λ t. t >>= λ _. set_references s.held.facts.criteria c >>= λ _. set_rules c.name) l.0 ∙ ap (λ t. t >>= λ _. set_rules c.name) p.references ∙ p.rules
 
 -- so does the name of one that is removed
-pub remove_passed : (s : State) (day : DayValue) (n : List ℕ) → judged s day (RemoveCriterion n) ≡ Ok Accepted → remove_verdict s.facts.criteria n ≡ Ok tt
+pub remove_passed : (s : State) (day : DayValue) (n : List ℕ) → judged s day (RemoveCriterion n) ≡ Ok Accepted → remove_verdict s.held.facts.criteria n ≡ Ok tt
 remove_passed s day n told =
     let p = passed s day (RemoveCriterion n) told in
-    let u = then_told (remove_rules s.facts.criteria n) (λ _. refuse_if (is_named s.facts n) CriterionInUse) tt p.rules in
-    ap (λ t. t >>= λ _. remove_rules s.facts.criteria n) p.references ∙ u.0
+    let u = then_told (remove_rules s.held.facts.criteria n) (λ _. refuse_if (is_used s.held n) CriterionInUse) tt p.rules in
+    ap (λ t. t >>= λ _. remove_rules s.held.facts.criteria n) p.references ∙ u.0
 
 module _ (s : State) (day : DayValue) (name : List ℕ) (records : List Publisher) (told : judged s day (SetPublishers name records) ≡ Ok Accepted) where
   limited : publisher_limit s name records ≡ Ok tt
   limited = (then_told (publisher_limit s name records) (λ _. step_limit s) tt (passed s day (SetPublishers name records) told).limits).0
 
   -- publisher records that are set can be counted
-  pub records_counted : records_total (with_records name records s.facts.publishers) < 2 ^ 64
-  records_counted = omega (arith, ltb-false MOST_PUBLISHERS (records_total (with_records name records s.facts.publishers)) (not_refused _ (TooLarge limit.Publishers) limited))
+  pub records_counted : records_total (with_records name records s.held.facts.publishers) < 2 ^ 64
+  records_counted = omega (arith, ltb-false MOST_PUBLISHERS (records_total (with_records name records s.held.facts.publishers)) (not_refused _ (TooLarge limit.Publishers) limited))
 
   -- they are sound
-  pub records_sound : ArePublishers s.facts.publishers → Publishers.IsInOrder records → IsByName (with_records name records s.facts.publishers)
-      → ArePublishers (with_records name records s.facts.publishers)
+  pub records_sound : ArePublishers s.held.facts.publishers → Publishers.IsInOrder records → IsByName (with_records name records s.held.facts.publishers)
+      → ArePublishers (with_records name records s.held.facts.publishers)
   records_sound are ordered named = are_publishers s name records are ordered named limited
 
   -- and others than those held
-  pub records_differ : records_of s.facts.publishers name ≡ [] → records ≡ [] → ⊥
+  pub records_differ : records_of s.held.facts.publishers name ≡ [] → records ≡ [] → ⊥
   records_differ none no_new =
-      differs (publishers_eq (records_of s.facts.publishers name) records) ((publishers_eq-Decides _ _).1 (none ∙ sym no_new)) (passed s day (SetPublishers name records) told).held
+      differs (publishers_eq (records_of s.held.facts.publishers name) records) ((publishers_eq-Decides _ _).1 (none ∙ sym no_new)) (passed s day (SetPublishers name records) told).held
     where
       nothing : Option (Option ℕ)
       nothing = None

@@ -87,14 +87,14 @@ place_within entries n place e =
     let at = some_place (has_number n) (ltb (position_or_len (has_number n) entries) (length entries)) (position_or_len (has_number n) entries) place e in
     subst (λ k. k < length entries) at.1 (ltb-true (position_or_len (has_number n) entries) (length entries) at.0)
 
-pub drop_passes : (s : State) (day : DayValue) (n place : ℕ) → step_limit s ≡ Ok tt → place_of s.facts.entries n ≡ Some place → checked s day (DropEntry n) ≡ Ok tt
-drop_passes s day n place step at = rw (step, placed s.facts.entries n place at) refl
+pub drop_passes : (s : State) (day : DayValue) (n place : ℕ) → step_limit s ≡ Ok tt → place_of s.held.facts.entries n ≡ Some place → checked s day (DropEntry n) ≡ Ok tt
+drop_passes s day n place step at = rw (step, placed s.held.facts.entries n place at) refl
 
-pub drop_refused : (s : State) (day : DayValue) (n : ℕ) → place_of s.facts.entries n ≡ None → checked s day (DropEntry n) ≡ Ok tt → ⊥
+pub drop_refused : (s : State) (day : DayValue) (n : ℕ) → place_of s.held.facts.entries n ≡ None → checked s day (DropEntry n) ≡ Ok tt → ⊥
 drop_refused s day n at told =
     let r = then_told (step_limit s) (λ _. references s (DropEntry n) >>= λ _. rules s day (DropEntry n)) tt told in
-    let held = not_refused (not (list_any (has_number n) s.facts.entries)) UnknownEntry (then_told (references s (DropEntry n)) (λ _. rules s day (DropEntry n)) tt r.1).0 in
-    false≢true (sym held ∙ ap not (unplaced s.facts.entries n at))
+    let held = not_refused (not (list_any (has_number n) s.held.facts.entries)) UnknownEntry (then_told (references s (DropEntry n)) (λ _. rules s day (DropEntry n)) tt r.1).0 in
+    false≢true (sym held ∙ ap not (unplaced s.held.facts.entries n at))
 
 -- what is answered without a refusal passed
 pub passes : {A : Type 0} (t : Told (Unit {0})) (x : A) → IfErr t (λ e. Refuses e (Ok x)) → t ≡ Ok tt

@@ -29,13 +29,13 @@ use Rattle.vet_base.proofs.ItemLemmas.{in_all, in_append, in_filter}
 use Rattle.vet_entries.proofs.ImportLaws.{holds_each_once}
 use Rattle.vet_entries.proofs.PeerLaws.{entries_with, entries_without, found_name}
 use Rattle.vet_register.specs.declared.command.Action.{Action}
-use Rattle.vet_register.specs.declared.command.Action.TheVariants.{SetCriterion, RemoveCriterion, AddEntry, DropEntry, SetPeer, DropPeer, ImportPeer, SetPublishers}
+use Rattle.vet_register.specs.declared.command.Action.TheVariants.{SetCriterion, RemoveCriterion, AddEntry, DropEntry, SetPeer, DropPeer, ImportPeer, SetPublishers, SetPolicy, DropPolicy, LoadProject, DropProject}
 use Rattle.vet_register.specs.declared.verdict.Answer.{Answer}
 use Rattle.vet_register.specs.declared.verdict.Answer.TheVariants.{Already, Accepted}
 use Rattle.vet_register.specs.Machine.{facts_after, number_after, numbers_given}
 use Rattle.vet_register.specs.Sound.{AreEntries, ArePublishers, AreSound, Differ, IsFrom, IsGiven, IsSoundPeer}
 use Rattle.vet_register.specs.State.{State}
-use Rattle.vet_register.specs.Verdict.{checked, entries_beside, entry_limit, held_as, held_or, judged, limits, number_limit, peer_limit, publisher_limit, references, rules, step_limit}
+use Rattle.vet_register.specs.Verdict.{checked, entries_beside, entry_limit, held_as, held_or, judged, limits, number_limit, peer_limit, policy_limit, project_limit, publisher_limit, references, rules, step_limit}
 use Rattle.vet_register.proofs.Known.{known_after}
 use Rattle.vet_register.proofs.Lists.{AllPairs-append, AllPairs-single, all_fail, filter-fewer}
 use Rattle.vet_register.proofs.PeerEffects.{PeersSound, dropped_peer, found_in, imported_peer, later_entries, own_changed, settings_set}
@@ -81,16 +81,16 @@ counts_passed s count numbers h =
       number = ltb-false (LAST_NUMBER + 1) (s.next_entry + numbers) (not_refused _ (TooLarge limit.Number) r.1);
     }
 
-entry_passed : (s : State) (e : Entry) → limits s (AddEntry e) ≡ Ok tt → Counted s (entries_total s.facts + 1) 1
-entry_passed s e h = counts_passed s (entries_total s.facts + 1) 1 h
+entry_passed : (s : State) (e : Entry) → limits s (AddEntry e) ≡ Ok tt → Counted s (entries_total s.held.facts + 1) 1
+entry_passed s e h = counts_passed s (entries_total s.held.facts + 1) 1 h
 
 pub import_passed : (s : State) (name : List ℕ) (content : PeerContentValue) → limits s (ImportPeer name content) ≡ Ok tt
-    → Counted s (entries_beside s.facts name + length content.entries) (numbers_given s (ImportPeer name content))
-import_passed s name content h = counts_passed s (entries_beside s.facts name + length content.entries) (numbers_given s (ImportPeer name content)) h
+    → Counted s (entries_beside s.held.facts name + length content.entries) (numbers_given s (ImportPeer name content))
+import_passed s name content h = counts_passed s (entries_beside s.held.facts name + length content.entries) (numbers_given s (ImportPeer name content)) h
 
 -- a step follows
 pub step_passed : (s : State) (a : Action) → limits s a ≡ Ok tt → step_limit s ≡ Ok tt
-step_passed s (SetCriterion c) h = (then_told (set_limits s.facts.criteria c.name) (λ _. step_limit s) tt h).1
+step_passed s (SetCriterion c) h = (then_told (set_limits s.held.facts.criteria c.name) (λ _. step_limit s) tt h).1
 step_passed s (RemoveCriterion n) h = h
 step_passed s (AddEntry e) h = (entry_passed s e h).step
 step_passed s (DropEntry n) h = h
@@ -98,6 +98,10 @@ step_passed s (SetPeer settings) h = (then_told (peer_limit s settings.name) (λ
 step_passed s (DropPeer n) h = h
 step_passed s (ImportPeer n content) h = (import_passed s n content h).step
 step_passed s (SetPublishers n records) h = (then_told (publisher_limit s n records) (λ _. step_limit s) tt h).1
+step_passed s (SetPolicy p) h = (then_told (policy_limit s p.key) (λ _. step_limit s) tt h).1
+step_passed s (DropPolicy key) h = h
+step_passed s (LoadProject p) h = (then_told (project_limit s p.name) (λ _. step_limit s) tt h).1
+step_passed s (DropProject n) h = h
 
 pub step_follows : (s : State) → step_limit s ≡ Ok tt → s.step + 1 ≤ LAST_STEP
 step_follows s h = ltb-false LAST_STEP (s.step + 1) (not_refused _ (TooLarge limit.Step) h)
@@ -111,6 +115,10 @@ next_number_follows s (SetPeer settings) p h = omega (arith, h)
 next_number_follows s (DropPeer n) p h = omega (arith, h)
 next_number_follows s (ImportPeer n content) p h = (import_passed s n content p).number
 next_number_follows s (SetPublishers n records) p h = omega (arith, h)
+next_number_follows s (SetPolicy policy) p h = omega (arith, h)
+next_number_follows s (DropPolicy key) p h = omega (arith, h)
+next_number_follows s (LoadProject project) p h = omega (arith, h)
+next_number_follows s (DropProject n) p h = omega (arith, h)
 
 -- ---- own entries
 
@@ -154,19 +162,23 @@ one_more n e entries h other =
     }
 
 -- the entries after a command
-entries_after : (s : State) (day : DayValue) (a : Action) → Passed s day a → AreEntries Own s.facts.entries s.next_entry
+entries_after : (s : State) (day : DayValue) (a : Action) → Passed s day a → AreEntries Own s.held.facts.entries s.next_entry
     → AreEntries Own (facts_after s a).entries (number_after s a)
-entries_after s day (SetCriterion c) p h = later_entries Own s.facts.entries s.next_entry _ (omega arith) h
-entries_after s day (RemoveCriterion n) p h = later_entries Own s.facts.entries s.next_entry _ (omega arith) h
+entries_after s day (SetCriterion c) p h = later_entries Own s.held.facts.entries s.next_entry _ (omega arith) h
+entries_after s day (RemoveCriterion n) p h = later_entries Own s.held.facts.entries s.next_entry _ (omega arith) h
 entries_after s day (AddEntry e) p h =
-    one_more s.next_entry e s.facts.entries h (other_entries s.facts.entries e (none_under (number_of s.facts.entries e) p.held))
+    one_more s.next_entry e s.held.facts.entries h (other_entries s.held.facts.entries e (none_under (number_of s.held.facts.entries e) p.held))
 entries_after s day (DropEntry n) p h =
     let keeps : HeldEntry → Bool = λ h. not (has_number n h) in
-    later_entries Own (filter keeps s.facts.entries) s.next_entry _ (omega arith) (same_entries s.facts.entries s.next_entry keeps h)
-entries_after s day (SetPeer settings) p h = later_entries Own s.facts.entries s.next_entry _ (omega arith) h
-entries_after s day (DropPeer n) p h = later_entries Own s.facts.entries s.next_entry _ (omega arith) h
-entries_after s day (ImportPeer n content) p h = later_entries Own s.facts.entries s.next_entry _ (omega arith) h
-entries_after s day (SetPublishers n records) p h = later_entries Own s.facts.entries s.next_entry _ (omega arith) h
+    later_entries Own (filter keeps s.held.facts.entries) s.next_entry _ (omega arith) (same_entries s.held.facts.entries s.next_entry keeps h)
+entries_after s day (SetPeer settings) p h = later_entries Own s.held.facts.entries s.next_entry _ (omega arith) h
+entries_after s day (DropPeer n) p h = later_entries Own s.held.facts.entries s.next_entry _ (omega arith) h
+entries_after s day (ImportPeer n content) p h = later_entries Own s.held.facts.entries s.next_entry _ (omega arith) h
+entries_after s day (SetPublishers n records) p h = later_entries Own s.held.facts.entries s.next_entry _ (omega arith) h
+entries_after s day (SetPolicy policy) p h = later_entries Own s.held.facts.entries s.next_entry _ (omega arith) h
+entries_after s day (DropPolicy key) p h = later_entries Own s.held.facts.entries s.next_entry _ (omega arith) h
+entries_after s day (LoadProject project) p h = later_entries Own s.held.facts.entries s.next_entry _ (omega arith) h
+entries_after s day (DropProject n) p h = later_entries Own s.held.facts.entries s.next_entry _ (omega arith) h
 
 -- ---- peers
 
@@ -175,18 +187,18 @@ abbrev pub IsGivenContent : Action → Type 0
 IsGivenContent (ImportPeer name content) = IsPeerContent content.criteria content.entries
 IsGivenContent _ = Unit {0}
 
-stay : (s : State) (m : ℕ) → s.next_entry ≤ m → PeersSound s.facts.entries s.facts.peers s.next_entry → PeersSound s.facts.entries s.facts.peers m
-stay s m above h = own_changed s.facts.entries s.facts.entries s.facts.peers s.next_entry m above (λ x i. inl i) h
+stay : (s : State) (m : ℕ) → s.next_entry ≤ m → PeersSound s.held.facts.entries s.held.facts.peers s.next_entry → PeersSound s.held.facts.entries s.held.facts.peers m
+stay s m above h = own_changed s.held.facts.entries s.held.facts.entries s.held.facts.peers s.next_entry m above (λ x i. inl i) h
 
 -- the peers after a command
-peers_after : (s : State) (day : DayValue) (a : Action) → Passed s day a → AreEntries Own s.facts.entries s.next_entry → IsGivenContent a
-    → PeersSound s.facts.entries s.facts.peers s.next_entry → PeersSound (facts_after s a).entries (facts_after s a).peers (number_after s a)
+peers_after : (s : State) (day : DayValue) (a : Action) → Passed s day a → AreEntries Own s.held.facts.entries s.next_entry → IsGivenContent a
+    → PeersSound s.held.facts.entries s.held.facts.peers s.next_entry → PeersSound (facts_after s a).entries (facts_after s a).peers (number_after s a)
 peers_after s day (SetCriterion c) p own given h = stay s _ (omega arith) h
 peers_after s day (RemoveCriterion n) p own given h = stay s _ (omega arith) h
 peers_after s day (AddEntry e) p mine given h =
     let new : HeldEntry = record { number = s.next_entry; entry = own e } in
-    own_changed s.facts.entries (s.facts.entries ++ new ∷ []) s.facts.peers s.next_entry (s.next_entry + 1) (omega arith)
-    (λ x i. elim (in_append s.facts.entries (new ∷ []) x i) [
+    own_changed s.held.facts.entries (s.held.facts.entries ++ new ∷ []) s.held.facts.peers s.next_entry (s.next_entry + 1) (omega arith)
+    (λ x i. elim (in_append s.held.facts.entries (new ∷ []) x i) [
       | inl held ↦ inl held
       | inr last ↦ elim last [
         | inl same ↦ (let at : x.number ≡ s.next_entry = ap (λ h. h.number) same in inr (omega (arith, at)))
@@ -195,27 +207,31 @@ peers_after s day (AddEntry e) p mine given h =
     ]) h
 peers_after s day (DropEntry n) p own given h =
     let keeps : HeldEntry → Bool = λ h. not (has_number n h) in
-    own_changed s.facts.entries (filter keeps s.facts.entries) s.facts.peers s.next_entry _ (omega arith) (λ x i. inl (in_filter keeps s.facts.entries x i).0) h
+    own_changed s.held.facts.entries (filter keeps s.held.facts.entries) s.held.facts.peers s.next_entry _ (omega arith) (λ x i. inl (in_filter keeps s.held.facts.entries x i).0) h
 peers_after s day (SetPeer settings) p own given h =
     let l = then_told (peer_limit s settings.name) (λ _. step_limit s) tt p.limits in
-    settings_set s.facts.entries s.facts.peers settings s.next_entry h _ (omega arith)
-    (not_refused (is_none (peer_of s.facts.peers settings.name) && nat_lt MOST_PEERS (length s.facts.peers + 1)) (TooLarge limit.Peers) l.0)
-peers_after s day (DropPeer n) p own given h = dropped_peer s.facts.entries s.facts.peers n s.next_entry _ (omega arith) h
+    settings_set s.held.facts.entries s.held.facts.peers settings s.next_entry h _ (omega arith)
+    (not_refused (is_none (peer_of s.held.facts.peers settings.name) && nat_lt MOST_PEERS (length s.held.facts.peers + 1)) (TooLarge limit.Peers) l.0)
+peers_after s day (DropPeer n) p own given h = dropped_peer s.held.facts.entries s.held.facts.peers n s.next_entry _ (omega arith) h
 peers_after s day (ImportPeer n content) p own given h =
-    imported_peer s.facts.entries s.facts.peers n s.next_entry content h own.numbers_given given (peer_of s.facts.peers n) refl
-    (not_refused (is_none (peer_of s.facts.peers n)) UnknownPeer p.references)
+    imported_peer s.held.facts.entries s.held.facts.peers n s.next_entry content h own.numbers_given given (peer_of s.held.facts.peers n) refl
+    (not_refused (is_none (peer_of s.held.facts.peers n)) UnknownPeer p.references)
 peers_after s day (SetPublishers n records) p own given h = stay s _ (omega arith) h
+peers_after s day (SetPolicy policy) p own given h = stay s _ (omega arith) h
+peers_after s day (DropPolicy key) p own given h = stay s _ (omega arith) h
+peers_after s day (LoadProject project) p own given h = stay s _ (omega arith) h
+peers_after s day (DropProject n) p own given h = stay s _ (omega arith) h
 
 -- ---- how many entries there are
 
 -- an import of a held peer counts its entries in place of those held
-import_counted : (s : State) (name : List ℕ) (content : PeerContentValue) → PeersSound s.facts.entries s.facts.peers s.next_entry
-    → IsPeerContent content.criteria content.entries → length s.facts.entries + entries_of_peers (without_peer name s.facts.peers) + length content.entries ≤ MOST_ENTRIES
-    → (o : Option HeldPeer) → peer_of s.facts.peers name ≡ o → is_none o ≡ false
-    → length s.facts.entries + entries_of_peers (with_content_of o (imported name s.next_entry content (holding_or_none o)) s.facts.peers) ≤ MOST_ENTRIES
+import_counted : (s : State) (name : List ℕ) (content : PeerContentValue) → PeersSound s.held.facts.entries s.held.facts.peers s.next_entry
+    → IsPeerContent content.criteria content.entries → length s.held.facts.entries + entries_of_peers (without_peer name s.held.facts.peers) + length content.entries ≤ MOST_ENTRIES
+    → (o : Option HeldPeer) → peer_of s.held.facts.peers name ≡ o → is_none o ≡ false
+    → length s.held.facts.entries + entries_of_peers (with_content_of o (imported name s.next_entry content (holding_or_none o)) s.held.facts.peers) ≤ MOST_ENTRIES
 import_counted s name content h is few None e some = absurd (false≢true (sym some))
 import_counted s name content h is few (Some x) e some =
-    let peers = s.facts.peers in
+    let peers = s.held.facts.peers in
     let same : x.settings.name ≡ name = found_name peers name x e in
     let new : HeldPeer = record x { content = imported name s.next_entry content x.content } in
     let different : AllDiffer x.content.entries = (in_all (IsSoundPeer s.next_entry) peers h.are.sound x (found_in peers name x e)).entries.different in
@@ -225,29 +241,33 @@ import_counted s name content h is few (Some x) e some =
     ap (λ o. length (holding_or_none o).entries) (ap (peer_of peers) same ∙ e) in
     omega (arith, few, count, held, at, entries_with peers new h.are.by_name, entries_without peers name h.are.by_name)
 
-counted_after : (s : State) (day : DayValue) (a : Action) → Passed s day a → IsGivenContent a → PeersSound s.facts.entries s.facts.peers s.next_entry
-    → entries_total s.facts ≤ MOST_ENTRIES → entries_total (facts_after s a) ≤ MOST_ENTRIES
+counted_after : (s : State) (day : DayValue) (a : Action) → Passed s day a → IsGivenContent a → PeersSound s.held.facts.entries s.held.facts.peers s.next_entry
+    → entries_total s.held.facts ≤ MOST_ENTRIES → entries_total (facts_after s a) ≤ MOST_ENTRIES
 counted_after s day (SetCriterion c) p given h few = few
 counted_after s day (RemoveCriterion n) p given h few = few
 counted_after s day (AddEntry e) p given h few =
     let new : HeldEntry = record { number = s.next_entry; entry = own e } in
-    omega (arith, (entry_passed s e p.limits).few, length-append s.facts.entries (new ∷ []))
-counted_after s day (DropEntry n) p given h few = omega (arith, few, filter-fewer (λ h. not (has_number n h)) s.facts.entries)
+    omega (arith, (entry_passed s e p.limits).few, length-append s.held.facts.entries (new ∷ []))
+counted_after s day (DropEntry n) p given h few = omega (arith, few, filter-fewer (λ h. not (has_number n h)) s.held.facts.entries)
 counted_after s day (SetPeer settings) p given h few =
-    let new : HeldPeer = record { settings = settings; content = holding_or_none (peer_of s.facts.peers settings.name) } in
-    omega (arith, few, entries_with s.facts.peers new h.are.by_name)
-counted_after s day (DropPeer n) p given h few = omega (arith, few, entries_without s.facts.peers n h.are.by_name)
+    let new : HeldPeer = record { settings = settings; content = holding_or_none (peer_of s.held.facts.peers settings.name) } in
+    omega (arith, few, entries_with s.held.facts.peers new h.are.by_name)
+counted_after s day (DropPeer n) p given h few = omega (arith, few, entries_without s.held.facts.peers n h.are.by_name)
 counted_after s day (ImportPeer n content) p given h few =
-    import_counted s n content h given (import_passed s n content p.limits).few (peer_of s.facts.peers n) refl
-    (not_refused (is_none (peer_of s.facts.peers n)) UnknownPeer p.references)
+    import_counted s n content h given (import_passed s n content p.limits).few (peer_of s.held.facts.peers n) refl
+    (not_refused (is_none (peer_of s.held.facts.peers n)) UnknownPeer p.references)
 counted_after s day (SetPublishers n records) p given h few = few
+counted_after s day (SetPolicy policy) p given h few = few
+counted_after s day (DropPolicy key) p given h few = few
+counted_after s day (LoadProject project) p given h few = few
+counted_after s day (DropProject n) p given h few = few
 
 -- what is held after a command, if its criteria and its publisher records are sound, and what is imported is what a reader gives
-pub sound_effect : (s : State) (day : DayValue) (a : Action) → judged s day a ≡ Ok Accepted → AreSound s.facts s.next_entry → IsGivenContent a
+pub sound_effect : (s : State) (day : DayValue) (a : Action) → judged s day a ≡ Ok Accepted → AreSound s.held.facts s.next_entry → IsGivenContent a
     → IsTable (facts_after s a).criteria → ArePublishers (facts_after s a).publishers → AreSound (facts_after s a) (number_after s a)
 sound_effect s day a e h given is are =
     let p = passed s day a e in
-    let now : PeersSound s.facts.entries s.facts.peers s.next_entry = record { are = h.peers; apart = h.apart } in
+    let now : PeersSound s.held.facts.entries s.held.facts.peers s.next_entry = record { are = h.peers; apart = h.apart } in
     let after = peers_after s day a p h.entries given now in
     record {
       criteria = is;

@@ -1,5 +1,5 @@
 -- What is judged of an import.
-use Rattle.std.proofs.Common.{◌≡◌, ℕ, ◌+◌, ◌≤◌, true, false, is_none, is_some, List, [], ◌∷◌, filter, length, Option, Some, None, Ok, Err, refl, ap, subst, ◌∙◌, arith}
+use Rattle.std.proofs.Common.{◌≡◌, ℕ, ◌+◌, ◌≤◌, is_none, List, [], ◌∷◌, filter, length, Option, Some, None, Ok, Err, refl, ap, subst, ◌∙◌, arith}
 use Rattle.std.specs.List.{All}
 use Rattle.std.proofs.lemmas.List.{length-map}
 use Rattle.vet_base.specs.declared.refusal.Refusal.TheVariants.{UnknownPeer}
@@ -15,6 +15,7 @@ use Rattle.vet_base.proofs.Telling.{not_refused}
 use Rattle.vet_base.specs.declared.limits.TheConstants.{LAST_NUMBER}
 use Rattle.vet_entries.specs.Facts.{IsHeld}
 use Rattle.vet_register.proofs.Effects.{import_passed, passed}
+use Rattle.vet_register.proofs.Lists.{some_item}
 use Rattle.vet_register.proofs.PeerEffects.{found_sound}
 use Rattle.std.specs.Prelude.{MatchOption}
 use Rattle.vet_entries.specs.Import.{ComparisonValue}
@@ -45,7 +46,7 @@ pub new_to_none : (name : List ℕ) (entries : List Entry) → length (new_entri
 new_to_none name entries = ap length (all_new (as_peers name entries)) ∙ length-map entries _
 
 -- an import from a peer that is not held is told of its limits, and then that
-pub judged_unheld : (s : State) (day : DayValue) (name : List ℕ) (content : PeerContentValue) → peer_of s.facts.peers name ≡ None
+pub judged_unheld : (s : State) (day : DayValue) (name : List ℕ) (content : PeerContentValue) → peer_of s.held.facts.peers name ≡ None
     → judged s day (ImportPeer name content) ≡ (import_limits s name (length content.entries) (length content.entries) >>= λ _. Err UnknownPeer)
 judged_unheld s day name content none = rw (none, new_to_none name content.entries) (after (import_limits s name (length content.entries) (length content.entries)))
   where
@@ -53,14 +54,10 @@ judged_unheld s day name content none = rw (none, new_to_none name content.entri
     after (Ok u) = refl
     after (Err e) = refl
 
-some_held : (o : Option HeldPeer) → is_none o ≡ false → is_some o ≡ true
-some_held None h = cc h
-some_held (Some x) h = refl
-
 -- a peer that is dropped is held
-pub drop_held : (s : State) (day : DayValue) (name : List ℕ) → judged s day (DropPeer name) ≡ Ok Accepted → IsHeld name s.facts
+pub drop_held : (s : State) (day : DayValue) (name : List ℕ) → judged s day (DropPeer name) ≡ Ok Accepted → IsHeld name s.held.facts
 drop_held s day name told =
-    some_held (peer_of s.facts.peers name) (not_refused (is_none (peer_of s.facts.peers name)) UnknownPeer (passed s day (DropPeer name) told).references)
+    some_item (peer_of s.held.facts.peers name) (not_refused (is_none (peer_of s.held.facts.peers name)) UnknownPeer (passed s day (DropPeer name) told).references)
 
 -- the numbers that an import gives are within the limit
 pub numbers_fit : (s : State) (day : DayValue) (name : List ℕ) (content : PeerContentValue) → judged s day (ImportPeer name content) ≡ Ok Accepted

@@ -19,6 +19,7 @@ use Rattle.std.specs.FinSet as set
 use Rattle.vet_base.proofs.KeyedParts.{All-with_item, All-without_item, item_found}
 use Rattle.vet_base.proofs.Rising.{R}
 use Rattle.vet_base.proofs.Telling.{all_known, not_refused, then_told}
+use Rattle.vet_demand.specs.PolicyNames.{policy_names}
 use Rattle.vet_entries.specs.declared.held_peer.HeldPeer.{HeldPeer}
 use Rattle.vet_entries.specs.Entry.{own}
 use Rattle.vet_entries.specs.Facts.{is_named, is_named_by, is_target_of}
@@ -28,10 +29,10 @@ use Rattle.vet_entries.specs.Numbered.{has_number}
 use Rattle.vet_entries.specs.PeerWords.{targets}
 use Rattle.vet_entries.specs.Step.{AreKnown, HasKnownCriteria, HasKnownTargets}
 use Rattle.vet_register.specs.declared.command.Action.{Action}
-use Rattle.vet_register.specs.declared.command.Action.TheVariants.{SetCriterion, RemoveCriterion, AddEntry, DropEntry, SetPeer, DropPeer, ImportPeer, SetPublishers}
+use Rattle.vet_register.specs.declared.command.Action.TheVariants.{SetCriterion, RemoveCriterion, AddEntry, DropEntry, SetPeer, DropPeer, ImportPeer, SetPublishers, SetPolicy, DropPolicy, LoadProject, DropProject}
 use Rattle.vet_register.specs.Machine.{facts_after, held_of}
 use Rattle.vet_register.specs.State.{State}
-use Rattle.vet_register.specs.Verdict.{references, rules}
+use Rattle.vet_register.specs.Verdict.{is_used, references, rules}
 use Rattle.vet_register.proofs.Lists.{find-none, find-none_among, none_pass}
 
 -- what a table has, it has after one more criterion
@@ -64,11 +65,16 @@ neither : (a b : Bool) → (a || b) ≡ false → (a ≡ false) × (b ≡ false)
 neither true b h = absurd (false≢true (sym h))
 neither false b h = (refl, h)
 
+-- nothing uses a criterion that is removed
+pub unused : (s : State) (day : DayValue) (n : List ℕ) → rules s day (RemoveCriterion n) ≡ Ok tt
+    → (is_named s.held.facts n ≡ false) × (list_any (policy_names n) s.held.policies ≡ false)
+unused s day n h =
+    let r = then_told (remove_rules s.held.facts.criteria n) (λ _. refuse_if (is_used s.held n) CriterionInUse) tt h in
+    neither (is_named s.held.facts n) (list_any (policy_names n) s.held.policies) (not_refused (is_used s.held n) CriterionInUse r.1)
+
 removed : (s : State) (day : DayValue) (n : List ℕ) → rules s day (RemoveCriterion n) ≡ Ok tt
-    → (list_any (is_named_by n) s.facts.entries ≡ false) × (list_any (is_target_of n) s.facts.peers ≡ false)
-removed s day n h =
-    let r = then_told (remove_rules s.facts.criteria n) (λ _. refuse_if (is_named s.facts n) CriterionInUse) tt h in
-    neither (list_any (is_named_by n) s.facts.entries) (list_any (is_target_of n) s.facts.peers) (not_refused (is_named s.facts n) CriterionInUse r.1)
+    → (list_any (is_named_by n) s.held.facts.entries ≡ false) × (list_any (is_target_of n) s.held.facts.peers ≡ false)
+removed s day n h = neither (list_any (is_named_by n) s.held.facts.entries) (list_any (is_target_of n) s.held.facts.peers) (unused s day n h).0
 
 -- the settings of a peer stay where its content does not
 imported_known : (t : Criteria) (peers : List HeldPeer) (name : List ℕ) (content : HoldingValue) → All (HasKnownTargets t) peers
@@ -78,38 +84,42 @@ imported_known t peers name content k (Some x) e =
     All-with_item R peer_name (HasKnownTargets t) peers (record x { content = content }) k (item_found R peer_name (HasKnownTargets t) peers name x k e).1
 
 -- what is named is known after the command too
-pub known_after : (s : State) (day : DayValue) (a : Action) → AreKnown s.facts → references s a ≡ Ok tt → rules s day a ≡ Ok tt → AreKnown (facts_after s a)
+pub known_after : (s : State) (day : DayValue) (a : Action) → AreKnown s.held.facts → references s a ≡ Ok tt → rules s day a ≡ Ok tt → AreKnown (facts_after s a)
 known_after s day (SetCriterion c) k r u = record {
-  own = All-weaker (HasKnownCriteria s.facts.criteria) _ (λ h. stays_known s.facts.criteria c h.entry.criteria) s.facts.entries k.own;
-  targets = All-weaker (HasKnownTargets s.facts.criteria) _ (λ p. stays_known s.facts.criteria c (targets p.settings.map)) s.facts.peers k.targets;
+  own = All-weaker (HasKnownCriteria s.held.facts.criteria) _ (λ h. stays_known s.held.facts.criteria c h.entry.criteria) s.held.facts.entries k.own;
+  targets = All-weaker (HasKnownTargets s.held.facts.criteria) _ (λ p. stays_known s.held.facts.criteria c (targets p.settings.map)) s.held.facts.peers k.targets;
 }
 known_after s day (RemoveCriterion n) k r u =
     let unnamed = removed s day n u in
     record {
-      own = both_fail _ _ _ (λ h. known_without s.facts.criteria n h.entry.criteria) s.facts.entries (none_pass (is_named_by n) s.facts.entries unnamed.0) k.own;
-      targets = both_fail _ _ _ (λ p. known_without s.facts.criteria n (targets p.settings.map)) s.facts.peers (none_pass (is_target_of n) s.facts.peers unnamed.1) k.targets;
+      own = both_fail _ _ _ (λ h. known_without s.held.facts.criteria n h.entry.criteria) s.held.facts.entries (none_pass (is_named_by n) s.held.facts.entries unnamed.0) k.own;
+      targets = both_fail _ _ _ (λ p. known_without s.held.facts.criteria n (targets p.settings.map)) s.held.facts.peers (none_pass (is_target_of n) s.held.facts.peers unnamed.1) k.targets;
     }
 known_after s day (AddEntry e) k r u = record {
-  own = All-append (HasKnownCriteria s.facts.criteria) s.facts.entries _ k.own
-      (All-cons (HasKnownCriteria s.facts.criteria) (record { number = s.next_entry; entry = own e }) [] (all_known (least_unknown s.facts.criteria e.criteria) r) (All-nil _));
+  own = All-append (HasKnownCriteria s.held.facts.criteria) s.held.facts.entries _ k.own
+      (All-cons (HasKnownCriteria s.held.facts.criteria) (record { number = s.next_entry; entry = own e }) [] (all_known (least_unknown s.held.facts.criteria e.criteria) r) (All-nil _));
   targets = k.targets;
 }
 known_after s day (DropEntry n) k r u = record {
-  own = All-filter (λ h. not (has_number n h)) (HasKnownCriteria s.facts.criteria) s.facts.entries k.own;
+  own = All-filter (λ h. not (has_number n h)) (HasKnownCriteria s.held.facts.criteria) s.held.facts.entries k.own;
   targets = k.targets;
 }
 known_after s day (SetPeer settings) k r u = record {
   own = k.own;
-  targets = All-with_item R peer_name (HasKnownTargets s.facts.criteria) s.facts.peers
-      (record { settings = settings; content = holding_or_none (peer_of s.facts.peers settings.name) }) k.targets
-      (all_known (least_unknown s.facts.criteria (targets settings.map)) r);
+  targets = All-with_item R peer_name (HasKnownTargets s.held.facts.criteria) s.held.facts.peers
+      (record { settings = settings; content = holding_or_none (peer_of s.held.facts.peers settings.name) }) k.targets
+      (all_known (least_unknown s.held.facts.criteria (targets settings.map)) r);
 }
 known_after s day (DropPeer name) k r u = record {
   own = k.own;
-  targets = All-without_item R peer_name (HasKnownTargets s.facts.criteria) s.facts.peers name k.targets;
+  targets = All-without_item R peer_name (HasKnownTargets s.held.facts.criteria) s.held.facts.peers name k.targets;
 }
 known_after s day (ImportPeer name content) k r u = record {
   own = k.own;
-  targets = imported_known s.facts.criteria s.facts.peers name (imported name s.next_entry content (held_of s.facts name)) k.targets (peer_of s.facts.peers name) refl;
+  targets = imported_known s.held.facts.criteria s.held.facts.peers name (imported name s.next_entry content (held_of s.held.facts name)) k.targets (peer_of s.held.facts.peers name) refl;
 }
 known_after s day (SetPublishers n records) k r u = record { own = k.own; targets = k.targets }
+known_after s day (SetPolicy policy) k r u = record { own = k.own; targets = k.targets }
+known_after s day (DropPolicy key) k r u = record { own = k.own; targets = k.targets }
+known_after s day (LoadProject project) k r u = record { own = k.own; targets = k.targets }
+known_after s day (DropProject name) k r u = record { own = k.own; targets = k.targets }

@@ -1,9 +1,10 @@
 pub mod Asking
 pub mod Beginnings
 pub mod ClassOfFileLemmas
-pub mod Demanded
 pub mod Drops
 pub mod Effects
+pub mod Fewness
+pub mod HeldEffects
 pub mod Imports
 pub mod Known
 pub mod Lists

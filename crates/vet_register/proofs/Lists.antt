@@ -1,9 +1,14 @@
 -- Laws of lists.
-use Rattle.std.proofs.Common.{◌≡◌, suc, ◌≤◌, Bool, false, List, [], ◌∷◌, ◌++◌, map, length, filter, None, refl, arith, inl, inr}
+use Rattle.std.proofs.Common.{◌≡◌, suc, ◌≤◌, Bool, true, false, is_none, is_some, List, [], ◌∷◌, ◌++◌, map, length, filter, Option, Some, None, refl, arith, inl, inr}
 use Rattle.std.specs.List.{All, AllPairs, find, list_any}
 use Rattle.std.proofs.lemmas.Bool.{cases_Bool}
 use Rattle.std.proofs.lemmas.List.Elements.{All-nil, All-cons, All-head, All-tail, All-append}
 use Rattle.std.proofs.lemmas.List.Kept.{AllPairs-cons}
+
+-- what is not missing is there
+pub some_item : {X : Type 0} (o : Option X) → is_none o ≡ false → is_some o ≡ true
+some_item None h = cc h
+some_item (Some x) h = refl
 
 module _ {X : Type 0} (R : X → X → Type 0) where
   pub AllPairs-head : (x : X) (xs : List X) → AllPairs R (x ∷ xs) → All (R x) xs

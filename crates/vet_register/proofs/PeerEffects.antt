@@ -2,20 +2,19 @@
 use Rattle.std.proofs.Common.{◌≡◌, ◌⊎◌, ℕ, ◌+◌, ◌<◌, ◌≤◌, true, false, not, ◌&&◌, is_none, List, [], ◌∷◌, filter, get_or, length, map, Option, Some, None, inl, inr, refl, sym, ap, subst, ◌∙◌, arith, eqb-true}
 use Rattle.std.specs.Cmp.{tied_itself}
 use Rattle.std.specs.Cmp.Lexicographic.{nat_list_cmp_total}
-use Rattle.std.specs.List.{All, AllPairs, sum_by}
+use Rattle.std.specs.List.{All, AllPairs}
 use Rattle.std.specs.Ordering.{is_eq, is_gt, is_lt}
 use Rattle.std.specs.Prelude.{nat_lt}
 use Rattle.std.specs.declared.cmp.Ordering.TheVariants.{Less}
-use Rattle.std.proofs.lemmas.Bool.{false≢true, ltb-false}
+use Rattle.std.proofs.lemmas.Bool.{false≢true}
 use Rattle.std.proofs.lemmas.List.Elements.{All-nil, All-weaker}
 use Rattle.std.proofs.lemmas.List.Kept.{AllPairs-cons}
-use Rattle.std.proofs.lemmas.List.Sums.{sum_by-cons}
 use Rattle.vet_base.specs.declared.criterion.Criterion.{Criterion}
 use Rattle.vet_base.specs.declared.limits.TheConstants.{MOST_PEERS}
 use Rattle.vet_base.specs.Items.{IsIn}
 use Rattle.vet_base.specs.Keyed.{IsByKey, is_before, is_behind, is_of}
 use Rattle.vet_base.proofs.KeyedLemmas.{IsByKey-with_item}
-use Rattle.vet_base.proofs.KeyedParts.{All-with_item, All-without_item, IsByKey-without_item, held_sum, item_found, sum_with}
+use Rattle.vet_base.proofs.KeyedParts.{All-with_item, All-without_item, IsByKey-without_item, item_found}
 use Rattle.vet_base.proofs.Rising.{R, only_equal}
 use Rattle.vet_entries.specs.declared.entry.Source.{Source}
 use Rattle.vet_entries.specs.declared.entry.Source.TheVariants.{Peer}
@@ -29,6 +28,7 @@ use Rattle.vet_base.proofs.ItemLemmas.{all_in, any_in, in_all, in_any, in_append
 use Rattle.vet_entries.proofs.ImportLaws.{holds_each_once, holds_its_content, keeps_order, number_kept, takes_entries}
 use Rattle.vet_entries.proofs.PeerLaws.{found_name}
 use Rattle.vet_register.specs.Sound.{AreEntries, ArePeers, Differ, IsFrom, IsGiven, IsOfContent, IsSoundPeer, ShareNone}
+use Rattle.vet_register.proofs.Fewness.{few_over, few_with}
 use Rattle.vet_register.proofs.Lists.{AllPairs-map, filter-fewer}
 
 -- ---- numbers among entries
@@ -140,24 +140,6 @@ later_entries source entries n m above h = record {
 later_peer : (n m : ℕ) → n ≤ m → (p : HeldPeer) → IsSoundPeer n p → IsSoundPeer m p
 later_peer n m above p h = record { entries = later_entries (Peer p.settings.name) p.content.entries n m above h.entries; content = h.content }
 
-abbrev one : HeldPeer → ℕ
-one p = 1
-
-counted : (peers : List HeldPeer) → sum_by one peers ≡ length peers
-counted [] = refl
-counted (p ∷ peers) = sum_by-cons one p peers ∙ omega (arith, counted peers)
-
-few_with : (peers : List HeldPeer) (p : HeldPeer) → AreByName peers → length peers ≤ MOST_PEERS
-    → (is_none (peer_of peers p.settings.name) && nat_lt MOST_PEERS (length peers + 1)) ≡ false → length (with_peer p peers) ≤ MOST_PEERS
-few_with peers p up few limit = by (peer_of peers p.settings.name) (sum_with R nat_list_cmp_total only_equal peer_name one peers p up) limit
-  where
-    by : (o : Option HeldPeer) → sum_by one (with_peer p peers) + held_sum one o ≡ sum_by one peers + 1 → (is_none o && nat_lt MOST_PEERS (length peers + 1)) ≡ false
-        → length (with_peer p peers) ≤ MOST_PEERS
-    by None sum limit =
-        let fits = ltb-false MOST_PEERS (length peers + 1) limit in
-        omega (arith, sum, fits, counted peers, counted (with_peer p peers))
-    by (Some x) sum limit = omega (arith, sum, few, counted peers, counted (with_peer p peers))
-
 -- ---- what is sound of peers, beside own entries
 
 pub record PeersSound (own : List HeldEntry) (peers : List HeldPeer) (next : ℕ) : Type 0 where
@@ -255,7 +237,7 @@ module _ (own : List HeldEntry) (peers : List HeldPeer) (settings : PeerSettings
   settings_set m above limit =
       let o = peer_of peers settings.name in
       put_in own peers (set_to o) n m above h (later_peer n m above (set_to o) (set_sound o refl))
-      (few_with peers (set_to o) h.are.by_name h.are.few limit) (set_from_own o refl) (set_from_others o refl)
+      (few_with R nat_list_cmp_total only_equal peer_name MOST_PEERS peers (set_to o) h.are.by_name h.are.few limit) (set_from_own o refl) (set_from_others o refl)
 
 -- where one is imported
 module _ (own : List HeldEntry) (peers : List HeldPeer) (name : List ℕ) (next : ℕ) (content : PeerContentValue) (h : PeersSound own peers next)
@@ -300,17 +282,11 @@ module _ (own : List HeldEntry) (peers : List HeldPeer) (name : List ℕ) (next 
   import_stays : PeersSound own (with_peer new_peer peers) end
   import_stays =
       put_in own peers new_peer next end (omega arith) h import_sound
-      (few_held (sum_with R nat_list_cmp_total only_equal peer_name one peers new_peer h.are.by_name) (ap (peer_of peers) same ∙ found))
+      (few_over R nat_list_cmp_total only_equal peer_name MOST_PEERS peers new_peer x h.are.by_name h.are.few (ap (peer_of peers) same ∙ found))
       (shared (theirs new_peer) own (from_others own (shared own (theirs x) (own_apart own peers h.apart x (found_in peers name x found))) given))
       (λ y i differ. shared (theirs new_peer) (theirs y) (from_others (theirs y)
       (shared (theirs y) (theirs x) (peers_apart own peers h.apart y x i (found_in peers name x found) differ))
       (in_all (IsSoundPeer next) peers h.are.sound y i).entries.numbers_given))
-    where
-      few_held : sum_by one (with_peer new_peer peers) + held_sum one (peer_of peers x.settings.name) ≡ sum_by one peers + 1
-          → peer_of peers x.settings.name ≡ Some x → length (with_peer new_peer peers) ≤ MOST_PEERS
-      few_held sum e =
-          let held : held_sum one (peer_of peers x.settings.name) ≡ 1 = ap (held_sum one) e in
-          omega (arith, sum, held, h.are.few, counted peers, counted (with_peer new_peer peers))
 
 pub imported_peer : (own : List HeldEntry) (peers : List HeldPeer) (name : List ℕ) (next : ℕ) (content : PeerContentValue) → PeersSound own peers next
     → All (IsGiven next) own → IsPeerContent content.criteria content.entries → (o : Option HeldPeer) → peer_of peers name ≡ o → is_none o ≡ false

@@ -20,7 +20,6 @@ use Rattle.vet_entries.specs.declared.entry.Source.TheVariants.{Own, Peer}
 use Rattle.vet_entries.specs.declared.facts.HeldEntry.{HeldEntry}
 use Rattle.vet_entries.specs.declared.held_peer.HeldPeer.{HeldPeer}
 use Rattle.vet_entries.specs.declared.publisher_records.PackagePublishers.{PackagePublishers}
-use Rattle.vet_entries.specs.Distinct.{distinct}
 use Rattle.vet_entries.specs.Entry.{of_source, own}
 use Rattle.vet_entries.specs.Facts.{Facts}
 use Rattle.vet_entries.specs.Holding.{HoldingValue}

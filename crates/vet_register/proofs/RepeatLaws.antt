@@ -40,7 +40,7 @@ module _ (s : State) (day : DayValue) (name : List ℕ) (content : PeerContentVa
   abbrev a : Action
   a = ImportPeer name content
 
-  changes_nothing : has_content s.facts.peers name content ≡ true → ChangesNothing s (import_on day name content)
+  changes_nothing : has_content s.held.facts.peers name content ≡ true → ChangesNothing s (import_on day name content)
   changes_nothing t =
       let told : verdict s (import_on day name content) ≡ Ok (Already None) = ap (told_if s day a) t in
       (told, ap (left s (import_on day name content)) told)
@@ -60,14 +60,14 @@ module _ (s : State) (day : DayValue) (name : List ℕ) (content : PeerContentVa
   held_so true h = refl
   held_so false h = absurd (never_already (checked s day a) None h)
 
-  compares : (peer : HeldPeer) → peer_of s.facts.peers name ≡ Some peer → has_content s.facts.peers name content ≡ same_content name peer.content content
+  compares : (peer : HeldPeer) → peer_of s.held.facts.peers name ≡ Some peer → has_content s.held.facts.peers name content ≡ same_content name peer.content content
   compares peer found = ap (λ o. option_map_or (λ (p : HeldPeer). same_content name p.content content) o false) found
 
 pub held_is_already : HeldContentIsAlready
 held_is_already s day name content peer criteria is found table once further =
     let same = same_items_are_same name peer.content content criteria is table once further in
     let held = compares s day name content peer found in (
-      λ h. same.0 (sym held ∙ held_so s day name content (has_content s.facts.peers name content) h.0),
+      λ h. same.0 (sym held ∙ held_so s day name content (has_content s.held.facts.peers name content) h.0),
       λ items. changes_nothing s day name content (held ∙ same.1 items),
     )
 
@@ -100,9 +100,9 @@ held_after peers name n content (Some x) e some =
 pub repeated_is_already : RepeatedImportIsAlready
 repeated_is_already s day later name content again is repeats criteria entries told =
     let p = passed s day (ImportPeer name content) (judged_accepted s (ImportPeer name content) _ told) in
-    let o = peer_of s.facts.peers name in
+    let o = peer_of s.held.facts.peers name in
     let some : is_none o ≡ false = not_refused (is_none o) UnknownPeer p.references in
-    let held = held_after s.facts.peers name s.next_entry content o refl some in
+    let held = held_after s.held.facts.peers name s.next_entry content o refl some in
     let left = holds_its_content name s.next_entry (holding_or_none o) content in
     let theirs = same_as_peers name again.entries content.entries entries in
     let stays : SameItems (as_peers name content.entries) (entries_of held.0.content.entries) =

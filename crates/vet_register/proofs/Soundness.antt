@@ -9,6 +9,7 @@ use Rattle.vet_base.specs.Day.{DayValue}
 use Rattle.vet_base.proofs.Telling.{not_refused}
 use Rattle.vet_entries.specs.Facts.{Facts}
 use Rattle.vet_demand.specs.declared.pair.Pair.{Pair}
+use Rattle.vet_demand.specs.DemandOf.{DemandIsLeast}
 use Rattle.vet_demand.specs.Pair.{IsInOrder}
 use Rattle.vet_graph.specs.declared.moves.Move.{Move}
 use Rattle.vet_graph.specs.Moves.{ArrivalsAdd, DeparturesAdd, MovesAreDifferences, MovesBalance}
@@ -17,8 +18,9 @@ use Rattle.vet_graph.specs.StandingOf.{standing_of}
 use Rattle.vet_register.specs.declared.command.Command.{Command}
 use Rattle.vet_register.specs.declared.moves.RecordedMove.{RecordedMove}
 use Rattle.vet_register.specs.declared.verdict.Answer.TheVariants.{Accepted}
-use Rattle.vet_register.specs.Machine.{facts_after, moves_of, next, number_after, recorded, records_of}
-use Rattle.vet_register.specs.Sound.{AreInOrder, AreSound, ComesBefore, IsBalanced, IsBy, IsSound}
+use Rattle.vet_register.specs.Machine.{held_after, moves_of, next, number_after, recorded, records_of}
+use Rattle.vet_register.specs.Sound.{AreInOrder, ComesBefore, IsBalanced, IsBy, IsSound, IsSoundHeld}
+use Rattle.vet_register.specs.Held.{HeldValue, demand_in, standing_in}
 use Rattle.vet_register.specs.State.{State, changes_of, standing}
 use Rattle.vet_register.specs.Verdict.{judged, moves_fit}
 use Rattle.vet_register.proofs.Effects.{next_number_follows, passed, step_follows, step_passed}
@@ -43,10 +45,25 @@ standing_in_order facts demand h = rw (same_pairs facts demand) h
 abbrev IsOf : ℕ → RecordedMove → Type 0
 IsOf step m = m.step ≡ step
 
-moves_sound : MovesAreDifferences → (s : State) (c : Command) → moves_fit s c.action ≡ Ok tt → IsInOrder s.demand → AreInOrder s.moves s.step s.moves_limit
+-- the laws of moves and of the demand on which the balance rests
+pub record MoveLaws : Type 0 where
+  pub differences : MovesAreDifferences
+  pub balance : MovesBalance
+  pub arrivals : ArrivalsAdd
+  pub departures : DeparturesAdd
+  pub least : DemandIsLeast
+
+-- what is held and sound has a standing in order
+sound_standing : DemandIsLeast → (held : HeldValue) (next : ℕ) → IsSoundHeld held next → IsStanding (standing_in held)
+sound_standing least held next h =
+    standing_in_order held.facts (demand_in held) (least held.projects held.policies held.facts.criteria h.facts.criteria h.policies.known).in_order
+
+moves_sound : MoveLaws → (s : State) (c : Command) → moves_fit s c.action ≡ Ok tt → IsSoundHeld s.held s.next_entry
+    → IsSoundHeld (held_after s c.action) (number_after s c.action) → AreInOrder s.moves s.step s.moves_limit
     → AreInOrder (s.moves ++ records_of s c) (s.step + 1) s.moves_limit
-moves_sound law s c fit d h =
-    let made = law (standing s) (standing_of (facts_after s c.action) s.demand) (standing_in_order s.facts s.demand d) (standing_in_order (facts_after s c.action) s.demand d) in
+moves_sound laws s c fit before after h =
+    let made = laws.differences (standing s) (standing_in (held_after s c.action)) (sound_standing laws.least s.held s.next_entry before)
+    (sound_standing laws.least (held_after s c.action) (number_after s c.action) after) in
     let more = records_of s c in
     let at_step : All (IsOf (s.step + 1)) more = All-map (IsOf (s.step + 1)) (recorded (s.step + 1) c.day) (moves_of s c.action) (λ k d l. refl) in
     record {
@@ -61,31 +78,23 @@ moves_sound law s c fit d h =
           (ltb-false s.moves_limit (length s.moves + length (moves_of s c.action)) (not_refused _ MovesFull fit));
     }
 
--- the laws of moves on which the balance rests
-pub record MoveLaws : Type 0 where
-  pub differences : MovesAreDifferences
-  pub balance : MovesBalance
-  pub arrivals : ArrivalsAdd
-  pub departures : DeparturesAdd
-
 balance_sound : MoveLaws → (s : State) (c : Command) → IsBalanced s → IsBalanced (next s c)
 balance_sound laws s c b class =
-    let law = laws.balance class (standing s) (standing_of (facts_after s c.action) s.demand) in
+    let law = laws.balance class (standing s) (standing_in (held_after s c.action)) in
     let a = laws.arrivals class (changes_of s.moves) (moves_of s c.action) in
     let d = laws.departures class (changes_of s.moves) (moves_of s c.action) in
     rw (changes-append s c, a, d) (omega (arith, b class, law))
 
 -- the state after a command that was judged, and whose moves fit, if what is held then is sound
 pub sound_after : MoveLaws → (s : State) (c : Command) → IsSound s → judged s c.day c.action ≡ Ok Accepted → moves_fit s c.action ≡ Ok tt
-    → AreSound (facts_after s c.action) (number_after s c.action) → IsSound (next s c)
-sound_after laws s c h e fit facts =
+    → IsSoundHeld (held_after s c.action) (number_after s c.action) → IsSound (next s c)
+sound_after laws s c h e fit held =
     let p = passed s c.day c.action e in
     record {
-      facts = facts;
+      held = held;
       next_number = next_number_follows s c.action p.limits h.next_number;
-      demand = h.demand;
       last_step = step_follows s (step_passed s c.action p.limits);
       limit = h.limit;
-      moves = moves_sound laws.differences s c fit h.demand.once h.moves;
+      moves = moves_sound laws s c fit h.held held h.moves;
       balance = balance_sound laws s c h.balance;
     }

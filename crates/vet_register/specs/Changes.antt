@@ -1,19 +1,20 @@
 -- What a prepared change makes of a state (ours): one equation for all commands.
 use Rattle.std.specs.Prelude.{ℕ, ◌++◌, ◌≤◌, List, [], Option, Some, None, length}
 use Rattle.vet_demand.specs.declared.pair.Pair.{Pair}
-use Rattle.vet_entries.specs.declared.facts.Edit.{Edit}
-use Rattle.vet_entries.specs.Facts.{Facts, FactsRoom, Fits, edited}
 use Rattle.vet_graph.specs.declared.standing.Counts.{Counts}
 use Rattle.vet_register.specs.declared.change.Change.{Change}
+use Rattle.vet_register.specs.declared.held.Held.{Held}
+use Rattle.vet_register.specs.declared.held.HeldEdit.{HeldEdit}
 use Rattle.vet_register.specs.declared.moves.RecordedMove.{RecordedMove}
 use Rattle.vet_register.specs.declared.moves.Recording.{Recording}
 use Rattle.vet_register.specs.declared.moves.Recording.TheVariants.{Behind, Anew}
+use Rattle.vet_register.specs.Held.{Fits, HeldValue, edited}
 use Rattle.vet_register.specs.State.{State}
 
--- the facts after an edit, if there is one
-abbrev pub facts_by : Option Edit → Facts → Facts
-facts_by None facts = facts
-facts_by (Some edit) facts = edited edit facts
+-- what is held after an edit, if there is one
+abbrev pub held_by : Option HeldEdit → HeldValue → HeldValue
+held_by None held = held
+held_by (Some edit) held = edited edit held
 
 -- the demand, unless there is another
 abbrev pub demand_by : Option (List Pair) → List Pair → List Pair
@@ -32,8 +33,7 @@ first_by (Anew counts) first = counts
 -- the state after a change
 abbrev pub changed : {K U : Type 0} → Change K U → State → State
 changed change s = record {
-  facts = facts_by change.edit s.facts;
-  demand = demand_by change.demand s.demand;
+  held = held_by change.edit s.held;
   step = change.step;
   next_entry = change.next_entry;
   moves_limit = s.moves_limit;
@@ -42,9 +42,9 @@ changed change s = record {
 }
 
 -- there is room for an edit, and for a recording
-abbrev pub FitsFacts : Option Edit → FactsRoom → Type 0
-FitsFacts None facts = Unit {0}
-FitsFacts (Some edit) facts = Fits edit facts
+abbrev pub FitsHeld : Option HeldEdit → Held → Type 0
+FitsHeld None held = Unit {0}
+FitsHeld (Some edit) held = Fits edit held
 
 abbrev pub FitsMoves : Recording → ℕ → Type 0
 FitsMoves (Behind more) room = length more.items ≤ room

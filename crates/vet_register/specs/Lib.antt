@@ -1,5 +1,6 @@
 pub mod Changes
 pub mod ClassOfFile
+pub mod Held
 pub mod HeldFiles
 pub mod Importing
 pub mod Machine
@@ -14,6 +15,7 @@ pub use Rattle.vet_base.specs.CriteriaChanges
 pub use Rattle.vet_base.specs.Gives
 pub use Rattle.vet_base.specs.Refusal
 pub use Rattle.vet_demand.specs.Demand
+pub use Rattle.vet_demand.specs.DemandOf
 pub use Rattle.vet_demand.specs.Pair
 pub use Rattle.vet_entries.specs.Entry
 pub use Rattle.vet_entries.specs.Facts

@@ -8,17 +8,19 @@ use Rattle.vet_entries.specs.HeldPeer.{holding_or_none, imported, new_entries, p
 use Rattle.vet_entries.specs.Holding.{HoldingValue}
 use Rattle.vet_entries.specs.Numbered.{has_number}
 use Rattle.vet_entries.specs.PublisherRecords.{with_records}
+use Rattle.vet_demand.specs.declared.policies.KeyedPolicy.{KeyedPolicy}
+use Rattle.vet_demand.specs.declared.project.NamedProject.{NamedProject}
 use Rattle.vet_graph.specs.declared.moves.Move.{Move}
 use Rattle.vet_graph.specs.declared.touched.Touched.{Touched}
 use Rattle.vet_graph.specs.declared.touched.Touched.TheVariants as touched
 use Rattle.vet_graph.specs.Moves.{moves_between}
-use Rattle.vet_graph.specs.StandingOf.{standing_of}
 use Rattle.vet_register.specs.declared.command.Action.{Action}
-use Rattle.vet_register.specs.declared.command.Action.TheVariants.{SetCriterion, RemoveCriterion, AddEntry, DropEntry, SetPeer, DropPeer, ImportPeer, SetPublishers}
+use Rattle.vet_register.specs.declared.command.Action.TheVariants.{SetCriterion, RemoveCriterion, AddEntry, DropEntry, SetPeer, DropPeer, ImportPeer, SetPublishers, SetPolicy, DropPolicy, LoadProject, DropProject}
 use Rattle.vet_register.specs.declared.command.Command.{Command}
 use Rattle.vet_register.specs.declared.command.Outcome.{Outcome}
 use Rattle.vet_register.specs.declared.command.Outcome.TheVariants.{Done}
 use Rattle.vet_register.specs.declared.moves.RecordedMove.{RecordedMove}
+use Rattle.vet_register.specs.Held.{HeldValue, standing_in, with_policy, with_project, without_policy, without_project}
 use Rattle.vet_register.specs.State.{State, standing}
 
 -- a command and what it asks for, as values
@@ -32,7 +34,7 @@ ActionValue = Action
 abbrev pub held_of : Facts → List ℕ → HoldingValue
 held_of facts name = holding_or_none (peer_of facts.peers name)
 
--- the effect of a command on the facts, where this is the next entry's number
+-- the effect of a command on the facts of packages, where this is the next entry's number
 abbrev pub effect : ℕ → Action → Facts → Facts
 effect number (SetCriterion c) facts = record facts { criteria = table.insert facts.criteria c.name c }
 effect number (RemoveCriterion name) facts = record facts { criteria = table.remove facts.criteria name }
@@ -42,14 +44,38 @@ effect number (SetPeer settings) facts = record facts { peers = with_settings se
 effect number (DropPeer name) facts = record facts { peers = without_peer name facts.peers }
 effect number (ImportPeer name content) facts = record facts { peers = with_content name (imported name number content (held_of facts name)) facts.peers }
 effect number (SetPublishers name records) facts = record facts { publishers = with_records name records facts.publishers }
+effect number (SetPolicy policy) facts = facts
+effect number (DropPolicy key) facts = facts
+effect number (LoadProject project) facts = facts
+effect number (DropProject name) facts = facts
+
+-- its effect on the policies
+abbrev pub policies_by : Action → List KeyedPolicy → List KeyedPolicy
+policies_by (SetPolicy policy) policies = with_policy policy policies
+policies_by (DropPolicy key) policies = without_policy key policies
+policies_by _ policies = policies
+
+-- and on the projects
+abbrev pub projects_by : Action → List NamedProject → List NamedProject
+projects_by (LoadProject project) projects = with_project project projects
+projects_by (DropProject name) projects = without_project name projects
+projects_by _ projects = projects
 
 -- the facts after a command
 abbrev pub facts_after : State → Action → Facts
-facts_after s action = effect s.next_entry action s.facts
+facts_after s action = effect s.next_entry action s.held.facts
+
+-- what is held after a command
+abbrev pub held_after : State → Action → HeldValue
+held_after s action = record {
+  facts = facts_after s action;
+  policies = policies_by action s.held.policies;
+  projects = projects_by action s.held.projects;
+}
 
 -- the moves of a command: the pairs whose class differs before and after it
 abbrev pub moves_of : State → Action → List Move
-moves_of s action = moves_between (standing s) (standing_of (facts_after s action) s.demand)
+moves_of s action = moves_between (standing s) (standing_in (held_after s action))
 
 -- the packages that a command touches: today all
 abbrev pub touched_by : State → Action → Touched
@@ -63,7 +89,7 @@ number_given s _ = None
 -- how many numbers a command gives: one to an entry that is added, and one to each that is new in an import
 abbrev pub numbers_given : State → Action → ℕ
 numbers_given s (AddEntry entry) = 1
-numbers_given s (ImportPeer name content) = length (new_entries name (held_of s.facts name).entries content.entries)
+numbers_given s (ImportPeer name content) = length (new_entries name (held_of s.held.facts name).entries content.entries)
 numbers_given s _ = 0
 
 -- the next number after a command
@@ -81,7 +107,7 @@ records_of s c = map (recorded (s.step + 1) c.day) (moves_of s c.action)
 -- the state after an accepted command
 abbrev pub next : State → Command → State
 next s c = record s {
-  facts = facts_after s c.action;
+  held = held_after s c.action;
   step = s.step + 1;
   next_entry = number_after s c.action;
   moves = s.moves ++ records_of s c;

@@ -6,10 +6,12 @@ use Rattle.vet_base.specs.Gives.{Refuses, Told}
 use Rattle.vet_base.specs.declared.refusal.Refusal.{Refusal}
 use Rattle.vet_base.specs.declared.refusal.Refusal.TheVariants.{NoMemory}
 use Rattle.vet_demand.specs.declared.pair.Pair.{Pair}
-use Rattle.vet_entries.specs.Facts.{Facts, FactsRoom, Fits, HoldsRoomOf, Room, edited}
+use Rattle.vet_base.specs.Keyed.{KeyedRoom, keyed_code}
+use Rattle.vet_demand.specs.declared.policies.KeyedPolicy.{KeyedPolicy}
+use Rattle.vet_demand.specs.declared.project.NamedProject.{NamedProject}
+use Rattle.vet_entries.specs.Facts.{FactsRoom}
 use Rattle.vet_graph.specs.declared.standing.Counts.{Counts}
 use Rattle.vet_graph.specs.Keeping.{Keeping}
-use Rattle.vet_graph.specs.StandingOf.{standing_of}
 use Rattle.vet_register.specs.declared.change.Change.{Change}
 use Rattle.vet_register.specs.declared.change.Prepared.{Prepared}
 use Rattle.vet_register.specs.declared.change.Prepared.TheVariants as prepared
@@ -21,15 +23,17 @@ use Rattle.vet_register.specs.declared.edits.Effect.{Effect}
 use Rattle.vet_register.specs.declared.moves.RecordedMove.{RecordedMove}
 use Rattle.vet_register.specs.declared.verdict.Answer.{Answer}
 use Rattle.vet_register.specs.declared.verdict.Answer.TheVariants.{Already, Accepted}
-use Rattle.vet_register.specs.Changes.{FitsFacts, FitsMoves, changed}
-use Rattle.vet_register.specs.Machine.{facts_after, next, number_after, number_given, outcome_of, touched_by}
-use Rattle.vet_register.specs.Sound.{AreSound, IsSound}
-use Rattle.vet_register.specs.State.{State, standing}
+use Rattle.vet_register.specs.declared.held.Held.{Held}
+use Rattle.vet_register.specs.Changes.{FitsHeld, FitsMoves, changed, demand_by}
+use Rattle.vet_register.specs.Held.{Fits, HeldRoom, HeldValue, HoldsRoomOf, demand_in, edited, held_with, standing_in}
+use Rattle.vet_register.specs.Machine.{held_after, next, number_after, number_given, outcome_of, touched_by}
+use Rattle.vet_register.specs.Sound.{IsSound, IsSoundHeld}
+use Rattle.vet_register.specs.State.{State, demanded, standing}
 use Rattle.vet_register.specs.Verdict.{verdict, wants_memory}
 
 -- for how much more of what is held, and for how many more recorded moves, there is room
 pub record Rooms : Type 0 where
-  pub facts : Room
+  pub held : HeldRoom
   pub moves : ℕ
 
 -- a register: its state, what keeps the classes, and its rooms
@@ -38,37 +42,39 @@ pub record RegisterView (K : Type 0) : Type 0 where
   pub keeper : K
   pub room : Rooms
 
--- its facts, with their room
-abbrev pub facts_room : {K : Type 0} → RegisterView K → FactsRoom
-facts_room r = record { content = r.state.facts; room = r.room.facts }
+-- what it holds, with its room
+abbrev pub held_room : {K : Type 0} → RegisterView K → Held
+held_room r = held_with r.state.held r.room.held
 
 -- no room is lost, so that what was prepared before can still be installed
 abbrev pub KeepsRoom : {K : Type 0} → RegisterView K → RegisterView K → Type 0
-KeepsRoom old new = HoldsRoomOf old.room.facts new.room.facts × (old.room.moves ≤ new.room.moves)
+KeepsRoom old new = HoldsRoomOf old.room.held new.room.held × (old.room.moves ≤ new.room.moves)
 
--- a keeper has kept what these facts and this demand give, and its standing is theirs
-abbrev pub HasKept : {K U : Type 0} → Keeping K U → K → Facts → List Pair → Type 0
-HasKept keeping keeper facts demand = keeping.keeps keeper facts demand × (keeping.standing keeper ≡ standing_of facts demand)
+-- a keeper has kept what is held and demanded, its standing is that of these, and this is the demand
+abbrev pub HasKept : {K U : Type 0} → Keeping K U → K → List Pair → HeldValue → Type 0
+HasKept keeping keeper demand held =
+    keeping.keeps keeper held.facts (demand_in held) × ((keeping.standing keeper ≡ standing_in held) × (demand ≡ demand_in held))
 
 -- each update that was ready still is
 abbrev pub KeepsReady : {K U : Type 0} → Keeping K U → RegisterView K → RegisterView K → Type 0
 KeepsReady {K} {U} keeping old new = (u : U) → keeping.is_ready old.keeper u → keeping.is_ready new.keeper u
 
--- a change is that of a command in a state, which accepts it: it leads to the next state, which is sound, and its update to
--- the standing there
+-- a change is that of a command in a state, which accepts it: it leads to the next state, which is sound, with the demand
+-- there, and its update to the standing there
 pub record IsStep {K U : Type 0} (keeping : Keeping K U) (s : State) (c : Command) (change : Change K U) : Type 0 where
   pub accepts : verdict s c ≡ Ok Accepted
   pub becomes : changed change s ≡ next s c
   pub sound : IsSound (next s c)
+  pub demand : demand_by change.demand (demanded s) ≡ demanded (next s c)
   pub standing : keeping.planned change.update ≡ standing (next s c)
-  pub basis : keeping.plans change.update (next s c).facts (next s c).demand
+  pub basis : keeping.plans change.update (next s c).held.facts (demanded (next s c))
   pub touches : keeping.touched_of change.update ≡ touched_by s c.action
   pub outcome : change.outcome ≡ outcome_of s c
 
 -- this register prepared the change for the command on this state, and it and its keeper still hold the room for it
 pub record IsPrepared {K U : Type 0} (keeping : Keeping K U) (r : RegisterView K) (c : Command) (change : Change K U) : Type 0 where
   pub step : IsStep keeping r.state c change
-  pub fits : FitsFacts change.edit (facts_room r)
+  pub fits : FitsHeld change.edit (held_room r)
   pub move_room : FitsMoves change.recording r.room.moves
   pub ready : keeping.is_ready r.keeper change.update
 
@@ -97,13 +103,13 @@ abbrev pub IsExact : {K U : Type 0} → Bool → Told Answer → Result (Prepare
 IsExact false told answer = IsExactly told answer
 IsExact true told answer = (answer ≡ Err NoMemory) ⊎ IsExactly told answer
 
--- an effect is that of a command which was checked: its edit fits, and the facts after it are sound
+-- an effect is that of a command which was checked: its edit fits, and what is held after it is sound
 pub record IsEffect {K : Type 0} (r : RegisterView K) (action : Action) (e : Effect) : Type 0 where
-  pub facts : edited e.edit r.state.facts ≡ facts_after r.state action
+  pub held : edited e.edit r.state.held ≡ held_after r.state action
   pub number : e.number ≡ number_given r.state action
   pub next_entry : e.next_entry ≡ number_after r.state action
-  pub sound : AreSound (facts_after r.state action) (number_after r.state action)
-  pub fits : Fits e.edit (facts_room r)
+  pub sound : IsSoundHeld (held_after r.state action) (number_after r.state action)
+  pub fits : Fits e.edit (held_room r)
 
 -- what is asked by an action that is accepted is its effect
 abbrev pub IsEffectOf : {K : Type 0} → RegisterView K → Action → Asked → Type 0
@@ -125,23 +131,37 @@ abbrev pub Asks : {K : Type 0} → RegisterView K → Action → Told Answer →
 Asks r action told answer = AsksBy (wants_memory action) r action told answer
 
 -- a register is stored as the tuple of its keeper, the parts of its state, and its rooms
-abbrev pub register_code : {K : Type 0} → Coded K → Coded FactsRoom → Coded Pair → Coded Counts → Coded RecordedMove → Coded (RegisterView K)
-register_code {K} keeper_code facts_code pair_code counts_code move_code =
-    code_by (K × (FactsRoom × (List Pair × (ℕ × (ℕ × (ℕ × (Counts × (List RecordedMove × ℕ))))))))
-    (coded× keeper_code (coded× facts_code (coded× (coded_list pair_code)
-    (coded× coded_ℕ (coded× coded_ℕ (coded× coded_ℕ (coded× counts_code (coded× (coded_list move_code) coded_ℕ))))))))
-    (λ r. (r.keeper, (facts_room r, (r.state.demand, (r.state.step, (r.state.next_entry, (r.state.moves_limit, (r.state.first, (r.state.moves, r.room.moves)))))))))
+abbrev pub register_code : {K : Type 0} → Coded K → Coded FactsRoom → Coded KeyedPolicy → Coded NamedProject → Coded Counts → Coded RecordedMove → Coded (RegisterView K)
+register_code {K} keeper_code facts_code policy_code project_code counts_code move_code =
+    code_by (K × (FactsRoom × (KeyedRoom KeyedPolicy × (KeyedRoom NamedProject × (ℕ × (ℕ × (ℕ × (Counts × (List RecordedMove × ℕ)))))))))
+    (coded× keeper_code (coded× facts_code (coded× (keyed_code policy_code) (coded× (keyed_code project_code)
+    (coded× coded_ℕ (coded× coded_ℕ (coded× coded_ℕ (coded× counts_code (coded× (coded_list move_code) coded_ℕ)))))))))
+    (λ r. (
+      r.keeper,
+      (
+        (held_room r).facts,
+        (
+          (held_room r).policies,
+          (
+            (held_room r).projects,
+            (r.state.step, (r.state.next_entry, (r.state.moves_limit, (r.state.first, (r.state.moves, r.room.moves))))),
+          ),
+        ),
+      ),
+    ))
     (λ p. record {
       keeper = p.0;
       state = record {
-        facts = p.1.0.content;
-        demand = p.1.1.0;
-        step = p.1.1.1.0;
-        next_entry = p.1.1.1.1.0;
-        moves_limit = p.1.1.1.1.1.0;
-        first = p.1.1.1.1.1.1.0;
-        moves = p.1.1.1.1.1.1.1.0;
+        held = record { facts = p.1.0.content; policies = p.1.1.0.items; projects = p.1.1.1.0.items };
+        step = p.1.1.1.1.0;
+        next_entry = p.1.1.1.1.1.0;
+        moves_limit = p.1.1.1.1.1.1.0;
+        first = p.1.1.1.1.1.1.1.0;
+        moves = p.1.1.1.1.1.1.1.1.0;
       };
-      room = record { facts = p.1.0.room; moves = p.1.1.1.1.1.1.1.1 };
+      room = record {
+        held = record { facts = p.1.0.room; policies = p.1.1.0.room; projects = p.1.1.1.0.room };
+        moves = p.1.1.1.1.1.1.1.1.1;
+      };
     })
     (λ _. refl)

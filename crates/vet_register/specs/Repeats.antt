@@ -31,7 +31,7 @@ abbrev pub HeldContentIsAlready : Type 0
 HeldContentIsAlready =
     (s : State) (day : DayValue) (name : List ℕ) (content : PeerContentValue) (peer : HeldPeer) (criteria : List Criterion)
     → IsPeerContent content.criteria content.entries
-    → peer_of s.facts.peers name ≡ Some peer
+    → peer_of s.held.facts.peers name ≡ Some peer
     → peer.content.table ≡ defined criteria
     → NamedOnce (λ (c : Criterion). c.name) criteria
     → All (λ c. is_built_in c.name ≡ false) criteria

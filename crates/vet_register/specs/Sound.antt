@@ -4,11 +4,14 @@ use Rattle.std.specs.List.{All, AllPairs, list_any}
 use Rattle.std.specs.Ordering.{nat_cmp}
 use Rattle.std.specs.Cmp.Lexicographic.{slice_cmp}
 use Rattle.std.specs.declared.cmp.Ordering.TheVariants.{Less}
-use Rattle.vet_base.specs.declared.limits.TheConstants.{MOST_ENTRIES, MOST_MOVES, MOST_PEERS, MOST_PUBLISHERS, LAST_STEP, LAST_NUMBER}
-use Rattle.vet_base.specs.Criteria.{IsTable}
-use Rattle.vet_base.specs.CriteriaChanges.{is_built_in}
-use Rattle.vet_demand.specs.declared.pair.Pair.{Pair}
-use Rattle.vet_demand.specs.Pair.{IsInOrder, pair_cmp}
+use Rattle.vet_base.specs.declared.limits.TheConstants.{MOST_ENTRIES, MOST_MOVES, MOST_PEERS, MOST_POLICIES, MOST_PROJECTS, MOST_PUBLISHERS, LAST_STEP, LAST_NUMBER}
+use Rattle.vet_base.specs.Criteria.{Criteria, IsTable}
+use Rattle.vet_demand.specs.declared.policies.KeyedPolicy.{KeyedPolicy}
+use Rattle.vet_demand.specs.declared.project.NamedProject.{NamedProject}
+use Rattle.vet_demand.specs.DemandOf.{PoliciesAreKnown}
+use Rattle.vet_demand.specs.NamedProject.{project_name}
+use Rattle.vet_demand.specs.Pair.{pair_cmp}
+use Rattle.vet_demand.specs.Policies.{IsInKeyOrder}
 use Rattle.vet_base.specs.Defined.{defined}
 use Rattle.vet_base.specs.Items.{SameItems}
 use Rattle.vet_base.specs.Keyed.{IsByKey}
@@ -29,6 +32,7 @@ use Rattle.vet_graph.specs.declared.class.Class.{Class}
 use Rattle.vet_graph.specs.Moves.{arrivals_of, departures_of}
 use Rattle.vet_graph.specs.Standing.{count_in, count_of}
 use Rattle.vet_register.specs.declared.moves.RecordedMove.{RecordedMove}
+use Rattle.vet_register.specs.Held.{HeldValue}
 use Rattle.vet_register.specs.State.{State, changes_of, standing}
 
 -- a move was recorded before another: in an earlier step, or in the same step and of a lesser pair
@@ -105,10 +109,22 @@ pub record AreSound (facts : Facts) (next : ℕ) : Type 0 where
   pub few : entries_total facts ≤ MOST_ENTRIES
   pub publishers : ArePublishers facts.publishers
 
--- pairs are demanded once each, in order, and for built-in criteria
-pub record AreDemanded (demand : List Pair) : Type 0 where
-  pub once : IsInOrder demand
-  pub built_in : All (λ p. is_built_in p.criterion ≡ true) demand
+-- policies stand in the order of their keys, no key twice, name no criteria but those of the table, and are within the limit
+pub record ArePolicies (criteria : Criteria) (policies : List KeyedPolicy) : Type 0 where
+  pub by_key : IsInKeyOrder policies
+  pub known : PoliciesAreKnown criteria policies
+  pub few : length policies ≤ MOST_POLICIES
+
+-- projects stand in the order of their names, no name twice, and are within the limit
+pub record AreProjects (projects : List NamedProject) : Type 0 where
+  pub by_name : IsByKey (slice_cmp nat_cmp) project_name projects
+  pub few : length projects ≤ MOST_PROJECTS
+
+-- all that is held is sound
+pub record IsSoundHeld (held : HeldValue) (next : ℕ) : Type 0 where
+  pub facts : AreSound held.facts next
+  pub policies : ArePolicies held.facts.criteria held.policies
+  pub projects : AreProjects held.projects
 
 -- moves stand in the order in which they were recorded, none of a later step than the last, and within the limit
 pub record AreInOrder (moves : List RecordedMove) (step limit : ℕ) : Type 0 where
@@ -116,11 +132,10 @@ pub record AreInOrder (moves : List RecordedMove) (step limit : ℕ) : Type 0 wh
   pub steps : All (IsBy step) moves
   pub few : length moves ≤ limit
 
--- what is held, what is demanded and the moves are sound, numbers are within the limits, and the counts are balanced
+-- what is held and the moves are sound, numbers are within the limits, and the counts are balanced
 pub record IsSound (s : State) : Type 0 where
-  pub facts : AreSound s.facts s.next_entry
+  pub held : IsSoundHeld s.held s.next_entry
   pub next_number : s.next_entry ≤ LAST_NUMBER + 1
-  pub demand : AreDemanded s.demand
   pub last_step : s.step ≤ LAST_STEP
   pub limit : (0 < s.moves_limit) × (s.moves_limit ≤ MOST_MOVES)
   pub moves : AreInOrder s.moves s.step s.moves_limit

@@ -1,19 +1,25 @@
 -- What a command is told in a state (ours): the first that holds of: it is held already; a limit; what it refers to is
 -- not held; a rule; its moves do not fit; it is accepted.
-use Rattle.std.specs.Prelude.{ℕ, ◌+◌, ◌&&◌, not, nat_lt, Bool, true, false, is_none, List, Option, Some, None, Ok, if◌then◌else◌, length, option_map, ◌+ℤ◌, pos}
+use Rattle.std.specs.Prelude.{ℕ, ◌+◌, ◌&&◌, ◌||◌, not, nat_lt, Bool, true, false, is_none, List, Option, Some, None, Ok, if◌then◌else◌, length, option_map, ◌+ℤ◌, pos}
 use Rattle.std.specs.List.{list_any}
 use Rattle.std.specs.Option.{option_eq, option_map_or}
 use Rattle.std.specs.Ordering.{int_cmp, is_lt}
 use Rattle.std.specs.FinMap as table
-use Rattle.vet_base.specs.declared.limits.TheConstants.{MOST_ENTRIES, MOST_PEERS, MOST_PUBLISHERS, MOST_WINDOW_DAYS, LAST_STEP, LAST_NUMBER}
+use Rattle.vet_base.specs.declared.limits.TheConstants.{MOST_ENTRIES, MOST_PEERS, MOST_POLICIES, MOST_PROJECTS, MOST_PUBLISHERS, MOST_WINDOW_DAYS, LAST_STEP, LAST_NUMBER}
 use Rattle.vet_base.specs.declared.refusal.Limit.TheVariants as limit
-use Rattle.vet_base.specs.declared.refusal.Refusal.TheVariants.{CriterionInUse, UnknownEntry, UnknownPeer, EmptyWindow, WindowTooLong, TooLarge, MovesFull}
+use Rattle.vet_base.specs.declared.refusal.Refusal.TheVariants.{CriterionInUse, UnknownEntry, UnknownPeer, UnknownPolicy, UnknownProject, EmptyWindow, WindowTooLong, TooLarge, MovesFull}
 use Rattle.vet_base.specs.declared.criterion.Criterion.{Criterion}
 use Rattle.vet_base.specs.Criteria.{Criteria, least_unknown}
 use Rattle.vet_base.specs.CriteriaChanges.{is_built_in, known, remove_references, remove_rules, set_limits, set_references, set_rules}
 use Rattle.vet_base.specs.Criterion.{criterion_eq}
 use Rattle.vet_base.specs.Day.{DayValue, day_cmp, day_number}
 use Rattle.vet_base.specs.Gives.{Told, refuse_if, ◌>>=◌}
+use Rattle.vet_demand.specs.declared.policies.KeyedPolicy.{KeyedPolicy}
+use Rattle.vet_demand.specs.declared.policy_key.PolicyKey.{PolicyKey}
+use Rattle.vet_demand.specs.declared.project.NamedProject.{NamedProject}
+use Rattle.vet_demand.specs.NamedProject.{named_project_eq}
+use Rattle.vet_demand.specs.Policies.{keyed_policy_eq}
+use Rattle.vet_demand.specs.PolicyNames.{names_in, policy_names}
 use Rattle.vet_entries.specs.declared.kind.Kind.{Kind}
 use Rattle.vet_entries.specs.declared.kind.Kind.TheVariants.{Wildcard, Trusted}
 use Rattle.vet_entries.specs.declared.kind.Window.{Window}
@@ -30,10 +36,11 @@ use Rattle.vet_entries.specs.PeerWords.{targets}
 use Rattle.vet_entries.specs.PublisherRecords.{records_of, records_total, with_records}
 use Rattle.vet_entries.specs.Publishers.{publishers_eq}
 use Rattle.vet_register.specs.declared.command.Action.{Action}
-use Rattle.vet_register.specs.declared.command.Action.TheVariants.{SetCriterion, RemoveCriterion, AddEntry, DropEntry, SetPeer, DropPeer, ImportPeer, SetPublishers}
+use Rattle.vet_register.specs.declared.command.Action.TheVariants.{SetCriterion, RemoveCriterion, AddEntry, DropEntry, SetPeer, DropPeer, ImportPeer, SetPublishers, SetPolicy, DropPolicy, LoadProject, DropProject}
 use Rattle.vet_register.specs.declared.command.Command.{Command}
 use Rattle.vet_register.specs.declared.verdict.Answer.{Answer}
 use Rattle.vet_register.specs.declared.verdict.Answer.TheVariants.{Already, Accepted}
+use Rattle.vet_register.specs.Held.{HeldValue, policy_at, project_at}
 use Rattle.vet_register.specs.State.{State}
 use Rattle.vet_register.specs.Machine.{moves_of, numbers_given}
 
@@ -49,13 +56,22 @@ has_settings peers settings = option_map_or (λ (p : HeldPeer). settings_eq p.se
 abbrev pub has_content : List HeldPeer → List ℕ → PeerContentValue → Bool
 has_content peers name content = option_map_or (λ (p : HeldPeer). same_content name p.content content) (peer_of peers name) false
 
+-- whether a policy is held as it is, and a project
+abbrev pub has_policy : List KeyedPolicy → KeyedPolicy → Bool
+has_policy policies p = option_map_or (λ held. keyed_policy_eq held p) (policy_at policies p.key) false
+
+abbrev pub has_project : List NamedProject → NamedProject → Bool
+has_project projects p = option_map_or (λ held. named_project_eq held p) (project_at projects p.name) false
+
 -- under which number a command's content is held already
 abbrev pub held_as : State → Action → Option (Option ℕ)
-held_as s (SetCriterion c) = if is_held s.facts.criteria c then Some None else None
-held_as s (AddEntry entry) = option_map (λ n. Some n) (number_of s.facts.entries entry)
-held_as s (SetPeer settings) = if has_settings s.facts.peers settings then Some None else None
-held_as s (ImportPeer name content) = if has_content s.facts.peers name content then Some None else None
-held_as s (SetPublishers name records) = if publishers_eq (records_of s.facts.publishers name) records then Some None else None
+held_as s (SetCriterion c) = if is_held s.held.facts.criteria c then Some None else None
+held_as s (AddEntry entry) = option_map (λ n. Some n) (number_of s.held.facts.entries entry)
+held_as s (SetPeer settings) = if has_settings s.held.facts.peers settings then Some None else None
+held_as s (ImportPeer name content) = if has_content s.held.facts.peers name content then Some None else None
+held_as s (SetPublishers name records) = if publishers_eq (records_of s.held.facts.publishers name) records then Some None else None
+held_as s (SetPolicy policy) = if has_policy s.held.policies policy then Some None else None
+held_as s (LoadProject project) = if has_project s.held.projects project then Some None else None
 held_as s _ = None
 
 -- there is a step for a command
@@ -76,41 +92,62 @@ entries_beside facts name = length facts.entries + entries_of_peers (without_pee
 
 -- the limits of an import of so many entries, so many of them new
 abbrev pub import_limits : State → List ℕ → ℕ → ℕ → Told (Unit {0})
-import_limits s name count new = entry_limit (entries_beside s.facts name + count) >>= λ _. step_limit s >>= λ _. number_limit s new
+import_limits s name count new = entry_limit (entries_beside s.held.facts name + count) >>= λ _. step_limit s >>= λ _. number_limit s new
 
 -- one peer more, if it is a new one, is not too many
 abbrev pub peer_limit : State → List ℕ → Told (Unit {0})
-peer_limit s name = refuse_if (is_none (peer_of s.facts.peers name) && nat_lt MOST_PEERS (length s.facts.peers + 1)) (TooLarge limit.Peers)
+peer_limit s name = refuse_if (is_none (peer_of s.held.facts.peers name) && nat_lt MOST_PEERS (length s.held.facts.peers + 1)) (TooLarge limit.Peers)
 
 -- with these records for a package there are not too many
 abbrev pub publisher_limit : State → List ℕ → List Publisher → Told (Unit {0})
 publisher_limit s name records =
-    refuse_if (nat_lt MOST_PUBLISHERS (records_total (with_records name records s.facts.publishers))) (TooLarge limit.Publishers)
+    refuse_if (nat_lt MOST_PUBLISHERS (records_total (with_records name records s.held.facts.publishers))) (TooLarge limit.Publishers)
+
+-- one policy more, if it is a new one, is not too many
+abbrev pub policy_limit : State → PolicyKey → Told (Unit {0})
+policy_limit s key = refuse_if (is_none (policy_at s.held.policies key) && nat_lt MOST_POLICIES (length s.held.policies + 1)) (TooLarge limit.Policies)
+
+-- nor one project more
+abbrev pub project_limit : State → List ℕ → Told (Unit {0})
+project_limit s name = refuse_if (is_none (project_at s.held.projects name) && nat_lt MOST_PROJECTS (length s.held.projects + 1)) (TooLarge limit.Projects)
 
 -- what is held stays within its limit, and there is a step and, for each new entry, a number; of an import this is asked
 -- as if the peer were held
 abbrev pub limits : State → Action → Told (Unit {0})
-limits s (SetCriterion c) = set_limits s.facts.criteria c.name >>= λ _. step_limit s
-limits s (AddEntry entry) = entry_limit (entries_total s.facts + 1) >>= λ _. step_limit s >>= λ _. number_limit s 1
+limits s (SetCriterion c) = set_limits s.held.facts.criteria c.name >>= λ _. step_limit s
+limits s (AddEntry entry) = entry_limit (entries_total s.held.facts + 1) >>= λ _. step_limit s >>= λ _. number_limit s 1
 limits s (SetPeer settings) = peer_limit s settings.name >>= λ _. step_limit s
 limits s (ImportPeer name content) = import_limits s name (length content.entries) (numbers_given s (ImportPeer name content))
 limits s (SetPublishers name records) = publisher_limit s name records >>= λ _. step_limit s
+limits s (SetPolicy policy) = policy_limit s policy.key >>= λ _. step_limit s
+limits s (LoadProject project) = project_limit s project.name >>= λ _. step_limit s
 limits s _ = step_limit s
 
 -- a peer of a name is held
 abbrev pub held_peer : State → List ℕ → Told (Unit {0})
-held_peer s name = refuse_if (is_none (peer_of s.facts.peers name)) UnknownPeer
+held_peer s name = refuse_if (is_none (peer_of s.held.facts.peers name)) UnknownPeer
+
+-- a policy of a key is held, and a project of a name
+abbrev pub held_policy : State → PolicyKey → Told (Unit {0})
+held_policy s key = refuse_if (is_none (policy_at s.held.policies key)) UnknownPolicy
+
+abbrev pub held_project : State → List ℕ → Told (Unit {0})
+held_project s name = refuse_if (is_none (project_at s.held.projects name)) UnknownProject
 
 -- what a command refers to is held; an entry that is dropped is one's own
 abbrev pub references : State → Action → Told (Unit {0})
-references s (SetCriterion c) = set_references s.facts.criteria c
-references s (RemoveCriterion name) = remove_references s.facts.criteria name
-references s (AddEntry entry) = known (least_unknown s.facts.criteria entry.criteria)
-references s (DropEntry n) = refuse_if (not (list_any (has_number n) s.facts.entries)) UnknownEntry
-references s (SetPeer settings) = known (least_unknown s.facts.criteria (targets settings.map))
+references s (SetCriterion c) = set_references s.held.facts.criteria c
+references s (RemoveCriterion name) = remove_references s.held.facts.criteria name
+references s (AddEntry entry) = known (least_unknown s.held.facts.criteria entry.criteria)
+references s (DropEntry n) = refuse_if (not (list_any (has_number n) s.held.facts.entries)) UnknownEntry
+references s (SetPeer settings) = known (least_unknown s.held.facts.criteria (targets settings.map))
 references s (DropPeer name) = held_peer s name
 references s (ImportPeer name content) = held_peer s name
 references s (SetPublishers name records) = Ok tt
+references s (SetPolicy policy) = known (least_unknown s.held.facts.criteria (names_in policy.policy))
+references s (DropPolicy key) = held_policy s key
+references s (LoadProject project) = Ok tt
+references s (DropProject name) = held_project s name
 
 -- the last day of a window comes before its first
 abbrev pub ends_before_it_begins : Window → Bool
@@ -130,11 +167,15 @@ kind_rules day (Wildcard window grant) = window_rules day window
 kind_rules day (Trusted window) = window_rules day window
 kind_rules day _ = Ok tt
 
--- a built-in criterion is neither set nor removed, nor one removed that another implies, or that an own entry or a target of
--- a peer's map names; a window keeps its rules
+-- an own entry, a target of a peer's map or a policy names a criterion
+abbrev pub is_used : HeldValue → List ℕ → Bool
+is_used held name = is_named held.facts name || list_any (policy_names name) held.policies
+
+-- a built-in criterion is neither set nor removed, nor one removed that another implies, or that an own entry, a target of
+-- a peer's map or a policy names; a window keeps its rules
 abbrev pub rules : State → DayValue → Action → Told (Unit {0})
 rules s day (SetCriterion c) = set_rules c.name
-rules s day (RemoveCriterion name) = remove_rules s.facts.criteria name >>= λ _. refuse_if (is_named s.facts name) CriterionInUse
+rules s day (RemoveCriterion name) = remove_rules s.held.facts.criteria name >>= λ _. refuse_if (is_used s.held name) CriterionInUse
 rules s day (AddEntry entry) = kind_rules day entry.kind
 rules s day _ = Ok tt
 

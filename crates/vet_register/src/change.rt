@@ -2,9 +2,9 @@
 ghost use Rattle.std.specs.Prelude.{◌≡◌};
 
 use crate::command::Outcome;
+use crate::held::HeldEdit;
 use crate::moves::Recording;
 use vet_demand::demand::Demand;
-use vet_entries::facts::Edit;
 use vet_graph::keeper::Keeper;
 use vet_graph::touched::Touched;
 
@@ -12,7 +12,7 @@ use vet_graph::touched::Touched;
 #[derive(Drop)]
 pub struct Change<K: Keeper> {
     // an edit of what is held, unless that stays
-    pub(crate) edit: Option<Edit>,
+    pub(crate) edit: Option<HeldEdit>,
     // another demand, unless it stays
     pub(crate) demand: Option<Demand>,
     pub(crate) update: K::Update,

@@ -3,6 +3,9 @@
 use vet_base::criterion::Criterion;
 use vet_base::day::Day;
 use vet_base::name::{Name, PackageName};
+use vet_demand::policies::KeyedPolicy;
+use vet_demand::policy_key::PolicyKey;
+use vet_demand::project::NamedProject;
 use vet_entries::entry::Entry;
 use vet_entries::peer_content::PeerContent;
 use vet_entries::peer_settings::PeerSettings;
@@ -39,6 +42,14 @@ pub enum Action {
     ImportPeer(Name, PeerContent),
     /// Puts these publisher records in place of those of the package; where there are none, it has none.
     SetPublishers(PackageName, Publishers),
+    /// Adds a policy, or puts it in place of the one of its key.
+    SetPolicy(KeyedPolicy),
+    /// Drops the policy of this key.
+    DropPolicy(PolicyKey),
+    /// Adds a project, or puts it in place of the one of its name.
+    LoadProject(NamedProject),
+    /// Drops the project of this name.
+    DropProject(PackageName),
 }
 
 impl Drop for Action {
@@ -52,6 +63,10 @@ impl Drop for Action {
             Action::DropPeer(_) => {}
             Action::ImportPeer(_, _) => {}
             Action::SetPublishers(_, _) => {}
+            Action::SetPolicy(_) => {}
+            Action::DropPolicy(_) => {}
+            Action::LoadProject(_) => {}
+            Action::DropProject(_) => {}
         }
     }
 }

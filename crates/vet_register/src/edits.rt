@@ -14,6 +14,7 @@ ghost use Rattle.vet_register.specs.RegisterView.{Asks, KeepsRoom};
 ghost use Rattle.vet_register.specs.Verdict.{judged};
 
 use crate::command::{Action, Command};
+use crate::held::HeldEdit;
 use crate::register::Register;
 use crate::verdict::Answer;
 use std::alloc::{AllocError, Global};
@@ -22,8 +23,10 @@ use vet_base::criterion::Criterion;
 use vet_base::day::Day;
 use vet_base::name::{Name, PackageName};
 use vet_base::refusal::Refusal;
+use vet_demand::policies::KeyedPolicy;
+use vet_demand::policy_key::PolicyKey;
+use vet_demand::project::NamedProject;
 use vet_entries::entry::Entry;
-use vet_entries::facts::Edit;
 use vet_entries::holding::Holding;
 use vet_entries::import::{Comparison, holding_after};
 use vet_entries::peer_content::PeerContent;
@@ -34,7 +37,7 @@ use vet_graph::keeper::Keeper;
 /// An edit of what is held, the number of the entry that a command makes, and the next number after it.
 #[derive(Drop)]
 pub struct Effect {
-    pub(crate) edit: Edit,
+    pub(crate) edit: HeldEdit,
     pub(crate) number: Option<u64>,
     pub(crate) next_entry: u64,
 }
@@ -68,6 +71,10 @@ impl<K: Keeper> Register<K> {
             Action::SetPublishers(package, publishers) => {
                 self.set_publishers(package, publishers)
             }
+            Action::SetPolicy(policy) => self.set_policy(policy),
+            Action::DropPolicy(key) => self.drop_policy(key),
+            Action::LoadProject(project) => self.load_project(project),
+            Action::DropProject(name) => self.drop_project(name),
         }
     }
 
@@ -81,9 +88,9 @@ impl<K: Keeper> Register<K> {
         if let Answer::Already(number) = self.judge_criterion(criterion)? {
             return Ok(Asked::Already(number));
         }
-        let table = with_criterion(self.facts.criteria(), criterion)?;
+        let table = with_criterion(self.held.facts.criteria(), criterion)?;
         Ok(Asked::Effect(Effect {
-            edit: self.facts.edit_of_criteria(table),
+            edit: HeldEdit::Facts(self.held.facts.edit_of_criteria(table)),
             number: None,
             next_entry: self.next_entry,
         }))
@@ -97,9 +104,9 @@ impl<K: Keeper> Register<K> {
         ensures room_stays { KeepsRoom self.old self.new }
     {
         self.judge_removal(name)?;
-        let table = without_criterion(self.facts.criteria(), name)?;
+        let table = without_criterion(self.held.facts.criteria(), name)?;
         Ok(Asked::Effect(Effect {
-            edit: self.facts.edit_of_criteria(table),
+            edit: HeldEdit::Facts(self.held.facts.edit_of_criteria(table)),
             number: None,
             next_entry: self.next_entry,
         }))
@@ -117,7 +124,7 @@ impl<K: Keeper> Register<K> {
         }
         let own = entry.to_own()?;
         Ok(Asked::Effect(Effect {
-            edit: self.facts.edit_adding(self.next_entry, own)?,
+            edit: HeldEdit::Facts(self.held.facts.edit_adding(self.next_entry, own)?),
             number: Some(self.next_entry),
             next_entry: self.next_entry + 1,
         }))
@@ -132,7 +139,7 @@ impl<K: Keeper> Register<K> {
     {
         let place = self.judge_drop(number)?;
         Ok(Asked::Effect(Effect {
-            edit: self.facts.edit_dropping(place),
+            edit: HeldEdit::Facts(self.held.facts.edit_dropping(place)),
             number: None,
             next_entry: self.next_entry,
         }))
@@ -150,7 +157,7 @@ impl<K: Keeper> Register<K> {
         }
         let copy = settings.clone()?;
         Ok(Asked::Effect(Effect {
-            edit: self.facts.edit_of_settings(alloc, copy)?,
+            edit: HeldEdit::Facts(self.held.facts.edit_of_settings(alloc, copy)?),
             number: None,
             next_entry: self.next_entry,
         }))
@@ -165,7 +172,7 @@ impl<K: Keeper> Register<K> {
     {
         self.judge_peer_drop(name)?;
         Ok(Asked::Effect(Effect {
-            edit: self.facts.edit_dropping_peer(name),
+            edit: HeldEdit::Facts(self.held.facts.edit_dropping_peer(name)),
             number: None,
             next_entry: self.next_entry,
         }))
@@ -191,7 +198,7 @@ impl<K: Keeper> Register<K> {
         let after = self.holding_after(alloc, name, content, &comparison)?;
         let copy = copied(name)?;
         Ok(Asked::Effect(Effect {
-            edit: self.facts.edit_of_content(copy, after),
+            edit: HeldEdit::Facts(self.held.facts.edit_of_content(copy, after)),
             number: None,
             next_entry,
         }))
@@ -205,16 +212,16 @@ impl<K: Keeper> Register<K> {
         content: &PeerContent,
         comparison: &Comparison,
     ) -> Result<Holding, Refusal>
-        requires held { IsHeld name.now self.now.state.facts }
+        requires held { IsHeld name.now self.now.state.held.facts }
         requires compared { comparison.now
-            ≡ compared name.now (held_of self.now.state.facts name.now) content.now }
+            ≡ compared name.now (held_of self.now.state.held.facts name.now) content.now }
         requires numbers { self.now.state.next_entry + comparison.now.new_count < 2 ^ 64 }
         ensures ok { IfOk result (λ h. h ≡ imported name.now self.now.state.next_entry content.now
-            (held_of self.now.state.facts name.now)) }
+            (held_of self.now.state.held.facts name.now)) }
         ensures memory { IfErr result (λ e. e ≡ Refusal.NoMemory) }
     {
         self.state_is_sound();
-        match self.facts.peer(name) {
+        match self.held.facts.peer(name) {
             Some(peer) => holding_after(
                 alloc,
                 name,
@@ -242,9 +249,75 @@ impl<K: Keeper> Register<K> {
         if let Answer::Already(number) = self.judge_publishers(package, publishers)? {
             return Ok(Asked::Already(number));
         }
-        self.facts.records_stay_in_order(package, publishers);
+        self.held.facts.records_stay_in_order(package, publishers);
         Ok(Asked::Effect(Effect {
-            edit: self.facts.publishers_edit(package, publishers)?,
+            edit: HeldEdit::Facts(self.held.facts.publishers_edit(package, publishers)?),
+            number: None,
+            next_entry: self.next_entry,
+        }))
+    }
+
+    fn set_policy(&mut self, policy: &KeyedPolicy) -> Result<Asked, Refusal>
+        ensures asked { (day : DayValue) → Asks self.new (action.SetPolicy policy.now)
+            (judged self.old.state day (action.SetPolicy policy.now)) result }
+        ensures state { self.new.state ≡ self.old.state }
+        ensures keeper { self.new.keeper ≡ self.old.keeper }
+        ensures room_stays { KeepsRoom self.old self.new }
+    {
+        if let Answer::Already(number) = self.judge_policy(policy)? {
+            return Ok(Asked::Already(number));
+        }
+        let copy = policy.clone()?;
+        Ok(Asked::Effect(Effect {
+            edit: self.held.edit_of_policy(copy)?,
+            number: None,
+            next_entry: self.next_entry,
+        }))
+    }
+
+    fn drop_policy(&mut self, key: &PolicyKey) -> Result<Asked, Refusal>
+        ensures asked { (day : DayValue) → Asks self.new (action.DropPolicy key.now)
+            (judged self.old.state day (action.DropPolicy key.now)) result }
+        ensures state { self.new.state ≡ self.old.state }
+        ensures keeper { self.new.keeper ≡ self.old.keeper }
+        ensures room_stays { KeepsRoom self.old self.new }
+    {
+        self.judge_policy_drop(key)?;
+        Ok(Asked::Effect(Effect {
+            edit: self.held.edit_dropping_policy(key),
+            number: None,
+            next_entry: self.next_entry,
+        }))
+    }
+
+    fn load_project(&mut self, project: &NamedProject) -> Result<Asked, Refusal>
+        ensures asked { (day : DayValue) → Asks self.new (action.LoadProject project.now)
+            (judged self.old.state day (action.LoadProject project.now)) result }
+        ensures state { self.new.state ≡ self.old.state }
+        ensures keeper { self.new.keeper ≡ self.old.keeper }
+        ensures room_stays { KeepsRoom self.old self.new }
+    {
+        if let Answer::Already(number) = self.judge_project(project)? {
+            return Ok(Asked::Already(number));
+        }
+        let copy = project.clone()?;
+        Ok(Asked::Effect(Effect {
+            edit: self.held.edit_of_project(copy)?,
+            number: None,
+            next_entry: self.next_entry,
+        }))
+    }
+
+    fn drop_project(&mut self, name: &PackageName) -> Result<Asked, Refusal>
+        ensures asked { (day : DayValue) → Asks self.new (action.DropProject name.now)
+            (judged self.old.state day (action.DropProject name.now)) result }
+        ensures state { self.new.state ≡ self.old.state }
+        ensures keeper { self.new.keeper ≡ self.old.keeper }
+        ensures room_stays { KeepsRoom self.old self.new }
+    {
+        self.judge_project_drop(name)?;
+        Ok(Asked::Effect(Effect {
+            edit: self.held.edit_dropping_project(name),
             number: None,
             next_entry: self.next_entry,
         }))

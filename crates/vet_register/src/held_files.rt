@@ -34,8 +34,8 @@ impl<K: Keeper> Register<K> {
     /// their numbers. Entries of excluded packages are among them; the writer leaves them out. Refused:
     /// `NoMemory`.
     pub fn held_imports(&self, alloc: Global) -> Result<HeldImports, Refusal>
-        ensures settings { IfOk result (λ h. h.settings ≡ settings_of self.now.state.facts) }
-        ensures content { IfOk result (λ h. h.content ≡ imports_of self.now.state.facts) }
+        ensures settings { IfOk result (λ h. h.settings ≡ settings_of self.now.state.held.facts) }
+        ensures content { IfOk result (λ h. h.content ≡ imports_of self.now.state.held.facts) }
         ensures readable { IfOk result (λ h. IsImports h.content) }
         ensures memory { IfErr result (λ e. e ≡ Refusal.NoMemory) }
     {

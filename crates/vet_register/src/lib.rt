@@ -11,8 +11,10 @@ pub mod change;
 pub mod class_of_file;
 pub mod command;
 mod edits;
+mod held;
 pub mod held_files;
 pub mod moves;
+mod plan;
 pub mod register;
 pub mod repeats;
 mod verdict;
@@ -21,7 +23,10 @@ pub use vet_base::{
     criteria_table, criterion, day, definitions, delta, limits, name, names, package_names,
     refusal, req, text, texts, version,
 };
-pub use vet_demand::{demand, dependency_criteria, pair, policies, policy, policy_key};
+pub use vet_demand::{
+    demand, demand_of, dependency_criteria, pair, policies, policy, policy_key, policy_names,
+    project, table_reader,
+};
 pub use vet_entries::{
     criteria_map, entry, facts, held_peer, holding, kind, peer_content, peer_settings, publisher,
     publisher_records, publishers, step, user,

@@ -12,7 +12,7 @@ ghost use Rattle.vet_entries.specs.HeldPeer.{peer_of};
 ghost use Rattle.vet_entries.specs.Numbered.{place_of};
 ghost use Rattle.vet_register.specs.declared.command.Action.TheVariants as action;
 ghost use Rattle.vet_register.specs.Importing.{IsJudgedImport};
-ghost use Rattle.vet_register.specs.Verdict.{checked, entries_beside, entry_limit, has_settings, held_peer, import_limits, is_held, judged, kind_rules, number_limit, peer_limit, publisher_limit, step_limit, window_rules};
+ghost use Rattle.vet_register.specs.Verdict.{checked, entries_beside, entry_limit, has_policy, has_project, has_settings, held_peer, held_policy, held_project, import_limits, is_held, is_used, judged, kind_rules, number_limit, peer_limit, policy_limit, project_limit, publisher_limit, step_limit, window_rules};
 
 use crate::register::Register;
 use std::alloc::Global;
@@ -20,10 +20,15 @@ use vet_base::criteria_table::{CriteriaTable, is_built_in};
 use vet_base::criterion::Criterion;
 use vet_base::day::Day;
 use vet_base::limits::{
-    LAST_NUMBER, LAST_STEP, MOST_ENTRIES, MOST_PEERS, MOST_PUBLISHERS, MOST_WINDOW_DAYS,
+    LAST_NUMBER, LAST_STEP, MOST_ENTRIES, MOST_PEERS, MOST_POLICIES, MOST_PROJECTS,
+    MOST_PUBLISHERS, MOST_WINDOW_DAYS,
 };
 use vet_base::name::{Name, PackageName};
 use vet_base::refusal::{Limit, Refusal};
+use vet_demand::policies::KeyedPolicy;
+use vet_demand::policy_key::PolicyKey;
+use vet_demand::policy_names::{least_unknown_of, names_criterion};
+use vet_demand::project::NamedProject;
 use vet_entries::entry::Entry;
 use vet_entries::import::{Comparison, compare};
 use vet_entries::kind::{Kind, Window};
@@ -47,7 +52,7 @@ impl<K: Keeper> Register<K> {
         ensures { (day : DayValue)
             → Answers (judged self.now.state day (action.SetCriterion criterion.now)) result }
     {
-        let criteria = self.facts.criteria();
+        let criteria = self.held.facts.criteria();
         if is_held(criteria, criterion) {
             return Ok(Answer::Already(None));
         }
@@ -65,7 +70,7 @@ impl<K: Keeper> Register<K> {
         ensures { (day : DayValue)
             → Answers (checked self.now.state day (action.RemoveCriterion name.now)) result }
     {
-        let criteria = self.facts.criteria();
+        let criteria = self.held.facts.criteria();
         self.check_step()?;
         if !criteria.has(name) {
             return Err(Refusal::UnknownCriterion(name.clone()?));
@@ -74,7 +79,7 @@ impl<K: Keeper> Register<K> {
         if criteria.is_implied(name) {
             return Err(Refusal::CriterionInUse);
         }
-        if self.facts.names_criterion(name) {
+        if self.uses_criterion(name) {
             return Err(Refusal::CriterionInUse);
         }
         Ok(())
@@ -84,13 +89,13 @@ impl<K: Keeper> Register<K> {
     pub(crate) fn judge_entry(&self, day: Day, entry: &Entry) -> Result<Answer, Refusal>
         ensures { Answers (judged self.now.state day (action.AddEntry entry.now)) result }
     {
-        if let Some(number) = self.facts.number_of(entry) {
+        if let Some(number) = self.held.facts.number_of(entry) {
             return Ok(Answer::Already(Some(number)));
         }
         check_entry_limit(self.entries_total(), 1)?;
         self.check_step()?;
         self.check_number_limit(1)?;
-        check_known(self.facts.criteria().least_unknown(&entry.criteria))?;
+        check_known(self.held.facts.criteria().least_unknown(&entry.criteria))?;
         check_kind(day, &entry.kind)?;
         Ok(Answer::Accepted)
     }
@@ -98,14 +103,14 @@ impl<K: Keeper> Register<K> {
     /// Where the entry of a number stands that it is told it may drop.
     pub(crate) fn judge_drop(&self, number: u64) -> Result<usize, Refusal>
         ensures place { IfOk result (λ place.
-            place_of self.now.state.facts.entries number ≡ Some place) }
+            place_of self.now.state.held.facts.entries number ≡ Some place) }
         ensures passed { (day : DayValue)
             → checked self.now.state day (action.DropEntry number) ≡ Ok tt → IsOk result }
         ensures refused { (day : DayValue)
             → IfErr (checked self.now.state day (action.DropEntry number)) (λ e. Refuses e result) }
     {
         self.check_step()?;
-        match self.facts.place_of(number) {
+        match self.held.facts.place_of(number) {
             Some(place) => Ok(place),
             None => Err(Refusal::UnknownEntry),
         }
@@ -121,7 +126,8 @@ impl<K: Keeper> Register<K> {
         }
         self.check_peer_limit(&settings.name)?;
         self.check_step()?;
-        check_known(settings.map.least_target_outside(self.facts.criteria()))?;
+        let criteria = self.held.facts.criteria();
+        check_known(settings.map.least_target_outside(criteria))?;
         Ok(Answer::Accepted)
     }
 
@@ -145,7 +151,7 @@ impl<K: Keeper> Register<K> {
         ensures { (day : DayValue) → IsJudgedImport self.now.state day name.now content.now result }
     {
         self.state_is_sound();
-        let Some(peer) = self.facts.peer(name) else {
+        let Some(peer) = self.held.facts.peer(name) else {
             return Err(self.refused_import(name, content));
         };
         let comparison = compare(alloc, name, &peer.content, content)?;
@@ -158,7 +164,7 @@ impl<K: Keeper> Register<K> {
 
     // What an import from a peer that isn't held is refused for.
     fn refused_import(&self, name: &Name, content: &PeerContent) -> Refusal
-        requires { peer_of self.now.state.facts.peers name.now ≡ None }
+        requires { peer_of self.now.state.held.facts.peers name.now ≡ None }
         ensures { (day : DayValue) → judged self.now.state day (action.ImportPeer name.now content.now) ≡ Err result }
     {
         match self.check_import(name, content, content.entries().len()) {
@@ -176,12 +182,123 @@ impl<K: Keeper> Register<K> {
         ensures { (day : DayValue) → Answers
             (judged self.now.state day (action.SetPublishers «package».now publishers.now)) result }
     {
-        if self.facts.records_of(package) == publishers.as_slice() {
+        if self.held.facts.records_of(package) == publishers.as_slice() {
             return Ok(Answer::Already(None));
         }
         self.check_publisher_limit(package, publishers)?;
         self.check_step()?;
         Ok(Answer::Accepted)
+    }
+
+    /// What it is told to set a policy.
+    pub(crate) fn judge_policy(&self, policy: &KeyedPolicy) -> Result<Answer, Refusal>
+        ensures { (day : DayValue)
+            → Answers (judged self.now.state day (action.SetPolicy policy.now)) result }
+    {
+        if self.has_policy(policy) {
+            return Ok(Answer::Already(None));
+        }
+        self.check_policy_limit(&policy.key)?;
+        self.check_step()?;
+        check_known(least_unknown_of(&policy.policy, self.held.facts.criteria()))?;
+        Ok(Answer::Accepted)
+    }
+
+    /// Whether it may drop the policy of a key.
+    pub(crate) fn judge_policy_drop(&self, key: &PolicyKey) -> Result<(), Refusal>
+        ensures { (day : DayValue)
+            → Answers (checked self.now.state day (action.DropPolicy key.now)) result }
+    {
+        self.check_step()?;
+        self.check_policy(key)
+    }
+
+    /// What it is told to load a project.
+    pub(crate) fn judge_project(&self, project: &NamedProject) -> Result<Answer, Refusal>
+        ensures { (day : DayValue)
+            → Answers (judged self.now.state day (action.LoadProject project.now)) result }
+    {
+        if self.has_project(project) {
+            return Ok(Answer::Already(None));
+        }
+        self.check_project_limit(&project.name)?;
+        self.check_step()?;
+        Ok(Answer::Accepted)
+    }
+
+    /// Whether it may drop the project of a name.
+    pub(crate) fn judge_project_drop(&self, name: &PackageName) -> Result<(), Refusal>
+        ensures { (day : DayValue)
+            → Answers (checked self.now.state day (action.DropProject name.now)) result }
+    {
+        self.check_step()?;
+        self.check_project(name)
+    }
+
+    // Whether an own entry, a target of a peer's map or a policy names a criterion.
+    fn uses_criterion(&self, name: &Name) -> bool
+        ensures { result ≡ is_used self.now.state.held name.now }
+    {
+        if self.held.facts.names_criterion(name) {
+            return true;
+        }
+        names_criterion(self.held.policies.items(), name)
+    }
+
+    // Whether a policy is held as it is.
+    fn has_policy(&self, policy: &KeyedPolicy) -> bool
+        ensures { result ≡ has_policy self.now.state.held.policies policy.now }
+    {
+        match self.held.policies.get(&policy.key) {
+            Some(held) => held == policy,
+            None => false,
+        }
+    }
+
+    // Whether a project is held as it is.
+    fn has_project(&self, project: &NamedProject) -> bool
+        ensures { result ≡ has_project self.now.state.held.projects project.now }
+    {
+        match self.held.projects.get(&project.name) {
+            Some(held) => held == project,
+            None => false,
+        }
+    }
+
+    fn check_policy(&self, key: &PolicyKey) -> Result<(), Refusal>
+        ensures { result ≡ held_policy self.now.state key.now }
+    {
+        if !self.held.policies.has(key) {
+            return Err(Refusal::UnknownPolicy);
+        }
+        Ok(())
+    }
+
+    fn check_project(&self, name: &PackageName) -> Result<(), Refusal>
+        ensures { result ≡ held_project self.now.state name.now }
+    {
+        if !self.held.projects.has(name) {
+            return Err(Refusal::UnknownProject);
+        }
+        Ok(())
+    }
+
+    fn check_policy_limit(&self, key: &PolicyKey) -> Result<(), Refusal>
+        ensures { result ≡ policy_limit self.now.state key.now }
+    {
+        if !self.held.policies.has(key) && self.held.policies.len() >= MOST_POLICIES {
+            return Err(Refusal::TooLarge(Limit::Policies));
+        }
+        Ok(())
+    }
+
+    fn check_project_limit(&self, name: &PackageName) -> Result<(), Refusal>
+        ensures { result ≡ project_limit self.now.state name.now }
+    {
+        if !self.held.projects.has(name) && self.held.projects.len() >= MOST_PROJECTS {
+            return Err(Refusal::TooLarge(Limit::Projects));
+        }
+        Ok(())
     }
 
     fn check_step(&self) -> Result<(), Refusal>
@@ -195,9 +312,9 @@ impl<K: Keeper> Register<K> {
 
     // Whether the settings of a peer are held as they are.
     fn has_settings(&self, settings: &PeerSettings) -> bool
-        ensures { result ≡ has_settings self.now.state.facts.peers settings.now }
+        ensures { result ≡ has_settings self.now.state.held.facts.peers settings.now }
     {
-        match self.facts.peer(&settings.name) {
+        match self.held.facts.peer(&settings.name) {
             Some(peer) => peer.settings == *settings,
             None => false,
         }
@@ -205,11 +322,11 @@ impl<K: Keeper> Register<K> {
 
     // How many entries there are of all sources.
     fn entries_total(&self) -> usize
-        ensures value { result ≡ entries_total self.now.state.facts }
+        ensures value { result ≡ entries_total self.now.state.held.facts }
         ensures few { result ≤ MOST_ENTRIES }
     {
         self.state_is_sound();
-        self.facts.entries_total()
+        self.held.facts.entries_total()
     }
 
     // The limits that an import meets, where so many of its entries are new.
@@ -223,17 +340,17 @@ impl<K: Keeper> Register<K> {
 
     // How many entries there are of all sources but one peer.
     fn entries_beside(&self, name: &Name) -> usize
-        ensures value { result ≡ entries_beside self.now.state.facts name.now }
+        ensures value { result ≡ entries_beside self.now.state.held.facts name.now }
         ensures few { result ≤ MOST_ENTRIES }
     {
         self.state_is_sound();
-        self.facts.entries_beside(name)
+        self.held.facts.entries_beside(name)
     }
 
     fn check_peer(&self, name: &Name) -> Result<(), Refusal>
         ensures { result ≡ held_peer self.now.state name.now }
     {
-        if self.facts.peer(name).is_none() {
+        if self.held.facts.peer(name).is_none() {
             return Err(Refusal::UnknownPeer);
         }
         Ok(())
@@ -252,7 +369,7 @@ impl<K: Keeper> Register<K> {
     fn check_peer_limit(&self, name: &Name) -> Result<(), Refusal>
         ensures { result ≡ peer_limit self.now.state name.now }
     {
-        if self.facts.peer(name).is_none() && self.facts.peers().len() >= MOST_PEERS {
+        if self.held.facts.peer(name).is_none() && self.held.facts.peers().len() >= MOST_PEERS {
             return Err(Refusal::TooLarge(Limit::Peers));
         }
         Ok(())
@@ -266,6 +383,7 @@ impl<K: Keeper> Register<K> {
         ensures { result ≡ publisher_limit self.now.state «package».now publishers.now }
     {
         if self
+            .held
             .facts
             .records_would_pass(MOST_PUBLISHERS, package, publishers)
         {

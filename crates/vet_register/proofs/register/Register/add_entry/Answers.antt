@@ -1,15 +1,16 @@
-use Rattle.std.proofs.Common.{◌+◌, arith, ◌≡◌, ◌∙◌, ◌++◌, ◌∷◌, ◌<◌, [], ap, sym, subst, Ok, Some}
+use Rattle.std.proofs.Common.{◌+◌, arith, ◌≡◌, ◌∙◌, ◌++◌, ◌∷◌, ◌<◌, [], ap, refl, sym, subst, Ok, Some}
 use Rattle.std.specs.List.{All}
 use Rattle.std.proofs.lemmas.Result.{err_from_is_err_and}
 use Rattle.vet_entries.specs.Facts.{edited}
 use Rattle.vet_register.specs.declared.command.Action.TheVariants as action
 use Rattle.vet_register.specs.declared.verdict.Answer.TheVariants.{Accepted}
+use Rattle.vet_register.specs.Held.{content_of}
 use Rattle.vet_register.specs.Machine.{number_after}
 use Rattle.vet_register.specs.RegisterView.{RegisterView}
 use Rattle.vet_register.specs.Sound.{IsSound}
 use Rattle.vet_register.specs.State.{State}
 use Rattle.vet_register.specs.Verdict.{judged}
-use Rattle.vet_register.proofs.Asking.{answered, effect_is, effective, no_memory, refused}
+use Rattle.vet_register.proofs.Asking.{answered, facts_effect, effective, no_memory, refused}
 use Rattle.vet_register.proofs.register.Register.add_entry.Goals as goal
 
 pub returns-in_err-number-clause-asked : goal.returns-in_err-number-clause-asked
@@ -31,30 +32,29 @@ returns-clause-asked g c =
     let told : judged state c.args.day asks ≡ Ok Accepted = answered _ _ c.in_ok-number.ensures ∙ ap Ok c.in_default.is in
     let added = c.in_ok-edit_adding.ensures in
     let before : State = record {
-      facts = c.self.inside.facts.content;
-      demand = c.self.inside.demand;
+      held = content_of c.self.inside.held;
       step = c.self.inside.step;
       next_entry = c.self.inside.next_entry;
       moves_limit = c.self.inside.moves_limit;
       first = c.self.inside.first;
       moves = c.self.inside.moves.items;
     } in
-    let stays = (λ i. record before { facts = added.content i }) ∙ ap (λ (r : RegisterView _). r.state) c.self.view_is in
-    let edit = subst (λ (r : RegisterView _). edited c.in_ok-edit_adding.field-0 r.state.facts
-    ≡ record r.state.facts { entries = r.state.facts.entries ++ (record { number = r.state.next_entry; entry = c.in_ok-own.own }) ∷ [] })
+    let stays = (λ i. record before { held = record (content_of c.self.inside.held) { facts = added.content i } }) ∙ ap (λ (r : RegisterView _). r.state) c.self.view_is in
+    let edit = subst (λ (r : RegisterView _). edited c.in_ok-edit_adding.field-0 r.state.held.facts
+    ≡ record r.state.held.facts { entries = r.state.held.facts.entries ++ (record { number = r.state.next_entry; entry = c.in_ok-own.own }) ∷ [] })
     c.self.view_is added.edit in
     let facts = edit ∙ (λ i. record {
-      criteria = state.facts.criteria;
-      entries = state.facts.entries ++ (record { number = state.next_entry; entry = c.in_ok-own.ensures i }) ∷ [];
-      peers = state.facts.peers;
-      publishers = state.facts.publishers;
+      criteria = state.held.facts.criteria;
+      entries = state.held.facts.entries ++ (record { number = state.next_entry; entry = c.in_ok-own.ensures i }) ∷ [];
+      peers = state.held.facts.peers;
+      publishers = state.held.facts.publishers;
     }) in
     let number = ap (λ (r : RegisterView _). Some r.state.next_entry) c.self.view_is in
     let held = ap (λ (r : RegisterView _). r.state.next_entry) c.self.view_is in
     let next : c.self.inside.next_entry + 1 ≡ number_after state asks = omega (arith, held) in
-    effective _ _ _ _ told (effect_is _ _ state c.args.day _ stays sound told tt facts number next added.fits sound.facts.criteria sound.facts.publishers)
+    effective _ _ _ _ told (facts_effect _ asks state c.args.day c.in_ok-edit_adding.field-0 _ _ stays sound told tt facts refl refl number next added.fits sound.held.facts.criteria sound.held.facts.publishers)
 
 pub edit_adding-requires : goal.edit_adding-requires
 edit_adding-requires g c =
-    subst (λ (r : RegisterView _). All (λ h. h.number < r.state.next_entry) r.state.facts.entries) (sym c.self.view_is)
-    (subst (λ (r : RegisterView _). IsSound r.state) c.self.view_is c.self.invariant.1).facts.entries.numbers_given
+    subst (λ (r : RegisterView _). All (λ h. h.number < r.state.next_entry) r.state.held.facts.entries) (sym c.self.view_is)
+    (subst (λ (r : RegisterView _). IsSound r.state) c.self.view_is c.self.invariant.1).held.facts.entries.numbers_given

@@ -5,17 +5,17 @@ use Rattle.vet_entries.specs.Numbered.{has_number}
 use Rattle.vet_register.specs.declared.command.Action.TheVariants as action
 use Rattle.vet_register.specs.declared.verdict.Answer.TheVariants.{Accepted}
 use Rattle.vet_register.specs.Machine.{number_after}
-use Rattle.vet_register.specs.RegisterView.{RegisterView, facts_room}
+use Rattle.vet_register.specs.RegisterView.{RegisterView, held_room}
 use Rattle.vet_register.specs.Sound.{IsSound}
 use Rattle.vet_register.specs.Verdict.{checked, held_or, judged}
-use Rattle.vet_register.proofs.Asking.{effect_is, effective}
+use Rattle.vet_register.proofs.Asking.{facts_effect, effective}
 use Rattle.vet_register.proofs.Drops.{dropped, passes, place_within}
 use Rattle.vet_register.proofs.register.Register.drop_entry.Goals as goal
 
 pub edit_dropping-requires : goal.edit_dropping-requires
 edit_dropping-requires g c =
-    subst (λ (r : RegisterView _). c.in_ok-place.place < length r.state.facts.entries) (sym c.self.view_is)
-    (place_within c.args.self.now.state.facts.entries c.args.number c.in_ok-place.place c.in_ok-place.ensures.place)
+    subst (λ (r : RegisterView _). c.in_ok-place.place < length r.state.held.facts.entries) (sym c.self.view_is)
+    (place_within c.args.self.now.state.held.facts.entries c.args.number c.in_ok-place.place c.in_ok-place.ensures.place)
 
 pub returns-clause-asked : goal.returns-clause-asked
 returns-clause-asked g c day =
@@ -23,12 +23,12 @@ returns-clause-asked g c day =
     let asks = action.DropEntry c.args.number in
     let sound : IsSound state = subst (λ (r : RegisterView _). IsSound r.state) c.self.view_is c.self.invariant.1 in
     let told : judged state day asks ≡ Ok Accepted = ap (held_or None) (passes (checked state day asks) c.in_ok-place.place (c.in_ok-place.ensures.refused day)) in
-    let gone : remove state.facts.entries c.in_ok-place.place ≡ filter (λ h. not (has_number c.args.number h)) state.facts.entries =
-    dropped c.args.number c.in_ok-place.place state.facts.entries sound.facts.entries.numbers_rise c.in_ok-place.ensures.place in
-    let edit = subst (λ (r : RegisterView _). edited c.edit_dropping.result r.state.facts ≡ record r.state.facts { entries = remove r.state.facts.entries c.in_ok-place.place })
+    let gone : remove state.held.facts.entries c.in_ok-place.place ≡ filter (λ h. not (has_number c.args.number h)) state.held.facts.entries =
+    dropped c.args.number c.in_ok-place.place state.held.facts.entries sound.held.facts.entries.numbers_rise c.in_ok-place.ensures.place in
+    let edit = subst (λ (r : RegisterView _). edited c.edit_dropping.result r.state.held.facts ≡ record r.state.held.facts { entries = remove r.state.held.facts.entries c.in_ok-place.place })
     c.self.view_is c.edit_dropping.ensures.edit in
-    let facts = edit ∙ (λ i. record { criteria = state.facts.criteria; entries = gone i; peers = state.facts.peers; publishers = state.facts.publishers }) in
-    let fits = subst (λ (r : RegisterView _). Fits c.edit_dropping.result (facts_room r)) c.self.view_is c.edit_dropping.ensures.fits in
+    let facts = edit ∙ (λ i. record { criteria = state.held.facts.criteria; entries = gone i; peers = state.held.facts.peers; publishers = state.held.facts.publishers }) in
+    let fits = subst (λ (r : RegisterView _). Fits c.edit_dropping.result (held_room r).facts) c.self.view_is c.edit_dropping.ensures.fits in
     let held = ap (λ (r : RegisterView _). r.state.next_entry) c.self.view_is in
     let next : c.self.inside.next_entry ≡ number_after state asks = omega (arith, held) in
-    effective _ _ _ _ told (effect_is _ _ state day _ refl sound told tt facts refl next fits sound.facts.criteria sound.facts.publishers)
+    effective _ _ _ _ told (facts_effect _ asks state day c.edit_dropping.result _ _ refl sound told tt facts refl refl refl next fits sound.held.facts.criteria sound.held.facts.publishers)

@@ -3,9 +3,9 @@ use Rattle.vet_entries.specs.Facts.{Fits, IsHeld, edited}
 use Rattle.vet_entries.specs.HeldPeer.{with_content}
 use Rattle.vet_register.specs.declared.command.Action.TheVariants as action
 use Rattle.vet_register.specs.Machine.{number_after}
-use Rattle.vet_register.specs.RegisterView.{RegisterView, facts_room}
+use Rattle.vet_register.specs.RegisterView.{RegisterView, held_room}
 use Rattle.vet_register.specs.Sound.{IsSound}
-use Rattle.vet_register.proofs.Asking.{effect_is, effective, some_day}
+use Rattle.vet_register.proofs.Asking.{facts_effect, effective, some_day}
 use Rattle.vet_register.proofs.Imports.{accepted_import, numbers_found}
 use Rattle.vet_register.proofs.register.Register.import_peer.Goals as goal
 
@@ -34,7 +34,7 @@ pub edit_of_content-requires : goal.edit_of_content-requires
 edit_of_content-requires g c =
     let accepted = accepted_import c.args.self.now.state some_day c.args.name.now c.args.content.now c.in_ok-comparison.field-0 c.in-Some.comparison c.in-Some.is (c.in_ok-comparison.ensures some_day) in
     let name : c.in_ok-copy.copy ≡ c.args.name.now = c.in_ok-copy.ensures in
-    subst (λ n. IsHeld n c.self.inside.facts.content) (sym name) (subst (λ (r : RegisterView _). IsHeld c.args.name.now r.state.facts) (sym c.self.view_is) accepted.held)
+    subst (λ n. IsHeld n c.self.inside.held.facts.content) (sym name) (subst (λ (r : RegisterView _). IsHeld c.args.name.now r.state.held.facts) (sym c.self.view_is) accepted.held)
 
 pub returns-clause-asked : goal.returns-clause-asked
 returns-clause-asked g c day =
@@ -46,15 +46,15 @@ returns-clause-asked g c day =
     let accepted = accepted_import state day name content c.in_ok-comparison.field-0 c.in-Some.comparison c.in-Some.is (c.in_ok-comparison.ensures day) in
     let found = numbers_found state day name content c.in-Some.comparison accepted in
     let copied : c.in_ok-copy.copy ≡ name = c.in_ok-copy.ensures in
-    let edit = subst (λ (r : RegisterView _). edited c.edit_of_content.result r.state.facts ≡ record r.state.facts { peers = with_content c.in_ok-copy.copy c.in_ok-after.after r.state.facts.peers })
+    let edit = subst (λ (r : RegisterView _). edited c.edit_of_content.result r.state.held.facts ≡ record r.state.held.facts { peers = with_content c.in_ok-copy.copy c.in_ok-after.after r.state.held.facts.peers })
     c.self.view_is c.edit_of_content.ensures.edit in
     let facts = edit ∙ (λ i. record {
-      criteria = state.facts.criteria;
-      entries = state.facts.entries;
-      peers = with_content (copied i) (c.in_ok-after.ensures.ok i) state.facts.peers;
-      publishers = state.facts.publishers;
+      criteria = state.held.facts.criteria;
+      entries = state.held.facts.entries;
+      peers = with_content (copied i) (c.in_ok-after.ensures.ok i) state.held.facts.peers;
+      publishers = state.held.facts.publishers;
     }) in
-    let fits = subst (λ (r : RegisterView _). Fits c.edit_of_content.result (facts_room r)) c.self.view_is c.edit_of_content.ensures.fits in
+    let fits = subst (λ (r : RegisterView _). Fits c.edit_of_content.result (held_room r).facts) c.self.view_is c.edit_of_content.ensures.fits in
     let held = ap (λ (r : RegisterView _). r.state.next_entry) c.self.view_is in
     let next : c.self.inside.next_entry + c.new_count.result ≡ number_after state asks = omega (arith, held, found.0, c.new_count.ensures) in
-    inr (effective _ _ _ _ accepted.told (effect_is _ _ state day _ refl sound accepted.told c.entries.ensures.content facts refl next fits sound.facts.criteria sound.facts.publishers))
+    inr (effective _ _ _ _ accepted.told (facts_effect _ asks state day c.edit_of_content.result _ _ refl sound accepted.told c.entries.ensures.content facts refl refl refl next fits sound.held.facts.criteria sound.held.facts.publishers))

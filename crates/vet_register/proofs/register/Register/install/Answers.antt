@@ -1,9 +1,10 @@
 use Rattle.std.proofs.Common.{◌≡◌, ◌∙◌, sym, ap, subst}
-use Rattle.vet_register.specs.Changes.{changed}
+use Rattle.vet_register.specs.Changes.{changed, demand_by}
+use Rattle.vet_register.specs.Held.{content_of}
 use Rattle.vet_register.specs.Machine.{next}
 use Rattle.vet_register.specs.RegisterView.{IsPrepared}
 use Rattle.vet_register.specs.Sound.{IsSound}
-use Rattle.vet_register.specs.State.{State, standing}
+use Rattle.vet_register.specs.State.{State, demanded, standing}
 use Rattle.vet_register.proofs.register.Register.install.Goals as goal
 
 pub invariant_of-self : goal.invariant_of-self
@@ -12,8 +13,7 @@ invariant_of-self g c =
     let change = c.args.change in
     let prepared = subst (λ r. IsPrepared g.K.Keeper.keeping r command change) (sym c.self.view_is) c.requires.1 in
     let s : State = record {
-      facts = c.self.inside.facts.content;
-      demand = c.self.inside.demand;
+      held = content_of c.self.inside.held;
       step = c.self.inside.step;
       next_entry = c.self.inside.next_entry;
       moves_limit = c.self.inside.moves_limit;
@@ -21,8 +21,7 @@ invariant_of-self g c =
       moves = c.self.inside.moves.items;
     } in
     let left : State = record {
-      facts = c.make_edit.new.facts.content;
-      demand = c.exchange.new.demand;
+      held = content_of c.make_edit.new.held;
       step = change.step;
       next_entry = change.next_entry;
       moves_limit = c.self.inside.moves_limit;
@@ -30,8 +29,7 @@ invariant_of-self g c =
       moves = c.make_recording.new.moves.items;
     } in
     let made : changed change s ≡ left = λ i. record {
-      facts = sym c.make_edit.ensures i;
-      demand = sym c.exchange.ensures i;
+      held = sym c.make_edit.ensures i;
       step = change.step;
       next_entry = change.next_entry;
       moves_limit = c.self.inside.moves_limit;
@@ -40,8 +38,11 @@ invariant_of-self g c =
     } in
     let same : next s command ≡ left = sym prepared.step.becomes ∙ made in (
       (
-        c.apply.ensures.keeps _ _ (subst (λ (t : State). g.K.Keeper.keeping.plans change.update t.facts t.demand) same prepared.step.basis),
-        c.apply.ensures.standing ∙ prepared.step.standing ∙ ap standing same,
+        c.apply.ensures.keeps _ _ (subst (λ (t : State). g.K.Keeper.keeping.plans change.update t.held.facts (demanded t)) same prepared.step.basis),
+        (
+          c.apply.ensures.standing ∙ prepared.step.standing ∙ ap standing same,
+          c.exchange.ensures ∙ ap (demand_by change.demand) c.self.invariant.0.1.1 ∙ prepared.step.demand ∙ ap demanded same,
+        ),
       ),
       subst IsSound same prepared.step.sound,
     )

@@ -1,25 +1,37 @@
 use Rattle.std.proofs.Common.{◌≡◌, ◌∙◌, sym, ap, subst}
-use Rattle.vet_entries.specs.Facts.{Facts, edited}
+use Rattle.vet_demand.specs.DemandOf.{PoliciesAreKnown}
 use Rattle.vet_entries.specs.Step.{AreKnown}
 use Rattle.vet_graph.specs.Touched.{SameOutside}
-use Rattle.vet_register.specs.RegisterView.{RegisterView}
-use Rattle.vet_register.specs.State.{State}
+use Rattle.vet_register.specs.Held.{Fits, HeldValue, content_of, demand_in, edited}
+use Rattle.vet_register.specs.RegisterView.{RegisterView, held_room}
+use Rattle.vet_register.specs.State.{State, demanded}
 use Rattle.vet_register.proofs.register.Register.plan.Goals as goal
 
-pub plan-planned-requires-clause-known : goal.plan-planned-requires-clause-known
-plan-planned-requires-clause-known g c =
-    let becomes : ◌≡◌ {A = Facts} c.apply-back.new.self.content (edited c.args.edit c.args.self.now.state.facts) =
-    c.apply-back.ensures.content ∙ ap (λ (r : RegisterView _). edited c.args.edit r.state.facts) c.self.view_is in
-    subst AreKnown (sym becomes) c.requires.sound.1.known
+pub apply-back-requires : goal.apply-back-requires
+apply-back-requires g c = subst (λ (r : RegisterView _). Fits c.args.edit (held_room r)) (sym c.self.view_is) c.requires.fits
 
-pub plan-planned-requires-clause-outside : goal.plan-planned-requires-clause-outside
-plan-planned-requires-clause-outside g c =
+pub find_standing-found-requires-clause-known : goal.find_standing-found-requires-clause-known
+find_standing-found-requires-clause-known g c =
+    let becomes : ◌≡◌ {A = HeldValue} (content_of c.apply-back.new.self) (edited c.args.edit c.args.self.now.state.held) =
+    c.apply-back.ensures.content ∙ ap (λ (r : RegisterView _). edited c.args.edit r.state.held) c.self.view_is in
+    subst (λ h. AreKnown h.facts) (sym becomes) c.requires.sound.1.facts.known
+
+pub find_standing-found-requires-clause-policies : goal.find_standing-found-requires-clause-policies
+find_standing-found-requires-clause-policies g c =
+    let becomes : ◌≡◌ {A = HeldValue} (content_of c.apply-back.new.self) (edited c.args.edit c.args.self.now.state.held) =
+    c.apply-back.ensures.content ∙ ap (λ (r : RegisterView _). edited c.args.edit r.state.held) c.self.view_is in
+    subst (λ h. PoliciesAreKnown h.facts.criteria h.policies) (sym becomes) c.requires.sound.1.policies.known
+
+pub find_standing-found-requires-clause-outside : goal.find_standing-found-requires-clause-outside
+find_standing-found-requires-clause-outside g c =
     let before = ap (λ (r : RegisterView _). r.state) c.self.view_is in
-    let becomes : ◌≡◌ {A = Facts} c.apply-back.new.self.content (edited c.args.edit c.args.self.now.state.facts) =
-    c.apply-back.ensures.content ∙ ap (λ (r : RegisterView _). edited c.args.edit r.state.facts) c.self.view_is in (
-      c.self.inside.facts.content,
-      c.self.inside.demand,
+    let held = content_of c.self.inside.held in
+    let after = edited c.args.edit c.args.self.now.state.held in
+    let becomes : ◌≡◌ {A = HeldValue} (content_of c.apply-back.new.self) after =
+    c.apply-back.ensures.content ∙ ap (λ (r : RegisterView _). edited c.args.edit r.state.held) c.self.view_is in (
+      held.facts,
+      demand_in held,
       c.self.invariant.0.0,
-      subst (λ f. SameOutside c.args.touched.now c.self.inside.facts.content c.self.inside.demand f c.self.inside.demand) (sym becomes)
-          (subst (λ (s : State). SameOutside c.args.touched.now s.facts s.demand (edited c.args.edit c.args.self.now.state.facts) s.demand) (sym before) c.requires.outside),
+      subst (λ h. SameOutside c.args.touched.now held.facts (demand_in held) h.facts (demand_in h)) (sym becomes)
+          (subst (λ (s : State). SameOutside c.args.touched.now s.held.facts (demanded s) after.facts (demand_in after)) (sym before) c.requires.outside),
     )

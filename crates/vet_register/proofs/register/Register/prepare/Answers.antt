@@ -1,14 +1,14 @@
 use Rattle.std.proofs.Common.{◌≡◌, ◌∙◌, ap, sym, subst, Ok}
 use Rattle.std.proofs.lemmas.Result.{err_from_is_err_and}
-use Rattle.vet_entries.specs.Facts.{FactsRoom, Fits}
+use Rattle.vet_register.specs.declared.held.Held.{Held}
+use Rattle.vet_register.specs.Held.{Fits, demand_in, held_with, standing_in}
 use Rattle.vet_register.specs.declared.verdict.Answer.TheVariants.{Accepted}
-use Rattle.vet_register.specs.Changes.{FitsFacts, facts_by}
+use Rattle.vet_register.specs.Changes.{FitsHeld, demand_by, held_by}
 use Rattle.vet_register.specs.Machine.{moves_of, number_after}
-use Rattle.vet_register.specs.RegisterView.{Asks, IsStep, facts_room}
-use Rattle.vet_graph.specs.StandingOf.{standing_of}
+use Rattle.vet_register.specs.RegisterView.{Asks, IsStep, held_room}
 use Rattle.vet_graph.specs.Moves.{moves_between}
-use Rattle.vet_register.specs.State.{State, standing}
-use Rattle.vet_register.specs.Sound.{AreSound}
+use Rattle.vet_register.specs.State.{State, demanded, standing}
+use Rattle.vet_register.specs.Sound.{IsSoundHeld}
 use Rattle.vet_register.specs.Verdict.{judged, step_limit}
 use Rattle.vet_register.proofs.Asking.{accepted, accepted_exact, refusal_exact, refusal_told}
 use Rattle.vet_register.proofs.Effects.{passed, step_passed}
@@ -50,7 +50,7 @@ change-requires-clause-moves g c =
     let asks = accepted c.asked_by.new.self action (judged c.args.self.now.state command.day action) c.in-Effect.effect
     (subst (Asks c.asked_by.new.self action (judged c.args.self.now.state command.day action)) (ap Ok c.in-Effect.is) c.in_ok-number.ensures.asked) in
     let s = c.asked_by.new.self.state in
-    c.in_ok-planned-in-Effect.ensures.moves ∙ ap (λ f. moves_between (standing s) (standing_of f s.demand)) asks.1.facts
+    c.in_ok-planned-in-Effect.ensures.moves ∙ ap (λ h. moves_between (standing s) (standing_in h)) asks.1.held
     ∙ ap (λ (t : State). moves_of t action) (sym c.plan.ensures.state)
 
 pub returns-in_err-change-in-Effect-clause-told : goal.returns-in_err-change-in-Effect-clause-told
@@ -100,17 +100,16 @@ returns-in_ok-change-in-Effect-clause-prepared g c =
     let made = c.in_ok-change-in-Effect.ensures in
     let parts : AreParts c.plan.new.self.state command change = record {
       fit = made.told;
-      demand = made.demand;
       moves = made.moves;
       first = made.first;
       step = made.step;
       next_entry = made.next_entry;
       outcome = made.outcome;
     } in
-    let facts = asks.1.facts in
+    let held = asks.1.held in
     let update : IsUpdate g.K.Keeper.keeping s action change.update = subst (λ u. IsUpdate g.K.Keeper.keeping s action u) (sym made.update) (record {
-      standing = planned.standing ∙ ap (λ f. standing_of f s.demand) facts;
-      basis = subst (λ f. g.K.Keeper.keeping.plans c.in_ok-planned-in-Effect.planned.update f s.demand) facts planned.plans;
+      standing = planned.standing ∙ ap standing_in held;
+      basis = subst (λ h. g.K.Keeper.keeping.plans c.in_ok-planned-in-Effect.planned.update h.facts (demand_in h)) held planned.plans;
       touches = planned.touched;
     }) in
     let laws : MoveLaws = record {
@@ -118,15 +117,17 @@ returns-in_ok-change-in-Effect-clause-prepared g c =
       balance = c.moves_balance.ensures;
       arrivals = c.runs_of_moves_add.ensures.arrivals;
       departures = c.runs_of_moves_add.ensures.departures;
+      least = c.demand_is_least.ensures.least;
     } in
-    let by = ap (λ e. facts_by e s.facts) made.edit ∙ planned.edit ∙ facts in
+    let by = ap (λ e. held_by e s.held) made.edit ∙ planned.edit ∙ held in
+    let demand = ap (λ d. demand_by d (demanded s)) made.demand ∙ planned.demand ∙ ap demand_in held in
     let step = is_step laws g.K.Keeper.keeping s command change c.state_is_sound.ensures told asks.1.sound
-    (subst (λ (t : State). AreParts t command change) c.plan.ensures.state parts) by update in
-    let left : FactsRoom = facts_room c.change.new.self in
-    let room : facts_room c.plan.new.self ≡ left = λ i. record { content = (sym made.state i).facts; room = sym made.facts_room i } in
+    (subst (λ (t : State). AreParts t command change) c.plan.ensures.state parts) by demand update in
+    let left : Held = held_room c.change.new.self in
+    let room : held_room c.plan.new.self ≡ left = λ i. held_with ((sym made.state i).held) (sym made.held_room i) in
     record {
       step = subst (λ (t : State). IsStep g.K.Keeper.keeping t command change) (sym (made.state ∙ c.plan.ensures.state)) step;
-      fits = subst (λ e. FitsFacts e left) (sym made.edit) (subst (Fits c.in_ok-planned-in-Effect.planned.edit) room planned.fits);
+      fits = subst (λ e. FitsHeld e left) (sym made.edit) (subst (Fits c.in_ok-planned-in-Effect.planned.edit) room planned.fits);
       move_room = made.room;
       ready = subst (λ k. g.K.Keeper.keeping.is_ready k change.update) (sym made.keeper)
           (subst (λ u. g.K.Keeper.keeping.is_ready c.plan.new.self.keeper u) (sym made.update) planned.ready);
@@ -139,9 +140,9 @@ plan-requires-clause-sound g c =
     let s = c.asked_by.new.self.state in
     let asks = accepted c.asked_by.new.self action (judged c.args.self.now.state command.day action) c.in-Effect.effect
     (subst (Asks c.asked_by.new.self action (judged c.args.self.now.state command.day action)) (ap Ok c.in-Effect.is) c.in_ok-number.ensures.asked) in
-    (number_after s action, subst (λ f. AreSound f (number_after s action)) (sym asks.1.facts) asks.1.sound)
+    (number_after s action, subst (λ h. IsSoundHeld h (number_after s action)) (sym asks.1.held) asks.1.sound)
 
 pub returns-in_err-number-clause-prepared_stays : goal.returns-in_err-number-clause-prepared_stays
 returns-in_err-number-clause-prepared_stays g c =
-    prepared_stays c.edits_fit_with_more_room.ensures.fits g.K.Keeper.keeping c.args.self.now c.asked_by.new.self c.asked_by.ensures.state c.asked_by.ensures.keeper
+    prepared_stays c.held_edits_fit_with_more_room.ensures.fits g.K.Keeper.keeping c.args.self.now c.asked_by.new.self c.asked_by.ensures.state c.asked_by.ensures.keeper
     c.asked_by.ensures.room_stays

@@ -5,10 +5,10 @@ use Rattle.vet_entries.specs.Facts.{Fits, edited}
 use Rattle.vet_register.specs.declared.command.Action.TheVariants as action
 use Rattle.vet_register.specs.declared.verdict.Answer.TheVariants.{Accepted}
 use Rattle.vet_register.specs.Machine.{number_after}
-use Rattle.vet_register.specs.RegisterView.{RegisterView, facts_room}
+use Rattle.vet_register.specs.RegisterView.{RegisterView, held_room}
 use Rattle.vet_register.specs.Sound.{IsSound}
 use Rattle.vet_register.specs.Verdict.{held_or, judged}
-use Rattle.vet_register.proofs.Asking.{some_day, answered, effect_is, effective, remove_passed}
+use Rattle.vet_register.proofs.Asking.{some_day, answered, facts_effect, effective, remove_passed}
 use Rattle.vet_base.specs.CriteriaChanges.{remove_verdict}
 use Rattle.vet_register.proofs.register.Register.remove_criterion.Goals as goal
 
@@ -16,7 +16,7 @@ pub without_criterion-requires : goal.without_criterion-requires
 without_criterion-requires g c =
     let state = c.args.self.now.state in
     let told : judged state some_day (action.RemoveCriterion c.args.name.now) ≡ Ok Accepted = ap (held_or None) (answered _ _ (c.in_ok-judge_removal.ensures some_day)) in
-    let table = c.criteria.ensures.value ∙ ap (λ (r : RegisterView _). r.state.facts.criteria) c.self.view_is in
+    let table = c.criteria.ensures.value ∙ ap (λ (r : RegisterView _). r.state.held.facts.criteria) c.self.view_is in
     ap (λ t. remove_verdict t c.args.name.now) table ∙ remove_passed state some_day c.args.name.now told
 
 pub returns-clause-asked : goal.returns-clause-asked
@@ -26,11 +26,11 @@ returns-clause-asked g c day =
     let sound : IsSound state = subst (λ (r : RegisterView _). IsSound r.state) c.self.view_is c.self.invariant.1 in
     let told : judged state day asks ≡ Ok Accepted = ap (held_or None) (answered _ _ (c.in_ok-judge_removal.ensures day)) in
     let made = c.in_ok-table.ensures in
-    let table = made.ok ∙ ap (λ t. map.remove t c.args.name.now) (c.criteria.ensures.value ∙ ap (λ (r : RegisterView _). r.state.facts.criteria) c.self.view_is) in
-    let edit = subst (λ (r : RegisterView _). edited c.edit_of_criteria.result r.state.facts ≡ record r.state.facts { criteria = c.in_ok-table.table })
+    let table = made.ok ∙ ap (λ t. map.remove t c.args.name.now) (c.criteria.ensures.value ∙ ap (λ (r : RegisterView _). r.state.held.facts.criteria) c.self.view_is) in
+    let edit = subst (λ (r : RegisterView _). edited c.edit_of_criteria.result r.state.held.facts ≡ record r.state.held.facts { criteria = c.in_ok-table.table })
     c.self.view_is c.edit_of_criteria.ensures.edit in
-    let facts = edit ∙ (λ i. record { criteria = table i; entries = state.facts.entries; peers = state.facts.peers; publishers = state.facts.publishers }) in
-    let fits = subst (λ (r : RegisterView _). Fits c.edit_of_criteria.result (facts_room r)) c.self.view_is c.edit_of_criteria.ensures.fits in
+    let facts = edit ∙ (λ i. record { criteria = table i; entries = state.held.facts.entries; peers = state.held.facts.peers; publishers = state.held.facts.publishers }) in
+    let fits = subst (λ (r : RegisterView _). Fits c.edit_of_criteria.result (held_room r).facts) c.self.view_is c.edit_of_criteria.ensures.fits in
     let held = ap (λ (r : RegisterView _). r.state.next_entry) c.self.view_is in
     let next : c.self.inside.next_entry ≡ number_after state asks = omega (arith, held) in
-    effective _ _ _ _ told (effect_is _ _ state day _ refl sound told tt facts refl next fits (subst IsTable table made.table) sound.facts.publishers)
+    effective _ _ _ _ told (facts_effect _ asks state day c.edit_of_criteria.result _ _ refl sound told tt facts refl refl refl next fits (subst IsTable table made.table) sound.held.facts.publishers)

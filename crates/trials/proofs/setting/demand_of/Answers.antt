@@ -1,5 +1,0 @@
-use Rattle.trials.proofs.Demanded.{demanded_of_built_in}
-use Rattle.trials.proofs.setting.demand_of.Goals as goal
-
-pub returns : goal.returns
-returns c = demanded_of_built_in c.in_ok-pairs.pairs.items c.in_ok-of_pairs.field-0 c.in_ok-of_pairs.ensures.pairs c.in_ok-pairs.ensures

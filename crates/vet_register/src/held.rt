@@ -1,0 +1,158 @@
+//! All that classes and the demand depend on, and its edits, each of which can be undone.
+ghost use Rattle.std.specs.Prelude.{◌≡◌, IfErr, IfOk, IsTrue, is_some, true};
+ghost use Rattle.vet_base.specs.Criteria.{IsTable};
+ghost use Rattle.vet_register.specs.Held.{Fits, HeldEditsFit, HeldRoomItself, HeldRoomOnward, HeldValue, HoldsRoomOf, content_of, demand_in, edited, keeps_demand, nothing_held, policy_at, project_at, room_after, room_of, with_policy, with_project, without_policy, without_project};
+
+use std::alloc::Global;
+use vet_base::keyed::{Keyed, KeyedEdit};
+use vet_base::name::PackageName;
+use vet_base::refusal::Refusal;
+use vet_demand::policies::KeyedPolicy;
+use vet_demand::policy_key::PolicyKey;
+use vet_demand::project::NamedProject;
+use vet_entries::facts::{Edit, EntryFacts, edits_fit_with_more_room};
+
+/// Facts of packages, policies and projects.
+pub struct Held {
+    pub(crate) facts: EntryFacts,
+    pub(crate) policies: Keyed<KeyedPolicy>,
+    pub(crate) projects: Keyed<NamedProject>,
+}
+
+impl Drop for Held {
+    fn drop(self) {
+        let Held {
+            facts: _,
+            policies: _,
+            projects: _,
+        } = self;
+    }
+}
+
+/// A change of what is held, which takes no memory.
+#[derive(Drop)]
+pub enum HeldEdit {
+    /// Of the facts of packages.
+    Facts(Edit),
+    /// Of the policies.
+    Policies(KeyedEdit<KeyedPolicy>),
+    /// Of the projects.
+    Projects(KeyedEdit<NamedProject>),
+}
+
+impl HeldEdit {
+    /// Whether the demand stays by this edit.
+    pub(crate) fn keeps_demand(&self) -> bool
+        ensures value { result ≡ keeps_demand self.now }
+        ensures stays { IsTrue result → (held : HeldValue) → demand_in (edited self.now held) ≡ demand_in held }
+    {
+        match self {
+            HeldEdit::Facts(edit) => edit.keeps_criteria(),
+            HeldEdit::Policies(_) => false,
+            HeldEdit::Projects(_) => false,
+        }
+    }
+}
+
+impl Held {
+    /// Nothing but the built-in criteria. Refused: `NoMemory`.
+    pub(crate) fn new(alloc: Global) -> Result<Held, Refusal>
+        ensures ok { IfOk result (λ held. content_of held ≡ nothing_held) }
+        ensures table { IfOk result (λ held. IsTable held.facts.content.criteria) }
+        ensures memory { IfErr result (λ e. e ≡ Refusal.NoMemory) }
+    {
+        let facts = EntryFacts::new(alloc)?;
+        Ok(Held {
+            facts,
+            policies: Keyed::new(alloc),
+            projects: Keyed::new(alloc),
+        })
+    }
+
+    /// The edit that sets the policy of its key, and room for it. Refused: `NoMemory`, and never where the key is held.
+    pub(crate) fn edit_of_policy(&mut self, policy: KeyedPolicy) -> Result<HeldEdit, Refusal>
+        ensures edit { IfOk result (λ e. edited e (content_of self.old) ≡ record (content_of self.old) {
+          policies = with_policy policy (content_of self.old).policies;
+        }) }
+        ensures fits { IfOk result (λ e. Fits e self.new) }
+        ensures content { content_of self.new ≡ content_of self.old }
+        ensures room_stays { HoldsRoomOf (room_of self.old) (room_of self.new) }
+        ensures memory { IfErr result (λ e. e ≡ Refusal.NoMemory) }
+    {
+        if !self.policies.has(&policy.key) {
+            self.policies.reserve()?;
+        }
+        Ok(HeldEdit::Policies(self.policies.edit_setting(policy)))
+    }
+
+    /// The edit by which the policy of a key goes. Asks that it is held. Takes no memory.
+    pub(crate) fn edit_dropping_policy(&self, key: &PolicyKey) -> HeldEdit
+        requires { is_some (policy_at (content_of self.now).policies key.now) ≡ true }
+        ensures edit { edited result (content_of self.now) ≡ record (content_of self.now) {
+          policies = without_policy key.now (content_of self.now).policies;
+        } }
+        ensures fits { Fits result self.now }
+    {
+        match self.policies.edit_dropping(key) {
+            Some(edit) => HeldEdit::Policies(edit),
+            None => unreachable!(),
+        }
+    }
+
+    /// The edit that sets the project of its name, and room for it. Refused: `NoMemory`, and never where the name is
+    /// held.
+    pub(crate) fn edit_of_project(&mut self, project: NamedProject) -> Result<HeldEdit, Refusal>
+        ensures edit { IfOk result (λ e. edited e (content_of self.old) ≡ record (content_of self.old) {
+          projects = with_project project (content_of self.old).projects;
+        }) }
+        ensures fits { IfOk result (λ e. Fits e self.new) }
+        ensures content { content_of self.new ≡ content_of self.old }
+        ensures room_stays { HoldsRoomOf (room_of self.old) (room_of self.new) }
+        ensures memory { IfErr result (λ e. e ≡ Refusal.NoMemory) }
+    {
+        if !self.projects.has(&project.name) {
+            self.projects.reserve()?;
+        }
+        Ok(HeldEdit::Projects(self.projects.edit_setting(project)))
+    }
+
+    /// The edit by which the project of a name goes. Asks that it is held. Takes no memory.
+    pub(crate) fn edit_dropping_project(&self, name: &PackageName) -> HeldEdit
+        requires { is_some (project_at (content_of self.now).projects name.now) ≡ true }
+        ensures edit { edited result (content_of self.now) ≡ record (content_of self.now) {
+          projects = without_project name.now (content_of self.now).projects;
+        } }
+        ensures fits { Fits result self.now }
+    {
+        match self.projects.edit_dropping(name) {
+            Some(edit) => HeldEdit::Projects(edit),
+            None => unreachable!(),
+        }
+    }
+
+    /// Makes an edit that fits, and answers the one that undoes it. Takes no memory.
+    pub(crate) fn apply(&mut self, edit: HeldEdit) -> HeldEdit
+        requires { Fits edit self.old }
+        ensures content { content_of self.new ≡ edited edit (content_of self.old) }
+        ensures fits { Fits result self.new }
+        ensures back { edited result (content_of self.new) ≡ content_of self.old }
+        ensures undone { room_after result (room_of self.new) ≡ room_of self.old }
+        ensures room { room_of self.new ≡ room_after edit (room_of self.old) }
+    {
+        match edit {
+            HeldEdit::Facts(edit) => HeldEdit::Facts(self.facts.apply(edit)),
+            HeldEdit::Policies(edit) => HeldEdit::Policies(self.policies.apply(edit)),
+            HeldEdit::Projects(edit) => HeldEdit::Projects(self.projects.apply(edit)),
+        }
+    }
+}
+
+/// An edit that fits still does where the same is held and no room is lost. None is lost where nothing happens,
+/// nor by one thing after another that each lose none. Does nothing.
+pub(crate) fn held_edits_fit_with_more_room()
+    ensures fits { HeldEditsFit }
+    ensures itself { HeldRoomItself }
+    ensures onward { HeldRoomOnward }
+{
+    edits_fit_with_more_room();
+}
