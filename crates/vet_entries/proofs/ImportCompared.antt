@@ -13,10 +13,11 @@ use Rattle.vet_entries.specs.declared.entry.Source.{Source}
 use Rattle.vet_entries.specs.declared.entry.Source.TheVariants.{Own, Peer}
 use Rattle.vet_entries.specs.declared.facts.HeldEntry.{HeldEntry}
 use Rattle.vet_entries.specs.Entry.{entry_eq, entry_eq-Decides, of_source, own}
-use Rattle.vet_entries.specs.HeldPeer.{as_peers, comes_again, is_new}
+use Rattle.vet_entries.specs.HeldPeer.{as_peers}
 use Rattle.vet_entries.specs.Holding.{HoldingValue}
-use Rattle.vet_entries.specs.Import.{ComparisonValue, compared, is_held, same_content}
+use Rattle.vet_entries.specs.Import.{ComparisonValue, compared, compared_own, same_content}
 use Rattle.vet_entries.specs.PeerContent.{PeerContentValue, is_own, is_peer_entry, is_peer_kind}
+use Rattle.vet_entries.specs.Replaced.{as_of, comes_again, is_held, is_new, new_of, same_entries}
 use Rattle.vet_entries.proofs.ImportMarks.{marks_count}
 
 -- two tests that pass alike are the same
@@ -52,19 +53,27 @@ any_self R r (x ∷ xs) = All-cons (λ z. list_any (λ y. R y z) (x ∷ xs) ≡ 
 pub restored : (x : Entry) (s : Source) → x.source ≡ s → of_source s x ≡ x
 restored x s e = λ i. record { source = sym e i; «package» = x.«package»; kind = x.kind; criteria = x.criteria; notes = x.notes }
 
--- a held entry is the same as one of a content just where that is the same as one's own
-pub same_as_own : (name : List ℕ) (x e : Entry) → x.source ≡ Peer name → e.source ≡ Own → entry_eq (own x) e ≡ entry_eq x (of_source (Peer name) e)
-same_as_own name x e theirs its =
-    same_tests (entry_eq (own x) e) (entry_eq x (of_source (Peer name) e))
-    (λ h. (entry_eq-Decides x (of_source (Peer name) e)).1 (sym (restored x (Peer name) theirs) ∙ ap (of_source (Peer name)) ((entry_eq-Decides (own x) e).0 h)))
-    (λ h. (entry_eq-Decides (own x) e).1 (ap own ((entry_eq-Decides x (of_source (Peer name) e)).0 h) ∙ restored e Own its))
+-- an entry of a source says the same as another just where the two are the same as of that source
+pub same_as_own : (source : Source) (x e : Entry) → x.source ≡ source → entry_eq (own x) (own e) ≡ entry_eq x (of_source source e)
+same_as_own source x e its =
+    same_tests (entry_eq (own x) (own e)) (entry_eq x (of_source source e))
+    (λ h. (entry_eq-Decides x (of_source source e)).1 (sym (restored x source its) ∙ ap (of_source source) ((entry_eq-Decides (own x) (own e)).0 h)))
+    (λ h. (entry_eq-Decides (own x) (own e)).1 (ap own ((entry_eq-Decides x (of_source source e)).0 h)))
+
+-- an entry that a peer's file gives is written as one's own
+pub is_own_entry : (e : Entry) → is_peer_entry e ≡ true → is_own e.source ≡ true
+is_own_entry e h = by (is_own e.source) (is_peer_kind e.kind) h
+  where
+    by : (a b : Bool) → (a && b) ≡ true → a ≡ true
+    by true b t = refl
+    by false b t = absurd (false≢true t)
+
+pub own_source : (s : Source) → is_own s ≡ true → s ≡ Own
+own_source Own h = refl
+own_source (Peer n) h = absurd (false≢true h)
 
 pub own_of : (e : Entry) → is_peer_entry e ≡ true → e.source ≡ Own
-own_of e h = by e.source (is_peer_kind e.kind) h
-  where
-    by : (s : Source) (b : Bool) → (is_own s && b) ≡ true → s ≡ Own
-    by Own b t = refl
-    by (Peer n) b t = absurd (false≢true t)
+own_of e h = own_source e.source (is_own_entry e h)
 
 symmetric : (a b : Entry) → entry_eq a b ≡ entry_eq b a
 symmetric a b = same_tests (entry_eq a b) (entry_eq b a) (λ h. (entry_eq-Decides b a).1 (sym ((entry_eq-Decides a b).0 h))) (λ h. (entry_eq-Decides a b).1 (sym ((entry_eq-Decides b a).0 h)))
@@ -79,37 +88,52 @@ found_not : (held : Bool) → is_none (cond held (Some false) None) ≡ not held
 found_not true = refl
 found_not false = refl
 
-module _ (name : List ℕ) (held : List HeldEntry) (entries : List Entry) (theirs : All (λ h. h.entry.source ≡ Peer name) held) (given : All (λ e. is_peer_entry e ≡ true) entries) where
-  own_entries : All (λ (e : Entry). e.source ≡ Own) entries
-  own_entries k d l = own_of (get_or entries k d) (given k d l)
-
-  as_own : All (λ (e : Entry). own e ≡ e) entries
-  as_own k d l = restored (get_or entries k d) Own (own_entries k d l)
-
+module _ (source : Source) (held : List HeldEntry) (entries : List Entry) (theirs : All (λ h. h.entry.source ≡ source) held) where
   -- those that were seen come again
-  pub again_is : (seen : Entry → Option Bool) → ((q : Entry) → seen q ≡ option_map (λ before. before || list_any (λ e. entry_eq (own e) q) entries) (cond (list_any (λ h. entry_eq (own h.entry) q) held) (Some false) None))
-      → map (λ h. unwrap_or (seen (own h.entry)) false) held ≡ map (comes_again (as_peers name entries)) held
-  again_is seen is = map_alike (λ (h : HeldEntry). unwrap_or (seen (own h.entry)) false) (comes_again (as_peers name entries)) held (λ k d l.
+  again_is : (seen : Entry → Option Bool) → ((q : Entry) → seen q ≡ option_map (λ before. before || list_any (λ e. entry_eq (own e) q) entries) (cond (list_any (λ h. entry_eq (own h.entry) q) held) (Some false) None))
+      → map (λ h. unwrap_or (seen (own h.entry)) false) held ≡ map (comes_again (as_of source entries)) held
+  again_is seen is = map_alike (λ (h : HeldEntry). unwrap_or (seen (own h.entry)) false) (comes_again (as_of source entries)) held (λ k d l.
       one (get_or held k d) (theirs k d l) (any_self (λ (g h : HeldEntry). entry_eq (own g.entry) (own h.entry)) (λ h. (entry_eq-Decides (own h.entry) (own h.entry)).1 refl) held k d l))
     where
-      one : (h : HeldEntry) → h.entry.source ≡ Peer name → list_any (λ g. entry_eq (own g.entry) (own h.entry)) held ≡ true → unwrap_or (seen (own h.entry)) false ≡ comes_again (as_peers name entries) h
+      one : (h : HeldEntry) → h.entry.source ≡ source → list_any (λ g. entry_eq (own g.entry) (own h.entry)) held ≡ true → unwrap_or (seen (own h.entry)) false ≡ comes_again (as_of source entries) h
       one h its here =
           ap (λ o. unwrap_or o false) (is (own h.entry))
           ∙ found_again _ (list_any (λ e. entry_eq (own e) (own h.entry)) entries) here
-          ∙ any_alike (λ e. entry_eq (own e) (own h.entry)) (λ e. entry_eq h.entry (of_source (Peer name) e)) entries (λ k d l. ap (λ e. entry_eq e (own h.entry)) (as_own k d l) ∙ symmetric (get_or entries k d) (own h.entry) ∙ same_as_own name h.entry (get_or entries k d) its (own_entries k d l))
-          ∙ sym (any_map (entry_eq h.entry) (of_source (Peer name)) entries)
+          ∙ any_alike (λ e. entry_eq (own e) (own h.entry)) (λ e. entry_eq h.entry (of_source source e)) entries
+          (λ k d l. symmetric (own (get_or entries k d)) (own h.entry) ∙ same_as_own source h.entry (get_or entries k d) its)
+          ∙ sym (any_map (entry_eq h.entry) (of_source source) entries)
 
   -- those that were not found are new
-  pub fresh_is : (seen : Entry → Option Bool) → ((q : Entry) → seen q ≡ cond (list_any (λ h. entry_eq (own h.entry) q) held) (Some false) None)
-      → map (λ e. is_none (seen (own e))) entries ≡ map (is_new held) (as_peers name entries)
-  fresh_is seen is = map_alike (λ e. is_none (seen (own e))) (λ e. is_new held (of_source (Peer name) e)) entries (λ k d l. ap (λ e. is_none (seen e)) (as_own k d l) ∙ one (get_or entries k d) (own_entries k d l)) ∙ sym (twice entries)
+  fresh_is : (seen : Entry → Option Bool) → ((q : Entry) → seen q ≡ cond (list_any (λ h. entry_eq (own h.entry) q) held) (Some false) None)
+      → map (λ e. is_none (seen (own e))) entries ≡ map (is_new held) (as_of source entries)
+  fresh_is seen is = map_alike (λ e. is_none (seen (own e))) (λ e. is_new held (of_source source e)) entries (λ k d l. one (get_or entries k d)) ∙ sym (twice entries)
     where
-      one : (e : Entry) → e.source ≡ Own → is_none (seen e) ≡ is_new held (of_source (Peer name) e)
-      one e its = ap is_none (is e) ∙ found_not _ ∙ ap not (any_alike (λ h. entry_eq (own h.entry) e) (λ h. entry_eq h.entry (of_source (Peer name) e)) held (λ k d l. same_as_own name (get_or held k d).entry e (theirs k d l) its))
+      one : (e : Entry) → is_none (seen (own e)) ≡ is_new held (of_source source e)
+      one e = ap is_none (is (own e)) ∙ found_not _ ∙ ap not (any_alike (λ h. entry_eq (own h.entry) (own e)) (λ h. entry_eq h.entry (of_source source e)) held (λ k d l. same_as_own source (get_or held k d).entry e (theirs k d l)))
 
-      twice : (es : List Entry) → map (is_new held) (as_peers name es) ≡ map (λ e. is_new held (of_source (Peer name) e)) es
+      twice : (es : List Entry) → map (is_new held) (as_of source es) ≡ map (λ e. is_new held (of_source source e)) es
       twice [] = refl
-      twice (e ∷ es) = ap (λ (bs : List Bool). is_new held (of_source (Peer name) e) ∷ bs) (twice es)
+      twice (e ∷ es) = ap (λ (bs : List Bool). is_new held (of_source source e) ∷ bs) (twice es)
+
+  -- where a pass looks for the entries given among those held
+  pub pass_again : (hs hs' : List HeldEntry) (es : List Entry) (before after : Entry → Option Bool)
+      → hs ≡ held → hs' ≡ held → es ≡ entries
+      → ((q : Entry) → before q ≡ cond (list_any (λ h. entry_eq (own h.entry) q) hs) (Some false) None)
+      → ((q : Entry) → after q ≡ option_map (λ b. b || list_any (λ e. entry_eq (own e) q) es) (before q))
+      → map (λ h. unwrap_or (after (own h.entry)) false) hs' ≡ map (comes_again (as_of source entries)) held
+  pass_again hs hs' es before after eh eh' ee b a =
+      ap (map (λ h. unwrap_or (after (own h.entry)) false)) eh'
+      ∙ again_is after (λ q. a q
+      ∙ ap (λ l. option_map (λ x. x || list_any (λ e. entry_eq (own e) q) l) (before q)) ee
+      ∙ ap (option_map (λ x. x || list_any (λ e. entry_eq (own e) q) entries)) (b q ∙ ap (λ l. cond (list_any (λ h. entry_eq (own h.entry) q) l) (Some false) None) eh))
+
+  pub pass_fresh : (hs : List HeldEntry) (es : List Entry) (before : Entry → Option Bool)
+      → hs ≡ held → es ≡ entries
+      → ((q : Entry) → before q ≡ cond (list_any (λ h. entry_eq (own h.entry) q) hs) (Some false) None)
+      → map (λ e. is_none (before (own e))) es ≡ map (is_new held) (as_of source entries)
+  pass_fresh hs es before eh ee b =
+      ap (map (λ e. is_none (before (own e)))) ee
+      ∙ fresh_is before (λ q. b q ∙ ap (λ l. cond (list_any (λ h. entry_eq (own h.entry) q) l) (Some false) None) eh)
 
 not_zero : (n : ℕ) → (suc n == 0) ≡ false
 not_zero n = grind (arith, nat_tests)
@@ -125,45 +149,48 @@ none_new held (e ∷ es) = by (is_held held e) (none_new held es)
 
 -- ---- all that is compared
 
-module _ (name : List ℕ) (held : HoldingValue) (content : PeerContentValue) (theirs : All (λ h. h.entry.source ≡ Peer name) held.entries) (given : All (λ e. is_peer_entry e ≡ true) content.entries) where
-  abbrev all_of : List Bool → Bool
-  all_of = list_all (λ b. b)
+abbrev pub all_of : List Bool → Bool
+all_of = list_all (λ b. b)
 
-  -- where the marks are those of a pass, they are the comparison
-  pub marks_compared : (again fresh : List Bool) (count : ℕ) (same : Bool)
-      → again ≡ map (comes_again (as_peers name content.entries)) held.entries
-      → fresh ≡ map (is_new held.entries) (as_peers name content.entries)
-      → count ≡ length (filter (λ b. b) fresh)
-      → same ≡ (all_of again && ((count == 0) && criteria_eq (defined content.criteria) held.table))
-      → ◌≡◌ {A = ComparisonValue} (record { again = again; fresh = fresh; new_count = count; is_same = same }) (compared name held content)
-  marks_compared again fresh count same a f n s = λ i. record { again = a i; fresh = f i; new_count = counted i; is_same = is_same i }
-    where
-      counted : count ≡ length (filter (is_new held.entries) (as_peers name content.entries))
-      counted = n ∙ ap (λ marks. length (filter (λ b. b) marks)) f ∙ marks_count (is_new held.entries) (as_peers name content.entries)
+-- as many are marked as are new
+new_counted : (source : Source) (held : List HeldEntry) (entries : List Entry) (fresh : List Bool) (count : ℕ) → fresh ≡ map (is_new held) (as_of source entries)
+    → count ≡ length (filter (λ b. b) fresh) → count ≡ length (new_of source held entries)
+new_counted source held entries fresh count f n = n ∙ ap (λ marks. length (filter (λ b. b) marks)) f ∙ marks_count (is_new held) (as_of source entries)
 
-      is_same : same ≡ same_content name held content
-      is_same =
-          s ∙ ap (λ marks. all_of marks && ((count == 0) && criteria_eq (defined content.criteria) held.table)) a
-          ∙ ap (λ b. b && ((count == 0) && criteria_eq (defined content.criteria) held.table)) (list_all-map (λ b. b) (comes_again (as_peers name content.entries)) held.entries)
-          ∙ ap (λ k. list_all (comes_again (as_peers name content.entries)) held.entries && ((k == 0) && criteria_eq (defined content.criteria) held.table)) counted
-          ∙ ap (λ b. list_all (comes_again (as_peers name content.entries)) held.entries && (b && criteria_eq (defined content.criteria) held.table)) (none_new held.entries (as_peers name content.entries))
+-- where the marks are those of a pass, they are the comparison with what is held of a peer
+pub marks_compared : (name : List ℕ) (held : HoldingValue) (content : PeerContentValue) (again fresh : List Bool) (count : ℕ) (same : Bool)
+    → again ≡ map (comes_again (as_peers name content.entries)) held.entries
+    → fresh ≡ map (is_new held.entries) (as_peers name content.entries)
+    → count ≡ length (filter (λ b. b) fresh)
+    → same ≡ (all_of again && ((count == 0) && criteria_eq (defined content.criteria) held.table))
+    → ◌≡◌ {A = ComparisonValue} (record { again = again; fresh = fresh; new_count = count; is_same = same }) (compared name held content)
+marks_compared name held content again fresh count same a f n s = λ i. record { again = a i; fresh = f i; new_count = counted i; is_same = is_same i }
+  where
+    counted : count ≡ length (new_of (Peer name) held.entries content.entries)
+    counted = new_counted (Peer name) held.entries content.entries fresh count f n
 
-  -- where a pass looks for the entries of the content among those held
-  pub pass_again : (hs hs' : List HeldEntry) (es : List Entry) (before after : Entry → Option Bool)
-      → hs ≡ held.entries → hs' ≡ held.entries → es ≡ content.entries
-      → ((q : Entry) → before q ≡ cond (list_any (λ h. entry_eq (own h.entry) q) hs) (Some false) None)
-      → ((q : Entry) → after q ≡ option_map (λ b. b || list_any (λ e. entry_eq (own e) q) es) (before q))
-      → map (λ h. unwrap_or (after (own h.entry)) false) hs' ≡ map (comes_again (as_peers name content.entries)) held.entries
-  pass_again hs hs' es before after eh eh' ee b a =
-      ap (map (λ h. unwrap_or (after (own h.entry)) false)) eh'
-      ∙ again_is name held.entries content.entries theirs given after (λ q. a q
-      ∙ ap (λ l. option_map (λ x. x || list_any (λ e. entry_eq (own e) q) l) (before q)) ee
-      ∙ ap (option_map (λ x. x || list_any (λ e. entry_eq (own e) q) content.entries)) (b q ∙ ap (λ l. cond (list_any (λ h. entry_eq (own h.entry) q) l) (Some false) None) eh))
+    is_same : same ≡ same_content name held content
+    is_same =
+        s ∙ ap (λ marks. all_of marks && ((count == 0) && criteria_eq (defined content.criteria) held.table)) a
+        ∙ ap (λ b. b && ((count == 0) && criteria_eq (defined content.criteria) held.table)) (list_all-map (λ b. b) (comes_again (as_peers name content.entries)) held.entries)
+        ∙ ap (λ k. list_all (comes_again (as_peers name content.entries)) held.entries && ((k == 0) && criteria_eq (defined content.criteria) held.table)) counted
+        ∙ ap (λ b. list_all (comes_again (as_peers name content.entries)) held.entries && (b && criteria_eq (defined content.criteria) held.table)) (none_new held.entries (as_peers name content.entries))
 
-  pub pass_fresh : (hs : List HeldEntry) (es : List Entry) (before : Entry → Option Bool)
-      → hs ≡ held.entries → es ≡ content.entries
-      → ((q : Entry) → before q ≡ cond (list_any (λ h. entry_eq (own h.entry) q) hs) (Some false) None)
-      → map (λ e. is_none (before (own e))) es ≡ map (is_new held.entries) (as_peers name content.entries)
-  pass_fresh hs es before eh ee b =
-      ap (map (λ e. is_none (before (own e)))) ee
-      ∙ fresh_is name held.entries content.entries theirs given before (λ q. b q ∙ ap (λ l. cond (list_any (λ h. entry_eq (own h.entry) q) l) (Some false) None) eh)
+-- and so with one's own entries
+pub marks_compared_own : (held : List HeldEntry) (entries : List Entry) (again fresh : List Bool) (count : ℕ) (same : Bool)
+    → again ≡ map (comes_again (as_of Own entries)) held
+    → fresh ≡ map (is_new held) (as_of Own entries)
+    → count ≡ length (filter (λ b. b) fresh)
+    → same ≡ (all_of again && (count == 0))
+    → ◌≡◌ {A = ComparisonValue} (record { again = again; fresh = fresh; new_count = count; is_same = same }) (compared_own held entries)
+marks_compared_own held entries again fresh count same a f n s = λ i. record { again = a i; fresh = f i; new_count = counted i; is_same = is_same i }
+  where
+    counted : count ≡ length (new_of Own held entries)
+    counted = new_counted Own held entries fresh count f n
+
+    is_same : same ≡ same_entries Own held entries
+    is_same =
+        s ∙ ap (λ marks. all_of marks && (count == 0)) a
+        ∙ ap (λ b. b && (count == 0)) (list_all-map (λ b. b) (comes_again (as_of Own entries)) held)
+        ∙ ap (λ k. list_all (comes_again (as_of Own entries)) held && (k == 0)) counted
+        ∙ ap (λ b. list_all (comes_again (as_of Own entries)) held && b) (none_new held (as_of Own entries))

@@ -20,6 +20,7 @@ pub mod Records
 pub mod Removed
 pub mod RisingNumbers
 pub mod SameContent
+pub mod SetInOrder
 pub mod SortedPlaces
 pub mod Sourcing
 pub mod Standing

@@ -22,9 +22,10 @@ use Rattle.vet_base.proofs.Rising.{R, eq-itself, equal-from_eq, only_equal}
 use Rattle.vet_entries.specs.declared.entry.Entry.{Entry}
 use Rattle.vet_entries.specs.declared.facts.HeldEntry.{HeldEntry}
 use Rattle.vet_entries.specs.Entry.{entry_eq, entry_eq-Decides}
-use Rattle.vet_entries.specs.HeldPeer.{as_peers, comes_again}
-use Rattle.vet_entries.specs.Import.{is_held}
-use Rattle.vet_entries.specs.ImportLaws.{SameItemsAreSame, entries_of}
+use Rattle.vet_entries.specs.HeldPeer.{as_peers}
+use Rattle.vet_entries.specs.ImportLaws.{SameItemsAreSame}
+use Rattle.vet_entries.specs.Replaced.{comes_again, is_held}
+use Rattle.vet_entries.specs.ReplacedLaws.{entries_of}
 use Rattle.vet_base.proofs.ItemLemmas.{all_in, any_in, in_all, in_any, in_map, map_in, pairs_head, pairs_tail}
 
 -- ---- what criteria that are named once define
@@ -103,7 +104,7 @@ defined_items xs ys once once' further same c i = by (list_any (has_name c.name)
 
 -- ---- tests of all items
 
-and_both : (a b : Bool) → (a && b) ≡ true → (a ≡ true) × (b ≡ true)
+pub and_both : (a b : Bool) → (a && b) ≡ true → (a ≡ true) × (b ≡ true)
 and_both true b t = (refl, t)
 and_both false b t = absurd (false≢true t)
 
@@ -112,7 +113,7 @@ module _ {X : Type 0} (p : X → Bool) where
   all_pass [] h = refl
   all_pass (x ∷ xs) h = ap (λ b. b && list_all p xs) (h x (inl refl)) ∙ all_pass xs (λ y i. h y (inr i))
 
-  passes : (xs : List X) → list_all p xs ≡ true → (x : X) → IsIn x xs → p x ≡ true
+  pub passes : (xs : List X) → list_all p xs ≡ true → (x : X) → IsIn x xs → p x ≡ true
   passes [] t x i = absurd i
   passes (y ∷ xs) t x (inl e) = ap p e ∙ (and_both (p y) (list_all p xs) t).0
   passes (y ∷ xs) t x (inr i) = passes xs (and_both (p y) (list_all p xs) t).1 x i

@@ -1,6 +1,5 @@
 -- Peers as they are held (ours): how each is imported, and what was imported from it, in its own words.
-use Rattle.std.specs.Prelude.{ℕ, Bool, not, List, ◌++◌, Option, Some, None, filter, map}
-use Rattle.std.specs.List.{list_any}
+use Rattle.std.specs.Prelude.{ℕ, List, Option, Some, None}
 use Rattle.std.specs.Ordering.{nat_cmp}
 use Rattle.std.specs.Cmp.Lexicographic.{slice_cmp}
 use Rattle.vet_base.specs.Defined.{defined}
@@ -10,10 +9,10 @@ use Rattle.vet_entries.specs.declared.entry.Source.TheVariants.{Peer}
 use Rattle.vet_entries.specs.declared.facts.HeldEntry.{HeldEntry}
 use Rattle.vet_entries.specs.declared.held_peer.HeldPeer.{HeldPeer}
 use Rattle.vet_entries.specs.declared.peer_settings.PeerSettings.{PeerSettings}
-use Rattle.vet_entries.specs.Entry.{entry_eq, of_source}
 use Rattle.vet_entries.specs.Holding.{HoldingValue, no_holding}
-use Rattle.vet_entries.specs.Numbered.{numbered}
 use Rattle.vet_entries.specs.PeerContent.{PeerContentValue}
+use Rattle.vet_entries.specs.Replaced.{as_of, entries_after, new_of}
+pub use Rattle.vet_entries.specs.Replaced.{comes_again, is_new}
 
 -- the name of a peer
 abbrev pub peer_name : HeldPeer → List ℕ
@@ -52,25 +51,15 @@ with_content name content peers = with_content_of (peer_of peers name) content p
 
 -- entries as those of a peer
 abbrev pub as_peers : List ℕ → List Entry → List Entry
-as_peers name entries = map (of_source (Peer name)) entries
-
--- a held entry is among some
-abbrev pub comes_again : List Entry → HeldEntry → Bool
-comes_again entries held = list_any (entry_eq held.entry) entries
-
--- an entry is not held
-abbrev pub is_new : List HeldEntry → Entry → Bool
-is_new held entry = not (list_any (λ h. entry_eq h.entry entry) held)
+as_peers name entries = as_of (Peer name) entries
 
 -- those of some entries of a peer that are not held, in the order of reading
 abbrev pub new_entries : List ℕ → List HeldEntry → List Entry → List Entry
-new_entries name held entries = filter (is_new held) (as_peers name entries)
+new_entries name held entries = new_of (Peer name) held entries
 
--- the entries after an import, where this is the next number: those held that come again keep their numbers, and the new
--- ones get the next numbers in the order of reading
+-- the entries after an import, where this is the next number
 abbrev pub entries_after_import : List ℕ → ℕ → List HeldEntry → List Entry → List HeldEntry
-entries_after_import name next held entries =
-    filter (comes_again (as_peers name entries)) held ++ numbered next (new_entries name held entries)
+entries_after_import name next held entries = entries_after (Peer name) next held entries
 
 -- what is held of a peer after an import
 abbrev pub imported : List ℕ → ℕ → PeerContentValue → HoldingValue → HoldingValue

@@ -1,20 +1,17 @@
--- How the content of a peer stands to what is held of it (ours).
+-- How the content of a peer stands to what is held of it, and some entries to one's own (ours).
 use Rattle.std.specs.Prelude.{ℕ, ◌&&◌, Bool, List, length, map}
-use Rattle.std.specs.List.{list_all, list_any}
+use Rattle.std.specs.List.{list_all}
 use Rattle.std.specs.Coded.{Coded, code_by, coded×, coded_bool, coded_list, coded_ℕ}
 use Rattle.std.proofs.Common.{refl}
 use Rattle.vet_base.specs.Defined.{defined}
 use Rattle.vet_base.specs.Definitions.{criteria_eq}
 use Rattle.vet_entries.specs.declared.entry.Entry.{Entry}
+use Rattle.vet_entries.specs.declared.entry.Source.TheVariants.{Own}
 use Rattle.vet_entries.specs.declared.facts.HeldEntry.{HeldEntry}
-use Rattle.vet_entries.specs.Entry.{entry_eq}
-use Rattle.vet_entries.specs.HeldPeer.{as_peers, comes_again, is_new, new_entries}
+use Rattle.vet_entries.specs.HeldPeer.{as_peers, new_entries}
 use Rattle.vet_entries.specs.Holding.{HoldingValue}
 use Rattle.vet_entries.specs.PeerContent.{PeerContentValue}
-
--- an entry is held
-abbrev pub is_held : List HeldEntry → Entry → Bool
-is_held held entry = list_any (λ h. entry_eq h.entry entry) held
+use Rattle.vet_entries.specs.Replaced.{as_of, comes_again, is_held, is_new, new_of, same_entries}
 
 -- a content is the one held of a peer: each held entry is among its entries, each of these, as the peer's, is held, and
 -- the criteria are the same
@@ -46,4 +43,13 @@ compared name held content = record {
   fresh = map (is_new held.entries) (as_peers name content.entries);
   new_count = length (new_entries name held.entries content.entries);
   is_same = same_content name held content;
+}
+
+-- how some entries, as one's own, stand to those held
+abbrev pub compared_own : List HeldEntry → List Entry → ComparisonValue
+compared_own held entries = record {
+  again = map (comes_again (as_of Own entries)) held;
+  fresh = map (is_new held) (as_of Own entries);
+  new_count = length (new_of Own held entries);
+  is_same = same_entries Own held entries;
 }

@@ -1,6 +1,6 @@
 -- What an import leaves, and when nothing changes (ours).
-use Rattle.std.specs.Prelude.{ℕ, ◌≡◌, ◌≢◌, ◌↔◌, ◌<◌, ◌≤◌, ◌+◌, ◌⊎◌, true, false, List, length, map}
-use Rattle.std.specs.List.{All, AllPairs}
+use Rattle.std.specs.Prelude.{ℕ, ◌≡◌, ◌↔◌, ◌<◌, ◌≤◌, ◌+◌, ◌⊎◌, true, false, List, length}
+use Rattle.std.specs.List.{All}
 use Rattle.vet_base.specs.declared.criterion.Criterion.{Criterion}
 use Rattle.vet_base.specs.CriteriaChanges.{is_built_in}
 use Rattle.vet_base.specs.Defined.{defined}
@@ -13,14 +13,7 @@ use Rattle.vet_entries.specs.Holding.{HoldingValue}
 use Rattle.vet_entries.specs.Import.{same_content}
 use Rattle.vet_entries.specs.Numbered.{AreByNumber}
 use Rattle.vet_entries.specs.PeerContent.{IsPeerContent, PeerContentValue}
-
--- no two held entries are the same
-abbrev pub AllDiffer : List HeldEntry → Type 0
-AllDiffer held = AllPairs (λ g h. g.entry ≢ h.entry) held
-
--- the entries of what is held, without their numbers
-abbrev pub entries_of : List HeldEntry → List Entry
-entries_of held = map (λ h. h.entry) held
+pub use Rattle.vet_entries.specs.ReplacedLaws.{AllDiffer, entries_of}
 
 -- where the numbers rise below the next one, they still do after an import, below the next one after it
 abbrev pub ImportKeepsOrder : Type 0

@@ -20,6 +20,8 @@ pub mod PeerWords
 pub mod Publisher
 pub mod PublisherRecords
 pub mod Publishers
+pub mod Replaced
+pub mod ReplacedLaws
 pub mod Source
 pub mod Step
 pub mod Taken

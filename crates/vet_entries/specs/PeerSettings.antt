@@ -1,5 +1,5 @@
--- When the settings of two peers are the same.
-use Rattle.std.specs.Prelude.{◌≡◌, ◌&&◌, Bool}
+-- The settings of a peer: their key, and when those of two peers are the same.
+use Rattle.std.specs.Prelude.{ℕ, ◌≡◌, ◌&&◌, Bool, List}
 use Rattle.std.specs.Bool.{Decides}
 use Rattle.std.specs.Cmp.Lexicographic.{bytes_decides}
 use Rattle.std.specs.Str.{bytes_eq}
@@ -9,6 +9,10 @@ use Rattle.vet_base.specs.NameLaws.{same_names-Decides}
 use Rattle.vet_base.specs.Names.{same_names}
 use Rattle.vet_entries.specs.declared.peer_settings.PeerSettings.{PeerSettings}
 use Rattle.vet_entries.specs.CriteriaMap.{map_eq, map_eq-Decides}
+
+-- the name of the peer
+abbrev pub settings_name : PeerSettings → List ℕ
+settings_name settings = settings.name
 
 -- the same peer, urls, excluded packages and criteria
 abbrev pub settings_eq : PeerSettings → PeerSettings → Bool

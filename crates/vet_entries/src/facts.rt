@@ -1,13 +1,13 @@
 //! What is held of packages.
 ghost use Rattle.std.specs.Prelude.{◌≡◌, ◌<◌, ◌+◌, ◌^◌, ◌++◌, ◌∷◌, [], IfOk, IfErr, IsOk, OnErr, filter, length, nat_lt, remove};
-ghost use Rattle.std.specs.List.{All, list_any};
+ghost use Rattle.std.specs.List.{All};
 ghost use Rattle.std.specs.Option.{option_copied};
 ghost use Rattle.std.specs.Ordering.{nat_cmp};
 ghost use Rattle.std.specs.Cmp.Lexicographic.{slice_cmp};
 ghost use Rattle.vet_base.specs.Criteria.{IsTable};
 ghost use Rattle.vet_base.specs.Keyed.{IsByKey};
 ghost use Rattle.vet_entries.specs.ByPackage.{gathered, is_of};
-ghost use Rattle.vet_entries.specs.Facts.{Fits, FitsWithMoreRoom, HoldsRoomOf, IsHeld, RoomHoldsItself, RoomHoldsOnward, edited, entries_of_peers, entries_total, is_named, is_named_by, is_target_of, no_facts, peers_room, publishers_room, room_after};
+ghost use Rattle.vet_entries.specs.Facts.{Fits, FitsWithMoreRoom, HoldsRoomOf, IsHeld, RoomHoldsItself, RoomHoldsOnward, edited, entries_of_peers, entries_total, is_named, no_facts, peers_room, publishers_room, room_after};
 ghost use Rattle.vet_entries.specs.HeldPeer.{holding_or_none, peer_name, peer_of, with_content, with_settings, without_peer};
 ghost use Rattle.vet_entries.specs.Numbered.{AreByNumber, number_of, numbered, place_of};
 ghost use Rattle.vet_entries.specs.PublisherRecords.{IsByName, records_of, records_total, with_records};
@@ -15,14 +15,15 @@ ghost use Rattle.vet_entries.specs.Publishers.{IsInOrder};
 
 use crate::by_package::ByPackage;
 use crate::entry::Entry;
+use crate::held_entries::{names, numbered};
 use crate::held_peer::HeldPeer;
 use crate::holding::Holding;
 use crate::peer_settings::PeerSettings;
-use crate::peers::{exchange_content, exchange_settings};
+use crate::peers::{exchange_content, exchange_settings, leads_to};
 use crate::publisher::Publisher;
 use crate::publisher_records::{PackagePublishers, PublisherRecords, records_after_setting};
 use crate::publishers::Publishers;
-use std::alloc::{AllocError, Global};
+use std::alloc::Global;
 use std::marker::Model;
 use vet_base::criteria_table::CriteriaTable;
 use vet_base::keyed::{Keyed, KeyedEdit};
@@ -139,6 +140,40 @@ impl EntryFacts {
             entries: ByPackage::of(alloc, numbered(alloc, entries)?)?,
             peers: Keyed::new(alloc),
             publishers: PublisherRecords::new(alloc),
+        })
+    }
+
+    /// This table of criteria, own entries in the order of their numbers, peers in the order of their names, and
+    /// publisher records of packages in the order of their names. Takes a time of n log n. Refused: `NoMemory`.
+    pub fn of_parts(
+        alloc: Global,
+        criteria: CriteriaTable,
+        entries: Vec<HeldEntry>,
+        peers: Vec<HeldPeer>,
+        publishers: Vec<PackagePublishers>,
+    ) -> Result<EntryFacts, Refusal>
+        requires by_number { AreByNumber entries.items }
+        requires peers { IsByKey (slice_cmp nat_cmp) peer_name peers.items }
+        requires publishers { IsByName publishers.items }
+        requires counted { records_total publishers.items < 2 ^ 64 }
+        ensures ok { IfOk result (λ f. f.content ≡ record {
+          criteria = criteria;
+          entries = entries.items;
+          peers = peers.items;
+          publishers = publishers.items;
+        }) }
+        ensures table { IfOk result (λ f. IsTable f.content.criteria) }
+        ensures memory { IfErr result (λ e. e ≡ Refusal.NoMemory) }
+    {
+        let _ = criteria.names();
+        let entries = ByPackage::of(alloc, entries)?;
+        let peers = Keyed::of(alloc, peers)?;
+        let publishers = PublisherRecords::of(alloc, publishers)?;
+        Ok(EntryFacts {
+            criteria,
+            entries,
+            peers,
+            publishers,
         })
     }
 
@@ -459,32 +494,3 @@ pub fn edits_fit_with_more_room()
     ensures itself { RoomHoldsItself }
     ensures onward { RoomHoldsOnward }
 {}
-
-// Whether one of some entries names a criterion.
-fn names(entries: &[HeldEntry], name: &Name) -> bool
-    ensures { result ≡ list_any (is_named_by name.now) entries.now }
-{
-    entries
-        .iter()
-        .any(|held| held.entry.criteria.contains(name))
-}
-
-// Whether the map of one of some peers leads to a criterion.
-fn leads_to(peers: &[HeldPeer], name: &Name) -> bool
-    ensures { result ≡ list_any (is_target_of name.now) peers.now }
-{
-    peers.iter().any(|peer| peer.settings.map.leads_to(name))
-}
-
-// Some entries with the numbers from one on.
-fn numbered(alloc: Global, entries: Vec<Entry>) -> Result<Vec<HeldEntry>, AllocError>
-    ensures { IfOk result (λ held. held.items ≡ numbered 1 entries.items) }
-{
-    let mut held = Vec::new(alloc);
-    let mut number = 0;
-    for entry in entries {
-        number += 1;
-        held.push(HeldEntry { number, entry })?;
-    }
-    Ok(held)
-}

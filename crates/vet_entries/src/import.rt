@@ -1,7 +1,8 @@
-//! What an import changes of what is held of a peer.
+//! What an import changes of what is held of a peer, and what is left of one's own entries where others take
+//! their place.
 //!
 //! **An import holds the content's entries, each once: those that come again keep their numbers, and the new ones
-//! get the next numbers in the order of reading.**
+//! get the next numbers in the order of reading. The same holds of one's own entries.**
 ghost use Rattle.std.specs.HashMap.{get};
 ghost use Rattle.std.specs.List.{All, list_all, list_any};
 ghost use Rattle.std.specs.Option.{unwrap_or};
@@ -9,13 +10,14 @@ ghost use Rattle.std.specs.Prelude.{◌≡◌, ◌==◌, ◌<◌, ◌+◌, ◌^�
 ghost use Rattle.vet_base.specs.Defined.{defined};
 ghost use Rattle.vet_base.specs.Definitions.{criteria_eq};
 ghost use Rattle.vet_entries.specs.declared.entry.Entry.{Entry};
-ghost use Rattle.vet_entries.specs.declared.entry.Source.TheVariants.{Peer};
+ghost use Rattle.vet_entries.specs.declared.entry.Source.TheVariants.{Own, Peer};
 ghost use Rattle.vet_entries.specs.declared.facts.HeldEntry.{HeldEntry};
 ghost use Rattle.vet_entries.specs.Entry.{entry_eq, of_source, own};
-ghost use Rattle.vet_entries.specs.HeldPeer.{as_peers, imported};
-ghost use Rattle.vet_entries.specs.Import.{compared};
+ghost use Rattle.vet_entries.specs.HeldPeer.{imported};
+ghost use Rattle.vet_entries.specs.Import.{compared, compared_own};
 ghost use Rattle.vet_entries.specs.ImportLaws.{ImportHoldsEachOnce, ImportHoldsItsContent, ImportKeepsNumbers, ImportKeepsOrder, ImportTakesEntries, SameItemsAreSame};
 ghost use Rattle.vet_entries.specs.Numbered.{numbered};
+ghost use Rattle.vet_entries.specs.Replaced.{as_of, entries_after};
 
 use crate::entry::{Entry, Source};
 use crate::facts::HeldEntry;
@@ -29,7 +31,7 @@ use vet_base::definitions::Definitions;
 use vet_base::name::Name;
 use vet_base::refusal::Refusal;
 
-/// How a content stands to what is held of a peer: which held entries come again, and which entries are new.
+/// How some entries stand to those held of a source: which held ones come again, and which of them are new.
 pub struct Comparison {
     again: Vec<bool>,
     fresh: Vec<bool>,
@@ -71,7 +73,8 @@ impl Comparison {
         self.new_count
     }
 
-    /// Whether the content is the one held: the same criteria and the same entries, in whatever order.
+    /// Whether nothing changes: of a peer the same criteria and the same entries, of one's own the same entries, in
+    /// whatever order.
     pub fn is_same(&self) -> bool
         ensures { result ≡ self.now.is_same }
     {
@@ -124,8 +127,54 @@ pub fn holding_after(
     let mut entries = Vec::with_capacity(alloc, coming.len())?;
     keep(&mut entries, held.entries(), comparison.again.as_slice())?;
     let fresh = comparison.fresh.as_slice();
-    add(&mut entries, name, next, coming, fresh)?;
+    let source = source_of(name)?;
+    add(&mut entries, &source, next, coming, fresh)?;
     Holding::of(alloc, definitions_of(alloc, content)?, entries)
+}
+
+/// How some entries, as one's own, stand to one's own that are held. Costs two look-ups by a hash of each held entry
+/// and, where any is held, one of each entry; copies no entry. Refused: `NoMemory`.
+pub fn compare_own(
+    alloc: Global,
+    held: &[HeldEntry],
+    entries: &[Entry],
+) -> Result<Comparison, Refusal>
+    requires { All (λ h. h.entry.source ≡ Own) held.now }
+    ensures ok { IfOk result (λ c. c ≡ compared_own held.now entries.now) }
+    ensures memory { IfErr result (λ e. e ≡ Refusal.NoMemory) }
+{
+    let mut seen = unseen(alloc, held)?;
+    let fresh = see(alloc, &mut seen, entries)?;
+    let again = seen_again(alloc, &seen, held)?;
+    let new_count = count(fresh.as_slice());
+    let is_same = are_all(again.as_slice()) && new_count == 0;
+    Ok(Comparison {
+        again,
+        fresh,
+        new_count,
+        is_same,
+    })
+}
+
+/// One's own entries after some take their place, where this is the next number. Costs a copy of each entry that comes
+/// again or is new. Refused: `NoMemory`.
+pub fn own_entries_after(
+    alloc: Global,
+    next: u64,
+    held: &[HeldEntry],
+    entries: &[Entry],
+    comparison: &Comparison,
+) -> Result<Vec<HeldEntry>, Refusal>
+    requires compared { comparison.now ≡ compared_own held.now entries.now }
+    requires numbers { next + comparison.now.new_count < 2 ^ 64 }
+    ensures ok { IfOk result (λ v. v.items ≡ entries_after Own next held.now entries.now) }
+    ensures memory { IfErr result (λ e. e ≡ Refusal.NoMemory) }
+{
+    let mut after = Vec::with_capacity(alloc, entries.len())?;
+    keep(&mut after, held, comparison.again.as_slice())?;
+    let fresh = comparison.fresh.as_slice();
+    add(&mut after, &Source::Own, next, entries, fresh)?;
+    Ok(after)
 }
 
 /// A content is the one held just where it has the same criteria and the same entries, in whatever order.
@@ -308,23 +357,30 @@ fn copied(held: &HeldEntry) -> Result<HeldEntry, AllocError>
     })
 }
 
-// Adds the new entries as those of a peer, with numbers from this one on.
+// The peer of a name as a source.
+fn source_of(name: &Name) -> Result<Source, AllocError>
+    ensures { IfOk result (λ s. s ≡ Peer name.now) }
+{
+    Ok(Source::Peer(name.clone()?))
+}
+
+// Adds the new entries as those of a source, with numbers from this one on.
 fn add(
     held: &mut Vec<HeldEntry>,
-    name: &Name,
+    source: &Source,
     next: u64,
     entries: &[Entry],
     fresh: &[bool],
 ) -> Result<(), AllocError>
     requires fresh { length fresh.now ≡ length entries.now }
     requires numbers { next + length (filter (λ b. b) fresh.now) < 2 ^ 64 }
-    ensures { OnOk result ((is_new : Entry → Bool) → fresh.now ≡ map is_new (as_peers name.now entries.now)
-        → held.new.items ≡ held.old.items ++ numbered next (filter is_new (as_peers name.now entries.now))) }
+    ensures { OnOk result ((is_new : Entry → Bool) → fresh.now ≡ map is_new (as_of source.now entries.now)
+        → held.new.items ≡ held.old.items ++ numbered next (filter is_new (as_of source.now entries.now))) }
 {
     let mut number = next;
     'entries: for place in 0..entries.len() {
         if fresh[place] {
-            let entry = copied_for_peer(&entries[place], name)?;
+            let entry = copied_as(&entries[place], source)?;
             held.push(HeldEntry { number, entry })?;
             number += 1;
         }
@@ -332,9 +388,9 @@ fn add(
     Ok(())
 }
 
-// A copy of an entry as that of a peer.
-fn copied_for_peer(entry: &Entry, name: &Name) -> Result<Entry, AllocError>
-    ensures { IfOk result (λ e. e ≡ of_source (Peer name.now) entry.now) }
+// A copy of an entry as that of a source.
+fn copied_as(entry: &Entry, source: &Source) -> Result<Entry, AllocError>
+    ensures { IfOk result (λ e. e ≡ of_source source.now entry.now) }
 {
-    entry.copied_for(Source::Peer(name.clone()?))
+    entry.copied_for(source.clone()?)
 }

@@ -4,6 +4,7 @@ ghost use Rattle.vet_entries.specs.PeerSettings.{settings_eq};
 
 use crate::criteria_map::CriteriaMap;
 use std::alloc::AllocError;
+use vet_base::keyed::HasKey;
 use vet_base::name::Name;
 use vet_base::package_names::PackageNames;
 use vet_base::texts::Texts;
@@ -72,4 +73,16 @@ impl Eq for PeerSettings {
     ghost use Rattle.vet_entries.specs.PeerSettings.{settings_eq, settings_eq-Decides};
 
     ghost laws = { decided settings_eq settings_eq-Decides };
+}
+
+impl HasKey for PeerSettings {
+    ghost use Rattle.vet_entries.specs.PeerSettings.{settings_name};
+
+    type Key = Name;
+
+    ghost key_of = { settings_name };
+
+    fn key(&self) -> &Name {
+        &self.name
+    }
 }

@@ -1,5 +1,7 @@
-//! What is exchanged of held peers, in the list in which they stand.
+//! Lists of held peers: what is exchanged in them, and what their maps lead to.
+ghost use Rattle.std.specs.List.{list_any};
 ghost use Rattle.std.specs.Prelude.{◌≡◌, true, is_some};
+ghost use Rattle.vet_entries.specs.Facts.{is_target_of};
 ghost use Rattle.vet_entries.specs.HeldPeer.{peer_of, with_content, with_settings};
 ghost use Rattle.vet_entries.specs.Numbered.{AreByNumber};
 
@@ -50,4 +52,11 @@ pub(crate) fn exchange_content(
         }
         None => unreachable!(),
     }
+}
+
+/// Whether the map of one of some peers leads to a criterion.
+pub(crate) fn leads_to(peers: &[HeldPeer], name: &Name) -> bool
+    ensures { result ≡ list_any (is_target_of name.now) peers.now }
+{
+    peers.iter().any(|peer| peer.settings.map.leads_to(name))
 }

@@ -128,6 +128,21 @@ impl PublisherRecords {
         }
     }
 
+    /// The records of these packages, which are in the order of their names. Asks that each has some, and that all
+    /// can be counted. Takes a time of n log n.
+    pub fn of(
+        alloc: Global,
+        packages: Vec<PackagePublishers>,
+    ) -> Result<PublisherRecords, AllocError>
+        requires by_name { IsByName packages.items }
+        requires counted { records_total packages.items < 2 ^ 64 }
+        ensures { IfOk result (λ r. r.items ≡ packages.items) }
+    {
+        let total = count(packages.as_slice());
+        let packages = Keyed::of(alloc, packages)?;
+        Ok(PublisherRecords { packages, total })
+    }
+
     /// The packages that have records, in the order of their names. Costs nothing.
     pub fn packages(&self) -> &[PackagePublishers]
         ensures value { result.now ≡ self.now.items }
@@ -282,4 +297,16 @@ fn with_publishers(
         package: package.clone()?,
         publishers: publishers.clone()?,
     })
+}
+
+// How many records some packages have.
+fn count(packages: &[PackagePublishers]) -> usize
+    requires { records_total packages.now < 2 ^ 64 }
+    ensures { result ≡ records_total packages.now }
+{
+    let mut total = 0;
+    'packages: for held in packages {
+        total += held.publishers.len();
+    }
+    total
 }

@@ -2,11 +2,10 @@ use Rattle.std.proofs.Common.{◌≡◌, ◌+◌, true, false, List, [], ◌∷�
 use Rattle.std.specs.List.{filter}
 use Rattle.std.proofs.lemmas.List.{append_assoc, append-nil, take-map}
 use Rattle.vet_entries.specs.declared.entry.Entry.{Entry}
-use Rattle.vet_entries.specs.declared.entry.Source.TheVariants.{Peer}
 use Rattle.vet_entries.specs.declared.facts.HeldEntry.{HeldEntry}
 use Rattle.vet_entries.specs.Entry.{of_source}
-use Rattle.vet_entries.specs.HeldPeer.{as_peers}
 use Rattle.vet_entries.specs.Numbered.{numbered}
+use Rattle.vet_entries.specs.Replaced.{as_of}
 use Rattle.vet_entries.proofs.ImportMarks.{count, count_more, count_within, filter_one, item_at, map_more, mark_of, marks_count}
 use Rattle.vet_entries.proofs.Numbers.{numbered_push}
 use Rattle.vet_entries.proofs.import.add.Goals as goal
@@ -27,8 +26,8 @@ entries-preserved c =
     let next = c.args.next in
     let old = c.args.held.now.items in
     let i = c.entries.place in
-    let theirs = of_source (Peer c.args.name.now) in
-    let so_far = as_peers c.args.name.now (take i entries) in
+    let theirs = of_source c.args.source.now in
+    let so_far = as_of c.args.source.now (take i entries) in
     elim c.if-fresh-place.branch [
       | then-fresh-place+in_ok-entry+in_ok-push w ↦
           let x = w.index-entries-place.result in
@@ -38,7 +37,7 @@ entries-preserved c =
             λ is_new h.
                 let fresh : is_new (theirs x) ≡ true = mark_of is_new theirs entries i x true c.entries-test.true w.index-entries-place.is (ap (λ ms. get_or ms i false) (sym h) ∙ w.if-fresh-place.true) in
                 let count_so_far : count (take i marks) ≡ length (filter is_new so_far) =
-                ap (λ ms. count (take i ms)) h ∙ ap count (take-map is_new i (as_peers c.args.name.now entries)) ∙ marks_count is_new (take i (as_peers c.args.name.now entries)) ∙ ap (λ es. length (filter is_new es)) (take-map theirs i entries) in
+                ap (λ ms. count (take i ms)) h ∙ ap count (take-map is_new i (as_of c.args.source.now entries)) ∙ marks_count is_new (take i (as_of c.args.source.now entries)) ∙ ap (λ es. length (filter is_new es)) (take-map theirs i entries) in
                 let kept = filter is_new so_far in
                 ap (λ v. v.items) w.held-is ∙ w.in_ok-push.ensures.items
                 ∙ ap (λ (e : Entry). c.entries.held.items ++ (record { number = c.entries.number; entry = e }) ∷ []) copied

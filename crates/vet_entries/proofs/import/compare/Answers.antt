@@ -3,8 +3,10 @@ use Rattle.std.specs.HashMap.{get}
 use Rattle.std.specs.List.{filter, list_all}
 use Rattle.vet_base.specs.Defined.{defined}
 use Rattle.vet_base.specs.Definitions.{criteria_eq}
+use Rattle.vet_entries.specs.declared.entry.Source.TheVariants.{Peer}
 use Rattle.vet_entries.specs.Entry.{entry_eq}
-use Rattle.vet_entries.specs.HeldPeer.{as_peers, comes_again, is_new}
+use Rattle.vet_entries.specs.HeldPeer.{as_peers}
+use Rattle.vet_entries.specs.Replaced.{comes_again, is_new}
 use Rattle.vet_entries.proofs.ImportCompared.{marks_compared, pass_again, pass_fresh}
 use Rattle.vet_entries.proofs.import.compare.Goals as goal
 
@@ -13,13 +15,12 @@ returns-clause-ok c =
     let name = c.args.name.now in
     let held = c.args.held.now in
     let content = c.args.content.now in
-    let given = c.entries-2.ensures.content.given in
     let before = get entry_eq c.in_ok-seen.seen in
     let after = get entry_eq c.see.new.seen in
     let fresh : c.in_ok-fresh.fresh.items ≡ map (is_new held.entries) (as_peers name content.entries) =
-    c.in_ok-fresh.ensures.fresh ∙ pass_fresh name held content c.requires given _ _ before c.entries.ensures.value c.entries-2.ensures.value c.in_ok-seen.ensures in
+    c.in_ok-fresh.ensures.fresh ∙ pass_fresh (Peer name) held.entries content.entries c.requires _ _ before c.entries.ensures.value c.entries-2.ensures.value c.in_ok-seen.ensures in
     let again : c.in_ok-again.again.items ≡ map (comes_again (as_peers name content.entries)) held.entries =
-    c.in_ok-again.ensures ∙ pass_again name held content c.requires given _ _ _ before after c.entries.ensures.value c.entries-3.ensures.value c.entries-2.ensures.value c.in_ok-seen.ensures c.in_ok-fresh.ensures.seen in
-    marks_compared name held content c.requires given c.in_ok-again.again.items c.in_ok-fresh.fresh.items c.count-new_count.result c.in_ok-is_same.is_same again fresh
+    c.in_ok-again.ensures ∙ pass_again (Peer name) held.entries content.entries c.requires _ _ _ before after c.entries.ensures.value c.entries-3.ensures.value c.entries-2.ensures.value c.in_ok-seen.ensures c.in_ok-fresh.ensures.seen in
+    marks_compared name held content c.in_ok-again.again.items c.in_ok-fresh.fresh.items c.count-new_count.result c.in_ok-is_same.is_same again fresh
     (c.count-new_count.ensures ∙ ap (λ marks. length (filter (λ b. b) marks)) c.as_slice.ensures.value)
     (c.in_ok-is_same.ensures.ok ∙ ap (λ marks. list_all (λ b. b) marks && ((c.count-new_count.result == 0) && criteria_eq (defined content.criteria) held.table)) c.as_slice-2.ensures.value)

@@ -1,7 +1,7 @@
 -- The entries so far with their numbers.
 use Rattle.std.proofs.Common.{◌≡◌, length}
 use Rattle.vet_entries.specs.Numbered.{numbered}
-use Rattle.vet_entries.proofs.facts.numbered.Given as goal
+use Rattle.vet_entries.proofs.held_entries.numbered.Given as goal
 
 abbrev pub invariant-loop-entry : goal.invariant-loop-entry
 invariant-loop-entry l =

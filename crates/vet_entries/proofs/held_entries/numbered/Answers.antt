@@ -1,7 +1,7 @@
 use Rattle.std.proofs.Common.{◌+◌, ◌++◌, ◌∷◌, [], ap, sym, ◌∙◌, arith}
 use Rattle.std.proofs.lemmas.List.{length_push}
 use Rattle.vet_entries.proofs.Numbers.{numbered_push}
-use Rattle.vet_entries.proofs.facts.numbered.Goals as goal
+use Rattle.vet_entries.proofs.held_entries.numbered.Goals as goal
 
 pub loop-entry-preserved : goal.loop-entry-preserved
 loop-entry-preserved c =
