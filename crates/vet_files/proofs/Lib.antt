@@ -7,6 +7,8 @@ pub mod CriteriaRead
 pub mod Depths
 pub mod EntriesRead
 pub mod Fields
+pub mod FilesSame
+pub mod FilesStand
 pub mod FurtherCriteria
 pub mod Gathered
 pub mod Grouped

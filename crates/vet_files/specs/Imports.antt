@@ -46,6 +46,10 @@ publishers_told ms = table_at (codes "top") (codes "publisher") ms >>= each_memb
 
 -- ---- `audits`
 
+-- the name of a peer
+abbrev pub imported_name : ImportedPeer → List ℕ
+imported_name peer = peer.name
+
 -- a peer's file as its content
 abbrev pub peer_value : AuditsContent → PeerContentValue
 peer_value content = record { criteria = content.criteria; entries = content.entries }

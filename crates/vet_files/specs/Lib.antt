@@ -4,6 +4,7 @@ pub mod Config
 pub mod ConfigTable
 pub mod EntryTables
 pub mod Field
+pub mod FilesContent
 pub mod GatheredPolicies
 pub mod Imports
 pub mod ImportsTable
@@ -16,5 +17,6 @@ pub mod OfKind
 pub mod Publishers
 pub mod ReadAgain
 pub mod SameContent
+pub mod SameFiles
 pub mod Tables
 pub mod Walk

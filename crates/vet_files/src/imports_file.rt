@@ -22,6 +22,7 @@ use crate::walk::{ReadMember, each_member};
 use crate::whose::Whose;
 use std::alloc::Global;
 use toml::{Table, Value};
+use vet_base::keyed::HasKey;
 use vet_base::name::Name;
 use vet_base::refusal::Refusal;
 use vet_entries::peer_content::PeerContent;
@@ -40,6 +41,18 @@ impl Drop for ImportedPeer {
             name: _,
             content: _,
         } = self;
+    }
+}
+
+impl HasKey for ImportedPeer {
+    ghost use Rattle.vet_files.specs.Imports.{imported_name};
+
+    type Key = Name;
+
+    ghost key_of = { imported_name };
+
+    fn key(&self) -> &Name {
+        &self.name
     }
 }
 

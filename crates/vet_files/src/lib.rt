@@ -5,8 +5,8 @@
 //! A writer gives a text that `toml` reads as the table of the content, and a content that a reader can give is
 //! read again from it, with nothing passed over.**
 //!
-//! Scope of this crate: from bytes to values, and from values to texts. What is held of them, and which criteria
-//! they may name, is for the crates above.
+//! Scope of this crate: from bytes to values, from the values of three files to one, and from values to texts. What
+//! is held of them, and which criteria they may name, is for the crates above.
 #![tactic(auto)]
 
 pub mod audits_file;
@@ -19,6 +19,7 @@ mod criteria_tables;
 mod entries;
 mod entry_tables;
 mod field;
+pub mod files_content;
 pub mod found;
 mod gathered_policies;
 pub mod imports_file;
