@@ -1,27 +1,31 @@
 -- How the demanded pairs come together.
-use Rattle.std.proofs.Common.{◌≡◌, ◌⊎◌, ◌↔◌, ℕ, ◌+◌, ◌<◌, Bool, true, false, cond, List, [], ◌∷◌, ◌++◌, Option, Bor, length, get_or, take, refl, sym, ap, subst, ◌∙◌, inl, inr, arith}
+use Rattle.std.proofs.Common.{◌≡◌, ◌⊎◌, ◌↔◌, ℕ, ◌+◌, ◌<◌, Bool, true, false, cond, List, [], ◌∷◌, ◌++◌, Option, Bor, length, get_or, Less, refl, sym, ap, subst, ◌∙◌, inl, inr, arith}
 use Rattle.std.specs.FinMap as map
 use Rattle.std.specs.FinSet as places
-use Rattle.std.specs.List.{Contains}
+use Rattle.std.specs.Cmp.Lexicographic.{slice_cmp}
+use Rattle.std.specs.List.{All, Contains}
+use Rattle.std.specs.Ordering.{nat_cmp}
 use Rattle.std.specs.Option.{option_copied}
 use Rattle.std.proofs.lemmas.Bool.{cases_eq}
 use Rattle.std.proofs.lemmas.List.{get_or_default}
-use Rattle.std.proofs.lemmas.List.Elements.{Contains-append_left, Contains-push, Contains-push_cases}
+use Rattle.std.proofs.lemmas.List.Elements.{All-contains, Contains-append_left, Contains-get_or, Contains-push, Contains-push_cases}
+use Rattle.std.proofs.lemmas.List.Quantifiers.{all_pairs_push}
 use Rattle.vet_base.specs.Criteria.{Criteria, IsTable}
 use Rattle.vet_base.specs.CriteriaSet.{Places, has}
+use Rattle.vet_base.specs.Names.{IsRising}
 use Rattle.vet_demand.proofs.DemandLaws.{key_held}
 use Rattle.vet_demand.proofs.Flowing.{node_is, policy_at}
 use Rattle.vet_demand.proofs.KnownLists.{needed_known}
-use Rattle.vet_demand.proofs.Lists.{in_more, now_in, still_in}
-use Rattle.vet_demand.specs.Collected.{Adds, IsAuditedPair, IsDemandedBefore, IsPairOf}
-use Rattle.vet_demand.specs.DemandOf.{IsDemanded, IsDemandedBy, IsDemandedIn, PoliciesAreKnown, is_audited, is_audited_node, pair_of}
+use Rattle.vet_demand.proofs.PairsInOrder.{later_name}
+use Rattle.vet_demand.specs.Collected.{Adds, AddsInOrder, IsAuditedPair, IsPairOf}
+use Rattle.vet_demand.specs.DemandOf.{IsDemandedIn, PoliciesAreKnown, is_audited, is_audited_node, pair_of}
 use Rattle.vet_demand.specs.Flow.{AreNeeds, ArePoliciesOf}
 use Rattle.vet_demand.specs.Needs.{IsNeeded, node_at}
+use Rattle.vet_demand.specs.Pair.{IsInOrder, pair_cmp}
 use Rattle.vet_demand.specs.Project.{ProjectValue}
 use Rattle.vet_demand.specs.declared.pair.Pair.{Pair}
 use Rattle.vet_demand.specs.declared.policies.KeyedPolicy.{KeyedPolicy}
 use Rattle.vet_demand.specs.declared.policy.Policy.{Policy}
-use Rattle.vet_demand.specs.declared.project.NamedProject.{NamedProject}
 use Rattle.vet_demand.specs.declared.project.Node.{Node}
 
 -- ---- the pairs of a node
@@ -39,7 +43,7 @@ next_cases true mid x q w = elim (Contains-push_cases mid x q w) [ inl was ↦ i
 next_cases false mid x q w = inl w
 
 -- one name more
-pub pair_next : (node : Node) (names : List (List ℕ)) (set : Places) (i : ℕ) (name : List ℕ) (needed : Bool) (old mid new : List Pair) → i < length names
+pair_next : (node : Node) (names : List (List ℕ)) (set : Places) (i : ℕ) (name : List ℕ) (needed : Bool) (old mid new : List Pair) → i < length names
     → Adds (IsPairOf node names set i) old mid → name ≡ get_or names i name → needed ≡ has i set → new ≡ cond needed (mid ++ pair_of node name ∷ []) mid
     → Adds (IsPairOf node names set (i + 1)) old new
 pair_next node names set i name needed old mid new low so_far at tells is q =
@@ -62,19 +66,34 @@ pair_next node names set i name needed old mid new low so_far at tells is q =
       ]),
     )
 
--- all names of an audited node
-pub pairs_all : (node : Node) (policy : Option Policy) (names : List (List ℕ)) (set : Places) (n : ℕ) (old new : List Pair) → n ≡ length names → is_audited node.party policy ≡ true
-    → Adds (IsPairOf node names set n) old new → Adds (IsAuditedPair node policy names set) old new
-pairs_all node policy names set n old new all audited h q = (
-  λ w. elim ((h q).0 w) [
-    | inl before ↦ inl before
-    | inr one ↦ inr (audited, (one.0, omega (arith, one.1, all), one.2, one.3))
-  ],
-  λ e. elim e [
-    | inl before ↦ (h q).1 (inl before)
-    | inr one ↦ (h q).1 (inr (one.1.0, omega (arith, one.1.1, all), one.1.2, one.1.3))
-  ],
-)
+-- no name yet
+pub pairs_none : (node : Node) (names : List (List ℕ)) (set : Places) (old : List Pair) → AddsInOrder node names set 0 old old
+pairs_none node names set old = record {
+  adds = λ q. (λ w. inl w, λ h. elim h [ inl before ↦ before | inr one ↦ absurd (omega (arith, one.1)) ]);
+  rises = λ up before. up;
+}
+
+-- one name more, which comes behind those before it
+pub pair_behind : (node : Node) (names : List (List ℕ)) (set : Places) (i : ℕ) (name : List ℕ) (needed : Bool) (old mid new : List Pair) → IsRising names → i < length names
+    → AddsInOrder node names set i old mid → name ≡ get_or names i name → needed ≡ has i set → new ≡ cond needed (mid ++ pair_of node name ∷ []) mid
+    → AddsInOrder node names set (i + 1) old new
+pair_behind node names set i name needed old mid new rising low so_far at tells is =
+    let x = pair_of node name in
+    let last : IsInOrder old → All (λ q. (c : List ℕ) → pair_cmp q (pair_of node c) ≡ Less) old → All (λ q. pair_cmp q x ≡ Less) mid =
+    λ up before k d l. elim ((so_far.adds (get_or mid k d)).0 (Contains-get_or mid k d l)) [
+      | inl was ↦ All-contains (λ q. (c : List ℕ) → pair_cmp q (pair_of node c) ≡ Less) old (get_or mid k d) before was name
+      | inr one ↦ subst (λ q. pair_cmp q x ≡ Less) one.3
+          (later_name node (get_or names one.0 []) name
+          (subst (λ n. slice_cmp nat_cmp (get_or names one.0 []) n ≡ Less) (sym (at ∙ get_or_default names i name [] low)) (rising one.0 i [] one.1 low)))
+    ] in
+    record {
+      adds = pair_next node names set i name needed old mid new low so_far.adds at tells is;
+      rises = λ up before. subst IsInOrder (sym is) (next needed mid x (so_far.rises up before) (last up before));
+    }
+  where
+    next : (needed : Bool) (mid : List Pair) (x : Pair) → IsInOrder mid → All (λ q. pair_cmp q x ≡ Less) mid → IsInOrder (cond needed (mid ++ x ∷ []) mid)
+    next true mid x up behind = all_pairs_push (λ p q. pair_cmp p q ≡ Less) mid x up behind
+    next false mid x up behind = up
 
 -- ---- the nodes of a project
 
@@ -116,49 +135,6 @@ module _ (policies : List KeyedPolicy) (criteria : Criteria) (table : IsTable cr
         ),
       )
 
-  -- one node more
-  pub node_next : (old mid new : List Pair) → Adds (IsDemandedBefore policies criteria project i) old mid → Adds (IsAuditedPair node (option_copied policy) names set) mid new
-      → Adds (IsDemandedBefore policies criteria project (i + 1)) old new
-  node_next old mid new so_far one q = (
-    λ w. elim ((one q).0 w) [
-      | inl was ↦ elim ((so_far q).0 was) [
-        | inl before ↦ inl before
-        | inr some ↦ inr (some.0, omega (arith, some.1), some.2)
-      ]
-      | inr here ↦ inr (i, omega arith, demanded_from q here)
-    ],
-    λ h. elim h [
-      | inl before ↦ (one q).1 (inl ((so_far q).1 (inl before)))
-      | inr some ↦ elim (cases_eq some.0 i) [
-        | inl same ↦ (one q).1 (inr (audited_from q (subst (IsDemandedIn policies criteria project q) same some.2)))
-        | inr differs ↦ (one q).1 (inl ((so_far q).1 (inr (some.0, omega (arith, some.1, differs), some.2))))
-      ]
-    ],
-  )
-
--- all nodes
-pub nodes_all : (policies : List KeyedPolicy) (criteria : Criteria) (project : ProjectValue) (n : ℕ) (old new : List Pair) → n ≡ length project.nodes
-    → Adds (IsDemandedBefore policies criteria project n) old new → Adds (IsDemandedBy policies criteria project) old new
-nodes_all policies criteria project n old new all h q = (
-  λ w. elim ((h q).0 w) [ inl before ↦ inl before | inr one ↦ inr (one.0, one.2) ],
-  λ e. elim e [ inl before ↦ (h q).1 (inl before) | inr one ↦ (h q).1 (inr (one.0, (let l = one.1.within in omega (arith, l, all)), one.1)) ],
-)
-
-pub nodes_none : (policies : List KeyedPolicy) (criteria : Criteria) (project : ProjectValue) (old : List Pair) → Adds (IsDemandedBefore policies criteria project 0) old old
-nodes_none policies criteria project old q = (λ w. inl w, λ h. elim h [ inl before ↦ before | inr one ↦ absurd (omega (arith, one.1)) ])
-
--- ---- the projects
-
-pub project_next : (policies : List KeyedPolicy) (criteria : Criteria) (projects : List NamedProject) (i : ℕ) (named : NamedProject) (mid new : List Pair) → i < length projects
-    → named ≡ get_or projects i named → ((q : Pair) → Contains mid q ↔ IsDemanded (take i projects) policies criteria q) → Adds (IsDemandedBy policies criteria named.project) mid new
-    → (q : Pair) → Contains new q ↔ IsDemanded (take (i + 1) projects) policies criteria q
-project_next policies criteria projects i named mid new low at so_far one q = (
-  λ w. elim ((one q).0 w) [
-    | inl was ↦ (let r = (so_far q).0 was in (r.0, still_in projects i named r.0 low r.1, r.2))
-    | inr here ↦ (named, subst (Contains (take (i + 1) projects)) (sym at) (now_in projects i named low), here)
-  ],
-  λ h. elim (in_more projects i named h.0 low h.1) [
-    | inl was ↦ (one q).1 (inl ((so_far q).1 (h.0, was, h.2)))
-    | inr same ↦ (one q).1 (inr (subst (λ (n : NamedProject). IsDemandedBy policies criteria n.project q) (sym same ∙ sym at) h.2))
-  ],
-)
+  -- what is asked for at a node
+  pub audited-iff : (q : Pair) → IsAuditedPair node (option_copied policy) names set q ↔ IsDemandedIn policies criteria project q i
+  audited-iff q = (demanded_from q, audited_from q)

@@ -1,3 +1,4 @@
+pub mod Auditing
 pub mod Closing
 pub mod Collecting
 pub mod DemandLaws
@@ -9,6 +10,7 @@ pub mod KeyText
 pub mod KeysInOrder
 pub mod KnownLists
 pub mod Lists
+pub mod Merging
 pub mod Naming
 pub mod NeedsLaws
 pub mod NumberingLaw

@@ -1,15 +1,20 @@
 -- Pairs, each put where it belongs, and lists in order with the same pairs.
-use Rattle.std.proofs.Common.{◌≡◌, ◌⊎◌, suc, List, [], ◌∷◌, refl, sym, ap, ◌∙◌, inl, inr, Ordering, Less, Equal, Greater, arith}
+use Rattle.std.proofs.Common.{◌≡◌, ◌⊎◌, ℕ, suc, List, [], ◌∷◌, refl, sym, ap, ◌∙◌, inl, inr, Ordering, Less, Equal, Greater, arith}
 use Rattle.std.specs.List.{All, Contains}
-use Rattle.std.specs.Ordering.{match_ordering, ordering_reverse}
+use Rattle.std.specs.Cmp.{tied_itself}
+use Rattle.std.specs.Cmp.Lexicographic.{nat_list_cmp_total, slice_cmp}
+use Rattle.std.specs.Ordering.{match_ordering, nat_cmp, ordering_reverse, ordering_then}
 use Rattle.std.proofs.lemmas.List.Elements.{All-nil, All-cons, All-head, All-tail, All-contains, All-contains_itself}
 use Rattle.std.proofs.lemmas.List.Kept.{AllPairs-cons}
+use Rattle.vet_base.specs.VersionOrder.{version_cmp, version_total}
 use Rattle.vet_demand.proofs.Lists.{head_or_tail, in_tail}
 use Rattle.vet_demand.proofs.SameKeys.{same_keys}
 use Rattle.vet_demand.specs.Demand.{AreThePairs}
-use Rattle.vet_demand.specs.DemandOf.{in_order, put_in_order}
+use Rattle.vet_demand.specs.DemandOf.{in_order, pair_of, put_in_order}
 use Rattle.vet_demand.specs.Pair.{IsInOrder, pair_cmp, pair_cmp-IsAntisymmetric, pair_total}
+use Rattle.vet_demand.specs.Project.{node_cmp}
 use Rattle.vet_demand.specs.declared.pair.Pair.{Pair}
+use Rattle.vet_demand.specs.declared.project.Node.{Node}
 
 abbrev Rises : Pair → Pair → Type 0
 Rises p q = pair_cmp p q ≡ Less
@@ -19,6 +24,23 @@ in_order_tail x xs up i j d l m = up (suc i) (suc j) d (omega arith) (omega arit
 
 behind : (x : Pair) (xs : List Pair) → IsInOrder (x ∷ xs) → All (Rises x) xs
 behind x xs up k d l = up 0 (suc k) d (omega arith) (omega arith)
+
+-- ---- the pairs of nodes
+
+later_then : (r s t : Ordering) → ordering_then r s ≡ Less → ordering_then r (ordering_then s t) ≡ Less
+later_then Less s t h = refl
+later_then Equal Less t h = refl
+later_then Equal Equal t h = cc h
+later_then Equal Greater t h = cc h
+later_then Greater s t h = cc h
+
+-- the pairs of a node come before those of a later one
+pub later_pair : (m n : Node) (b c : List ℕ) → node_cmp m n ≡ Less → pair_cmp (pair_of m b) (pair_of n c) ≡ Less
+later_pair m n b c = later_then (slice_cmp nat_cmp m.«package» n.«package») (version_cmp m.version n.version) (slice_cmp nat_cmp b c)
+
+-- those of one node stand as the names do
+pub later_name : (n : Node) (b c : List ℕ) → slice_cmp nat_cmp b c ≡ Less → pair_cmp (pair_of n b) (pair_of n c) ≡ Less
+later_name n b c h = λ i. ordering_then (tied_itself nat_list_cmp_total n.«package» i) (ordering_then (tied_itself version_total n.version i) (h i))
 
 -- ---- one pair more
 

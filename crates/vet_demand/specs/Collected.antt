@@ -1,9 +1,11 @@
 -- How demanded pairs are put together (ours).
 use Rattle.std.specs.Prelude.{◌≡◌, ◌↔◌, ◌⊎◌, ◌<◌, true, ℕ, List, [], Option, get_or, length}
-use Rattle.std.specs.List.{Contains}
+use Rattle.std.specs.List.{All, Contains}
+use Rattle.std.specs.declared.cmp.Ordering.TheVariants.{Less}
 use Rattle.vet_base.specs.Criteria.{Criteria}
 use Rattle.vet_base.specs.CriteriaSet.{Places, has}
 use Rattle.vet_demand.specs.DemandOf.{IsDemandedIn, is_audited, pair_of}
+use Rattle.vet_demand.specs.Pair.{IsInOrder, pair_cmp}
 use Rattle.vet_demand.specs.Project.{ProjectValue}
 use Rattle.vet_demand.specs.declared.pair.Pair.{Pair}
 use Rattle.vet_demand.specs.declared.policies.KeyedPolicy.{KeyedPolicy}
@@ -21,6 +23,11 @@ IsPairOf node names set n q = (p : ℕ) × (p < n) × (has p set ≡ true) × (p
 -- the node is audited, and the pair is of it
 abbrev pub IsAuditedPair : Node → Option Policy → List (List ℕ) → Places → Pair → Type 0
 IsAuditedPair node policy names set q = (is_audited node.party policy ≡ true) × IsPairOf node names set (length names) q
+
+-- a list in order stays so with these pairs of a node, where it had only pairs that come before all of that node
+pub record AddsInOrder (node : Node) (names : List (List ℕ)) (set : Places) (n : ℕ) (old new : List Pair) : Type 0 where
+  pub adds : Adds (IsPairOf node names set n) old new
+  pub rises : IsInOrder old → All (λ q. (c : List ℕ) → pair_cmp q (pair_of node c) ≡ Less) old → IsInOrder new
 
 -- one of the first n nodes of a project demands a pair
 abbrev pub IsDemandedBefore : List KeyedPolicy → Criteria → ProjectValue → ℕ → Pair → Type 0

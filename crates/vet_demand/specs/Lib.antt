@@ -1,3 +1,4 @@
+pub mod Audited
 pub mod Collected
 pub mod Demand
 pub mod DemandOf

@@ -52,6 +52,14 @@ impl Demand {
         Ok(Demand { pairs })
     }
 
+    // The demand of pairs in order. Takes no memory.
+    pub(crate) fn in_order(pairs: Vec<Pair>) -> Demand
+        requires { IsInOrder pairs.items }
+        ensures { result ≡ pairs.items }
+    {
+        Demand { pairs }
+    }
+
     /// The pairs, in the order of reports.
     pub fn pairs(&self) -> &[Pair]
         ensures value { result.now ≡ self.now }

@@ -2,19 +2,20 @@
 //!
 //! **The demand holds exactly the pairs that are needed at an audited node of some project, and the needs are the
 //! least that policies and edges ask for.**
-ghost use Rattle.std.specs.Prelude.{◌≡◌, ◌++◌, ◌∷◌, [], IfOk, IfErr, cond};
-ghost use Rattle.std.specs.Option.{option_copied};
-ghost use Rattle.vet_demand.specs.Collected.{Adds, IsAuditedPair};
-ghost use Rattle.vet_demand.specs.DemandOf.{DemandIsLeast, DemandedAreKnown, IsDemandedBy, IsLeastDemand, LeastDemandIsOnly, NothingIsDemanded, PoliciesAreKnown, demand_of, pair_of};
-ghost use Rattle.vet_demand.specs.Terms.{AreTerms};
+ghost use Rattle.std.specs.Prelude.{◌≡◌, ◌↔◌, ◌++◌, ◌∷◌, [], IfOk, IfErr, cond, length};
+ghost use Rattle.std.specs.List.{Contains};
+ghost use Rattle.vet_base.specs.Names.{IsRising};
+ghost use Rattle.vet_demand.specs.Audited.{AreInAuditedOrder, AreParallel, IsAsked, listed};
+ghost use Rattle.vet_demand.specs.Collected.{AddsInOrder};
+ghost use Rattle.vet_demand.specs.DemandOf.{DemandIsLeast, DemandedAreKnown, IsLeastDemand, LeastDemandIsOnly, NothingIsDemanded, PoliciesAreKnown, demand_of, pair_of};
+ghost use Rattle.vet_demand.specs.Pair.{IsInOrder};
+ghost use Rattle.vet_demand.specs.declared.pair.Pair as demanded;
 
+use crate::audited::{AuditedNodes, audited_in};
 use crate::demand::Demand;
-use crate::flow::{needs_of, policies_of};
 use crate::pair::Pair;
-use crate::passed::is_audited;
 use crate::policies::KeyedPolicy;
-use crate::policy::Policy;
-use crate::project::{NamedProject, Node, Project};
+use crate::project::{NamedProject, Node};
 use crate::terms::Terms;
 use std::alloc::Global;
 use vet_base::criteria_set::CriteriaSet;
@@ -24,8 +25,8 @@ use vet_base::name::Name;
 use vet_base::refusal::Refusal;
 
 /// What projects demand: the least demand that these policies ask for, by the criteria of this table. Costs,
-/// for a project, a look at each node and each edge for each criterion that it gets, and a sort of the pairs.
-/// Refused: `NoMemory`.
+/// for a project, a look at each node and each edge for each criterion that it gets, and a merge of the nodes of
+/// projects. Refused: `NoMemory`.
 pub fn demand(
     alloc: Global,
     projects: &[NamedProject],
@@ -38,12 +39,9 @@ pub fn demand(
     ensures memory { IfErr result (λ e. e ≡ Refusal.NoMemory) }
 {
     let terms = Terms::of(alloc, policies, criteria)?;
-    let mut pairs = Vec::new(alloc);
-    'projects: for named in projects {
-        add_project(alloc, &terms, &named.project, &mut pairs)?;
-    }
-    let found = Demand::of_pairs(alloc, pairs)?;
-    Ok(found)
+    let audited = audited_in(alloc, &terms, projects)?;
+    let pairs = pairs_of(alloc, &audited, terms.names)?;
+    Ok(Demand::in_order(pairs))
 }
 
 /// The demand is told as the least one, in the order of reports, and no other list is it.
@@ -62,49 +60,40 @@ pub fn nothing_is_demanded()
     ensures { NothingIsDemanded }
 {}
 
-// Adds the pairs that a project demands.
-fn add_project(
-    alloc: Global,
-    terms: &Terms<'_>,
-    project: &Project,
-    pairs: &mut Vec<Pair>,
-) -> Result<(), Refusal>
-    requires terms { AreTerms terms.now }
-    requires known { PoliciesAreKnown terms.now.criteria.now terms.now.policies.now.items }
-    ensures ok { IfOk result (λ _. Adds (IsDemandedBy terms.now.policies.now.items terms.now.criteria.now project.now)
-        pairs.old.items pairs.new.items) }
+// The pairs of some audited nodes, in order.
+fn pairs_of(alloc: Global, audited: &AuditedNodes<'_>, names: &[Name]) -> Result<Vec<Pair>, Refusal>
+    requires names { IsRising names.now }
+    requires parallel { AreParallel audited.now }
+    requires nodes { AreInAuditedOrder (listed audited.now) }
+    ensures in_order { IfOk result (λ pairs. IsInOrder pairs.items) }
+    ensures same { IfOk result (λ pairs. (q : demanded.Pair)
+        → Contains pairs.items q ↔ IsAsked names.now (listed audited.now) q) }
     ensures memory { IfErr result (λ e. e ≡ Refusal.NoMemory) }
 {
-    let nodes = project.nodes();
-    let found = policies_of(alloc, terms.policies, nodes)?;
-    let needs = needs_of(alloc, terms, project, found.as_slice())?;
-    'nodes: for place in 0..nodes.len() {
+    let mut pairs = Vec::new(alloc);
+    'nodes: for place in 0..audited.nodes.len() {
         add_node(
-            &nodes[place],
-            found[place],
-            terms.names,
-            &needs[place],
-            pairs,
+            audited.nodes[place],
+            &audited.needs[place],
+            names,
+            &mut pairs,
         )?;
     }
-    Ok(())
+    Ok(pairs)
 }
 
-// Adds the pairs of a node with what it needs, if it is audited.
+// Adds the pairs of a node with what it needs, in the order of names.
 fn add_node(
     node: &Node,
-    policy: Option<&Policy>,
-    names: &[Name],
     needs: &CriteriaSet,
+    names: &[Name],
     pairs: &mut Vec<Pair>,
 ) -> Result<(), Refusal>
-    ensures ok { IfOk result (λ _. Adds (IsAuditedPair node.now (option_copied policy.entry) names.now needs.now)
-        pairs.old.items pairs.new.items) }
+    requires { IsRising names.now }
+    ensures ok { IfOk result (λ _.
+        AddsInOrder node.now names.now needs.now (length names.now) pairs.old.items pairs.new.items) }
     ensures memory { IfErr result (λ e. e ≡ Refusal.NoMemory) }
 {
-    if !is_audited(node.party, policy) {
-        return Ok(());
-    }
     'names: for place in 0..names.len() {
         add_pair(node, &names[place], needs.has(place), pairs)?;
     }

@@ -42,7 +42,7 @@ pub(crate) fn policies_of<'p>(
 {
     let mut found = Vec::new(alloc);
     'nodes: for node in nodes {
-        found.push(policy_for(policies, node)?)?;
+        found.push(policy_for(policies, node))?;
     }
     Ok(found)
 }

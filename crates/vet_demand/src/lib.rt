@@ -7,6 +7,7 @@
 //! dependency tables.
 #![tactic(auto)]
 
+mod audited;
 pub mod demand;
 pub mod demand_of;
 pub mod dependency_criteria;

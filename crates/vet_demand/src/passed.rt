@@ -1,42 +1,28 @@
 //! What a node needs by itself, and what an edge passes.
-ghost use Rattle.std.specs.Prelude.{◌≡◌, IfOk, IfErr, option_map};
+ghost use Rattle.std.specs.Prelude.{◌≡◌, option_map};
 ghost use Rattle.std.specs.Option.{option_copied};
 ghost use Rattle.vet_demand.specs.DemandOf.{is_audited};
 ghost use Rattle.vet_demand.specs.Passed.{dev_criteria, dev_passed, listed_criteria, own_criteria, passed_criteria, policy_for, settled_criteria, takes};
 ghost use Rattle.vet_demand.specs.Terms.{AreTerms, closed_places};
 
-use crate::policies::{KeyedPolicy, policy_of};
+use crate::policies::{KeyedPolicy, policy_of_parts};
 use crate::policy::Policy;
-use crate::policy_key::PolicyKey;
 use crate::project::{EdgeKind, Node, Party};
 use crate::terms::Terms;
 use vet_base::criteria_set::CriteriaSet;
 use vet_base::keyed::Keyed;
 use vet_base::name::PackageName;
 use vet_base::names::Names;
-use vet_base::refusal::Refusal;
 
-/// The policy of a node: the one of its version where there is one, else the one of its package, whole.
-/// Refused: `NoMemory`.
-pub(crate) fn policy_for<'p>(
-    policies: &'p Keyed<KeyedPolicy>,
-    node: &Node,
-) -> Result<Option<&'p Policy>, Refusal>
-    ensures ok { IfOk result (λ policy. option_copied policy ≡ policy_for policies.now.items node.now) }
-    ensures memory { IfErr result (λ e. e ≡ Refusal.NoMemory) }
+/// The policy of a node: the one of its version where there is one, else the one of its package, whole. Takes
+/// no memory, and a time of log n.
+pub(crate) fn policy_for<'p>(policies: &'p Keyed<KeyedPolicy>, node: &Node) -> Option<&'p Policy>
+    ensures { option_copied result ≡ policy_for policies.now.items node.now }
 {
-    let key = PolicyKey {
-        package: node.package.clone()?,
-        version: Some(node.version.clone()?),
-    };
-    if let Some(policy) = policy_of(policies, &key) {
-        return Ok(Some(policy));
+    if let Some(policy) = policy_of_parts(policies, &node.package, Some(&node.version)) {
+        return Some(policy);
     }
-    let key = PolicyKey {
-        package: node.package.clone()?,
-        version: None,
-    };
-    Ok(policy_of(policies, &key))
+    policy_of_parts(policies, &node.package, None)
 }
 
 /// Whether what a node needs is demanded: where it is third-party, or its policy says that it is audited.

@@ -9,6 +9,8 @@ use crate::policy_key::PolicyKey;
 use std::alloc::{AllocError, Global};
 use std::marker::Model;
 use vet_base::keyed::{ExactItem, HasKey, Keyed};
+use vet_base::name::PackageName;
+use vet_base::version::VetVersion;
 
 /// A policy, and what it is of.
 pub struct KeyedPolicy {
@@ -185,6 +187,22 @@ pub fn policy_of<'p>(policies: &'p Keyed<KeyedPolicy>, key: &PolicyKey) -> Optio
     match policies.get(key) {
         Some(held) => Some(&held.policy),
         None => None,
+    }
+}
+
+/// The policy of a package, or of one version of it, as above.
+pub(crate) fn policy_of_parts<'p>(
+    policies: &'p Keyed<KeyedPolicy>,
+    package: &PackageName,
+    version: Option<&VetVersion>,
+) -> Option<&'p Policy>
+    ensures { option_copied result ≡ policy_of policies.now.items
+        (record { «package» = «package».now; version = option_copied version.entry }) }
+{
+    let held = policies.items();
+    match held.binary_search_by(|keyed| keyed.key.cmp_parts(package, version)) {
+        Ok(place) => Some(&held[place].policy),
+        Err(_) => None,
     }
 }
 

@@ -1,6 +1,7 @@
 //! Keys of policies.
 ghost use Rattle.std.specs.Prelude.{◌≡◌, ◌↔◌, IfErr, IfOk, IsTrue, None, Some, Ok, Err, refl};
 ghost use Rattle.std.specs.Cmp.{eq_by_cmp_equiv, partial_equiv_from_equiv, partial_order_from_total};
+ghost use Rattle.std.specs.Option.{option_copied};
 ghost use Rattle.std.specs.Ordering.{as_partial_cmp};
 ghost use Rattle.vet_base.specs.Gives.{Gives};
 ghost use Rattle.vet_demand.specs.PolicyKey.{key_text, key_told, plain_key, policy_key_cmp, policy_key_cmp-IsAntisymmetric, policy_key_eq, policy_key_total, read_key, versioned_key, versions_cmp};
@@ -58,6 +59,16 @@ impl PolicyKey {
             None => plain(alloc, text),
             Some((name, version)) => versioned(alloc, name, version),
         }
+    }
+
+    // How it compares with the key of a package, or of one version of it. Takes no memory.
+    pub(crate) fn cmp_parts(&self, package: &PackageName, version: Option<&VetVersion>) -> Ordering
+        ensures { result ≡ policy_key_cmp self.now
+            (record { «package» = «package».now; version = option_copied version.entry }) }
+    {
+        self.package
+            .cmp(package)
+            .then(versions_cmp(self.version.as_ref(), version))
     }
 }
 
@@ -132,9 +143,7 @@ impl Ord for PolicyKey {
     ghost matches_eq = { λ a b. refl };
 
     fn cmp(&self, other: &PolicyKey) -> Ordering {
-        self.package
-            .cmp(&other.package)
-            .then(versions_cmp(&self.version, &other.version))
+        self.cmp_parts(&other.package, other.version.as_ref())
     }
 }
 
@@ -145,8 +154,8 @@ impl Exact for PolicyKey {
 }
 
 // How two versions compare, where none stands before one.
-fn versions_cmp(a: &Option<VetVersion>, b: &Option<VetVersion>) -> Ordering
-    ensures { result ≡ versions_cmp a.now b.now }
+fn versions_cmp(a: Option<&VetVersion>, b: Option<&VetVersion>) -> Ordering
+    ensures { result ≡ versions_cmp (option_copied a.entry) (option_copied b.entry) }
 {
     match (a, b) {
         (None, None) => Ordering::Equal,

@@ -126,11 +126,10 @@ fn reach(
         Reaches place (node ∷ []) sets.old.items reached.old.items sets.new.items reached.new.items) }
     ensures memory { IfErr result (λ e. e ≡ Refusal.NoMemory) }
 {
-    let set = sets[node];
-    if set.has(place) {
+    if sets[node].has(place) {
         return Ok(());
     }
-    sets[node] = set.with(place);
+    sets[node] = sets[node].with(place);
     reached.push(node)?;
     Ok(())
 }

@@ -1,37 +1,36 @@
-use Rattle.std.proofs.Common.{◌↔◌, subst}
-use Rattle.std.specs.List.{Contains}
-use Rattle.std.proofs.lemmas.List.{take_all}
+use Rattle.std.proofs.Common.{◌∙◌, ap, subst, sym}
+use Rattle.std.specs.FinMap as map
+use Rattle.vet_base.proofs.Tables.{rising_keys}
 use Rattle.vet_base.specs.Criteria.{IsTable}
-use Rattle.vet_demand.proofs.Collecting.{project_next}
+use Rattle.vet_base.specs.Names.{IsRising}
+use Rattle.vet_demand.proofs.Auditing.{least_demand}
 use Rattle.vet_demand.proofs.DemandLaws.{least_is_demand}
-use Rattle.vet_demand.specs.DemandOf.{IsDemanded}
-use Rattle.vet_demand.specs.declared.pair.Pair.{Pair}
+use Rattle.vet_demand.specs.Audited.{listed}
+use Rattle.vet_demand.specs.DemandOf.{IsLeastDemand}
 use Rattle.vet_demand.proofs.demand_of.demand.Goals as goal
 
-pub add_project-requires-clause-known : goal.add_project-requires-clause-known
-add_project-requires-clause-known c = rw (c.in_ok-terms.ensures.policies, c.in_ok-terms.ensures.criteria) c.requires.known
+pub audited_in-requires-clause-known : goal.audited_in-requires-clause-known
+audited_in-requires-clause-known c = rw (c.in_ok-terms.ensures.policies, c.in_ok-terms.ensures.criteria) c.requires.known
 
-pub projects-preserved : goal.projects-preserved
-projects-preserved c =
-    project_next c.args.policies.now.items c.args.criteria.now c.args.projects.now c.projects.named-index c.named-item.result c.projects.pairs.items c.add_project.new.pairs.items c.projects-test.true
-    c.named-item.is c.projects.invariant (rw (c.in_ok-terms.ensures.policies, c.in_ok-terms.ensures.criteria) at c.in_ok-add_project.ensures.ok)
+pub pairs_of-requires-clause-names : goal.pairs_of-requires-clause-names
+pairs_of-requires-clause-names c = subst IsRising (sym c.in_ok-terms.ensures.terms.names) (rising_keys c.in_ok-terms.terms.criteria.now)
 
 pub returns-clause-least : goal.returns-clause-least
 returns-clause-least c =
-    let all : (q : Pair) → Contains c.projects.pairs.items q ↔ IsDemanded c.args.projects.now c.args.policies.now.items c.args.criteria.now q =
-    λ q. subst (λ projects. Contains c.projects.pairs.items q ↔ IsDemanded projects c.args.policies.now.items c.args.criteria.now q) (take_all c.projects.named-index c.args.projects.now c.projects-test.false) (c.projects.invariant q) in
-    record {
-      in_order = c.in_ok-found.ensures.pairs.in_order;
-      same = λ q. (λ w. (all q).0 ((c.in_ok-found.ensures.pairs.same q).0 w), λ h. (c.in_ok-found.ensures.pairs.same q).1 ((all q).1 h));
-    }
+    let projects = c.args.projects.now in
+    let policies = c.args.policies.now.items in
+    let criteria = c.args.criteria.now in
+    let terms = c.in_ok-terms.ensures in
+    let least = least_demand projects policies criteria c.in_ok-terms.terms.names.now (listed c.in_ok-audited.audited) c.in_ok-pairs.pairs.items
+    (terms.terms.names ∙ ap map.keys terms.criteria) (rw (terms.policies, terms.criteria) at c.in_ok-audited.ensures.ok) c.in_ok-pairs.ensures.in_order c.in_ok-pairs.ensures.same in
+    subst (IsLeastDemand projects policies criteria) (sym c.in_order.ensures) least
 
 pub returns-clause-value : goal.returns-clause-value
 returns-clause-value c =
-    let all : (q : Pair) → Contains c.projects.pairs.items q ↔ IsDemanded c.args.projects.now c.args.policies.now.items c.args.criteria.now q =
-    λ q. subst (λ projects. Contains c.projects.pairs.items q ↔ IsDemanded projects c.args.policies.now.items c.args.criteria.now q) (take_all c.projects.named-index c.args.projects.now c.projects-test.false) (c.projects.invariant q) in
-    least_is_demand c.args.projects.now c.args.policies.now.items c.args.criteria.now c.in_ok-found.found
-    (subst IsTable c.in_ok-terms.ensures.criteria c.in_ok-terms.ensures.terms.table) c.requires.known
-    (record {
-      in_order = c.in_ok-found.ensures.pairs.in_order;
-      same = λ q. (λ w. (all q).0 ((c.in_ok-found.ensures.pairs.same q).0 w), λ h. (c.in_ok-found.ensures.pairs.same q).1 ((all q).1 h));
-    })
+    let projects = c.args.projects.now in
+    let policies = c.args.policies.now.items in
+    let criteria = c.args.criteria.now in
+    let terms = c.in_ok-terms.ensures in
+    let least = least_demand projects policies criteria c.in_ok-terms.terms.names.now (listed c.in_ok-audited.audited) c.in_ok-pairs.pairs.items
+    (terms.terms.names ∙ ap map.keys terms.criteria) (rw (terms.policies, terms.criteria) at c.in_ok-audited.ensures.ok) c.in_ok-pairs.ensures.in_order c.in_ok-pairs.ensures.same in
+    c.in_order.ensures ∙ least_is_demand projects policies criteria c.in_ok-pairs.pairs.items (subst IsTable terms.criteria terms.terms.table) c.requires.known least

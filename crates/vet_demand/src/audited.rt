@@ -1,0 +1,224 @@
+//! The audited nodes of projects, with what they need.
+//!
+//! **They are in one list, each once, in the order of nodes, and ask for just the pairs that the projects demand.**
+//!
+//! A project has its nodes in order. The lists of two halves of the projects are merged into one, so that a node of
+//! many projects is moved as often as the number of projects can be halved. What a node needs in one project or the
+//! other is put together there, before pairs are made of it.
+ghost use Rattle.std.specs.Prelude.{◌≡◌, ◌⊎◌, ◌<◌, ◌+◌, ◌^◌, ◌++◌, ◌∷◌, [], IfOk, IfErr, cond, length};
+ghost use Rattle.std.specs.Option.{option_copied};
+ghost use Rattle.vet_demand.specs.Audited.{AreAudited, AreAuditedIn, AreHeads, AreInAuditedOrder, AreMerged, AreParallel, IsAfter, PutsHead, listed};
+ghost use Rattle.vet_demand.specs.DemandOf.{PoliciesAreKnown, is_audited};
+ghost use Rattle.vet_demand.specs.Terms.{AreTerms};
+
+use crate::flow::{needs_of, policies_of};
+use crate::passed::is_audited;
+use crate::policy::Policy;
+use crate::project::{NamedProject, Node, Project};
+use crate::terms::Terms;
+use std::alloc::Global;
+use std::cmp::Ordering;
+use vet_base::criteria_set::CriteriaSet;
+use vet_base::refusal::Refusal;
+
+/// Audited nodes, and beside each what it needs.
+#[derive(Drop)]
+pub(crate) struct AuditedNodes<'n> {
+    pub(crate) nodes: Vec<&'n Node>,
+    pub(crate) needs: Vec<CriteriaSet>,
+}
+
+// How many of each of two lists are merged.
+#[derive(Clone, Copy)]
+struct Places {
+    first: usize,
+    second: usize,
+}
+
+impl<'n> AuditedNodes<'n> {
+    // No nodes.
+    fn new(alloc: Global) -> AuditedNodes<'n>
+        ensures parallel { AreParallel result }
+        ensures none { listed result ≡ [] }
+    {
+        AuditedNodes {
+            nodes: Vec::new(alloc),
+            needs: Vec::new(alloc),
+        }
+    }
+
+    // Puts a node behind the others.
+    fn push(&mut self, node: &'n Node, needs: CriteriaSet) -> Result<(), Refusal>
+        requires { AreParallel self.old }
+        ensures parallel { IfOk result (λ _. AreParallel self.new) }
+        ensures pushed { IfOk result (λ _.
+            listed self.new ≡ listed self.old ++ (record { node = node.now; needs = needs }) ∷ []) }
+        ensures memory { IfErr result (λ e. e ≡ Refusal.NoMemory) }
+    {
+        self.nodes.push(node)?;
+        self.needs.push(needs)?;
+        Ok(())
+    }
+}
+
+impl Places {
+    // Where to go on when the nodes there, which compare so, are merged.
+    fn after(self, order: Ordering) -> Places
+        requires { (self.first + 1 < 2 ^ 64) × (self.second + 1 < 2 ^ 64) }
+        ensures { IsAfter self.first self.second result.first result.second order }
+    {
+        match order {
+            Ordering::Less => Places {
+                first: self.first + 1,
+                second: self.second,
+            },
+            Ordering::Equal => Places {
+                first: self.first + 1,
+                second: self.second + 1,
+            },
+            Ordering::Greater => Places {
+                first: self.first,
+                second: self.second + 1,
+            },
+        }
+    }
+}
+
+/// The audited nodes of some projects. Costs for each project what it needs to find its needs, and a merge of their
+/// nodes for each time that the number of projects can be halved. Refused: `NoMemory`.
+pub(crate) fn audited_in<'n>(
+    alloc: Global,
+    terms: &Terms<'_>,
+    projects: &'n [NamedProject],
+) -> Result<AuditedNodes<'n>, Refusal>
+    requires terms { AreTerms terms.now }
+    requires known { PoliciesAreKnown terms.now.criteria.now terms.now.policies.now.items }
+    ensures parallel { IfOk result AreParallel }
+    ensures ok { IfOk result (λ audited.
+        AreAudited terms.now.policies.now.items terms.now.criteria.now projects.now (listed audited)) }
+    ensures memory { IfErr result (λ e. e ≡ Refusal.NoMemory) }
+{
+    if projects.is_empty() {
+        return Ok(AuditedNodes::new(alloc));
+    }
+    if projects.len() == 1 {
+        return audited_of(alloc, terms, &projects[0].project);
+    }
+    let (front, back) = projects.split_at(projects.len() / 2);
+    let first = audited_in(alloc, terms, front)?;
+    let second = audited_in(alloc, terms, back)?;
+    merged(alloc, &first, &second)
+}
+
+// The audited nodes of a project.
+fn audited_of<'n>(
+    alloc: Global,
+    terms: &Terms<'_>,
+    project: &'n Project,
+) -> Result<AuditedNodes<'n>, Refusal>
+    requires terms { AreTerms terms.now }
+    requires known { PoliciesAreKnown terms.now.criteria.now terms.now.policies.now.items }
+    ensures parallel { IfOk result AreParallel }
+    ensures ok { IfOk result (λ audited.
+        AreAuditedIn terms.now.policies.now.items terms.now.criteria.now project.now (listed audited)) }
+    ensures memory { IfErr result (λ e. e ≡ Refusal.NoMemory) }
+{
+    let nodes = project.nodes();
+    let found = policies_of(alloc, terms.policies, nodes)?;
+    let needs = needs_of(alloc, terms, project, found.as_slice())?;
+    let mut audited = AuditedNodes::new(alloc);
+    'nodes: for place in 0..nodes.len() {
+        put_audited(&nodes[place], found[place], &needs[place], &mut audited)?;
+    }
+    Ok(audited)
+}
+
+// Puts a node behind others, if it is audited.
+fn put_audited<'n>(
+    node: &'n Node,
+    policy: Option<&Policy>,
+    needs: &CriteriaSet,
+    audited: &mut AuditedNodes<'n>,
+) -> Result<(), Refusal>
+    requires { AreParallel audited.old }
+    ensures parallel { IfOk result (λ _. AreParallel audited.new) }
+    ensures ok { IfOk result (λ _. listed audited.new ≡ cond (is_audited node.now.party (option_copied policy.entry))
+        (listed audited.old ++ (record { node = node.now; needs = needs.now }) ∷ []) (listed audited.old)) }
+    ensures memory { IfErr result (λ e. e ≡ Refusal.NoMemory) }
+{
+    if !is_audited(node.party, policy) {
+        return Ok(());
+    }
+    audited.push(node, *needs)
+}
+
+// Two lists in one.
+fn merged<'n>(
+    alloc: Global,
+    first: &AuditedNodes<'n>,
+    second: &AuditedNodes<'n>,
+) -> Result<AuditedNodes<'n>, Refusal>
+    requires first { AreParallel first.now }
+    requires second { AreParallel second.now }
+    requires first_in_order { AreInAuditedOrder (listed first.now) }
+    requires second_in_order { AreInAuditedOrder (listed second.now) }
+    ensures parallel { IfOk result AreParallel }
+    ensures ok { IfOk result (λ all. AreMerged (listed first.now) (listed second.now) (listed all)) }
+    ensures memory { IfErr result (λ e. e ≡ Refusal.NoMemory) }
+{
+    let mut all = AuditedNodes::new(alloc);
+    let mut at = Places {
+        first: 0,
+        second: 0,
+    };
+    let total = first.nodes.len() + second.nodes.len();
+    'nodes: while at.first + at.second < total {
+        let order = heads_cmp(first, second, at);
+        put_head(first, second, at, order, &mut all)?;
+        at = at.after(order);
+    }
+    Ok(all)
+}
+
+// How the next nodes of two lists compare. A list that has come to its end gives way.
+fn heads_cmp(first: &AuditedNodes<'_>, second: &AuditedNodes<'_>, at: Places) -> Ordering
+    requires first { AreParallel first.now }
+    requires second { AreParallel second.now }
+    requires left { (at.first < length first.now.nodes.items) ⊎ (at.second < length second.now.nodes.items) }
+    ensures { AreHeads (listed first.now) (listed second.now) at.first at.second result }
+{
+    if second.nodes.len() <= at.second {
+        return Ordering::Less;
+    }
+    if first.nodes.len() <= at.first {
+        return Ordering::Greater;
+    }
+    first.nodes[at.first].cmp_place(second.nodes[at.second])
+}
+
+// Puts the lesser of the next nodes of two lists behind others, or both as one.
+fn put_head<'n>(
+    first: &AuditedNodes<'n>,
+    second: &AuditedNodes<'n>,
+    at: Places,
+    order: Ordering,
+    all: &mut AuditedNodes<'n>,
+) -> Result<(), Refusal>
+    requires first { AreParallel first.now }
+    requires second { AreParallel second.now }
+    requires all { AreParallel all.old }
+    requires heads { AreHeads (listed first.now) (listed second.now) at.first at.second order }
+    ensures parallel { IfOk result (λ _. AreParallel all.new) }
+    ensures ok { IfOk result (λ _.
+        PutsHead (listed first.now) (listed second.now) at.first at.second (listed all.old) (listed all.new) order) }
+    ensures memory { IfErr result (λ e. e ≡ Refusal.NoMemory) }
+{
+    match order {
+        Ordering::Less => all.push(first.nodes[at.first], first.needs[at.first]),
+        Ordering::Equal => {
+            let needs = first.needs[at.first].union(&second.needs[at.second]);
+            all.push(first.nodes[at.first], needs)
+        }
+        Ordering::Greater => all.push(second.nodes[at.second], second.needs[at.second]),
+    }
+}
