@@ -152,7 +152,7 @@ module _ {K : Type 0} (r : RegisterView K) (a : Action) where
       → IsEffect r a (record { edit = edit.Facts change; number = number; next_entry = next })
   facts_effect s day change number next stays sound told given becomes policies projects numbered follows fits is are =
       effect_is s (record { edit = edit.Facts change; number = number; next_entry = next }) stays
-      (λ i. record { facts = becomes i; policies = sym policies i; projects = sym projects i }) numbered follows fits
+      (λ i. record { facts = becomes i; policies = sym policies i; projects = sym projects i; settings = s.held.settings }) numbered follows fits
       (sound_held s day a told sound.held given is are)
 
 -- ---- what was passed

@@ -4,6 +4,7 @@ pub mod ClassOfFileLemmas
 pub mod Drops
 pub mod Effects
 pub mod Fewness
+pub mod FurtherCriteria
 pub mod HeldEffects
 pub mod Imports
 pub mod Known

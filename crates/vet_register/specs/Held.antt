@@ -1,4 +1,5 @@
--- All that classes and the demand depend on (ours): facts of packages, policies and projects, and edits of them.
+-- All that classes and the demand depend on (ours): facts of packages, policies and projects, and edits of them. Beside
+-- these stands what a config file says to the tool alone.
 use Rattle.std.specs.Prelude.{ℕ, ◌≤◌, Bool, false, List, [], Option}
 use Rattle.std.specs.Cmp.Lexicographic.{slice_cmp}
 use Rattle.std.specs.Ordering.{nat_cmp}
@@ -19,16 +20,20 @@ use Rattle.vet_graph.specs.StandingOf.{standing_of}
 use Rattle.vet_register.specs.declared.held.Held.{Held}
 use Rattle.vet_register.specs.declared.held.HeldEdit.{HeldEdit}
 use Rattle.vet_register.specs.declared.held.HeldEdit.TheVariants as edit
+use Rattle.vet_register.specs.ToolSettings.{no_settings}
+use Rattle.vet_register.specs.declared.tool_settings.ToolSettings.{ToolSettings}
 
--- facts of packages, policies in the order of their keys, and projects in the order of their names
+-- facts of packages, policies in the order of their keys, projects in the order of their names, and what a config file says
+-- to the tool alone
 pub record HeldValue : Type 0 where
   pub facts : Facts
   pub policies : List KeyedPolicy
   pub projects : List NamedProject
+  pub settings : ToolSettings
 
 -- nothing but the built-in criteria
 abbrev pub nothing_held : HeldValue
-nothing_held = record { facts = no_facts; policies = []; projects = [] }
+nothing_held = record { facts = no_facts; policies = []; projects = []; settings = no_settings }
 
 -- what the projects demand, by the policies and the criteria
 abbrev pub demand_in : HeldValue → List Pair
@@ -65,6 +70,7 @@ abbrev pub edited : HeldEdit → HeldValue → HeldValue
 edited (edit.Facts change) held = record held { facts = facts.edited change held.facts }
 edited (edit.Policies change) held = record held { policies = keyed.edited change held.policies }
 edited (edit.Projects change) held = record held { projects = keyed.edited change held.projects }
+edited (edit.Files files) held = record held { facts = files.facts.content; policies = files.policies.items; settings = files.settings }
 
 -- for how much more there is room
 pub record HeldRoom : Type 0 where
@@ -74,7 +80,12 @@ pub record HeldRoom : Type 0 where
 
 -- what is held, and for how much more there is room
 abbrev pub content_of : Held → HeldValue
-content_of held = record { facts = held.facts.content; policies = held.policies.items; projects = held.projects.items }
+content_of held = record {
+  facts = held.facts.content;
+  policies = held.policies.items;
+  projects = held.projects.items;
+  settings = held.settings;
+}
 
 abbrev pub room_of : Held → HeldRoom
 room_of held = record { facts = held.facts.room; policies = held.policies.room; projects = held.projects.room }
@@ -85,6 +96,7 @@ held_with value room = record {
   facts = record { content = value.facts; room = room.facts };
   policies = record { items = value.policies; room = room.policies };
   projects = record { items = value.projects; room = room.projects };
+  settings = value.settings;
 }
 
 -- an edit can be made, and takes no memory
@@ -92,6 +104,7 @@ abbrev pub Fits : HeldEdit → Held → Type 0
 Fits (edit.Facts change) held = facts.Fits change held.facts
 Fits (edit.Policies change) held = keyed.Fits policy_key_cmp key_of change held.policies
 Fits (edit.Projects change) held = keyed.Fits (slice_cmp nat_cmp) project_name change held.projects
+Fits (edit.Files files) held = Unit {0}
 
 -- where there is room for something in the old, there is in the new
 abbrev pub HoldsRoomOf : HeldRoom → HeldRoom → Type 0
@@ -102,12 +115,14 @@ abbrev pub keeps_demand : HeldEdit → Bool
 keeps_demand (edit.Facts change) = facts.keeps_criteria change
 keeps_demand (edit.Policies change) = false
 keeps_demand (edit.Projects change) = false
+keeps_demand (edit.Files files) = false
 
 -- the room after an edit
 abbrev pub room_after : HeldEdit → HeldRoom → HeldRoom
 room_after (edit.Facts change) room = record room { facts = facts.room_after change room.facts }
 room_after (edit.Policies change) room = record room { policies = keyed.room_after change room.policies }
 room_after (edit.Projects change) room = record room { projects = keyed.room_after change room.projects }
+room_after (edit.Files files) room = record room { facts = files.facts.room; policies = files.policies.room }
 
 -- an edit that fits still does where the same is held, and no room is lost
 abbrev pub HeldEditsFit : Type 0

@@ -1,6 +1,10 @@
--- What the files of a register hold (The Cargo Vet Book, imports.lock).
-use Rattle.std.specs.Prelude.{List, map}
+-- What the files of a register hold (The Cargo Vet Book, audits.toml, config.toml and imports.lock).
+use Rattle.std.specs.Prelude.{ℕ, not, Bool, List, Option, None, if◌then◌else◌, filter, map}
+use Rattle.std.specs.FinMap as table
+use Rattle.vet_base.specs.Criteria.{Criteria}
+use Rattle.vet_base.specs.CriteriaChanges.{is_built_in}
 use Rattle.vet_base.specs.FurtherCriteria.{further}
+use Rattle.vet_base.specs.declared.criterion.Criterion.{Criterion}
 use Rattle.vet_entries.specs.Entry.{own}
 use Rattle.vet_entries.specs.Facts.{Facts}
 use Rattle.vet_entries.specs.Holding.{HoldingValue}
@@ -9,8 +13,52 @@ use Rattle.vet_entries.specs.declared.entry.Entry.{Entry}
 use Rattle.vet_entries.specs.declared.facts.HeldEntry.{HeldEntry}
 use Rattle.vet_entries.specs.declared.held_peer.HeldPeer.{HeldPeer}
 use Rattle.vet_entries.specs.declared.peer_settings.PeerSettings.{PeerSettings}
+use Rattle.vet_files.specs.SameContent.{is_own_exemption}
+use Rattle.vet_files.specs.declared.audits_file.AuditsContent.{AuditsContent}
+use Rattle.vet_files.specs.declared.config_file.ConfigContent.{ConfigContent}
 use Rattle.vet_files.specs.declared.imports_file.ImportedPeer.{ImportedPeer}
 use Rattle.vet_files.specs.declared.imports_file.ImportsContent.{ImportsContent}
+use Rattle.vet_register.specs.Held.{HeldValue}
+
+-- ---- audits files
+
+-- the criterion of a name, where a table has one that is not built in
+abbrev pub further_at : Criteria → List ℕ → Option Criterion
+further_at criteria name = if is_built_in name then None else table.get criteria name
+
+-- an entry, as one of one's own, is an exemption: it stands in the config file and not in the audits file
+abbrev pub is_exemption : Entry → Bool
+is_exemption e = is_own_exemption (own e)
+
+abbrev pub is_audit : Entry → Bool
+is_audit e = not (is_exemption e)
+
+-- held entries without their numbers
+abbrev pub unnumbered : List HeldEntry → List Entry
+unnumbered held = map (λ (h : HeldEntry). h.entry) held
+
+-- what an audits file of the register holds: the criteria beside the built-in ones, and own entries but the exemptions
+abbrev pub audits_of : Facts → AuditsContent
+audits_of facts = record { criteria = further facts.criteria; entries = filter is_audit (unnumbered facts.entries) }
+
+-- ---- config files
+
+-- how the held peers are imported
+abbrev pub settings_of : Facts → List PeerSettings
+settings_of facts = map (λ (p : HeldPeer). p.settings) facts.peers
+
+-- what a config file of the register holds: what it says to the tool alone, how peers are imported, the policies, and own
+-- exemptions
+abbrev pub config_of : HeldValue → ConfigContent
+config_of held = record {
+  vet_version = held.settings.vet_version;
+  default_criteria = held.settings.default_criteria;
+  peers = settings_of held.facts;
+  policies = held.policies;
+  exemptions = filter is_exemption (unnumbered held.facts.entries);
+}
+
+-- ---- imports files
 
 -- held entries without their numbers, each as its organisation speaks of it
 abbrev pub spoken : List HeldEntry → List Entry
@@ -27,7 +75,3 @@ imported_of peer = record { name = peer.settings.name; content = content_of peer
 -- what an imports file of the register holds: all publisher records, and what is held of each peer
 abbrev pub imports_of : Facts → ImportsContent
 imports_of facts = record { publishers = facts.publishers; peers = map imported_of facts.peers }
-
--- how the held peers are imported
-abbrev pub settings_of : Facts → List PeerSettings
-settings_of facts = map (λ (p : HeldPeer). p.settings) facts.peers

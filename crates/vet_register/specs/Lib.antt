@@ -9,6 +9,7 @@ pub mod Repeats
 pub mod Runs
 pub mod Sound
 pub mod State
+pub mod ToolSettings
 pub mod Verdict
 pub use Rattle.vet_base.specs.Criteria
 pub use Rattle.vet_base.specs.CriteriaChanges

@@ -71,6 +71,7 @@ held_after s action = record {
   facts = facts_after s action;
   policies = policies_by action s.held.policies;
   projects = projects_by action s.held.projects;
+  settings = s.held.settings;
 }
 
 -- the moves of a command: the pairs whose class differs before and after it

@@ -24,6 +24,7 @@ use Rattle.vet_register.specs.declared.moves.RecordedMove.{RecordedMove}
 use Rattle.vet_register.specs.declared.verdict.Answer.{Answer}
 use Rattle.vet_register.specs.declared.verdict.Answer.TheVariants.{Already, Accepted}
 use Rattle.vet_register.specs.declared.held.Held.{Held}
+use Rattle.vet_register.specs.declared.tool_settings.ToolSettings.{ToolSettings}
 use Rattle.vet_register.specs.Changes.{FitsHeld, FitsMoves, changed, demand_by}
 use Rattle.vet_register.specs.Held.{Fits, HeldRoom, HeldValue, HoldsRoomOf, demand_in, edited, held_with, standing_in}
 use Rattle.vet_register.specs.Machine.{held_after, next, number_after, number_given, outcome_of, touched_by}
@@ -131,11 +132,11 @@ abbrev pub Asks : {K : Type 0} → RegisterView K → Action → Told Answer →
 Asks r action told answer = AsksBy (wants_memory action) r action told answer
 
 -- a register is stored as the tuple of its keeper, the parts of its state, and its rooms
-abbrev pub register_code : {K : Type 0} → Coded K → Coded FactsRoom → Coded KeyedPolicy → Coded NamedProject → Coded Counts → Coded RecordedMove → Coded (RegisterView K)
-register_code {K} keeper_code facts_code policy_code project_code counts_code move_code =
-    code_by (K × (FactsRoom × (KeyedRoom KeyedPolicy × (KeyedRoom NamedProject × (ℕ × (ℕ × (ℕ × (Counts × (List RecordedMove × ℕ)))))))))
+abbrev pub register_code : {K : Type 0} → Coded K → Coded FactsRoom → Coded KeyedPolicy → Coded NamedProject → Coded ToolSettings → Coded Counts → Coded RecordedMove → Coded (RegisterView K)
+register_code {K} keeper_code facts_code policy_code project_code settings_code counts_code move_code =
+    code_by (K × (FactsRoom × (KeyedRoom KeyedPolicy × (KeyedRoom NamedProject × (ToolSettings × (ℕ × (ℕ × (ℕ × (Counts × (List RecordedMove × ℕ))))))))))
     (coded× keeper_code (coded× facts_code (coded× (keyed_code policy_code) (coded× (keyed_code project_code)
-    (coded× coded_ℕ (coded× coded_ℕ (coded× coded_ℕ (coded× counts_code (coded× (coded_list move_code) coded_ℕ)))))))))
+    (coded× settings_code (coded× coded_ℕ (coded× coded_ℕ (coded× coded_ℕ (coded× counts_code (coded× (coded_list move_code) coded_ℕ))))))))))
     (λ r. (
       r.keeper,
       (
@@ -144,7 +145,7 @@ register_code {K} keeper_code facts_code policy_code project_code counts_code mo
           (held_room r).policies,
           (
             (held_room r).projects,
-            (r.state.step, (r.state.next_entry, (r.state.moves_limit, (r.state.first, (r.state.moves, r.room.moves))))),
+            (r.state.held.settings, (r.state.step, (r.state.next_entry, (r.state.moves_limit, (r.state.first, (r.state.moves, r.room.moves)))))),
           ),
         ),
       ),
@@ -152,16 +153,16 @@ register_code {K} keeper_code facts_code policy_code project_code counts_code mo
     (λ p. record {
       keeper = p.0;
       state = record {
-        held = record { facts = p.1.0.content; policies = p.1.1.0.items; projects = p.1.1.1.0.items };
-        step = p.1.1.1.1.0;
-        next_entry = p.1.1.1.1.1.0;
-        moves_limit = p.1.1.1.1.1.1.0;
-        first = p.1.1.1.1.1.1.1.0;
-        moves = p.1.1.1.1.1.1.1.1.0;
+        held = record { facts = p.1.0.content; policies = p.1.1.0.items; projects = p.1.1.1.0.items; settings = p.1.1.1.1.0 };
+        step = p.1.1.1.1.1.0;
+        next_entry = p.1.1.1.1.1.1.0;
+        moves_limit = p.1.1.1.1.1.1.1.0;
+        first = p.1.1.1.1.1.1.1.1.0;
+        moves = p.1.1.1.1.1.1.1.1.1.0;
       };
       room = record {
         held = record { facts = p.1.0.room; policies = p.1.1.0.room; projects = p.1.1.1.0.room };
-        moves = p.1.1.1.1.1.1.1.1.1;
+        moves = p.1.1.1.1.1.1.1.1.1.1;
       };
     })
     (λ _. refl)

@@ -3,6 +3,7 @@ ghost use Rattle.std.specs.Prelude.{◌≡◌, IfErr, IfOk, IsTrue, is_some, tru
 ghost use Rattle.vet_base.specs.Criteria.{IsTable};
 ghost use Rattle.vet_register.specs.Held.{Fits, HeldEditsFit, HeldRoomItself, HeldRoomOnward, HeldValue, HoldsRoomOf, content_of, demand_in, edited, keeps_demand, nothing_held, policy_at, project_at, room_after, room_of, with_policy, with_project, without_policy, without_project};
 
+use crate::tool_settings::ToolSettings;
 use std::alloc::Global;
 use vet_base::keyed::{Keyed, KeyedEdit};
 use vet_base::name::PackageName;
@@ -12,11 +13,12 @@ use vet_demand::policy_key::PolicyKey;
 use vet_demand::project::NamedProject;
 use vet_entries::facts::{Edit, EntryFacts, edits_fit_with_more_room};
 
-/// Facts of packages, policies and projects.
+/// Facts of packages, policies and projects, and what a config file says to the tool alone.
 pub struct Held {
     pub(crate) facts: EntryFacts,
     pub(crate) policies: Keyed<KeyedPolicy>,
     pub(crate) projects: Keyed<NamedProject>,
+    pub(crate) settings: ToolSettings,
 }
 
 impl Drop for Held {
@@ -25,6 +27,7 @@ impl Drop for Held {
             facts: _,
             policies: _,
             projects: _,
+            settings: _,
         } = self;
     }
 }
@@ -38,6 +41,16 @@ pub enum HeldEdit {
     Policies(KeyedEdit<KeyedPolicy>),
     /// Of the projects.
     Projects(KeyedEdit<NamedProject>),
+    /// All that files hold is exchanged.
+    Files(FilesHeld),
+}
+
+/// All that files hold: what is held but for the projects.
+#[derive(Drop)]
+pub struct FilesHeld {
+    pub(crate) facts: EntryFacts,
+    pub(crate) policies: Keyed<KeyedPolicy>,
+    pub(crate) settings: ToolSettings,
 }
 
 impl HeldEdit {
@@ -50,6 +63,7 @@ impl HeldEdit {
             HeldEdit::Facts(edit) => edit.keeps_criteria(),
             HeldEdit::Policies(_) => false,
             HeldEdit::Projects(_) => false,
+            HeldEdit::Files(_) => false,
         }
     }
 }
@@ -66,6 +80,7 @@ impl Held {
             facts,
             policies: Keyed::new(alloc),
             projects: Keyed::new(alloc),
+            settings: ToolSettings::new(),
         })
     }
 
@@ -143,6 +158,22 @@ impl Held {
             HeldEdit::Facts(edit) => HeldEdit::Facts(self.facts.apply(edit)),
             HeldEdit::Policies(edit) => HeldEdit::Policies(self.policies.apply(edit)),
             HeldEdit::Projects(edit) => HeldEdit::Projects(self.projects.apply(edit)),
+            HeldEdit::Files(files) => HeldEdit::Files(self.exchange(files)),
+        }
+    }
+
+    // Puts what files hold in place of what is held so, and answers that. Takes no memory.
+    fn exchange(&mut self, files: FilesHeld) -> FilesHeld
+        ensures facts { self.new.facts ≡ files.facts }
+        ensures policies { self.new.policies ≡ files.policies }
+        ensures settings { self.new.settings ≡ files.settings }
+        ensures projects { self.new.projects ≡ self.old.projects }
+        ensures before { result ≡ record { facts = self.old.facts; policies = self.old.policies; settings = self.old.settings } }
+    {
+        FilesHeld {
+            facts: std::mem::replace(&mut self.facts, files.facts),
+            policies: std::mem::replace(&mut self.policies, files.policies),
+            settings: std::mem::replace(&mut self.settings, files.settings),
         }
     }
 }

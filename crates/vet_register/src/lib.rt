@@ -17,6 +17,7 @@ pub mod moves;
 mod plan;
 pub mod register;
 pub mod repeats;
+pub mod tool_settings;
 mod verdict;
 
 pub use vet_base::{

@@ -33,6 +33,7 @@ use crate::command::{Command, Outcome};
 use crate::edits::{Asked, Effect};
 use crate::held::{Held, HeldEdit, held_edits_fit_with_more_room};
 use crate::moves::{RecordedMove, make_recording};
+use crate::tool_settings::ToolSettings;
 use std::alloc::Global;
 use std::marker::Model;
 use vet_base::criteria_table::CriteriaTable;
@@ -80,11 +81,12 @@ impl<K: Keeper> Model for Register<K> {
     ghost use Rattle.vet_demand.specs.contracts.policies.KeyedPolicy as policy;
     ghost use Rattle.vet_demand.specs.contracts.project.NamedProject as project;
     ghost use Rattle.vet_graph.specs.contracts.standing.Counts as counts;
+    ghost use Rattle.vet_register.specs.contracts.tool_settings.ToolSettings as settings;
     ghost use Rattle.vet_register.specs.contracts.moves.RecordedMove as recorded;
 
     ghost Value = { RegisterView K };
 
-    ghost coded = { register_code K.code (facts_room_code entry.the_row.coded peer.the_row.coded listed.the_row.coded) policy.the_row.coded project.the_row.coded counts.the_row.coded recorded.the_row.coded };
+    ghost coded = { register_code K.code (facts_room_code entry.the_row.coded peer.the_row.coded listed.the_row.coded) policy.the_row.coded project.the_row.coded settings.the_row.coded counts.the_row.coded recorded.the_row.coded };
 
     ghost view = { λ r. record {
       state = record {
@@ -363,6 +365,13 @@ impl<K: Keeper> Register<K> {
         ensures { result.now ≡ self.now.state.held.projects }
     {
         self.held.projects.items()
+    }
+
+    /// What a config file says to the tool alone. Takes no memory.
+    pub fn settings(&self) -> &ToolSettings
+        ensures { result.now ≡ self.now.state.held.settings }
+    {
+        &self.held.settings
     }
 
     /// The pairs that the projects demand, in their order. Takes no memory.

@@ -36,7 +36,7 @@ returns-clause-asked g c day =
     let edit = subst (λ (r : RegisterView _). edited c.in_ok-edit_of_policy.field-0 r.state.held
     ≡ record r.state.held { policies = with_policy c.in_ok-copy.copy r.state.held.policies }) c.self.view_is set.edit in
     let same : c.in_ok-copy.copy ≡ c.args.policy.now = c.in_ok-copy.ensures.cases in
-    let held = edit ∙ (λ i. record { facts = state.held.facts; policies = with_policy (same i) state.held.policies; projects = state.held.projects }) in
+    let held = edit ∙ (λ i. record state.held { policies = with_policy (same i) state.held.policies }) in
     let number = ap (λ (r : RegisterView _). r.state.next_entry) c.self.view_is in
     let next : c.self.inside.next_entry ≡ number_after state asks = omega (arith, number) in
     effective _ _ _ _ told (effect_is _ _ state _ stays held refl next set.fits
