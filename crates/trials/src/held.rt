@@ -32,6 +32,15 @@ pub fn print_peers(rt: &impl Print, peers: &[HeldPeer]) -> io::Result<()> {
     Ok(())
 }
 
+/// Prints a criterion: what it implies, and what it says of itself.
+pub fn print_criterion(rt: &impl Print, criterion: &Criterion) -> io::Result<()> {
+    print!(rt; " {}", criterion.name)?;
+    print_names(rt, criterion.implies.as_slice())?;
+    print_optional_text(rt, "description", &criterion.description)?;
+    print_optional_text(rt, "description-url", &criterion.url)?;
+    println!(rt; "")
+}
+
 /// Prints some names, with a space before each.
 pub fn print_names(rt: &impl Print, names: &[Name]) -> io::Result<()> {
     for name in names {
@@ -71,10 +80,7 @@ fn print_fields(rt: &impl Print, entry: &Entry) -> io::Result<()> {
         print!(rt; " source={name}")?;
     }
     print_kind_fields(rt, &entry.kind)?;
-    match &entry.notes {
-        Some(notes) => print_text(rt, "notes", notes),
-        None => Ok(()),
-    }
+    print_optional_text(rt, "notes", &entry.notes)
 }
 
 fn print_kind_fields(rt: &impl Print, kind: &Kind) -> io::Result<()> {
@@ -113,8 +119,16 @@ fn print_texts(rt: &impl Print, key: &str, texts: &[Text]) -> io::Result<()> {
     Ok(())
 }
 
-/// Prints a text behind its key, as a word of a line writes it.
-pub fn print_text(rt: &impl Print, key: &str, text: &Text) -> io::Result<()> {
+/// Prints a text, if there is one, behind its key.
+pub fn print_optional_text(rt: &impl Print, key: &str, text: &Option<Text>) -> io::Result<()> {
+    match text {
+        Some(text) => print_text(rt, key, text),
+        None => Ok(()),
+    }
+}
+
+// Prints a text behind its key, as a word of a line writes it.
+fn print_text(rt: &impl Print, key: &str, text: &Text) -> io::Result<()> {
     print!(rt; " {key}=")?;
     if text.as_str().is_empty() {
         return print!(rt; "%");
@@ -161,9 +175,8 @@ fn print_map(rt: &impl Print, items: &[MappedCriterion]) -> io::Result<()> {
 fn print_defined(rt: &impl Print, criteria: &[Criterion]) -> io::Result<()> {
     for criterion in criteria {
         if !is_built_in(&criterion.name) {
-            print!(rt; "defined {}", criterion.name)?;
-            print_names(rt, criterion.implies.as_slice())?;
-            println!(rt; "")?;
+            print!(rt; "defined")?;
+            print_criterion(rt, criterion)?;
         }
     }
     Ok(())

@@ -3,7 +3,7 @@
 //! A policy is a line of the words that set it. Behind the line of a project stand a line of each node, with its party,
 //! and then of each edge, with the names and versions between which it leads, and its kind.
 
-use crate::held::{print_flag, print_text};
+use crate::held::{print_flag, print_optional_text};
 use std::io;
 use vet_base::name::Name;
 use vet_base::names::Names;
@@ -36,14 +36,11 @@ fn print_policy(rt: &impl Print, policy: &Policy) -> io::Result<()> {
     print_list(rt, "dev-criteria", &policy.dev_criteria)?;
     print_dependencies(rt, policy.dependency_criteria.items())?;
     print_flag(rt, "audit-as-crates-io", policy.audit_as_crates_io)?;
-    match &policy.notes {
-        Some(notes) => print_text(rt, "notes", notes),
-        None => Ok(()),
-    }
+    print_optional_text(rt, "notes", &policy.notes)
 }
 
-// A list, if there is one; an empty one has nothing behind the equals sign.
-fn print_list(rt: &impl Print, key: &str, names: &Option<Names>) -> io::Result<()> {
+/// Prints a list, if there is one, behind its key; an empty one has nothing behind the equals sign.
+pub fn print_list(rt: &impl Print, key: &str, names: &Option<Names>) -> io::Result<()> {
     match names {
         Some(names) => {
             print!(rt; " {key}=")?;

@@ -1,7 +1,8 @@
 //! What a run prints, a line at a time. Printing takes no memory.
 
-use crate::held::{print_entries, print_names, print_peers};
+use crate::held::{print_criterion, print_entries, print_optional_text, print_peers};
 use crate::held_projects::{print_policies, print_projects};
+use crate::held_settings::print_tool_settings;
 use std::io;
 use vet_base::criteria_table::CriteriaTable;
 use vet_base::name::PackageName;
@@ -53,8 +54,8 @@ fn print_details(rt: &impl Print, refusal: &Refusal) -> io::Result<()> {
     }
 }
 
-/// Prints what a register holds: its step, criteria, own entries, peers, publisher records, policies, projects,
-/// demanded pairs, counts and recorded moves.
+/// Prints what a register holds: its step, criteria, own entries, peers, publisher records, what a config file says to
+/// the tool alone, policies, projects, demanded pairs, counts and recorded moves.
 pub fn print_contents<K: Keeper>(rt: &impl Print, register: &Register<K>) -> io::Result<()> {
     println!(rt; "step {}", register.step())?;
     print_held(rt, register)?;
@@ -66,6 +67,7 @@ fn print_held<K: Keeper>(rt: &impl Print, register: &Register<K>) -> io::Result<
     print_entries(rt, register.entries())?;
     print_peers(rt, register.peers())?;
     print_packages(rt, register.publishers())?;
+    print_tool_settings(rt, register.settings())?;
     print_policies(rt, register.policies())?;
     print_projects(rt, register.projects())
 }
@@ -79,11 +81,10 @@ fn print_standing<K: Keeper>(rt: &impl Print, register: &Register<K>) -> io::Res
 
 fn print_criteria(rt: &impl Print, criteria: &CriteriaTable) -> io::Result<()> {
     for name in criteria.names() {
-        print!(rt; "criterion {name}")?;
         if let Some(criterion) = criteria.get(name) {
-            print_names(rt, criterion.implies.as_slice())?;
+            print!(rt; "criterion")?;
+            print_criterion(rt, criterion)?;
         }
-        println!(rt; "")?;
     }
     Ok(())
 }
@@ -102,10 +103,13 @@ fn print_publishers(
 ) -> io::Result<()> {
     for published in records.as_slice() {
         let user = published.user.number();
-        println!(rt;
+        print!(rt;
             "publisher {package} {} {user} {}",
             published.version, published.day
         )?;
+        print_optional_text(rt, "user-login", &published.login)?;
+        print_optional_text(rt, "user-name", &published.name)?;
+        println!(rt; "")?;
     }
     Ok(())
 }

@@ -2,11 +2,10 @@
 
 use crate::commands::answer;
 use crate::fault::Fault;
+use crate::held_texts::line_told;
 use crate::line::{is_command, is_remark};
 use crate::print::{print_contents, print_outcome, print_refusal};
 use crate::setting::{is_setting, register_of};
-use crate::values::value;
-use crate::written::{IMPORTS_FILE, imports_file};
 use std::alloc::Global;
 use std::io;
 use vet_base::refusal::Refusal;
@@ -130,18 +129,6 @@ fn give<K: Keeper>(
         }
         Err(fault) => tell_fault(rt, &fault),
     }
-}
-
-// What a line is told that asks for a value, or for a file of what is held.
-fn line_told<K: Keeper>(
-    alloc: Global,
-    register: &Register<K>,
-    line: &str,
-) -> Result<String, Fault> {
-    if line == IMPORTS_FILE {
-        return imports_file(alloc, register);
-    }
-    value(alloc, register.facts(), line)
 }
 
 fn give_command<K: Keeper>(

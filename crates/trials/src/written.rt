@@ -7,9 +7,6 @@
 //!
 //! `written-project TABLE` has the text of a dependency table, and tells the table that is written of the project which it
 //! states, as the word that writes it, and `same` where that is read as the same project, else `other`.
-//!
-//! The line `imports-file` has nothing behind it, and tells the text of the imports file of what the register holds, as
-//! the word that writes it.
 
 use crate::fault::Fault;
 use crate::line::{one, two, word_of};
@@ -22,11 +19,6 @@ use vet_files::config_file::{ConfigContent, read_config, write_config};
 use vet_files::imports_file::{ImportsContent, read_imports, write_imports};
 use vet_files::listed::Listed;
 use vet_files::notices::Notices;
-use vet_graph::keeper::Keeper;
-use vet_register::register::Register;
-
-/// The line that asks for the imports file of what is held.
-pub const IMPORTS_FILE: &str = "imports-file";
 
 // A file that was read and written.
 struct Written {
@@ -78,13 +70,6 @@ pub fn written_project(alloc: Global, texts: &[String]) -> Result<String, Fault>
     let word = word_of(alloc, text.as_str())?;
     let compared = if again == project { "same" } else { "other" };
     Ok(format!(in alloc; "{word} {compared}")?)
-}
-
-/// What is written of the imports file of what a register holds. Refused: `NoMemory`.
-pub fn imports_file<K: Keeper>(alloc: Global, register: &Register<K>) -> Result<String, Fault> {
-    let held = register.held_imports(alloc)?;
-    let text = write_imports(alloc, held.settings.as_slice(), &held.content)?;
-    word_of(alloc, text.as_str())
 }
 
 fn imports_told(alloc: Global, settings: &[PeerSettings], imports: &str) -> Result<String, Fault> {

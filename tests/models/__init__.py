@@ -1,0 +1,1 @@
+"""Plain models of the rules, with which scripts of tests/ compare what the programs say."""
