@@ -27,7 +27,7 @@ use Rattle.vet_register.specs.declared.verdict.Answer.{Answer}
 use Rattle.vet_register.specs.declared.verdict.Answer.TheVariants.{Already, Accepted}
 use Rattle.vet_register.specs.declared.held.HeldEdit.TheVariants as edit
 use Rattle.vet_register.specs.Held.{Fits, edited}
-use Rattle.vet_register.specs.Machine.{facts_after, held_after, number_after, number_given, policies_by, projects_by}
+use Rattle.vet_register.specs.Machine.{facts_after, held_after, number_after, number_given, policies_by, projects_by, settings_by}
 use Rattle.vet_register.specs.RegisterView.{Asks, AsksBy, AsksExactly, IsEffect, IsExact, IsExactly, RegisterView, held_room}
 use Rattle.vet_register.specs.Sound.{ArePublishers, IsSound, IsSoundHeld}
 use Rattle.vet_register.specs.State.{State}
@@ -144,15 +144,15 @@ module _ {K : Type 0} (r : RegisterView K) (a : Action) where
         fits = fits;
       }
 
-  -- that of an edit of facts, where policies and projects stay, if criteria and publisher records are sound after it
+  -- that of an edit of facts, where all else stays, if criteria and publisher records are sound after it
   pub facts_effect : (s : State) (day : DayValue) (change : Edit) (number : Option ℕ) (next : ℕ) → r.state ≡ s → IsSound s → judged s day a ≡ Ok Accepted
       → IsGivenContent a → facts.edited change s.held.facts ≡ facts_after s a → policies_by a s.held.policies ≡ s.held.policies
-      → projects_by a s.held.projects ≡ s.held.projects → number ≡ number_given s a → next ≡ number_after s a → facts.Fits change (held_room r).facts
+      → projects_by a s.held.projects ≡ s.held.projects → settings_by a s.held.settings ≡ s.held.settings → number ≡ number_given s a → next ≡ number_after s a → facts.Fits change (held_room r).facts
       → IsTable (facts_after s a).criteria → ArePublishers (facts_after s a).publishers
       → IsEffect r a (record { edit = edit.Facts change; number = number; next_entry = next })
-  facts_effect s day change number next stays sound told given becomes policies projects numbered follows fits is are =
+  facts_effect s day change number next stays sound told given becomes policies projects settings numbered follows fits is are =
       effect_is s (record { edit = edit.Facts change; number = number; next_entry = next }) stays
-      (λ i. record { facts = becomes i; policies = sym policies i; projects = sym projects i; settings = s.held.settings }) numbered follows fits
+      (λ i. record { facts = becomes i; policies = sym policies i; projects = sym projects i; settings = sym settings i }) numbered follows fits
       (sound_held s day a told sound.held given is are)
 
 -- ---- what was passed

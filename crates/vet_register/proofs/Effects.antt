@@ -25,17 +25,20 @@ use Rattle.vet_entries.specs.HeldPeer.{holding_or_none, imported, peer_of, with_
 use Rattle.vet_entries.specs.ImportLaws.{AllDiffer}
 use Rattle.vet_entries.specs.Numbered.{Rise, has_number, number_of}
 use Rattle.vet_entries.specs.PeerContent.{IsPeerContent, PeerContentValue}
+use Rattle.vet_files.specs.FilesContent.{IsFiles}
 use Rattle.vet_base.proofs.ItemLemmas.{in_all, in_append, in_filter}
 use Rattle.vet_entries.proofs.ImportLaws.{holds_each_once}
 use Rattle.vet_entries.proofs.PeerLaws.{entries_with, entries_without, found_name}
 use Rattle.vet_register.specs.declared.command.Action.{Action}
-use Rattle.vet_register.specs.declared.command.Action.TheVariants.{SetCriterion, RemoveCriterion, AddEntry, DropEntry, SetPeer, DropPeer, ImportPeer, SetPublishers, SetPolicy, DropPolicy, LoadProject, DropProject}
+use Rattle.vet_register.specs.declared.command.Action.TheVariants.{SetCriterion, RemoveCriterion, AddEntry, DropEntry, SetPeer, DropPeer, ImportPeer, SetPublishers, SetPolicy, DropPolicy, LoadProject, DropProject, ReplaceFiles}
 use Rattle.vet_register.specs.declared.verdict.Answer.{Answer}
 use Rattle.vet_register.specs.declared.verdict.Answer.TheVariants.{Already, Accepted}
 use Rattle.vet_register.specs.Machine.{facts_after, number_after, numbers_given}
 use Rattle.vet_register.specs.Sound.{AreEntries, ArePublishers, AreSound, Differ, IsFrom, IsGiven, IsSoundPeer}
 use Rattle.vet_register.specs.State.{State}
 use Rattle.vet_register.specs.Verdict.{checked, entries_beside, entry_limit, held_as, held_or, judged, limits, number_limit, peer_limit, policy_limit, project_limit, publisher_limit, references, rules, step_limit}
+use Rattle.vet_register.proofs.FilesEffects.{files_counted, files_entries, files_peers}
+use Rattle.vet_register.proofs.FilesPassed.{files_fit}
 use Rattle.vet_register.proofs.Known.{known_after}
 use Rattle.vet_register.proofs.Lists.{AllPairs-append, AllPairs-single, all_fail, filter-fewer}
 use Rattle.vet_register.proofs.PeerEffects.{PeersSound, dropped_peer, found_in, imported_peer, later_entries, own_changed, settings_set}
@@ -102,6 +105,7 @@ step_passed s (SetPolicy p) h = (then_told (policy_limit s p.key) (λ _. step_li
 step_passed s (DropPolicy key) h = h
 step_passed s (LoadProject p) h = (then_told (project_limit s p.name) (λ _. step_limit s) tt h).1
 step_passed s (DropProject n) h = h
+step_passed s (ReplaceFiles f) h = (files_fit s f h).step
 
 pub step_follows : (s : State) → step_limit s ≡ Ok tt → s.step + 1 ≤ LAST_STEP
 step_follows s h = ltb-false LAST_STEP (s.step + 1) (not_refused _ (TooLarge limit.Step) h)
@@ -119,6 +123,7 @@ next_number_follows s (SetPolicy policy) p h = omega (arith, h)
 next_number_follows s (DropPolicy key) p h = omega (arith, h)
 next_number_follows s (LoadProject project) p h = omega (arith, h)
 next_number_follows s (DropProject n) p h = omega (arith, h)
+next_number_follows s (ReplaceFiles f) p h = (files_fit s f p).number
 
 -- ---- own entries
 
@@ -161,31 +166,33 @@ one_more n e entries h other =
           (All-cons (IsGiven (n + 1)) new [] (omega arith) (All-nil _));
     }
 
--- the entries after a command
-entries_after : (s : State) (day : DayValue) (a : Action) → Passed s day a → AreEntries Own s.held.facts.entries s.next_entry
-    → AreEntries Own (facts_after s a).entries (number_after s a)
-entries_after s day (SetCriterion c) p h = later_entries Own s.held.facts.entries s.next_entry _ (omega arith) h
-entries_after s day (RemoveCriterion n) p h = later_entries Own s.held.facts.entries s.next_entry _ (omega arith) h
-entries_after s day (AddEntry e) p h =
-    one_more s.next_entry e s.held.facts.entries h (other_entries s.held.facts.entries e (none_under (number_of s.held.facts.entries e) p.held))
-entries_after s day (DropEntry n) p h =
-    let keeps : HeldEntry → Bool = λ h. not (has_number n h) in
-    later_entries Own (filter keeps s.held.facts.entries) s.next_entry _ (omega arith) (same_entries s.held.facts.entries s.next_entry keeps h)
-entries_after s day (SetPeer settings) p h = later_entries Own s.held.facts.entries s.next_entry _ (omega arith) h
-entries_after s day (DropPeer n) p h = later_entries Own s.held.facts.entries s.next_entry _ (omega arith) h
-entries_after s day (ImportPeer n content) p h = later_entries Own s.held.facts.entries s.next_entry _ (omega arith) h
-entries_after s day (SetPublishers n records) p h = later_entries Own s.held.facts.entries s.next_entry _ (omega arith) h
-entries_after s day (SetPolicy policy) p h = later_entries Own s.held.facts.entries s.next_entry _ (omega arith) h
-entries_after s day (DropPolicy key) p h = later_entries Own s.held.facts.entries s.next_entry _ (omega arith) h
-entries_after s day (LoadProject project) p h = later_entries Own s.held.facts.entries s.next_entry _ (omega arith) h
-entries_after s day (DropProject n) p h = later_entries Own s.held.facts.entries s.next_entry _ (omega arith) h
-
--- ---- peers
-
--- what is imported is what a reader gives
+-- what is imported is what a reader gives, and so are files
 abbrev pub IsGivenContent : Action → Type 0
 IsGivenContent (ImportPeer name content) = IsPeerContent content.criteria content.entries
+IsGivenContent (ReplaceFiles files) = IsFiles files
 IsGivenContent _ = Unit {0}
+
+-- the entries after a command
+entries_after : (s : State) (day : DayValue) (a : Action) → Passed s day a → IsGivenContent a → AreEntries Own s.held.facts.entries s.next_entry
+    → AreEntries Own (facts_after s a).entries (number_after s a)
+entries_after s day (SetCriterion c) p given h = later_entries Own s.held.facts.entries s.next_entry _ (omega arith) h
+entries_after s day (RemoveCriterion n) p given h = later_entries Own s.held.facts.entries s.next_entry _ (omega arith) h
+entries_after s day (AddEntry e) p given h =
+    one_more s.next_entry e s.held.facts.entries h (other_entries s.held.facts.entries e (none_under (number_of s.held.facts.entries e) p.held))
+entries_after s day (DropEntry n) p given h =
+    let keeps : HeldEntry → Bool = λ h. not (has_number n h) in
+    later_entries Own (filter keeps s.held.facts.entries) s.next_entry _ (omega arith) (same_entries s.held.facts.entries s.next_entry keeps h)
+entries_after s day (SetPeer settings) p given h = later_entries Own s.held.facts.entries s.next_entry _ (omega arith) h
+entries_after s day (DropPeer n) p given h = later_entries Own s.held.facts.entries s.next_entry _ (omega arith) h
+entries_after s day (ImportPeer n content) p given h = later_entries Own s.held.facts.entries s.next_entry _ (omega arith) h
+entries_after s day (SetPublishers n records) p given h = later_entries Own s.held.facts.entries s.next_entry _ (omega arith) h
+entries_after s day (SetPolicy policy) p given h = later_entries Own s.held.facts.entries s.next_entry _ (omega arith) h
+entries_after s day (DropPolicy key) p given h = later_entries Own s.held.facts.entries s.next_entry _ (omega arith) h
+entries_after s day (LoadProject project) p given h = later_entries Own s.held.facts.entries s.next_entry _ (omega arith) h
+entries_after s day (DropProject n) p given h = later_entries Own s.held.facts.entries s.next_entry _ (omega arith) h
+entries_after s day (ReplaceFiles f) p given h = files_entries s f given h
+
+-- ---- peers
 
 stay : (s : State) (m : ℕ) → s.next_entry ≤ m → PeersSound s.held.facts.entries s.held.facts.peers s.next_entry → PeersSound s.held.facts.entries s.held.facts.peers m
 stay s m above h = own_changed s.held.facts.entries s.held.facts.entries s.held.facts.peers s.next_entry m above (λ x i. inl i) h
@@ -221,6 +228,7 @@ peers_after s day (SetPolicy policy) p own given h = stay s _ (omega arith) h
 peers_after s day (DropPolicy key) p own given h = stay s _ (omega arith) h
 peers_after s day (LoadProject project) p own given h = stay s _ (omega arith) h
 peers_after s day (DropProject n) p own given h = stay s _ (omega arith) h
+peers_after s day (ReplaceFiles f) p own given h = files_peers s f given own h (files_fit s f p.limits).peers
 
 -- ---- how many entries there are
 
@@ -241,28 +249,29 @@ import_counted s name content h is few (Some x) e some =
     ap (λ o. length (holding_or_none o).entries) (ap (peer_of peers) same ∙ e) in
     omega (arith, few, count, held, at, entries_with peers new h.are.by_name, entries_without peers name h.are.by_name)
 
-counted_after : (s : State) (day : DayValue) (a : Action) → Passed s day a → IsGivenContent a → PeersSound s.held.facts.entries s.held.facts.peers s.next_entry
+counted_after : (s : State) (day : DayValue) (a : Action) → Passed s day a → AreEntries Own s.held.facts.entries s.next_entry → IsGivenContent a → PeersSound s.held.facts.entries s.held.facts.peers s.next_entry
     → entries_total s.held.facts ≤ MOST_ENTRIES → entries_total (facts_after s a) ≤ MOST_ENTRIES
-counted_after s day (SetCriterion c) p given h few = few
-counted_after s day (RemoveCriterion n) p given h few = few
-counted_after s day (AddEntry e) p given h few =
+counted_after s day (SetCriterion c) p own given h few = few
+counted_after s day (RemoveCriterion n) p own given h few = few
+counted_after s day (AddEntry e) p mine given h few =
     let new : HeldEntry = record { number = s.next_entry; entry = own e } in
     omega (arith, (entry_passed s e p.limits).few, length-append s.held.facts.entries (new ∷ []))
-counted_after s day (DropEntry n) p given h few = omega (arith, few, filter-fewer (λ h. not (has_number n h)) s.held.facts.entries)
-counted_after s day (SetPeer settings) p given h few =
+counted_after s day (DropEntry n) p own given h few = omega (arith, few, filter-fewer (λ h. not (has_number n h)) s.held.facts.entries)
+counted_after s day (SetPeer settings) p own given h few =
     let new : HeldPeer = record { settings = settings; content = holding_or_none (peer_of s.held.facts.peers settings.name) } in
     omega (arith, few, entries_with s.held.facts.peers new h.are.by_name)
-counted_after s day (DropPeer n) p given h few = omega (arith, few, entries_without s.held.facts.peers n h.are.by_name)
-counted_after s day (ImportPeer n content) p given h few =
+counted_after s day (DropPeer n) p own given h few = omega (arith, few, entries_without s.held.facts.peers n h.are.by_name)
+counted_after s day (ImportPeer n content) p own given h few =
     import_counted s n content h given (import_passed s n content p.limits).few (peer_of s.held.facts.peers n) refl
     (not_refused (is_none (peer_of s.held.facts.peers n)) UnknownPeer p.references)
-counted_after s day (SetPublishers n records) p given h few = few
-counted_after s day (SetPolicy policy) p given h few = few
-counted_after s day (DropPolicy key) p given h few = few
-counted_after s day (LoadProject project) p given h few = few
-counted_after s day (DropProject n) p given h few = few
+counted_after s day (SetPublishers n records) p own given h few = few
+counted_after s day (SetPolicy policy) p own given h few = few
+counted_after s day (DropPolicy key) p own given h few = few
+counted_after s day (LoadProject project) p own given h few = few
+counted_after s day (DropProject n) p own given h few = few
+counted_after s day (ReplaceFiles f) p own given h few = omega (arith, files_counted s f given own h, (files_fit s f p.limits).entries)
 
--- what is held after a command, if its criteria and its publisher records are sound, and what is imported is what a reader gives
+-- what is held after a command, if its criteria and its publisher records are sound, and what is imported or put in place is what a reader gives
 pub sound_effect : (s : State) (day : DayValue) (a : Action) → judged s day a ≡ Ok Accepted → AreSound s.held.facts s.next_entry → IsGivenContent a
     → IsTable (facts_after s a).criteria → ArePublishers (facts_after s a).publishers → AreSound (facts_after s a) (number_after s a)
 sound_effect s day a e h given is are =
@@ -272,9 +281,9 @@ sound_effect s day a e h given is are =
     record {
       criteria = is;
       known = known_after s day a h.known p.references p.rules;
-      entries = entries_after s day a p h.entries;
+      entries = entries_after s day a p given h.entries;
       peers = after.are;
       apart = after.apart;
-      few = counted_after s day a p given now h.few;
+      few = counted_after s day a p h.entries given now h.few;
       publishers = are;
     }

@@ -19,7 +19,7 @@ use Rattle.vet_demand.specs.PolicyKey.{policy_key_cmp, policy_key_cmp-IsAntisymm
 use Rattle.vet_demand.specs.PolicyNames.{names_in}
 use Rattle.vet_demand.proofs.Naming.{known_by_fewer, known_by_more, known_with, known_without}
 use Rattle.vet_register.specs.declared.command.Action.{Action}
-use Rattle.vet_register.specs.declared.command.Action.TheVariants.{SetCriterion, RemoveCriterion, AddEntry, DropEntry, SetPeer, DropPeer, ImportPeer, SetPublishers, SetPolicy, DropPolicy, LoadProject, DropProject}
+use Rattle.vet_register.specs.declared.command.Action.TheVariants.{SetCriterion, RemoveCriterion, AddEntry, DropEntry, SetPeer, DropPeer, ImportPeer, SetPublishers, SetPolicy, DropPolicy, LoadProject, DropProject, ReplaceFiles}
 use Rattle.vet_register.specs.declared.verdict.Answer.TheVariants.{Accepted}
 use Rattle.vet_register.specs.Held.{policy_at, project_at}
 use Rattle.vet_register.specs.Machine.{facts_after, held_after, number_after, policies_by, projects_by}
@@ -28,22 +28,23 @@ use Rattle.vet_register.specs.State.{State}
 use Rattle.vet_register.specs.Verdict.{judged, policy_limit, project_limit, step_limit}
 use Rattle.vet_register.proofs.Effects.{IsGivenContent, Passed, passed, sound_effect}
 use Rattle.vet_register.proofs.Fewness.{few_with}
+use Rattle.vet_register.proofs.FilesPassed.{files_fit, files_know, files_policies_known}
 use Rattle.vet_register.proofs.Known.{unused}
 use Rattle.vet_register.proofs.Lists.{filter-fewer, some_item}
 
 -- the policies after a command
-policies_after : (s : State) (day : DayValue) (a : Action) → Passed s day a → ArePolicies s.held.facts.criteria s.held.policies
+policies_after : (s : State) (day : DayValue) (a : Action) → Passed s day a → IsGivenContent a → ArePolicies s.held.facts.criteria s.held.policies
     → ArePolicies (facts_after s a).criteria (policies_by a s.held.policies)
-policies_after s day (SetCriterion c) p h = record { by_key = h.by_key; known = known_by_more s.held.facts.criteria s.held.policies h.known c.name c; few = h.few }
-policies_after s day (RemoveCriterion n) p h =
+policies_after s day (SetCriterion c) p given h = record { by_key = h.by_key; known = known_by_more s.held.facts.criteria s.held.policies h.known c.name c; few = h.few }
+policies_after s day (RemoveCriterion n) p given h =
     record { by_key = h.by_key; known = known_by_fewer s.held.facts.criteria s.held.policies h.known n (unused s day n p.rules).1; few = h.few }
-policies_after s day (AddEntry e) p h = h
-policies_after s day (DropEntry n) p h = h
-policies_after s day (SetPeer settings) p h = h
-policies_after s day (DropPeer n) p h = h
-policies_after s day (ImportPeer n content) p h = h
-policies_after s day (SetPublishers n records) p h = h
-policies_after s day (SetPolicy policy) p h =
+policies_after s day (AddEntry e) p given h = h
+policies_after s day (DropEntry n) p given h = h
+policies_after s day (SetPeer settings) p given h = h
+policies_after s day (DropPeer n) p given h = h
+policies_after s day (ImportPeer n content) p given h = h
+policies_after s day (SetPublishers n records) p given h = h
+policies_after s day (SetPolicy policy) p given h =
     let l = then_told (policy_limit s policy.key) (λ _. step_limit s) tt p.limits in
     record {
       by_key = IsByKey-with_item policy_key_cmp policy_key_total policy_key_cmp-IsAntisymmetric key_of s.held.policies policy h.by_key;
@@ -51,13 +52,15 @@ policies_after s day (SetPolicy policy) p h =
       few = few_with policy_key_cmp policy_key_total policy_key_cmp-IsAntisymmetric key_of MOST_POLICIES s.held.policies policy h.by_key h.few
           (not_refused (is_none (policy_at s.held.policies policy.key) && nat_lt MOST_POLICIES (length s.held.policies + 1)) (TooLarge limit.Policies) l.0);
     }
-policies_after s day (DropPolicy key) p h = record {
+policies_after s day (DropPolicy key) p given h = record {
   by_key = IsByKey-without_item policy_key_cmp key_of s.held.policies key h.by_key;
   known = known_without s.held.facts.criteria s.held.policies h.known key;
   few = omega (arith, filter-fewer (λ e. not (is_of policy_key_cmp key_of key e)) s.held.policies, h.few);
 }
-policies_after s day (LoadProject project) p h = h
-policies_after s day (DropProject n) p h = h
+policies_after s day (LoadProject project) p given h = h
+policies_after s day (DropProject n) p given h = h
+policies_after s day (ReplaceFiles f) p given h =
+    record { by_key = given.policies_by_key; known = files_policies_known f (files_know f p.references); few = (files_fit s f p.limits).policies }
 
 -- the projects after a command
 projects_after : (s : State) (day : DayValue) (a : Action) → Passed s day a → AreProjects s.held.projects → AreProjects (projects_by a s.held.projects)
@@ -82,6 +85,7 @@ projects_after s day (DropProject n) p h = record {
   by_name = IsByKey-without_item R project_name s.held.projects n h.by_name;
   few = omega (arith, filter-fewer (λ e. not (is_of R project_name n e)) s.held.projects, h.few);
 }
+projects_after s day (ReplaceFiles f) p h = h
 
 -- all that is held after a command, if its criteria and its publisher records are sound, and what is imported is what a reader gives
 pub sound_held : (s : State) (day : DayValue) (a : Action) → judged s day a ≡ Ok Accepted → IsSoundHeld s.held s.next_entry → IsGivenContent a
@@ -90,7 +94,7 @@ sound_held s day a told h given is are =
     let p = passed s day a told in
     record {
       facts = sound_effect s day a told h.facts given is are;
-      policies = policies_after s day a p h.policies;
+      policies = policies_after s day a p given h.policies;
       projects = projects_after s day a p h.projects;
     }
 

@@ -29,10 +29,11 @@ use Rattle.vet_entries.specs.Numbered.{has_number}
 use Rattle.vet_entries.specs.PeerWords.{targets}
 use Rattle.vet_entries.specs.Step.{AreKnown, HasKnownCriteria, HasKnownTargets}
 use Rattle.vet_register.specs.declared.command.Action.{Action}
-use Rattle.vet_register.specs.declared.command.Action.TheVariants.{SetCriterion, RemoveCriterion, AddEntry, DropEntry, SetPeer, DropPeer, ImportPeer, SetPublishers, SetPolicy, DropPolicy, LoadProject, DropProject}
+use Rattle.vet_register.specs.declared.command.Action.TheVariants.{SetCriterion, RemoveCriterion, AddEntry, DropEntry, SetPeer, DropPeer, ImportPeer, SetPublishers, SetPolicy, DropPolicy, LoadProject, DropProject, ReplaceFiles}
 use Rattle.vet_register.specs.Machine.{facts_after, held_of}
 use Rattle.vet_register.specs.State.{State}
 use Rattle.vet_register.specs.Verdict.{is_used, references, rules}
+use Rattle.vet_register.proofs.FilesPassed.{files_know, files_known}
 use Rattle.vet_register.proofs.Lists.{find-none, find-none_among, none_pass}
 
 -- what a table has, it has after one more criterion
@@ -123,3 +124,4 @@ known_after s day (SetPolicy policy) k r u = record { own = k.own; targets = k.t
 known_after s day (DropPolicy key) k r u = record { own = k.own; targets = k.targets }
 known_after s day (LoadProject project) k r u = record { own = k.own; targets = k.targets }
 known_after s day (DropProject name) k r u = record { own = k.own; targets = k.targets }
+known_after s day (ReplaceFiles f) k r u = files_known f (files_know f r) s.next_entry s.held.facts

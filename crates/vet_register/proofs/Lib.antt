@@ -4,8 +4,13 @@ pub mod ClassOfFileLemmas
 pub mod Drops
 pub mod Effects
 pub mod Fewness
+pub mod FilesAccepted
+pub mod FilesEffects
+pub mod FilesHeld
+pub mod FilesPassed
 pub mod FurtherCriteria
 pub mod HeldEffects
+pub mod HeldFilesLaws
 pub mod Imports
 pub mod Known
 pub mod Lists
@@ -14,5 +19,7 @@ pub mod Prepared
 pub mod Publishing
 pub mod Readable
 pub mod RepeatLaws
+pub mod RepeatedFilesLaws
 pub mod Soundness
 pub mod Turns
+pub mod UnknownNames

@@ -36,7 +36,7 @@ use Rattle.vet_register.proofs.Lists.{AllPairs-map, filter-fewer}
 pub shared : (xs ys : List HeldEntry) → ShareNone xs ys → ShareNone ys xs
 shared xs ys h n a b = h n b a
 
-none_shared : (xs : List HeldEntry) → ShareNone xs []
+pub none_shared : (xs : List HeldEntry) → ShareNone xs []
 none_shared xs n a b = false≢true b
 
 -- numbers that were among others, or are new, are not among entries of lower numbers
@@ -84,7 +84,7 @@ OfOthers p q = p.settings.name ≡ q.settings.name → ⊥
 pub peers_apart : (own : List HeldEntry) (peers : List HeldPeer) → Sources own peers → (p q : HeldPeer) → IsIn p peers → IsIn q peers → OfOthers p q → ShareNone (theirs p) (theirs q)
 peers_apart own peers h p q i j differ = two_apart peers (pairs_tail ShareNone own (map theirs peers) h) p q i j (λ e. differ (ap peer_name e))
 
-other_names : (a b : List ℕ) → R a b ≡ Less → a ≡ b → ⊥
+pub other_names : (a b : List ℕ) → R a b ≡ Less → a ≡ b → ⊥
 other_names a b less same = false≢true (sym (ap is_eq less) ∙ ap (λ n. is_eq (R n b)) same ∙ ap is_eq (tied_itself nat_list_cmp_total b))
 
 other_before : (a b : List ℕ) → is_lt (R a b) ≡ true → a ≡ b → ⊥
@@ -137,7 +137,7 @@ later_entries source entries n m above h = record {
   numbers_given = All-weaker (IsGiven n) (IsGiven m) (λ x given. omega (arith, above, given)) entries h.numbers_given;
 }
 
-later_peer : (n m : ℕ) → n ≤ m → (p : HeldPeer) → IsSoundPeer n p → IsSoundPeer m p
+pub later_peer : (n m : ℕ) → n ≤ m → (p : HeldPeer) → IsSoundPeer n p → IsSoundPeer m p
 later_peer n m above p h = record { entries = later_entries (Peer p.settings.name) p.content.entries n m above h.entries; content = h.content }
 
 -- ---- what is sound of peers, beside own entries
@@ -194,12 +194,22 @@ found_sound peers name n x are found = in_all (IsSoundPeer n) peers are.sound x 
 abbrev no_content : PeerContentValue
 no_content = record { criteria = []; entries = [] }
 
+-- a reader can give that nothing
+pub nothing_readable : IsPeerContent no_content.criteria no_content.entries
+nothing_readable = record {
+  further = All-nil _;
+  named_once = pairs_none (λ (a b : Criterion). a.name ≡ b.name → ⊥);
+  few = omega arith;
+  given = All-nil _;
+  once = refl;
+}
+
 -- where the settings of one are set
 module _ (own : List HeldEntry) (peers : List HeldPeer) (settings : PeerSettings) (n : ℕ) (h : PeersSound own peers n) where
-  abbrev set_to : Option HeldPeer → HeldPeer
+  abbrev pub set_to : Option HeldPeer → HeldPeer
   set_to o = record { settings = settings; content = holding_or_none o }
 
-  set_sound : (o : Option HeldPeer) → peer_of peers settings.name ≡ o → IsSoundPeer n (set_to o)
+  pub set_sound : (o : Option HeldPeer) → peer_of peers settings.name ≡ o → IsSoundPeer n (set_to o)
   set_sound None e = record {
     entries = record {
       from = All-nil (IsFrom (Peer settings.name));
@@ -210,7 +220,7 @@ module _ (own : List HeldEntry) (peers : List HeldPeer) (settings : PeerSettings
     content = (
       no_content,
       record {
-        readable = record { further = All-nil _; named_once = pairs_none (λ (a b : Criterion). a.name ≡ b.name → ⊥); few = omega arith; given = All-nil _; once = refl };
+        readable = nothing_readable;
         criteria = refl;
         entries = (λ x i. i, λ x i. i);
       },
@@ -224,7 +234,7 @@ module _ (own : List HeldEntry) (peers : List HeldPeer) (settings : PeerSettings
         content = (sound.content.0, subst (λ name. IsOfContent name sound.content.0 x.content) same sound.content.1);
       }
 
-  set_from_own : (o : Option HeldPeer) → peer_of peers settings.name ≡ o → ShareNone own (theirs (set_to o))
+  pub set_from_own : (o : Option HeldPeer) → peer_of peers settings.name ≡ o → ShareNone own (theirs (set_to o))
   set_from_own None e = none_shared own
   set_from_own (Some x) e = own_apart own peers h.apart x (found_in peers settings.name x e)
 
@@ -238,6 +248,31 @@ module _ (own : List HeldEntry) (peers : List HeldPeer) (settings : PeerSettings
       let o = peer_of peers settings.name in
       put_in own peers (set_to o) n m above h (later_peer n m above (set_to o) (set_sound o refl))
       (few_with R nat_list_cmp_total only_equal peer_name MOST_PEERS peers (set_to o) h.are.by_name h.are.few limit) (set_from_own o refl) (set_from_others o refl)
+
+-- what is imported of a sound peer is sound
+pub imported_sound : (next : ℕ) (x : HeldPeer) (content : PeerContentValue) → IsPeerContent content.criteria content.entries → IsSoundPeer next x
+    → IsSoundPeer (next + length (new_entries x.settings.name x.content.entries content.entries)) (record x { content = imported x.settings.name next content x.content })
+imported_sound next x content is sound =
+    let name = x.settings.name in
+    let order = keeps_order name next x.content.entries content.entries sound.entries.numbers_rise sound.entries.numbers_given in
+    let after = entries_after_import name next x.content.entries content.entries in
+    record {
+      entries = record {
+        from = All-weaker (λ (h : HeldEntry). IsIn h.entry (as_peers name content.entries) × (h.entry.source ≡ Peer name)) (IsFrom (Peer name))
+            (λ e t. t.1) after (takes_entries name next x.content.entries content.entries);
+        different = (holds_each_once name next x.content.entries content is sound.entries.different).0;
+        numbers_rise = order.0;
+        numbers_given = order.1;
+      };
+      content = (
+        content,
+        record {
+          readable = is;
+          criteria = refl;
+          entries = (holds_its_content name next x.content content).0;
+        },
+      );
+    }
 
 -- where one is imported
 module _ (own : List HeldEntry) (peers : List HeldPeer) (name : List ℕ) (next : ℕ) (content : PeerContentValue) (h : PeersSound own peers next)
@@ -256,25 +291,8 @@ module _ (own : List HeldEntry) (peers : List HeldPeer) (name : List ℕ) (next 
 
   import_sound : IsSoundPeer end new_peer
   import_sound =
-      let order = keeps_order name next x.content.entries content.entries sound.entries.numbers_rise sound.entries.numbers_given in
-      let after = entries_after_import name next x.content.entries content.entries in
-      record {
-        entries = record {
-          from = All-weaker (λ (h : HeldEntry). IsIn h.entry (as_peers name content.entries) × (h.entry.source ≡ Peer name)) (IsFrom (Peer x.settings.name))
-              (λ e t. t.1 ∙ ap Peer (sym same)) after (takes_entries name next x.content.entries content.entries);
-          different = (holds_each_once name next x.content.entries content is sound.entries.different).0;
-          numbers_rise = order.0;
-          numbers_given = order.1;
-        };
-        content = (
-          content,
-          subst (λ k. IsOfContent k content new_peer.content) (sym same) (record {
-            readable = is;
-            criteria = refl;
-            entries = (holds_its_content name next x.content content).0;
-          }),
-        );
-      }
+      subst (λ k. IsSoundPeer (next + length (new_entries k x.content.entries content.entries)) (record x { content = imported k next content x.content })) same
+      (imported_sound next x content is sound)
 
   from_others : (ys : List HeldEntry) → ShareNone (theirs x) ys → All (IsGiven next) ys → ShareNone (theirs new_peer) ys
   from_others ys apart below = share_none next (theirs x) (theirs new_peer) ys (number_kept name next x.content.entries content.entries) apart below

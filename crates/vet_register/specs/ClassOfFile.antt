@@ -1,18 +1,15 @@
 -- The class of a pair where one audits file is all that is held, or the first fault.
-use Rattle.std.specs.Prelude.{◌≡◌, ℕ, Bool, not, List, [], Option, Some, None, Ok, Err, if◌then◌else◌, length, nat_lt, find, fold}
+use Rattle.std.specs.Prelude.{◌≡◌, ℕ, Bool, List, [], Option, Some, None, Ok, Err, if◌then◌else◌, length, nat_lt}
 use Rattle.std.specs.FinMap as map
 use Rattle.vet_base.specs.CriteriaChanges.{known}
-use Rattle.vet_base.specs.Criteria.{Criteria}
 use Rattle.vet_base.specs.Defined.{defined, least_undefined, lesser}
 use Rattle.vet_base.specs.Gives.{Told, found_or, ◌>>=◌}
-use Rattle.vet_base.specs.Names.{members}
 use Rattle.vet_base.specs.Name.{read_name, read_package_name}
 use Rattle.vet_base.specs.Version.{read_version}
-use Rattle.vet_base.specs.declared.limits.TheConstants.{MOST_CRITERIA, MOST_INPUT_BYTES}
+use Rattle.vet_base.specs.declared.limits.TheConstants.{MOST_INPUT_BYTES}
 use Rattle.vet_base.specs.declared.refusal.Limit.TheVariants.{Input}
-use Rattle.vet_base.specs.declared.refusal.Refusal.TheVariants.{BadName, BadVersion, TooLarge, TooManyCriteria}
+use Rattle.vet_base.specs.declared.refusal.Refusal.TheVariants.{BadName, BadVersion, TooLarge}
 use Rattle.vet_demand.specs.declared.pair.Pair.{Pair}
-use Rattle.vet_entries.specs.declared.entry.Entry.{Entry}
 use Rattle.vet_entries.specs.Facts.{Facts}
 use Rattle.vet_entries.specs.Numbered.{numbered}
 use Rattle.vet_files.specs.Audits.{audits_told}
@@ -20,22 +17,15 @@ use Rattle.vet_files.specs.declared.audits_file.AuditsContent.{AuditsContent}
 use Rattle.vet_graph.specs.Class.{IsClassOfPair}
 use Rattle.vet_graph.specs.StandingOf.{class_of_pair}
 use Rattle.vet_graph.specs.declared.class.Class.{Class}
+use Rattle.vet_register.specs.NamesOfFiles.{counted, unknown_of_entries}
 
 -- a name that isn't known
 abbrev pub unknown_in : (List ℕ → Bool) → List ℕ → Option (List ℕ)
 unknown_in known name = if known name then None else Some name
 
--- the least name that isn't known, of one handed in and of the criteria of some entries
-abbrev pub unknown_of_entries : (List ℕ → Bool) → Option (List ℕ) → List Entry → Option (List ℕ)
-unknown_of_entries known least entries = fold (λ least e. lesser least (find (λ n. not (known n)) (members e.criteria))) least entries
-
 -- the least name that isn't known, of a word, of what a file's criteria imply and of its entries' criteria
 abbrev pub unknown_name : (List ℕ → Bool) → List ℕ → AuditsContent → Option (List ℕ)
 unknown_name known word content = unknown_of_entries known (lesser (unknown_in known word) (least_undefined known content.criteria)) content.entries
-
--- a table has at most so many criteria
-abbrev pub counted : Criteria → Told (Unit {0})
-counted table = if nat_lt MOST_CRITERIA (map.len table) then Err TooManyCriteria else Ok tt
 
 -- there are not too many criteria, and each that is named is known
 abbrev pub checked : List ℕ → AuditsContent → Told (Unit {0})

@@ -1,11 +1,16 @@
+pub mod Already
 pub mod Changes
 pub mod ClassOfFile
 pub mod Held
 pub mod HeldFiles
 pub mod Importing
 pub mod Machine
+pub mod NamesOfFiles
 pub mod RegisterView
+pub mod RepeatedFiles
 pub mod Repeats
+pub mod Replacing
+pub mod ReplacingFound
 pub mod Runs
 pub mod Sound
 pub mod State

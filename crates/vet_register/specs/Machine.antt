@@ -15,13 +15,15 @@ use Rattle.vet_graph.specs.declared.touched.Touched.{Touched}
 use Rattle.vet_graph.specs.declared.touched.Touched.TheVariants as touched
 use Rattle.vet_graph.specs.Moves.{moves_between}
 use Rattle.vet_register.specs.declared.command.Action.{Action}
-use Rattle.vet_register.specs.declared.command.Action.TheVariants.{SetCriterion, RemoveCriterion, AddEntry, DropEntry, SetPeer, DropPeer, ImportPeer, SetPublishers, SetPolicy, DropPolicy, LoadProject, DropProject}
+use Rattle.vet_register.specs.declared.command.Action.TheVariants.{SetCriterion, RemoveCriterion, AddEntry, DropEntry, SetPeer, DropPeer, ImportPeer, SetPublishers, SetPolicy, DropPolicy, LoadProject, DropProject, ReplaceFiles}
 use Rattle.vet_register.specs.declared.command.Command.{Command}
 use Rattle.vet_register.specs.declared.command.Outcome.{Outcome}
 use Rattle.vet_register.specs.declared.command.Outcome.TheVariants.{Done}
 use Rattle.vet_register.specs.declared.moves.RecordedMove.{RecordedMove}
 use Rattle.vet_register.specs.Held.{HeldValue, standing_in, with_policy, with_project, without_policy, without_project}
+use Rattle.vet_register.specs.Replacing.{facts_of_files, new_of_files, tool_of_files}
 use Rattle.vet_register.specs.State.{State, standing}
+use Rattle.vet_register.specs.declared.tool_settings.ToolSettings.{ToolSettings}
 
 -- a command and what it asks for, as values
 abbrev pub CommandValue : Type 0
@@ -48,11 +50,13 @@ effect number (SetPolicy policy) facts = facts
 effect number (DropPolicy key) facts = facts
 effect number (LoadProject project) facts = facts
 effect number (DropProject name) facts = facts
+effect number (ReplaceFiles files) facts = facts_of_files number files facts
 
 -- its effect on the policies
 abbrev pub policies_by : Action → List KeyedPolicy → List KeyedPolicy
 policies_by (SetPolicy policy) policies = with_policy policy policies
 policies_by (DropPolicy key) policies = without_policy key policies
+policies_by (ReplaceFiles files) policies = files.policies
 policies_by _ policies = policies
 
 -- and on the projects
@@ -60,6 +64,11 @@ abbrev pub projects_by : Action → List NamedProject → List NamedProject
 projects_by (LoadProject project) projects = with_project project projects
 projects_by (DropProject name) projects = without_project name projects
 projects_by _ projects = projects
+
+-- and on what is said to the tool alone
+abbrev pub settings_by : Action → ToolSettings → ToolSettings
+settings_by (ReplaceFiles files) settings = tool_of_files files
+settings_by _ settings = settings
 
 -- the facts after a command
 abbrev pub facts_after : State → Action → Facts
@@ -71,7 +80,7 @@ held_after s action = record {
   facts = facts_after s action;
   policies = policies_by action s.held.policies;
   projects = projects_by action s.held.projects;
-  settings = s.held.settings;
+  settings = settings_by action s.held.settings;
 }
 
 -- the moves of a command: the pairs whose class differs before and after it
@@ -82,15 +91,16 @@ moves_of s action = moves_between (standing s) (standing_in (held_after s action
 abbrev pub touched_by : State → Action → Touched
 touched_by s action = touched.All
 
--- the number of the entry that a command makes: an import tells none
+-- the number of the entry that a command makes: an import tells none, nor do files
 abbrev pub number_given : State → Action → Option ℕ
 number_given s (AddEntry entry) = Some s.next_entry
 number_given s _ = None
 
--- how many numbers a command gives: one to an entry that is added, and one to each that is new in an import
+-- how many numbers a command gives: one to an entry that is added, and one to each that is new in an import or in files
 abbrev pub numbers_given : State → Action → ℕ
 numbers_given s (AddEntry entry) = 1
 numbers_given s (ImportPeer name content) = length (new_entries name (held_of s.held.facts name).entries content.entries)
+numbers_given s (ReplaceFiles files) = new_of_files s.held.facts files
 numbers_given s _ = 0
 
 -- the next number after a command

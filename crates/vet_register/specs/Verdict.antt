@@ -2,66 +2,40 @@
 -- not held; a rule; its moves do not fit; it is accepted.
 use Rattle.std.specs.Prelude.{ℕ, ◌+◌, ◌&&◌, ◌||◌, not, nat_lt, Bool, true, false, is_none, List, Option, Some, None, Ok, if◌then◌else◌, length, option_map, ◌+ℤ◌, pos}
 use Rattle.std.specs.List.{list_any}
-use Rattle.std.specs.Option.{option_eq, option_map_or}
 use Rattle.std.specs.Ordering.{int_cmp, is_lt}
 use Rattle.std.specs.FinMap as table
 use Rattle.vet_base.specs.declared.limits.TheConstants.{MOST_ENTRIES, MOST_PEERS, MOST_POLICIES, MOST_PROJECTS, MOST_PUBLISHERS, MOST_WINDOW_DAYS, LAST_STEP, LAST_NUMBER}
 use Rattle.vet_base.specs.declared.refusal.Limit.TheVariants as limit
 use Rattle.vet_base.specs.declared.refusal.Refusal.TheVariants.{CriterionInUse, UnknownEntry, UnknownPeer, UnknownPolicy, UnknownProject, EmptyWindow, WindowTooLong, TooLarge, MovesFull}
-use Rattle.vet_base.specs.declared.criterion.Criterion.{Criterion}
-use Rattle.vet_base.specs.Criteria.{Criteria, least_unknown}
-use Rattle.vet_base.specs.CriteriaChanges.{is_built_in, known, remove_references, remove_rules, set_limits, set_references, set_rules}
-use Rattle.vet_base.specs.Criterion.{criterion_eq}
+use Rattle.vet_base.specs.Criteria.{least_unknown}
+use Rattle.vet_base.specs.CriteriaChanges.{known, remove_references, remove_rules, set_limits, set_references, set_rules}
 use Rattle.vet_base.specs.Day.{DayValue, day_cmp, day_number}
+use Rattle.vet_base.specs.Defined.{defined}
 use Rattle.vet_base.specs.Gives.{Told, refuse_if, ◌>>=◌}
-use Rattle.vet_demand.specs.declared.policies.KeyedPolicy.{KeyedPolicy}
 use Rattle.vet_demand.specs.declared.policy_key.PolicyKey.{PolicyKey}
-use Rattle.vet_demand.specs.declared.project.NamedProject.{NamedProject}
-use Rattle.vet_demand.specs.NamedProject.{named_project_eq}
-use Rattle.vet_demand.specs.Policies.{keyed_policy_eq}
 use Rattle.vet_demand.specs.PolicyNames.{names_in, policy_names}
 use Rattle.vet_entries.specs.declared.kind.Kind.{Kind}
 use Rattle.vet_entries.specs.declared.kind.Kind.TheVariants.{Wildcard, Trusted}
 use Rattle.vet_entries.specs.declared.kind.Window.{Window}
 use Rattle.vet_entries.specs.declared.publisher.Publisher.{Publisher}
-use Rattle.vet_entries.specs.declared.held_peer.HeldPeer.{HeldPeer}
-use Rattle.vet_entries.specs.declared.peer_settings.PeerSettings.{PeerSettings}
 use Rattle.vet_entries.specs.Facts.{Facts, entries_of_peers, entries_total, is_named}
 use Rattle.vet_entries.specs.HeldPeer.{peer_of, without_peer}
-use Rattle.vet_entries.specs.Import.{same_content}
 use Rattle.vet_entries.specs.Numbered.{has_number, number_of}
-use Rattle.vet_entries.specs.PeerContent.{PeerContentValue}
-use Rattle.vet_entries.specs.PeerSettings.{settings_eq}
 use Rattle.vet_entries.specs.PeerWords.{targets}
 use Rattle.vet_entries.specs.PublisherRecords.{records_of, records_total, with_records}
 use Rattle.vet_entries.specs.Publishers.{publishers_eq}
+use Rattle.vet_files.specs.FilesContent.{FilesValue, each_is_set}
 use Rattle.vet_register.specs.declared.command.Action.{Action}
-use Rattle.vet_register.specs.declared.command.Action.TheVariants.{SetCriterion, RemoveCriterion, AddEntry, DropEntry, SetPeer, DropPeer, ImportPeer, SetPublishers, SetPolicy, DropPolicy, LoadProject, DropProject}
+use Rattle.vet_register.specs.declared.command.Action.TheVariants.{SetCriterion, RemoveCriterion, AddEntry, DropEntry, SetPeer, DropPeer, ImportPeer, SetPublishers, SetPolicy, DropPolicy, LoadProject, DropProject, ReplaceFiles}
 use Rattle.vet_register.specs.declared.command.Command.{Command}
 use Rattle.vet_register.specs.declared.verdict.Answer.{Answer}
 use Rattle.vet_register.specs.declared.verdict.Answer.TheVariants.{Already, Accepted}
+use Rattle.vet_register.specs.Already.{has_content, has_files, has_policy, has_project, has_settings, is_held}
 use Rattle.vet_register.specs.Held.{HeldValue, policy_at, project_at}
+use Rattle.vet_register.specs.NamesOfFiles.{counted, unknown_of_files}
+use Rattle.vet_register.specs.Replacing.{entries_of_files, new_of_files}
 use Rattle.vet_register.specs.State.{State}
 use Rattle.vet_register.specs.Machine.{moves_of, numbers_given}
-
--- whether a criterion is held as it is; of a built-in one nothing is asked
-abbrev pub is_held : Criteria → Criterion → Bool
-is_held criteria c = if is_built_in c.name then false else option_eq criterion_eq (table.get criteria c.name) (Some c)
-
--- whether the settings of a peer are held as they are
-abbrev pub has_settings : List HeldPeer → PeerSettings → Bool
-has_settings peers settings = option_map_or (λ (p : HeldPeer). settings_eq p.settings settings) (peer_of peers settings.name) false
-
--- whether a peer is held with a content: the same criteria and the same entries, in whatever order
-abbrev pub has_content : List HeldPeer → List ℕ → PeerContentValue → Bool
-has_content peers name content = option_map_or (λ (p : HeldPeer). same_content name p.content content) (peer_of peers name) false
-
--- whether a policy is held as it is, and a project
-abbrev pub has_policy : List KeyedPolicy → KeyedPolicy → Bool
-has_policy policies p = option_map_or (λ held. keyed_policy_eq held p) (policy_at policies p.key) false
-
-abbrev pub has_project : List NamedProject → NamedProject → Bool
-has_project projects p = option_map_or (λ held. named_project_eq held p) (project_at projects p.name) false
 
 -- under which number a command's content is held already
 abbrev pub held_as : State → Action → Option (Option ℕ)
@@ -72,6 +46,7 @@ held_as s (ImportPeer name content) = if has_content s.held.facts.peers name con
 held_as s (SetPublishers name records) = if publishers_eq (records_of s.held.facts.publishers name) records then Some None else None
 held_as s (SetPolicy policy) = if has_policy s.held.policies policy then Some None else None
 held_as s (LoadProject project) = if has_project s.held.projects project then Some None else None
+held_as s (ReplaceFiles files) = if has_files s.held files then Some None else None
 held_as s _ = None
 
 -- there is a step for a command
@@ -111,6 +86,15 @@ policy_limit s key = refuse_if (is_none (policy_at s.held.policies key) && nat_l
 abbrev pub project_limit : State → List ℕ → Told (Unit {0})
 project_limit s name = refuse_if (is_none (project_at s.held.projects name) && nat_lt MOST_PROJECTS (length s.held.projects + 1)) (TooLarge limit.Projects)
 
+-- what files hold is not too much: too many criteria come first, then as much as there would be of each thing
+abbrev pub files_limits : State → FilesValue → Told (Unit {0})
+files_limits s f =
+    refuse_if (nat_lt MOST_PEERS (length f.settings)) (TooLarge limit.Peers) >>= λ _.
+    entry_limit (entries_of_files f) >>= λ _.
+    refuse_if (nat_lt MOST_PUBLISHERS (records_total f.publishers)) (TooLarge limit.Publishers) >>= λ _.
+    refuse_if (nat_lt MOST_POLICIES (length f.policies)) (TooLarge limit.Policies) >>= λ _.
+    step_limit s >>= λ _. number_limit s (new_of_files s.held.facts f)
+
 -- what is held stays within its limit, and there is a step and, for each new entry, a number; of an import this is asked
 -- as if the peer were held
 abbrev pub limits : State → Action → Told (Unit {0})
@@ -121,6 +105,7 @@ limits s (ImportPeer name content) = import_limits s name (length content.entrie
 limits s (SetPublishers name records) = publisher_limit s name records >>= λ _. step_limit s
 limits s (SetPolicy policy) = policy_limit s policy.key >>= λ _. step_limit s
 limits s (LoadProject project) = project_limit s project.name >>= λ _. step_limit s
+limits s (ReplaceFiles files) = counted (defined files.criteria) >>= λ _. files_limits s files
 limits s _ = step_limit s
 
 -- a peer of a name is held
@@ -133,6 +118,12 @@ held_policy s key = refuse_if (is_none (policy_at s.held.policies key)) UnknownP
 
 abbrev pub held_project : State → List ℕ → Told (Unit {0})
 held_project s name = refuse_if (is_none (project_at s.held.projects name)) UnknownProject
+
+-- each criterion that files name is one that they define or a built-in one, whatever was held before; and each peer of
+-- the imports file stands in the config file
+abbrev pub files_references : FilesValue → Told (Unit {0})
+files_references f =
+    known (unknown_of_files (table.contains_key (defined f.criteria)) f) >>= λ _. refuse_if (not (each_is_set f)) UnknownPeer
 
 -- what a command refers to is held; an entry that is dropped is one's own
 abbrev pub references : State → Action → Told (Unit {0})
@@ -148,6 +139,7 @@ references s (SetPolicy policy) = known (least_unknown s.held.facts.criteria (na
 references s (DropPolicy key) = held_policy s key
 references s (LoadProject project) = Ok tt
 references s (DropProject name) = held_project s name
+references s (ReplaceFiles files) = files_references files
 
 -- the last day of a window comes before its first
 abbrev pub ends_before_it_begins : Window → Bool
@@ -188,9 +180,10 @@ abbrev pub held_or : Option (Option ℕ) → Told (Unit {0}) → Told Answer
 held_or (Some number) told = Ok (Already number)
 held_or None told = told >>= λ _. Ok Accepted
 
--- to compare an import with what is held takes memory
+-- to compare an import, or files, with what is held takes memory
 abbrev pub wants_memory : Action → Bool
 wants_memory (ImportPeer name content) = true
+wants_memory (ReplaceFiles files) = true
 wants_memory _ = false
 
 -- what a command is told, before its moves are known

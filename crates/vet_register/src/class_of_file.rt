@@ -9,7 +9,8 @@ ghost use Rattle.vet_base.specs.Defined.{defined, table_told};
 ghost use Rattle.vet_base.specs.Gives.{Gives};
 ghost use Rattle.vet_files.specs.declared.audits_file.AuditsContent.{AuditsContent};
 ghost use Rattle.vet_graph.specs.Class.{IsClassOfPair};
-ghost use Rattle.vet_register.specs.ClassOfFile.{IsClassOfFile, checked, class_in, class_told, content_told, facts_of, pair_told, unknown_in, unknown_name, unknown_of_entries};
+ghost use Rattle.vet_register.specs.ClassOfFile.{IsClassOfFile, checked, class_in, class_told, content_told, facts_of, pair_told, unknown_in, unknown_name};
+ghost use Rattle.vet_register.specs.NamesOfFiles.{unknown_of_entries};
 
 use std::alloc::Global;
 use vet_base::criteria_table::CriteriaTable;
@@ -99,8 +100,11 @@ fn check_criteria(alloc: Global, word: &Name, content: &AuditsContent) -> Result
     Ok(())
 }
 
-// The table of a file's criteria, which refuses none of them.
-fn defined_table(alloc: Global, criteria: Vec<Criterion>) -> Result<CriteriaTable, Refusal>
+/// The table of a file's criteria, which refuses none of them.
+pub(crate) fn defined_table(
+    alloc: Global,
+    criteria: Vec<Criterion>,
+) -> Result<CriteriaTable, Refusal>
     requires { table_told criteria.items ≡ Ok (defined criteria.items) }
     ensures ok { IfOk result (λ table. table ≡ defined criteria.items) }
     ensures memory { IfErr result (λ e. e ≡ Refusal.NoMemory) }
@@ -141,8 +145,8 @@ fn unknown_word<'a>(known: &Names, word: &'a Name) -> Option<&'a Name>
     }
 }
 
-// The least name that isn't known, of one handed in and of the criteria of some entries.
-fn unknown_of_entries<'a>(
+/// The least name that isn't known, of one handed in and of the criteria of some entries.
+pub(crate) fn unknown_of_entries<'a>(
     known: &Names,
     first: Option<&'a Name>,
     entries: &'a [Entry],

@@ -10,6 +10,7 @@ use vet_entries::entry::Entry;
 use vet_entries::peer_content::PeerContent;
 use vet_entries::peer_settings::PeerSettings;
 use vet_entries::publishers::Publishers;
+use vet_files::files_content::FilesContent;
 
 /// A command, and the day on which it is given.
 pub struct Command {
@@ -50,6 +51,9 @@ pub enum Action {
     LoadProject(NamedProject),
     /// Drops the project of this name.
     DropProject(PackageName),
+    /// Puts what three files hold in place of all that is held but projects. An entry that was held before, of the same
+    /// source, keeps its number; a peer of the config file that the imports file lacks is held with nothing imported.
+    ReplaceFiles(FilesContent),
 }
 
 impl Drop for Action {
@@ -67,6 +71,7 @@ impl Drop for Action {
             Action::DropPolicy(_) => {}
             Action::LoadProject(_) => {}
             Action::DropProject(_) => {}
+            Action::ReplaceFiles(_) => {}
         }
     }
 }

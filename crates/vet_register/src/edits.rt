@@ -14,6 +14,7 @@ ghost use Rattle.vet_register.specs.RegisterView.{Asks, KeepsRoom};
 ghost use Rattle.vet_register.specs.Verdict.{judged};
 
 use crate::command::{Action, Command};
+use crate::files_held::files_held;
 use crate::held::HeldEdit;
 use crate::register::Register;
 use crate::verdict::Answer;
@@ -32,6 +33,7 @@ use vet_entries::import::{Comparison, holding_after};
 use vet_entries::peer_content::PeerContent;
 use vet_entries::peer_settings::PeerSettings;
 use vet_entries::publishers::Publishers;
+use vet_files::files_content::FilesContent;
 use vet_graph::keeper::Keeper;
 
 /// An edit of what is held, the number of the entry that a command makes, and the next number after it.
@@ -75,6 +77,7 @@ impl<K: Keeper> Register<K> {
             Action::DropPolicy(key) => self.drop_policy(key),
             Action::LoadProject(project) => self.load_project(project),
             Action::DropProject(name) => self.drop_project(name),
+            Action::ReplaceFiles(files) => self.replace_files(alloc, files),
         }
     }
 
@@ -320,6 +323,26 @@ impl<K: Keeper> Register<K> {
             edit: self.held.edit_dropping_project(name),
             number: None,
             next_entry: self.next_entry,
+        }))
+    }
+
+    fn replace_files(&mut self, alloc: Global, files: &FilesContent) -> Result<Asked, Refusal>
+        ensures asked { (day : DayValue) → Asks self.new (action.ReplaceFiles files.now)
+            (judged self.old.state day (action.ReplaceFiles files.now)) result }
+        ensures state { self.new.state ≡ self.old.state }
+        ensures keeper { self.new.keeper ≡ self.old.keeper }
+        ensures room_stays { KeepsRoom self.old self.new }
+    {
+        files.is_of_files();
+        let Some(comparison) = self.judge_files(alloc, files)? else {
+            return Ok(Asked::Already(None));
+        };
+        let next_entry = self.next_entry + comparison.new_count() as u64;
+        let held = files_held(alloc, self.next_entry, &self.held.facts, files, &comparison)?;
+        Ok(Asked::Effect(Effect {
+            edit: HeldEdit::Files(held),
+            number: None,
+            next_entry,
         }))
     }
 }

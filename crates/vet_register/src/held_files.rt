@@ -172,8 +172,8 @@ fn is_exemption(entry: &Entry) -> bool
     matches!(&entry.kind, Kind::Exemption { .. })
 }
 
-// A copy of a version of cargo-vet, if there is one.
-fn version_copied(version: &Option<Text>) -> Result<Option<Text>, AllocError>
+/// A copy of a version of cargo-vet, if there is one.
+pub(crate) fn version_copied(version: &Option<Text>) -> Result<Option<Text>, AllocError>
     ensures { IfOk result (λ copy. copy ≡ version.now) }
 {
     match version {
@@ -182,8 +182,8 @@ fn version_copied(version: &Option<Text>) -> Result<Option<Text>, AllocError>
     }
 }
 
-// A copy of the criteria for a new audit, if there are some.
-fn criteria_copied(criteria: &Option<Names>) -> Result<Option<Names>, AllocError>
+/// A copy of the criteria for a new audit, if there are some.
+pub(crate) fn criteria_copied(criteria: &Option<Names>) -> Result<Option<Names>, AllocError>
     ensures { IfOk result (λ copy. copy ≡ criteria.now) }
 {
     match criteria {

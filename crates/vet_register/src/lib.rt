@@ -11,6 +11,9 @@ pub mod change;
 pub mod class_of_file;
 pub mod command;
 mod edits;
+mod files_comparison;
+mod files_held;
+mod files_verdict;
 mod held;
 pub mod held_files;
 pub mod moves;
@@ -32,5 +35,7 @@ pub use vet_entries::{
     criteria_map, entry, facts, held_peer, holding, kind, peer_content, peer_settings, publisher,
     publisher_records, publishers, step, user,
 };
-pub use vet_files::{audits_file, config_file, found, imports_file, listed, notices};
+pub use vet_files::{
+    audits_file, config_file, files_content, found, imports_file, listed, notices,
+};
 pub use vet_graph::{class, keeper, plain, standing, touched};

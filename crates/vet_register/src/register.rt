@@ -165,8 +165,8 @@ impl<K: Keeper> Register<K> {
     /// `peers`, `entries`, `publishers`, `policies`, `projects`, `step` or `number`; `UnknownCriterion`,
     /// `UnknownEntry`, `UnknownPeer`, `UnknownPolicy`, `UnknownProject`; `BuiltInCriterion`, `CriterionInUse`,
     /// `EmptyWindow`, `WindowTooLong`; `MovesFull`. `NoMemory` comes in place of `UnknownCriterion`, or where none
-    /// before `MovesFull` holds; a command whose content is held never meets it, but for an import, whose comparison
-    /// with what is held takes memory.
+    /// before `MovesFull` holds; a command whose content is held never meets it, but for an import and files, whose
+    /// comparison with what is held takes memory.
     pub fn prepare(&mut self, alloc: Global, command: &Command) -> Result<Prepared<K>, Refusal>
         ensures told { Gives answer_of (verdict self.old.state command.now) result }
         ensures exact { IsExact (wants_memory command.now.action)

@@ -12,7 +12,8 @@ ghost use Rattle.vet_entries.specs.HeldPeer.{peer_of};
 ghost use Rattle.vet_entries.specs.Numbered.{place_of};
 ghost use Rattle.vet_register.specs.declared.command.Action.TheVariants as action;
 ghost use Rattle.vet_register.specs.Importing.{IsJudgedImport};
-ghost use Rattle.vet_register.specs.Verdict.{checked, entries_beside, entry_limit, has_policy, has_project, has_settings, held_peer, held_policy, held_project, import_limits, is_held, is_used, judged, kind_rules, number_limit, peer_limit, policy_limit, project_limit, publisher_limit, step_limit, window_rules};
+ghost use Rattle.vet_register.specs.Already.{has_policy, has_project, has_settings, is_held};
+ghost use Rattle.vet_register.specs.Verdict.{checked, entries_beside, entry_limit, held_peer, held_policy, held_project, import_limits, is_used, judged, kind_rules, number_limit, peer_limit, policy_limit, project_limit, publisher_limit, step_limit, window_rules};
 
 use crate::register::Register;
 use std::alloc::Global;
@@ -30,6 +31,7 @@ use vet_demand::policy_key::PolicyKey;
 use vet_demand::policy_names::{least_unknown_of, names_criterion};
 use vet_demand::project::NamedProject;
 use vet_entries::entry::Entry;
+use vet_entries::facts::EntryFacts;
 use vet_entries::import::{Comparison, compare};
 use vet_entries::kind::{Kind, Window};
 use vet_entries::peer_content::PeerContent;
@@ -121,7 +123,7 @@ impl<K: Keeper> Register<K> {
         ensures { (day : DayValue)
             → Answers (judged self.now.state day (action.SetPeer settings.now)) result }
     {
-        if self.has_settings(settings) {
+        if has_settings(&self.held.facts, settings) {
             return Ok(Answer::Already(None));
         }
         self.check_peer_limit(&settings.name)?;
@@ -301,23 +303,13 @@ impl<K: Keeper> Register<K> {
         Ok(())
     }
 
-    fn check_step(&self) -> Result<(), Refusal>
+    pub(crate) fn check_step(&self) -> Result<(), Refusal>
         ensures { result ≡ step_limit self.now.state }
     {
         if self.step >= LAST_STEP {
             return Err(Refusal::TooLarge(Limit::Step));
         }
         Ok(())
-    }
-
-    // Whether the settings of a peer are held as they are.
-    fn has_settings(&self, settings: &PeerSettings) -> bool
-        ensures { result ≡ has_settings self.now.state.held.facts.peers settings.now }
-    {
-        match self.held.facts.peer(&settings.name) {
-            Some(peer) => peer.settings == *settings,
-            None => false,
-        }
     }
 
     // How many entries there are of all sources.
@@ -356,7 +348,7 @@ impl<K: Keeper> Register<K> {
         Ok(())
     }
 
-    fn check_number_limit(&self, count: usize) -> Result<(), Refusal>
+    pub(crate) fn check_number_limit(&self, count: usize) -> Result<(), Refusal>
         ensures { result ≡ number_limit self.now.state count }
     {
         self.state_is_sound();
@@ -404,8 +396,8 @@ fn check_entry_limit(held: usize, more: usize) -> Result<(), Refusal>
     Ok(())
 }
 
-// Whether a criterion is held as it is; of a built-in one nothing is asked.
-fn is_held(table: &CriteriaTable, criterion: &Criterion) -> bool
+/// Whether a criterion is held as it is; of a built-in one nothing is asked.
+pub(crate) fn is_held(table: &CriteriaTable, criterion: &Criterion) -> bool
     ensures { result ≡ is_held table.now criterion.now }
 {
     if is_built_in(&criterion.name) {
@@ -417,8 +409,18 @@ fn is_held(table: &CriteriaTable, criterion: &Criterion) -> bool
     }
 }
 
-// A name that is unknown is refused.
-fn check_known(unknown: Option<&Name>) -> Result<(), Refusal>
+/// Whether the settings of a peer are held as they are.
+pub(crate) fn has_settings(facts: &EntryFacts, settings: &PeerSettings) -> bool
+    ensures { result ≡ has_settings facts.now.content.peers settings.now }
+{
+    match facts.peer(&settings.name) {
+        Some(peer) => peer.settings == *settings,
+        None => false,
+    }
+}
+
+/// Refuses a name that is unknown.
+pub(crate) fn check_known(unknown: Option<&Name>) -> Result<(), Refusal>
     ensures { Answers (known (option_copied unknown.entry)) result }
 {
     match unknown {

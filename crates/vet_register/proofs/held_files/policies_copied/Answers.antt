@@ -1,4 +1,4 @@
-use Rattle.std.proofs.Common.{◌≡◌, ◌∙◌, [], ap}
+use Rattle.std.proofs.Common.{◌≡◌, ◌∙◌, ap}
 use Rattle.std.proofs.lemmas.Result.{IfOk-weaker}
 use Rattle.vet_demand.specs.Policies.{in_key_order, key_of}
 use Rattle.vet_demand.specs.PolicyKey.{policy_key_cmp}

@@ -52,7 +52,7 @@ returns-clause-asked g c =
     let number = ap (λ (r : RegisterView _). Some r.state.next_entry) c.self.view_is in
     let held = ap (λ (r : RegisterView _). r.state.next_entry) c.self.view_is in
     let next : c.self.inside.next_entry + 1 ≡ number_after state asks = omega (arith, held) in
-    effective _ _ _ _ told (facts_effect _ asks state c.args.day c.in_ok-edit_adding.field-0 _ _ stays sound told tt facts refl refl number next added.fits sound.held.facts.criteria sound.held.facts.publishers)
+    effective _ _ _ _ told (facts_effect _ asks state c.args.day c.in_ok-edit_adding.field-0 _ _ stays sound told tt facts refl refl refl number next added.fits sound.held.facts.criteria sound.held.facts.publishers)
 
 pub edit_adding-requires : goal.edit_adding-requires
 edit_adding-requires g c =

@@ -40,4 +40,4 @@ returns-clause-asked g c day =
     let facts = edit ∙ (λ i. record { criteria = state.held.facts.criteria; entries = state.held.facts.entries; peers = with_settings (same i) state.held.facts.peers; publishers = state.held.facts.publishers }) in
     let held = ap (λ (r : RegisterView _). r.state.next_entry) c.self.view_is in
     let next : c.self.inside.next_entry ≡ number_after state asks = omega (arith, held) in
-    effective _ _ _ _ told (facts_effect _ asks state day c.in_ok-edit_of_settings.field-0 _ _ stays sound told tt facts refl refl refl next set.fits sound.held.facts.criteria sound.held.facts.publishers)
+    effective _ _ _ _ told (facts_effect _ asks state day c.in_ok-edit_of_settings.field-0 _ _ stays sound told tt facts refl refl refl refl next set.fits sound.held.facts.criteria sound.held.facts.publishers)

@@ -52,4 +52,4 @@ returns-clause-asked g c day =
     let are = records_sound state day name records told sound.held.facts.publishers c.records_stay_in_order.ensures.in_order named in
     let held = ap (λ (r : RegisterView _). r.state.next_entry) c.self.view_is in
     let next : c.self.inside.next_entry ≡ number_after state (action.SetPublishers name records) = omega (arith, held) in
-    effective _ _ _ _ told (facts_effect _ (action.SetPublishers name records) state day c.in_ok-publishers_edit.field-0 _ _ stays sound told tt facts refl refl refl next set.fits sound.held.facts.criteria are)
+    effective _ _ _ _ told (facts_effect _ (action.SetPublishers name records) state day c.in_ok-publishers_edit.field-0 _ _ stays sound told tt facts refl refl refl refl next set.fits sound.held.facts.criteria are)

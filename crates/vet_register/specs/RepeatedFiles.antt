@@ -1,0 +1,76 @@
+-- When files are told that what they hold is held already (ours).
+use Rattle.std.specs.Prelude.{◌≡◌, ◌↔◌, ℕ, true, List, Ok, map}
+use Rattle.std.specs.List.{All}
+use Rattle.vet_base.specs.Day.{DayValue}
+use Rattle.vet_base.specs.FurtherCriteria.{further}
+use Rattle.vet_base.specs.Items.{SameItems}
+use Rattle.vet_entries.specs.declared.entry.Source.TheVariants.{Own}
+use Rattle.vet_entries.specs.declared.held_peer.HeldPeer.{HeldPeer}
+use Rattle.vet_entries.specs.HeldPeer.{as_peers}
+use Rattle.vet_entries.specs.PeerContent.{PeerContentValue}
+use Rattle.vet_entries.specs.Replaced.{as_of}
+use Rattle.vet_entries.specs.ReplacedLaws.{entries_of}
+use Rattle.vet_files.specs.FilesContent.{FilesValue, IsFiles, content_for, each_is_set}
+use Rattle.vet_files.specs.declared.imports_file.ImportedPeer.{ImportedPeer}
+use Rattle.vet_register.specs.declared.command.Action.TheVariants.{ReplaceFiles}
+use Rattle.vet_register.specs.declared.command.Command.{Command}
+use Rattle.vet_register.specs.declared.verdict.Answer.TheVariants.{Accepted}
+use Rattle.vet_register.specs.Held.{HeldValue}
+use Rattle.vet_register.specs.Machine.{next}
+use Rattle.vet_register.specs.Repeats.{ChangesNothing}
+use Rattle.vet_register.specs.Replacing.{tool_of_files}
+use Rattle.vet_register.specs.Sound.{IsSound}
+use Rattle.vet_register.specs.State.{State}
+use Rattle.vet_register.specs.Verdict.{verdict}
+
+-- the command to put files in place on a day
+abbrev pub replace_on : DayValue → FilesValue → Command
+replace_on day files = record { day = day; action = ReplaceFiles files }
+
+-- an imports file says of a peer what is held of it: the same criteria and the same entries
+abbrev pub SaysWhatIsHeld : List ImportedPeer → HeldPeer → Type 0
+SaysWhatIsHeld contents peer =
+    SameItems (content_for contents peer.settings.name).criteria (further peer.content.table)
+    × SameItems (as_peers peer.settings.name (content_for contents peer.settings.name).entries) (entries_of peer.content.entries)
+
+-- files say what is held, each list in whatever order, and nothing else
+pub record SayWhatIsHeld (held : HeldValue) (f : FilesValue) : Type 0 where
+  pub criteria : SameItems f.criteria (further held.facts.criteria)
+  pub entries : SameItems (as_of Own f.entries) (entries_of held.facts.entries)
+  pub settings : f.settings ≡ map (λ (p : HeldPeer). p.settings) held.facts.peers
+  pub set : each_is_set f ≡ true
+  pub contents : All (SaysWhatIsHeld f.contents) held.facts.peers
+  pub publishers : f.publishers ≡ held.facts.publishers
+  pub policies : f.policies ≡ held.policies
+  pub tool : tool_of_files f ≡ held.settings
+
+-- files are told so just where they say what is held
+abbrev pub HeldFilesAreAlready : Type 0
+HeldFilesAreAlready =
+    (s : State) (day : DayValue) (f : FilesValue) → IsSound s → IsFiles f → ChangesNothing s (replace_on day f) ↔ SayWhatIsHeld s.held f
+
+-- two contents are the same as sets
+abbrev pub SameContents : PeerContentValue → PeerContentValue → Type 0
+SameContents a b = SameItems a.criteria b.criteria × SameItems a.entries b.entries
+
+-- files say the same, each list in whatever order
+pub record SayTheSame (f g : FilesValue) : Type 0 where
+  pub criteria : SameItems f.criteria g.criteria
+  pub entries : SameItems f.entries g.entries
+  pub settings : f.settings ≡ g.settings
+  pub peers : map (λ (p : ImportedPeer). p.name) f.contents ≡ map (λ (p : ImportedPeer). p.name) g.contents
+  pub contents : (name : List ℕ) → SameContents (content_for f.contents name) (content_for g.contents name)
+  pub publishers : f.publishers ≡ g.publishers
+  pub policies : f.policies ≡ g.policies
+  pub tool : tool_of_files f ≡ tool_of_files g
+
+-- after files were put in place, files that say the same change nothing
+abbrev pub RepeatedFilesAreAlready : Type 0
+RepeatedFilesAreAlready =
+    (s : State) (day later : DayValue) (f again : FilesValue)
+    → IsSound s
+    → IsFiles f
+    → IsFiles again
+    → SayTheSame again f
+    → verdict s (replace_on day f) ≡ Ok Accepted
+    → ChangesNothing (next s (replace_on day f)) (replace_on later again)

@@ -1,0 +1,173 @@
+//! What is held after three files take the place of what was held.
+//!
+//! **An entry that was held before, of the same source, keeps its number, and the new ones get the next numbers in the
+//! order of reading: one's own, and then those of the peers in the order of their names.**
+ghost use Rattle.std.specs.Cmp.Lexicographic.{slice_cmp};
+ghost use Rattle.std.specs.List.{All, sum_by};
+ghost use Rattle.std.specs.Ordering.{nat_cmp};
+ghost use Rattle.std.specs.Prelude.{◌≡◌, ◌<◌, ◌+◌, ◌^◌, IfErr, IfOk, Ok, map};
+ghost use Rattle.vet_base.specs.Criteria.{IsTable};
+ghost use Rattle.vet_base.specs.Defined.{defined, table_told};
+ghost use Rattle.vet_base.specs.Keyed.{IsByKey};
+ghost use Rattle.vet_entries.specs.HeldPeer.{holding_or_none, imported, peer_name, peer_of};
+ghost use Rattle.vet_entries.specs.Import.{compared};
+ghost use Rattle.vet_entries.specs.PublisherRecords.{records_total};
+ghost use Rattle.vet_entries.specs.declared.peer_settings.PeerSettings.{PeerSettings};
+ghost use Rattle.vet_register.specs.Replacing.{compared_peer, facts_of_files, held_of_peer, new_of_files, new_of_peer, peers_after, tool_of_files};
+ghost use Rattle.vet_register.specs.ReplacingFound.{IsCompared};
+
+use crate::class_of_file::defined_table;
+use crate::files_comparison::{FilesComparison, content_of, held_of, no_content};
+use crate::held::FilesHeld;
+use crate::held_files::{criteria_copied, version_copied};
+use crate::tool_settings::ToolSettings;
+use std::alloc::{AllocError, Global};
+use vet_base::keyed::Keyed;
+use vet_base::refusal::Refusal;
+use vet_demand::policies::KeyedPolicy;
+use vet_entries::facts::{EntryFacts, HeldEntry};
+use vet_entries::held_peer::HeldPeer;
+use vet_entries::holding::Holding;
+use vet_entries::import::{Comparison, holding_after, own_entries_after};
+use vet_entries::peer_content::PeerContent;
+use vet_entries::peer_settings::PeerSettings;
+use vet_entries::replaced::entries_keep_order;
+use vet_files::files_content::FilesContent;
+
+/// All that is held after, where this is the next number. Copies all that the files hold, and the entries that come
+/// again. Refused: `NoMemory`.
+pub(crate) fn files_held(
+    alloc: Global,
+    next: u64,
+    facts: &EntryFacts,
+    files: &FilesContent,
+    comparison: &FilesComparison,
+) -> Result<FilesHeld, Refusal>
+    requires defined { table_told files.now.criteria ≡ Ok (defined files.now.criteria) }
+    requires compared { IsCompared facts.now.content files.now comparison.now }
+    requires own { All (λ h. h.number < next) facts.now.content.entries }
+    requires peers { (p : PeerSettings) → All (λ h. h.number < next) (held_of_peer facts.now.content.peers p).entries }
+    requires numbers { next + new_of_files facts.now.content files.now < 2 ^ 64 }
+    requires records { records_total files.now.publishers < 2 ^ 64 }
+    ensures facts { IfOk result (λ h. h.facts.content ≡ facts_of_files next files.now facts.now.content) }
+    ensures table { IfOk result (λ h. IsTable h.facts.content.criteria) }
+    ensures policies { IfOk result (λ h. h.policies.items ≡ files.now.policies) }
+    ensures settings { IfOk result (λ h. h.settings ≡ tool_of_files files.now) }
+    ensures memory { IfErr result (λ e. e ≡ Refusal.NoMemory) }
+{
+    let facts = facts_after(alloc, next, facts, files, comparison)?;
+    let policies = policies_of(alloc, files)?;
+    let settings = settings_of(files)?;
+    Ok(FilesHeld {
+        facts,
+        policies,
+        settings,
+    })
+}
+
+// The facts of packages after.
+fn facts_after(
+    alloc: Global,
+    next: u64,
+    facts: &EntryFacts,
+    files: &FilesContent,
+    comparison: &FilesComparison,
+) -> Result<EntryFacts, Refusal>
+    requires defined { table_told files.now.criteria ≡ Ok (defined files.now.criteria) }
+    requires compared { IsCompared facts.now.content files.now comparison.now }
+    requires own { All (λ h. h.number < next) facts.now.content.entries }
+    requires peers { (p : PeerSettings) → All (λ h. h.number < next) (held_of_peer facts.now.content.peers p).entries }
+    requires numbers { next + new_of_files facts.now.content files.now < 2 ^ 64 }
+    requires records { records_total files.now.publishers < 2 ^ 64 }
+    ensures facts { IfOk result (λ f. f.content ≡ facts_of_files next files.now facts.now.content) }
+    ensures table { IfOk result (λ f. IsTable f.content.criteria) }
+    ensures memory { IfErr result (λ e. e ≡ Refusal.NoMemory) }
+{
+    files.is_of_files();
+    entries_keep_order();
+    let criteria = defined_table(alloc, files.criteria().to_vec(alloc)?)?;
+    let publishers = files.publishers().to_vec(alloc)?;
+    let peers = peers_after(alloc, next, facts, files, comparison)?;
+    let entries = own_entries_after(
+        alloc,
+        next,
+        facts.entries(),
+        files.entries(),
+        &comparison.own,
+    )?;
+    EntryFacts::of_parts(alloc, criteria, entries, peers, publishers)
+}
+
+// The peers after, whose new entries are numbered behind one's own.
+fn peers_after(
+    alloc: Global,
+    next: u64,
+    facts: &EntryFacts,
+    files: &FilesContent,
+    comparison: &FilesComparison,
+) -> Result<Vec<HeldPeer>, Refusal>
+    requires compared { IsCompared facts.now.content files.now comparison.now }
+    requires below { (p : PeerSettings) → All (λ h. h.number < next) (held_of_peer facts.now.content.peers p).entries }
+    requires numbers { next + new_of_files facts.now.content files.now < 2 ^ 64 }
+    ensures ok { IfOk result (λ v. v.items ≡ (facts_of_files next files.now facts.now.content).peers) }
+    ensures by_name { IfOk result (λ v. IsByKey (slice_cmp nat_cmp) peer_name v.items) }
+    ensures memory { IfErr result (λ e. e ≡ Refusal.NoMemory) }
+{
+    files.is_of_files();
+    let nothing = Holding::new(alloc)?;
+    let silence = no_content(alloc);
+    let settings = files.settings();
+    let comparisons = comparison.peers.as_slice();
+    let mut number = next + comparison.own.new_count() as u64;
+    let mut peers = Vec::new(alloc);
+    'peers: for place in 0..settings.len() {
+        let name = &settings[place].name;
+        let held = held_of(facts, name, &nothing);
+        let content = content_of(files, name, &silence);
+        let found = &comparisons[place];
+        peers.push(peer_after(alloc, number, &settings[place], held, content, found)?)?;
+        number += found.new_count() as u64;
+    }
+    Ok(peers)
+}
+
+// A peer after, where this is the next number.
+fn peer_after(
+    alloc: Global,
+    next: u64,
+    settings: &PeerSettings,
+    held: &Holding,
+    content: &PeerContent,
+    comparison: &Comparison,
+) -> Result<HeldPeer, Refusal>
+    requires compared { comparison.now ≡ compared settings.now.name held.now content.now }
+    requires below { All (λ h. h.number < next) held.now.entries }
+    requires numbers { next + comparison.now.new_count < 2 ^ 64 }
+    ensures settings { IfOk result (λ p. p.settings ≡ settings.now) }
+    ensures content { IfOk result (λ p. p.content ≡ imported settings.now.name next content.now held.now) }
+    ensures memory { IfErr result (λ e. e ≡ Refusal.NoMemory) }
+{
+    let content = holding_after(alloc, &settings.name, next, held, content, comparison)?;
+    let settings = settings.clone()?;
+    Ok(HeldPeer { settings, content })
+}
+
+// Copies of the policies.
+fn policies_of(alloc: Global, files: &FilesContent) -> Result<Keyed<KeyedPolicy>, AllocError>
+    ensures { IfOk result (λ p. p.items ≡ files.now.policies) }
+{
+    let policies = files.policies().as_slice().to_vec(alloc)?;
+    Keyed::of(alloc, policies)
+}
+
+// A copy of what the config file says to the tool alone.
+fn settings_of(files: &FilesContent) -> Result<ToolSettings, AllocError>
+    ensures { IfOk result (λ s. s ≡ tool_of_files files.now) }
+{
+    let default_criteria = criteria_copied(files.default_criteria())?;
+    let vet_version = version_copied(files.vet_version())?;
+    Ok(ToolSettings {
+        vet_version,
+        default_criteria,
+    })
+}
