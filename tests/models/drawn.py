@@ -1,5 +1,5 @@
-"""Commands that are drawn, of few names, so that they meet. Files that are drawn hold mostly what is held: some of it
-is taken away or changed, and something added."""
+"""Commands that are drawn, of few names, so that they meet. Files that are drawn hold mostly what is held, or was held
+before: some of it is taken away or changed, and something added."""
 
 from models.files import Content, Criterion, Entry, Settings
 from models.held import BUILT_IN
@@ -30,6 +30,8 @@ class Drawn:
         limit = dice.choice((MOST_MOVES, MOST_MOVES, dice.randrange(1, 60)))
         self.machine = Machine(limit)
         self.lines, self.answers = [], []
+        # all that was held at some time
+        self.states = [self.machine.held]
         for command in ("set-criterion x", "set-criterion y x"):
             self.give(f"2024-05-01 {command}")
         for place in range(LENGTH):
@@ -38,6 +40,7 @@ class Drawn:
     def give(self, line):
         self.lines.append(line)
         self.answers.append(self.machine.told(line))
+        self.states.append(self.machine.held)
 
     def text(self, *more):
         """The lines as they are given, and more behind them."""
@@ -47,8 +50,7 @@ class Drawn:
 
     def command(self):
         drawn = (self.criterion, self.entry, self.policy, self.policy, self.project, self.project, self.dropped)
-        # files (below) are not among them: the register does not put them in place yet
-        return self.dice.choice((*drawn, self.publishers, self.peer, self.imported, self.imported))()
+        return self.dice.choice((*drawn, self.publishers, self.peer, self.imported, self.imported, self.files))()
 
     def some(self, things, least, most):
         return [self.dice.choice(things) for _ in range(self.dice.randrange(least, most + 1))]
@@ -163,8 +165,8 @@ class Drawn:
     # ---- files
 
     def files(self):
-        """What is held in files, some of it changed."""
-        held = self.machine.held.copy()
+        """What is held in files, or was held at some time, and some of it changed."""
+        held = self.dice.choice((self.machine.held, self.machine.held, self.dice.choice(self.states))).copy()
         changes = (self.own, self.own, self.criteria_held, self.tool, self.policies, self.records, self.peers)
         for _ in range(self.dice.choice((0, 0, 1, 2, 4))):
             self.dice.choice(changes)(held)

@@ -9,7 +9,7 @@
 //! - `DAY set-publishers PACKAGE [VERSION,USER,DAY ..]` sets the publisher records of a package, without
 //!   logins and names.
 //!
-//! Those of policies and projects stand in `demands`, and those of peers in `peers`.
+//! Those of policies and projects stand in `demands`, those of peers in `peers`, and that of files in `replaced`.
 ghost use Rattle.std.specs.Prelude.{◌≡◌, OnErr};
 
 use crate::demands::demand_action;

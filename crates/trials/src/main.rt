@@ -5,7 +5,7 @@
 //! answer and, where there is a command, in the end what the register holds.
 //! `trials --contents` prints also before each command what it holds. `trials --relay` does as
 //! `trials`, with a keeper that hands all on to the plain one, and `trials --together` gives the commands as
-//! lists. What lines there are stands in `line`, `setting`, `commands`, `demands`, `peers`, `values`,
+//! lists. What lines there are stands in `line`, `setting`, `commands`, `demands`, `peers`, `replaced`, `values`,
 //! `steps`, `versions`, `days`, `files`, `projects`, `written`, `held_texts`, `lists` and `tables`.
 //! `trials --demand` has no register, asks what projects demand, and has the lines of `workspace`, with the words of
 //! `policies` and `projects`. Where memory is wanting, the run ends with that refusal and what the register holds then,
@@ -31,6 +31,7 @@ mod policies;
 mod print;
 mod projects;
 mod relay;
+mod replaced;
 mod run;
 mod setting;
 mod steps;

@@ -9,6 +9,7 @@
 use crate::commands::names_between_commas;
 use crate::fault::Fault;
 use crate::line::{one, two};
+use crate::replaced::replace_files;
 use std::alloc::Global;
 use vet_base::name::{Name, PackageName};
 use vet_base::package_names::PackageNames;
@@ -23,12 +24,13 @@ use vet_register::command::Action;
 /// What a list is that holds nothing.
 const NONE: &str = "-";
 
-/// What a line of this word asks for. Refused: what its texts are refused for, and `NoMemory`.
+/// What a line of this word asks for, of peers or of files. Refused: what its texts are refused for, and `NoMemory`.
 pub fn peer_action(alloc: Global, word: &str, texts: &[String]) -> Result<Action, Fault> {
     match word {
         "set-peer" => set_peer(alloc, texts),
         "drop-peer" => drop_peer(alloc, texts),
         "import-peer" => import_peer(alloc, texts),
+        "replace-files" => replace_files(alloc, texts),
         _ => Err(Fault::NotUnderstood),
     }
 }
