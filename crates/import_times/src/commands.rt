@@ -1,8 +1,9 @@
 //! The commands that are timed.
 
 use crate::fault::Fault;
-use crate::project::{VERSION, package_name, project_of};
+use crate::project::{VERSION, package_name, project_of, stated_project};
 use std::alloc::Global;
+use vet_base::criterion::Criterion;
 use vet_base::day::Day;
 use vet_base::name::Name;
 use vet_base::names::Names;
@@ -16,6 +17,7 @@ use vet_entries::entry::{Entry, Source};
 use vet_entries::kind::{Audit, Kind};
 use vet_entries::peer_content::PeerContent;
 use vet_entries::peer_settings::PeerSettings;
+use vet_files::files_content::FilesContent;
 use vet_register::command::{Action, Command};
 
 const DAY: &str = "2024-05-01";
@@ -26,6 +28,8 @@ const OTHER_PEER: &str = "unused";
 
 // The criterion of the own entries.
 const CRITERION: &str = "safe-to-deploy";
+
+const OTHER_CRITERION: &str = "unused";
 
 /// Sets another peer, from which nothing is imported, with a url of its own: all is planned anew by the same demand,
 /// and no more.
@@ -64,6 +68,26 @@ pub fn import_peer(alloc: Global, content: PeerContent) -> Result<Command, Refus
 /// Loads the project that demands a version of each of so many packages.
 pub fn load_project(alloc: Global, count: usize) -> Result<Command, Fault> {
     Ok(command(Action::LoadProject(project_of(alloc, count)?))?)
+}
+
+/// Loads the project that a dependency table states.
+pub fn load_table(alloc: Global, place: usize, table: &str) -> Result<Command, Fault> {
+    Ok(command(Action::LoadProject(stated_project(alloc, place, table)?))?)
+}
+
+/// Puts what files hold in place of what is held.
+pub fn replace_files(files: FilesContent) -> Result<Command, Refusal> {
+    command(Action::ReplaceFiles(files))
+}
+
+/// Sets another criterion, which nothing names: the demand is found and all is planned anew, and no more.
+pub fn set_criterion(alloc: Global) -> Result<Command, Refusal> {
+    command(Action::SetCriterion(Criterion {
+        name: Name::parse(alloc, OTHER_CRITERION)?,
+        description: None,
+        url: None,
+        implies: Names::new(alloc),
+    }))
 }
 
 /// Adds the own entry that vouches for the demanded version of a package.

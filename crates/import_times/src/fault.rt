@@ -7,7 +7,7 @@ use vet_base::refusal::Refusal;
 /// Why a run ends before its end.
 #[derive(Drop)]
 pub enum Fault {
-    /// The words are no two numbers.
+    /// The words, or the parts of standard input, are not understood.
     Words,
     /// A stream or the clock failed.
     Stream,

@@ -8,9 +8,21 @@ use vet_entries::peer_content::PeerContent;
 use vet_files::imports_file::read_peer;
 
 /// What stands between two files.
-const BETWEEN_FILES: &str = "\n---\n";
+pub const BETWEEN_FILES: &str = "\n---\n";
 
-/// How much is to be timed.
+/// The word by which replacements are timed.
+const REPLACE: &str = "replace";
+
+/// What is to be timed, and how much of it.
+#[derive(Clone, Copy)]
+pub enum Task {
+    /// So many rounds of imports.
+    Imports(Sizes),
+    /// So many rounds of replacements.
+    Replacements(usize),
+}
+
+/// How much is to be timed of imports.
 #[derive(Clone, Copy)]
 pub struct Sizes {
     /// How many rounds.
@@ -20,13 +32,19 @@ pub struct Sizes {
 }
 
 /// What the words say.
-pub fn read_sizes(rt: &HostRuntime) -> Result<Sizes, Fault> {
+pub fn read_task(rt: &HostRuntime) -> Result<Task, Fault> {
     let mut words = env::args(rt)?;
     let _name = words.next();
-    Ok(Sizes {
-        rounds: number(words.next())?,
+    let Some(first) = words.next() else {
+        return Err(Fault::Words);
+    };
+    if first.as_str() == REPLACE {
+        return Ok(Task::Replacements(number(words.next())?));
+    }
+    Ok(Task::Imports(Sizes {
+        rounds: number(Some(first))?,
         own: number(words.next())?,
-    })
+    }))
 }
 
 fn number(word: Option<String>) -> Result<usize, Fault> {
@@ -39,14 +57,15 @@ fn number(word: Option<String>) -> Result<usize, Fault> {
     }
 }
 
-/// What the files hold, in their order.
-pub fn read_contents(rt: &HostRuntime) -> Result<Vec<PeerContent>, Fault> {
+/// All of standard input.
+pub fn read_text(rt: &HostRuntime) -> Result<String, Fault> {
     let mut text = String::new(rt.alloc());
     rt.reader().read_to_string(&mut text)?;
-    contents_of(rt.alloc(), text.as_str())
+    Ok(text)
 }
 
-fn contents_of(alloc: Global, text: &str) -> Result<Vec<PeerContent>, Fault> {
+/// What the files of a text hold, in their order.
+pub fn contents_of(alloc: Global, text: &str) -> Result<Vec<PeerContent>, Fault> {
     let mut contents = Vec::new(alloc);
     for file in text.split(BETWEEN_FILES) {
         let found = read_peer(alloc, file.as_bytes())?;

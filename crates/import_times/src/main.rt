@@ -1,22 +1,34 @@
-//! Times imports into a register by the clock: a program of benches, no part of the product.
+//! Times imports into a register, and files that replace what it holds, by the clock: a program of benches, no part of
+//! the product.
 //!
-//! Standard input holds audits files of a peer, each after the one before it and a line `---` between two. They are
-//! read, and a register is made of a project's demand and own entries. Then in each round the peer is set, each file is
-//! imported in turn, another peer is set, an entry is added, and the peer is dropped. The first word says how many
-//! rounds there are; with none the files are read and no register is made. The second says how many demanded pairs and
-//! own entries there are. Of each file `read COUNT` is printed, and of each command of a round a line of what it is,
-//! its nanoseconds and its outcome. The status is 1 where anything is refused or fails, and 2 where the words are no
-//! two numbers.
+//! Two numbers have imports timed. Standard input holds audits files of a peer, each after the one before it and a
+//! line `---` between two. They are read, and a register is made of a project's demand and own entries. Then in each
+//! round the peer is set, each file is imported in turn, another peer is set, an entry is added, and the peer is
+//! dropped. The first number says how many rounds there are; with none the files are read and no register is made. The
+//! second says how many demanded pairs and own entries there are. Of each file `read COUNT` is printed.
+//!
+//! The word `replace` and a number of rounds have replacements timed. Standard input holds parts, a line `===` between
+//! two; within a part a line `---` stands between two texts. The first part is dependency tables, and a register is
+//! made of their projects. Each other part is an audits file, a config file and an imports file. In each round these
+//! are read and replace what is held, part after part, and then a criterion is set. Of each part
+//! `read COUNT NANOSECONDS NANOSECONDS` is printed: its entries, until it was read, and until it was one value.
+//!
+//! Of each command of a round a line is printed of what it is, its nanoseconds and its outcome. The status is 1 where
+//! anything is refused or fails, and 2 where the words or the parts are not understood.
 #![tactic(auto)]
 
+mod clock;
 mod commands;
 mod fault;
+mod files;
 mod input;
 mod project;
+mod replacements;
 mod rounds;
 
 use fault::Fault;
-use input::{read_contents, read_sizes};
+use input::{Task, contents_of, read_task, read_text};
+use replacements::run_replacements;
 use rounds::run;
 use std::process::ExitCode;
 
@@ -32,7 +44,10 @@ fn main(rt: HostRuntime) -> ExitCode {
 }
 
 fn run_whole(rt: &HostRuntime) -> Result<(), Fault> {
-    let sizes = read_sizes(rt)?;
-    let contents = read_contents(rt)?;
-    run(rt, sizes, contents)
+    let task = read_task(rt)?;
+    let text = read_text(rt)?;
+    match task {
+        Task::Imports(sizes) => run(rt, sizes, contents_of(rt.alloc(), text.as_str())?),
+        Task::Replacements(rounds) => run_replacements(rt, rounds, text.as_str()),
+    }
 }

@@ -1,4 +1,4 @@
-//! The project that demands one pair of each of some packages.
+//! The project that demands one pair of each of some packages, and those that tables state.
 
 use crate::fault::Fault;
 use std::alloc::Global;
@@ -20,6 +20,15 @@ pub fn project_of(alloc: Global, count: usize) -> Result<NamedProject, Fault> {
     let table = table_of(alloc, count)?;
     Ok(NamedProject {
         name: PackageName::parse(alloc, PROJECT)?,
+        project: read_project(alloc, table.as_bytes())?,
+    })
+}
+
+/// The project that a dependency table states, named by its place.
+pub fn stated_project(alloc: Global, place: usize, table: &str) -> Result<NamedProject, Fault> {
+    let name = format!(in alloc; "project-{place}")?;
+    Ok(NamedProject {
+        name: PackageName::parse(alloc, name.as_str())?,
         project: read_project(alloc, table.as_bytes())?,
     })
 }

@@ -1,5 +1,6 @@
-//! The rounds, and the time of each command.
+//! The rounds of imports.
 
+use crate::clock::timed;
 use crate::commands::{
     add_demanded, add_other, drop_peer, import_peer, load_project, set_other_peer, set_peer,
 };
@@ -7,11 +8,10 @@ use crate::fault::Fault;
 use crate::input::Sizes;
 use std::alloc::Global;
 use std::io;
-use std::time::Instant;
 use vet_base::limits::MOST_MOVES;
 use vet_entries::peer_content::PeerContent;
 use vet_graph::plain::PlainKeeper;
-use vet_register::command::{Command, Outcome};
+use vet_register::command::Command;
 use vet_register::register::Register;
 
 /// Tells how much each content holds, and times the rounds of commands.
@@ -81,23 +81,6 @@ fn import_all(
 ) -> Result<(), Fault> {
     for import in imports {
         timed(rt, register, "import", import)?;
-    }
-    Ok(())
-}
-
-// Runs a command, and prints how long that took and what came of it.
-fn timed(
-    rt: &HostRuntime,
-    register: &mut Register<PlainKeeper>,
-    what: &str,
-    command: &Command,
-) -> Result<(), Fault> {
-    let begun = Instant::now(rt)?;
-    let outcome = register.run(rt.alloc(), command)?;
-    let nanos = begun.elapsed(rt)?.as_nanos();
-    match outcome {
-        Outcome::Done { moves, .. } => println!(rt; "{what} {nanos} done {moves}")?,
-        Outcome::Already(_) => println!(rt; "{what} {nanos} already")?,
     }
     Ok(())
 }

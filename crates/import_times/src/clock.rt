@@ -1,0 +1,24 @@
+//! The time of a command.
+
+use crate::fault::Fault;
+use std::time::Instant;
+use vet_graph::plain::PlainKeeper;
+use vet_register::command::{Command, Outcome};
+use vet_register::register::Register;
+
+/// Runs a command, and prints how long that took and what came of it.
+pub fn timed(
+    rt: &HostRuntime,
+    register: &mut Register<PlainKeeper>,
+    what: &str,
+    command: &Command,
+) -> Result<(), Fault> {
+    let begun = Instant::now(rt)?;
+    let outcome = register.run(rt.alloc(), command)?;
+    let nanos = begun.elapsed(rt)?.as_nanos();
+    match outcome {
+        Outcome::Done { moves, .. } => println!(rt; "{what} {nanos} done {moves}")?,
+        Outcome::Already(_) => println!(rt; "{what} {nanos} already")?,
+    }
+    Ok(())
+}
