@@ -56,6 +56,15 @@ start_is_sound law limit t l = record {
     policies = record { by_key = λ i j x a b. absurd (omega arith); known = All-nil _; few = omega arith };
     projects = record { by_name = λ i j x a b. absurd (omega arith); few = omega arith };
   };
+  desk = record {
+    desk = record {
+      members = record { by_name = λ i j x a b. absurd (omega arith); few = omega arith };
+      reviews = record { numbers_rise = λ i j x a b. absurd (omega arith); numbers_given = All-nil _; by_members = All-nil _; few = omega arith };
+      next_number = omega arith;
+    };
+    known = All-nil _;
+    entries_given = All-nil _;
+  };
   next_number = omega arith;
   last_step = omega arith;
   limit = l;

@@ -1,6 +1,7 @@
 -- What is judged of three files, and how their contents stand to what is held of peers.
-use Rattle.std.proofs.Common.{◌≡◌, ◌⊎◌, ◌∙◌, ℕ, ◌+◌, ◌≤◌, ◌&&◌, Bool, true, false, cond, List, [], ◌∷◌, map, Option, Some, None, Result, Ok, Err, inl, inr, refl, sym, ap, subst, arith}
-use Rattle.std.specs.List.{list_all, sum_by}
+use Rattle.std.proofs.Common.{◌≡◌, ◌⊎◌, ◌∙◌, ℕ, ◌+◌, ◌≤◌, ◌&&◌, Bool, true, false, cond, is_some, not, List, [], ◌∷◌, map, Option, Some, None, Result, Ok, Err, inl, inr, refl, sym, ap, subst, arith}
+use Rattle.std.specs.FinMap as table
+use Rattle.std.specs.List.{find, list_all, list_any, sum_by}
 use Rattle.std.specs.Option.{option_map_or}
 use Rattle.std.specs.Prelude.{MatchOption, nat_lt}
 use Rattle.std.proofs.lemmas.Bool.{cases_Bool, ltb-true}
@@ -9,8 +10,12 @@ use Rattle.std.proofs.lemmas.List.Sums.{sum_by-cons, sum_by-le-sum_by}
 use Rattle.vet_base.specs.declared.limits.TheConstants.{LAST_NUMBER}
 use Rattle.vet_base.specs.declared.refusal.Refusal.{Refusal}
 use Rattle.vet_base.specs.declared.refusal.Refusal.TheVariants.{NoMemory, UnknownCriterion}
+use Rattle.vet_base.specs.Criteria.{Criteria}
 use Rattle.vet_base.specs.Day.{DayValue}
 use Rattle.vet_base.specs.Gives.{Answers, Gives, Told, ◌>>=◌}
+use Rattle.vet_base.specs.Names.{members}
+use Rattle.vet_desk.specs.declared.review.Review.{Review}
+use Rattle.vet_desk.specs.Review.{are_open_beyond, is_closed}
 use Rattle.vet_entries.specs.declared.entry.Source.TheVariants.{Own, Peer}
 use Rattle.vet_entries.specs.declared.held_peer.HeldPeer.{HeldPeer}
 use Rattle.vet_entries.specs.declared.peer_settings.PeerSettings.{PeerSettings}
@@ -101,12 +106,21 @@ pub memory_wants : {A : Type 0} (t : Told A) (x : A) (e : Refusal) → t ≡ Ok 
 memory_wants t x e told (inl lacks) = lacks
 memory_wants t x e told (inr refused) = cc (sym told ∙ refused)
 
--- an answer to the last that is asked is one to all
-pub answers_give : (t : Told (Unit {0})) (answer : Result (Unit {0}) Refusal) → Answers t answer → Gives (λ u. u) (t >>= λ _. Ok tt) answer
-answers_give (Ok u) answer h = rw h refl
-answers_give (Err (UnknownCriterion n)) answer (inl h) = rw h (inr refl)
-answers_give (Err (UnknownCriterion n)) answer (inr h) = rw h (inl refl)
-answers_give (Err e) answer h = rw h (inr refl)
+-- a refusal is told before what comes after
+pub refuses_first : (t then : Told (Unit {0})) (f : Refusal) → Answers t (Err f) → Gives (λ u. u) (t >>= λ _. then) (Err f)
+refuses_first (Ok u) then f h = cc h
+refuses_first (Err (UnknownCriterion n)) then f (inl h) = inr (sym h)
+refuses_first (Err (UnknownCriterion n)) then f (inr h) = inl (cc h)
+refuses_first (Err e) then f h = inr (sym h)
+
+-- what is told is an answer
+pub gives_itself : (t : Told (Unit {0})) (answer : Result (Unit {0}) Refusal) → answer ≡ t → Gives (λ u. u) t answer
+gives_itself (Ok u) answer h = rw h refl
+gives_itself (Err e) answer h = rw h (inr refl)
+
+-- reviews name what a table lacks just where another of the same names lacks it
+pub same_beyond : (a b : Criteria) → ((n : List ℕ) → table.contains_key a n ≡ table.contains_key b n) → (reviews : List Review) → are_open_beyond a reviews ≡ are_open_beyond b reviews
+same_beyond a b keys reviews = λ i. list_any (λ (r : Review). not (is_closed r.state) && is_some (find (λ n. not (keys n i)) (members r.criteria))) reviews
 
 -- what files are asked is what is judged of them, where they are not held
 pub judged_by : (s : State) (day : DayValue) (f : FilesValue) → has_files s.held f ≡ false

@@ -1,11 +1,11 @@
 -- What a command that is accepted leaves of policies and projects is sound, and so all that is held then.
-use Rattle.std.proofs.Common.{◌≡◌, ℕ, ◌+◌, ◌&&◌, true, not, is_none, is_some, List, length, Ok, arith}
+use Rattle.std.proofs.Common.{◌≡◌, ℕ, ◌+◌, ◌&&◌, true, not, is_none, is_some, List, length, Option, Some, None, Ok, refl, sym, subst, arith}
 use Rattle.std.specs.Cmp.Lexicographic.{nat_list_cmp_total}
 use Rattle.std.specs.Prelude.{nat_lt}
 use Rattle.vet_base.specs.declared.limits.TheConstants.{MOST_POLICIES, MOST_PROJECTS}
 use Rattle.vet_base.specs.declared.refusal.Limit.TheVariants as limit
 use Rattle.vet_base.specs.declared.refusal.Refusal.TheVariants.{TooLarge, UnknownPolicy, UnknownProject}
-use Rattle.vet_base.specs.Criteria.{IsTable, least_unknown}
+use Rattle.vet_base.specs.Criteria.{Criteria, IsTable, least_unknown}
 use Rattle.vet_base.specs.Day.{DayValue}
 use Rattle.vet_base.specs.Keyed.{is_of}
 use Rattle.vet_base.proofs.KeyedLemmas.{IsByKey-with_item}
@@ -18,12 +18,15 @@ use Rattle.vet_demand.specs.Policies.{key_of}
 use Rattle.vet_demand.specs.PolicyKey.{policy_key_cmp, policy_key_cmp-IsAntisymmetric, policy_key_total}
 use Rattle.vet_demand.specs.PolicyNames.{names_in}
 use Rattle.vet_demand.proofs.Naming.{known_by_fewer, known_by_more, known_with, known_without}
+use Rattle.vet_entries.specs.declared.entry.Entry.{Entry}
+use Rattle.vet_entries.specs.Facts.{Facts}
 use Rattle.vet_register.specs.declared.command.Action.{Action}
-use Rattle.vet_register.specs.declared.command.Action.TheVariants.{SetCriterion, RemoveCriterion, AddEntry, DropEntry, SetPeer, DropPeer, ImportPeer, SetPublishers, SetPolicy, DropPolicy, LoadProject, DropProject, ReplaceFiles}
+use Rattle.vet_register.specs.declared.command.Action.TheVariants.{SetCriterion, RemoveCriterion, AddEntry, DropEntry, SetPeer, DropPeer, ImportPeer, SetPublishers, SetPolicy, DropPolicy, LoadProject, DropProject, ReplaceFiles, Desk, ClosePeriod}
 use Rattle.vet_register.specs.declared.verdict.Answer.TheVariants.{Accepted}
 use Rattle.vet_register.specs.Held.{policy_at, project_at}
-use Rattle.vet_register.specs.Machine.{facts_after, held_after, number_after, policies_by, projects_by}
-use Rattle.vet_register.specs.Sound.{ArePolicies, AreProjects, ArePublishers, IsSoundHeld}
+use Rattle.vet_register.specs.AtDesk.{added_by}
+use Rattle.vet_register.specs.Machine.{facts_after, held_after, number_after, policies_by, projects_by, with_entry}
+use Rattle.vet_register.specs.Sound.{ArePolicies, AreProjects, ArePublishers, IsSound, IsSoundHeld}
 use Rattle.vet_register.specs.State.{State}
 use Rattle.vet_register.specs.Verdict.{judged, policy_limit, project_limit, step_limit}
 use Rattle.vet_register.proofs.Effects.{IsGivenContent, Passed, passed, sound_effect}
@@ -32,12 +35,22 @@ use Rattle.vet_register.proofs.FilesPassed.{files_fit, files_know, files_policie
 use Rattle.vet_register.proofs.Known.{unused}
 use Rattle.vet_register.proofs.Lists.{filter-fewer, some_item}
 
+-- an own entry more leaves the criteria
+pub same_criteria : (n : ℕ) (o : Option Entry) (facts : Facts) → (with_entry n o facts).criteria ≡ facts.criteria
+same_criteria n None facts = refl
+same_criteria n (Some e) facts = refl
+
+-- and publisher records
+pub same_publishers : (n : ℕ) (o : Option Entry) (facts : Facts) → (with_entry n o facts).publishers ≡ facts.publishers
+same_publishers n None facts = refl
+same_publishers n (Some e) facts = refl
+
 -- the policies after a command
 policies_after : (s : State) (day : DayValue) (a : Action) → Passed s day a → IsGivenContent a → ArePolicies s.held.facts.criteria s.held.policies
     → ArePolicies (facts_after s a).criteria (policies_by a s.held.policies)
 policies_after s day (SetCriterion c) p given h = record { by_key = h.by_key; known = known_by_more s.held.facts.criteria s.held.policies h.known c.name c; few = h.few }
 policies_after s day (RemoveCriterion n) p given h =
-    record { by_key = h.by_key; known = known_by_fewer s.held.facts.criteria s.held.policies h.known n (unused s day n p.rules).1; few = h.few }
+    record { by_key = h.by_key; known = known_by_fewer s.held.facts.criteria s.held.policies h.known n (unused s day n p.rules).policies; few = h.few }
 policies_after s day (AddEntry e) p given h = h
 policies_after s day (DropEntry n) p given h = h
 policies_after s day (SetPeer settings) p given h = h
@@ -61,6 +74,9 @@ policies_after s day (LoadProject project) p given h = h
 policies_after s day (DropProject n) p given h = h
 policies_after s day (ReplaceFiles f) p given h =
     record { by_key = given.policies_by_key; known = files_policies_known f (files_know f p.references); few = (files_fit s f p.limits).policies }
+policies_after s day (Desk command) p given h =
+    subst (λ (t : Criteria). ArePolicies t s.held.policies) (sym (same_criteria s.next_entry (added_by s command) s.held.facts)) h
+policies_after s day ClosePeriod p given h = h
 
 -- the projects after a command
 projects_after : (s : State) (day : DayValue) (a : Action) → Passed s day a → AreProjects s.held.projects → AreProjects (projects_by a s.held.projects)
@@ -86,16 +102,18 @@ projects_after s day (DropProject n) p h = record {
   few = omega (arith, filter-fewer (λ e. not (is_of R project_name n e)) s.held.projects, h.few);
 }
 projects_after s day (ReplaceFiles f) p h = h
+projects_after s day (Desk command) p h = h
+projects_after s day ClosePeriod p h = h
 
 -- all that is held after a command, if its criteria and its publisher records are sound, and what is imported is what a reader gives
-pub sound_held : (s : State) (day : DayValue) (a : Action) → judged s day a ≡ Ok Accepted → IsSoundHeld s.held s.next_entry → IsGivenContent a
+pub sound_held : (s : State) (day : DayValue) (a : Action) → judged s day a ≡ Ok Accepted → IsSound s → IsGivenContent a
     → IsTable (facts_after s a).criteria → ArePublishers (facts_after s a).publishers → IsSoundHeld (held_after s a) (number_after s a)
 sound_held s day a told h given is are =
     let p = passed s day a told in
     record {
-      facts = sound_effect s day a told h.facts given is are;
-      policies = policies_after s day a p given h.policies;
-      projects = projects_after s day a p h.projects;
+      facts = sound_effect s day a told h.held.facts h.desk.known given is are;
+      policies = policies_after s day a p given h.held.policies;
+      projects = projects_after s day a p h.held.projects;
     }
 
 -- a policy that is dropped is held, and so is a project

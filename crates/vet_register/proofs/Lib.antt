@@ -1,6 +1,8 @@
 pub mod Asking
+pub mod AskingDesk
 pub mod Beginnings
 pub mod ClassOfFileLemmas
+pub mod DeskEffects
 pub mod Drops
 pub mod Effects
 pub mod Fewness
@@ -14,6 +16,7 @@ pub mod HeldFilesLaws
 pub mod Imports
 pub mod Known
 pub mod Lists
+pub mod Orders
 pub mod PeerEffects
 pub mod Prepared
 pub mod Publishing

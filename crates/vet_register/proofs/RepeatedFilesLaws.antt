@@ -120,6 +120,6 @@ repeated_files_are_already s day later f again sound is are same told =
     let p = passed s day a accepted in
     let fit = files_fit s f p.limits in
     let defines = told_is_table f.criteria (files_table f is fit.criteria (files_know f p.references)) in
-    let held = sound_held s day a accepted sound.held is defines (files_records f is fit.records) in
+    let held = sound_held s day a accepted sound is defines (files_records f is fit.records) in
     let just = just_where_held (next s (replace_on day f)) later (ReplaceFiles again) (has_files (held_after s a) again) refl in
     just.1 ((files_decided (held_after s a) (number_after s a) held again are).1 (say_what_is_left s f again is same (set_accepted f p.references)))

@@ -1,6 +1,6 @@
 -- All that classes and the demand depend on (ours): facts of packages, policies and projects, and edits of them. Beside
 -- these stands what a config file says to the tool alone.
-use Rattle.std.specs.Prelude.{ℕ, ◌≤◌, Bool, false, List, [], Option}
+use Rattle.std.specs.Prelude.{ℕ, ◌≤◌, Bool, true, false, List, [], Option}
 use Rattle.std.specs.Cmp.Lexicographic.{slice_cmp}
 use Rattle.std.specs.Ordering.{nat_cmp}
 use Rattle.vet_base.specs.Keyed as keyed
@@ -70,6 +70,7 @@ abbrev pub edited : HeldEdit → HeldValue → HeldValue
 edited (edit.Facts change) held = record held { facts = facts.edited change held.facts }
 edited (edit.Policies change) held = record held { policies = keyed.edited change held.policies }
 edited (edit.Projects change) held = record held { projects = keyed.edited change held.projects }
+edited edit.Nothing held = held
 edited (edit.Files files) held = record held { facts = files.facts.content; policies = files.policies.items; settings = files.settings }
 
 -- for how much more there is room
@@ -104,6 +105,7 @@ abbrev pub Fits : HeldEdit → Held → Type 0
 Fits (edit.Facts change) held = facts.Fits change held.facts
 Fits (edit.Policies change) held = keyed.Fits policy_key_cmp key_of change held.policies
 Fits (edit.Projects change) held = keyed.Fits (slice_cmp nat_cmp) project_name change held.projects
+Fits edit.Nothing held = Unit {0}
 Fits (edit.Files files) held = Unit {0}
 
 -- where there is room for something in the old, there is in the new
@@ -115,6 +117,7 @@ abbrev pub keeps_demand : HeldEdit → Bool
 keeps_demand (edit.Facts change) = facts.keeps_criteria change
 keeps_demand (edit.Policies change) = false
 keeps_demand (edit.Projects change) = false
+keeps_demand edit.Nothing = true
 keeps_demand (edit.Files files) = false
 
 -- the room after an edit
@@ -122,6 +125,7 @@ abbrev pub room_after : HeldEdit → HeldRoom → HeldRoom
 room_after (edit.Facts change) room = record room { facts = facts.room_after change room.facts }
 room_after (edit.Policies change) room = record room { policies = keyed.room_after change room.policies }
 room_after (edit.Projects change) room = record room { projects = keyed.room_after change room.projects }
+room_after edit.Nothing room = room
 room_after (edit.Files files) room = record room { facts = files.facts.room; policies = files.policies.room }
 
 -- an edit that fits still does where the same is held, and no room is lost

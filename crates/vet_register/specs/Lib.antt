@@ -1,4 +1,5 @@
 pub mod Already
+pub mod AtDesk
 pub mod Changes
 pub mod ClassOfFile
 pub mod Held
@@ -14,6 +15,7 @@ pub mod ReplacingFound
 pub mod Runs
 pub mod Sound
 pub mod State
+pub mod ToldInOrder
 pub mod ToolSettings
 pub mod Verdict
 pub use Rattle.vet_base.specs.Criteria
@@ -23,6 +25,10 @@ pub use Rattle.vet_base.specs.Refusal
 pub use Rattle.vet_demand.specs.Demand
 pub use Rattle.vet_demand.specs.DemandOf
 pub use Rattle.vet_demand.specs.Pair
+pub use Rattle.vet_desk.specs.Desk
+pub use Rattle.vet_desk.specs.DeskVerdict
+pub use Rattle.vet_desk.specs.Review
+pub use Rattle.vet_desk.specs.SoundDesk
 pub use Rattle.vet_entries.specs.Entry
 pub use Rattle.vet_entries.specs.Facts
 pub use Rattle.vet_entries.specs.Step

@@ -1,7 +1,10 @@
 -- One step of the machine: what an accepted command makes of a state (ours).
-use Rattle.std.specs.Prelude.{ℕ, ◌+◌, ◌++◌, not, List, [], ◌∷◌, Option, Some, None, length, filter, map}
+use Rattle.std.specs.Prelude.{ℕ, ◌+◌, ◌++◌, not, Bool, true, false, List, [], ◌∷◌, Option, Some, None, if◌then◌else◌, length, filter, map}
+use Rattle.std.specs.Option.{option_map_or}
 use Rattle.std.specs.FinMap as table
 use Rattle.vet_base.specs.Day.{DayValue}
+use Rattle.vet_desk.specs.Desk.{DeskState, desk_after}
+use Rattle.vet_entries.specs.declared.entry.Entry.{Entry}
 use Rattle.vet_entries.specs.Entry.{own}
 use Rattle.vet_entries.specs.Facts.{Facts}
 use Rattle.vet_entries.specs.HeldPeer.{holding_or_none, imported, new_entries, peer_of, with_content, with_settings, without_peer}
@@ -11,15 +14,18 @@ use Rattle.vet_entries.specs.PublisherRecords.{with_records}
 use Rattle.vet_demand.specs.declared.policies.KeyedPolicy.{KeyedPolicy}
 use Rattle.vet_demand.specs.declared.project.NamedProject.{NamedProject}
 use Rattle.vet_graph.specs.declared.moves.Move.{Move}
+use Rattle.vet_graph.specs.declared.standing.Counts.{Counts}
 use Rattle.vet_graph.specs.declared.touched.Touched.{Touched}
 use Rattle.vet_graph.specs.declared.touched.Touched.TheVariants as touched
 use Rattle.vet_graph.specs.Moves.{moves_between}
+use Rattle.vet_graph.specs.Standing.{counts_of}
 use Rattle.vet_register.specs.declared.command.Action.{Action}
-use Rattle.vet_register.specs.declared.command.Action.TheVariants.{SetCriterion, RemoveCriterion, AddEntry, DropEntry, SetPeer, DropPeer, ImportPeer, SetPublishers, SetPolicy, DropPolicy, LoadProject, DropProject, ReplaceFiles}
+use Rattle.vet_register.specs.declared.command.Action.TheVariants.{SetCriterion, RemoveCriterion, AddEntry, DropEntry, SetPeer, DropPeer, ImportPeer, SetPublishers, SetPolicy, DropPolicy, LoadProject, DropProject, ReplaceFiles, Desk, ClosePeriod}
 use Rattle.vet_register.specs.declared.command.Command.{Command}
 use Rattle.vet_register.specs.declared.command.Outcome.{Outcome}
 use Rattle.vet_register.specs.declared.command.Outcome.TheVariants.{Done}
 use Rattle.vet_register.specs.declared.moves.RecordedMove.{RecordedMove}
+use Rattle.vet_register.specs.AtDesk.{added_by, entry_number, number_told}
 use Rattle.vet_register.specs.Held.{HeldValue, standing_in, with_policy, with_project, without_policy, without_project}
 use Rattle.vet_register.specs.Replacing.{facts_of_files, new_of_files, tool_of_files}
 use Rattle.vet_register.specs.State.{State, standing}
@@ -36,21 +42,28 @@ ActionValue = Action
 abbrev pub held_of : Facts → List ℕ → HoldingValue
 held_of facts name = holding_or_none (peer_of facts.peers name)
 
--- the effect of a command on the facts of packages, where this is the next entry's number
-abbrev pub effect : ℕ → Action → Facts → Facts
-effect number (SetCriterion c) facts = record facts { criteria = table.insert facts.criteria c.name c }
-effect number (RemoveCriterion name) facts = record facts { criteria = table.remove facts.criteria name }
-effect number (AddEntry entry) facts = record facts { entries = facts.entries ++ (record { number = number; entry = own entry }) ∷ [] }
-effect number (DropEntry n) facts = record facts { entries = filter (λ h. not (has_number n h)) facts.entries }
-effect number (SetPeer settings) facts = record facts { peers = with_settings settings facts.peers }
-effect number (DropPeer name) facts = record facts { peers = without_peer name facts.peers }
-effect number (ImportPeer name content) facts = record facts { peers = with_content name (imported name number content (held_of facts name)) facts.peers }
-effect number (SetPublishers name records) facts = record facts { publishers = with_records name records facts.publishers }
-effect number (SetPolicy policy) facts = facts
-effect number (DropPolicy key) facts = facts
-effect number (LoadProject project) facts = facts
-effect number (DropProject name) facts = facts
-effect number (ReplaceFiles files) facts = facts_of_files number files facts
+-- the facts with an own entry more, of this number, if there is one
+abbrev pub with_entry : ℕ → Option Entry → Facts → Facts
+with_entry number None facts = facts
+with_entry number (Some entry) facts = record facts { entries = facts.entries ++ (record { number = number; entry = own entry }) ∷ [] }
+
+-- the effect of a command in a state on the facts of packages
+abbrev pub effect : State → Action → Facts → Facts
+effect s (SetCriterion c) facts = record facts { criteria = table.insert facts.criteria c.name c }
+effect s (RemoveCriterion name) facts = record facts { criteria = table.remove facts.criteria name }
+effect s (AddEntry entry) facts = with_entry s.next_entry (Some entry) facts
+effect s (DropEntry n) facts = record facts { entries = filter (λ h. not (has_number n h)) facts.entries }
+effect s (SetPeer settings) facts = record facts { peers = with_settings settings facts.peers }
+effect s (DropPeer name) facts = record facts { peers = without_peer name facts.peers }
+effect s (ImportPeer name content) facts = record facts { peers = with_content name (imported name s.next_entry content (held_of facts name)) facts.peers }
+effect s (SetPublishers name records) facts = record facts { publishers = with_records name records facts.publishers }
+effect s (SetPolicy policy) facts = facts
+effect s (DropPolicy key) facts = facts
+effect s (LoadProject project) facts = facts
+effect s (DropProject name) facts = facts
+effect s (ReplaceFiles files) facts = facts_of_files s.next_entry files facts
+effect s (Desk command) facts = with_entry s.next_entry (added_by s command) facts
+effect s ClosePeriod facts = facts
 
 -- its effect on the policies
 abbrev pub policies_by : Action → List KeyedPolicy → List KeyedPolicy
@@ -72,7 +85,7 @@ settings_by _ settings = settings
 
 -- the facts after a command
 abbrev pub facts_after : State → Action → Facts
-facts_after s action = effect s.next_entry action s.held.facts
+facts_after s action = effect s action s.held.facts
 
 -- what is held after a command
 abbrev pub held_after : State → Action → HeldValue
@@ -83,6 +96,11 @@ held_after s action = record {
   settings = settings_by action s.held.settings;
 }
 
+-- the desk after a command
+abbrev pub desk_by : State → DayValue → Action → DeskState
+desk_by s day (Desk command) = desk_after day (entry_number s command) command s.desk
+desk_by s day _ = s.desk
+
 -- the moves of a command: the pairs whose class differs before and after it
 abbrev pub moves_of : State → Action → List Move
 moves_of s action = moves_between (standing s) (standing_in (held_after s action))
@@ -91,16 +109,20 @@ moves_of s action = moves_between (standing s) (standing_in (held_after s action
 abbrev pub touched_by : State → Action → Touched
 touched_by s action = touched.All
 
--- the number of the entry that a command makes: an import tells none, nor do files
+-- the number that a command is told: that of the entry that it makes, of a review that it opens, or of the entry of one that
+-- it finishes; an import tells none, nor do files
 abbrev pub number_given : State → Action → Option ℕ
 number_given s (AddEntry entry) = Some s.next_entry
+number_given s (Desk command) = number_told s command
 number_given s _ = None
 
--- how many numbers a command gives: one to an entry that is added, and one to each that is new in an import or in files
+-- how many numbers of entries a command gives: one to an entry that is added, and one to each that is new in an import or in
+-- files
 abbrev pub numbers_given : State → Action → ℕ
 numbers_given s (AddEntry entry) = 1
 numbers_given s (ImportPeer name content) = length (new_entries name (held_of s.held.facts name).entries content.entries)
 numbers_given s (ReplaceFiles files) = new_of_files s.held.facts files
+numbers_given s (Desk command) = option_map_or (λ _. 1) (added_by s command) 0
 numbers_given s _ = 0
 
 -- the next number after a command
@@ -115,15 +137,33 @@ recorded step day change = record { step = step; day = day; change = change }
 abbrev pub records_of : State → Command → List RecordedMove
 records_of s c = map (recorded (s.step + 1) c.day) (moves_of s c.action)
 
+-- a command ends the period: another begins, with the counts that are present, and without a move
+abbrev pub ends_period : Action → Bool
+ends_period ClosePeriod = true
+ends_period _ = false
+
+-- the counts at first after a command, and the moves since
+abbrev pub first_after : State → Action → Counts
+first_after s action = if ends_period action then counts_of (standing s) else s.first
+
+abbrev pub moves_after : State → Command → List RecordedMove
+moves_after s c = if ends_period c.action then [] else s.moves ++ records_of s c
+
+-- how many moves these are
+abbrev pub count_after : State → Action → ℕ
+count_after s action = if ends_period action then 0 else length s.moves + length (moves_of s action)
+
 -- the state after an accepted command
 abbrev pub next : State → Command → State
 next s c = record s {
   held = held_after s c.action;
+  desk = desk_by s c.day c.action;
   step = s.step + 1;
   next_entry = number_after s c.action;
-  moves = s.moves ++ records_of s c;
+  first = first_after s c.action;
+  moves = moves_after s c;
 }
 
--- what an accepted command is told: its step, the number that it gave, and how many moves it made
+-- what an accepted command is told: its step, its number, and how many moves it made
 abbrev pub outcome_of : State → Command → Outcome
 outcome_of s c = Done (s.step + 1) (number_given s c.action) (length (moves_of s c.action))

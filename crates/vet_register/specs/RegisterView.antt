@@ -1,7 +1,8 @@
 -- What a register is seen as, and what was prepared for it. This module alone of the machine's knows of room and keepers.
-use Rattle.std.specs.Prelude.{◌≡◌, ◌⊎◌, ℕ, ◌≤◌, Bool, true, false, List, Result, Ok, Err, MatchResult}
+use Rattle.std.specs.Prelude.{◌≡◌, ◌⊎◌, ℕ, ◌≤◌, Bool, true, false, List, Option, Some, None, is_some, Result, Ok, Err, MatchResult}
 use Rattle.std.specs.Coded.{Coded, code_by, coded×, coded_list, coded_ℕ}
 use Rattle.std.proofs.Common.{refl}
+use Rattle.vet_base.specs.Day.{DayValue}
 use Rattle.vet_base.specs.Gives.{Refuses, Told}
 use Rattle.vet_base.specs.declared.refusal.Refusal.{Refusal}
 use Rattle.vet_base.specs.declared.refusal.Refusal.TheVariants.{NoMemory}
@@ -9,13 +10,18 @@ use Rattle.vet_demand.specs.declared.pair.Pair.{Pair}
 use Rattle.vet_base.specs.Keyed.{KeyedRoom, keyed_code}
 use Rattle.vet_demand.specs.declared.policies.KeyedPolicy.{KeyedPolicy}
 use Rattle.vet_demand.specs.declared.project.NamedProject.{NamedProject}
+use Rattle.vet_desk.specs.declared.command.DeskCommand.{DeskCommand}
+use Rattle.vet_desk.specs.DeskView.{DeskRoom, DeskView, IsDeskChange, KeepsDeskChanges, entry_in}
 use Rattle.vet_entries.specs.Facts.{FactsRoom}
 use Rattle.vet_graph.specs.declared.standing.Counts.{Counts}
 use Rattle.vet_graph.specs.Keeping.{Keeping}
 use Rattle.vet_register.specs.declared.change.Change.{Change}
+use Rattle.vet_register.specs.declared.change.DeskEdit.{DeskEdit}
 use Rattle.vet_register.specs.declared.change.Prepared.{Prepared}
 use Rattle.vet_register.specs.declared.change.Prepared.TheVariants as prepared
+use Rattle.vet_desk.specs.declared.change.DeskChange.{DeskChange}
 use Rattle.vet_register.specs.declared.command.Action.{Action}
+use Rattle.vet_register.specs.declared.command.Action.TheVariants.{Desk}
 use Rattle.vet_register.specs.declared.command.Command.{Command}
 use Rattle.vet_register.specs.declared.edits.Asked.{Asked}
 use Rattle.vet_register.specs.declared.edits.Asked.TheVariants as asked
@@ -25,16 +31,18 @@ use Rattle.vet_register.specs.declared.verdict.Answer.{Answer}
 use Rattle.vet_register.specs.declared.verdict.Answer.TheVariants.{Already, Accepted}
 use Rattle.vet_register.specs.declared.held.Held.{Held}
 use Rattle.vet_register.specs.declared.tool_settings.ToolSettings.{ToolSettings}
-use Rattle.vet_register.specs.Changes.{FitsHeld, FitsMoves, changed, demand_by}
+use Rattle.vet_register.specs.AtDesk.{entry_number, number_told}
+use Rattle.vet_register.specs.Changes.{FitsMoves, changed, demand_by, desk_edited}
 use Rattle.vet_register.specs.Held.{Fits, HeldRoom, HeldValue, HoldsRoomOf, demand_in, edited, held_with, standing_in}
-use Rattle.vet_register.specs.Machine.{held_after, next, number_after, number_given, outcome_of, touched_by}
+use Rattle.vet_register.specs.Machine.{desk_by, held_after, next, number_after, number_given, outcome_of, touched_by}
 use Rattle.vet_register.specs.Sound.{IsSound, IsSoundHeld}
 use Rattle.vet_register.specs.State.{State, demanded, standing}
 use Rattle.vet_register.specs.Verdict.{verdict, wants_memory}
 
--- for how much more of what is held, and for how many more recorded moves, there is room
+-- for how much more of what is held, of what is at the desk, and for how many more recorded moves, there is room
 pub record Rooms : Type 0 where
   pub held : HeldRoom
+  pub desk : DeskRoom
   pub moves : ℕ
 
 -- a register: its state, what keeps the classes, and its rooms
@@ -47,9 +55,26 @@ pub record RegisterView (K : Type 0) : Type 0 where
 abbrev pub held_room : {K : Type 0} → RegisterView K → Held
 held_room r = held_with r.state.held r.room.held
 
+-- its desk, with its room
+abbrev pub desk_room : {K : Type 0} → RegisterView K → DeskView
+desk_room r = record { content = r.state.desk; room = r.room.desk }
+
 -- no room is lost, so that what was prepared before can still be installed
 abbrev pub KeepsRoom : {K : Type 0} → RegisterView K → RegisterView K → Type 0
-KeepsRoom old new = HoldsRoomOf old.room.held new.room.held × (old.room.moves ≤ new.room.moves)
+KeepsRoom old new =
+    HoldsRoomOf old.room.held new.room.held × ((old.room.moves ≤ new.room.moves) × KeepsDeskChanges (desk_room old) (desk_room new))
+
+-- an edit of a desk was prepared by it, which still holds the room for it, and has the number of an entry where it has an entry
+pub record IsDeskEdit (d : DeskView) (e : DeskEdit) : Type 0 where
+  pub day : DayValue
+  pub command : DeskCommand
+  pub prepared : IsDeskChange d day command e.change
+  pub numbered : is_some e.entry ≡ is_some (entry_in e.change)
+
+-- so was an edit, if there is one
+abbrev pub HoldsDesk : Option DeskEdit → DeskView → Type 0
+HoldsDesk None d = Unit {0}
+HoldsDesk (Some e) d = IsDeskEdit d e
 
 -- a keeper has kept what is held and demanded, its standing is that of these, and this is the demand
 abbrev pub HasKept : {K U : Type 0} → Keeping K U → K → List Pair → HeldValue → Type 0
@@ -75,7 +100,8 @@ pub record IsStep {K U : Type 0} (keeping : Keeping K U) (s : State) (c : Comman
 -- this register prepared the change for the command on this state, and it and its keeper still hold the room for it
 pub record IsPrepared {K U : Type 0} (keeping : Keeping K U) (r : RegisterView K) (c : Command) (change : Change K U) : Type 0 where
   pub step : IsStep keeping r.state c change
-  pub fits : FitsHeld change.edit (held_room r)
+  pub fits : Fits change.edit (held_room r)
+  pub desk : HoldsDesk change.desk (desk_room r)
   pub move_room : FitsMoves change.recording r.room.moves
   pub ready : keeping.is_ready r.keeper change.update
 
@@ -104,48 +130,61 @@ abbrev pub IsExact : {K U : Type 0} → Bool → Told Answer → Result (Prepare
 IsExact false told answer = IsExactly told answer
 IsExact true told answer = (answer ≡ Err NoMemory) ⊎ IsExactly told answer
 
--- an effect is that of a command which was checked: its edit fits, and what is held after it is sound
-pub record IsEffect {K : Type 0} (r : RegisterView K) (action : Action) (e : Effect) : Type 0 where
+-- an effect is that of a command which was checked, on its day: its edits fit, and what is held after it is sound
+pub record IsEffect {K : Type 0} (r : RegisterView K) (day : DayValue) (action : Action) (e : Effect) : Type 0 where
   pub held : edited e.edit r.state.held ≡ held_after r.state action
+  pub desk : desk_edited e.desk r.state.desk ≡ desk_by r.state day action
   pub number : e.number ≡ number_given r.state action
   pub next_entry : e.next_entry ≡ number_after r.state action
   pub sound : IsSoundHeld (held_after r.state action) (number_after r.state action)
   pub fits : Fits e.edit (held_room r)
+  pub holds : HoldsDesk e.desk (desk_room r)
+
+-- an effect is that of a command to the desk which changes this there
+pub record IsDeskEffect {K : Type 0} (r : RegisterView K) (command : DeskCommand) (change : DeskChange) (e : Effect) : Type 0 where
+  pub held : edited e.edit r.state.held ≡ held_after r.state (Desk command)
+  pub desk : e.desk ≡ Some (record { change = change; entry = entry_number r.state command })
+  pub number : e.number ≡ number_told r.state command
+  pub next_entry : e.next_entry ≡ number_after r.state (Desk command)
+  pub fits : Fits e.edit (held_room r)
 
 -- what is asked by an action that is accepted is its effect
-abbrev pub IsEffectOf : {K : Type 0} → RegisterView K → Action → Asked → Type 0
-IsEffectOf r action (asked.Already number) = ⊥
-IsEffectOf r action (asked.Effect e) = IsEffect r action e
+abbrev pub IsEffectOf : {K : Type 0} → RegisterView K → DayValue → Action → Asked → Type 0
+IsEffectOf r day action (asked.Already number) = ⊥
+IsEffectOf r day action (asked.Effect e) = IsEffect r day action e
 
--- the answer to an action: what is judged of it, and where that accepts it, its effect
-abbrev pub AsksExactly : {K : Type 0} → RegisterView K → Action → Told Answer → Result Asked Refusal → Type 0
-AsksExactly r action (Err e) answer = Refuses e answer
-AsksExactly r action (Ok (Already number)) answer = answer ≡ Ok (asked.Already number)
-AsksExactly r action (Ok Accepted) answer = MatchResult answer (IsEffectOf r action) (λ e. e ≡ NoMemory)
+-- the answer to an action on a day: what is judged of it, and where that accepts it, its effect
+abbrev pub AsksExactly : {K : Type 0} → RegisterView K → DayValue → Action → Told Answer → Result Asked Refusal → Type 0
+AsksExactly r day action (Err e) answer = Refuses e answer
+AsksExactly r day action (Ok (Already number)) answer = answer ≡ Ok (asked.Already number)
+AsksExactly r day action (Ok Accepted) answer = MatchResult answer (IsEffectOf r day action) (λ e. e ≡ NoMemory)
 
 -- or else memory is wanting, where a comparison wants it
-abbrev pub AsksBy : {K : Type 0} → Bool → RegisterView K → Action → Told Answer → Result Asked Refusal → Type 0
-AsksBy false r action told answer = AsksExactly r action told answer
-AsksBy true r action told answer = (answer ≡ Err NoMemory) ⊎ AsksExactly r action told answer
+abbrev pub AsksBy : {K : Type 0} → Bool → RegisterView K → DayValue → Action → Told Answer → Result Asked Refusal → Type 0
+AsksBy false r day action told answer = AsksExactly r day action told answer
+AsksBy true r day action told answer = (answer ≡ Err NoMemory) ⊎ AsksExactly r day action told answer
 
-abbrev pub Asks : {K : Type 0} → RegisterView K → Action → Told Answer → Result Asked Refusal → Type 0
-Asks r action told answer = AsksBy (wants_memory action) r action told answer
+abbrev pub Asks : {K : Type 0} → RegisterView K → DayValue → Action → Told Answer → Result Asked Refusal → Type 0
+Asks r day action told answer = AsksBy (wants_memory action) r day action told answer
 
 -- a register is stored as the tuple of its keeper, the parts of its state, and its rooms
-abbrev pub register_code : {K : Type 0} → Coded K → Coded FactsRoom → Coded KeyedPolicy → Coded NamedProject → Coded ToolSettings → Coded Counts → Coded RecordedMove → Coded (RegisterView K)
-register_code {K} keeper_code facts_code policy_code project_code settings_code counts_code move_code =
-    code_by (K × (FactsRoom × (KeyedRoom KeyedPolicy × (KeyedRoom NamedProject × (ToolSettings × (ℕ × (ℕ × (ℕ × (Counts × (List RecordedMove × ℕ))))))))))
-    (coded× keeper_code (coded× facts_code (coded× (keyed_code policy_code) (coded× (keyed_code project_code)
-    (coded× settings_code (coded× coded_ℕ (coded× coded_ℕ (coded× coded_ℕ (coded× counts_code (coded× (coded_list move_code) coded_ℕ))))))))))
+abbrev pub register_code : {K : Type 0} → Coded K → Coded FactsRoom → Coded KeyedPolicy → Coded NamedProject → Coded ToolSettings → Coded DeskView → Coded Counts → Coded RecordedMove → Coded (RegisterView K)
+register_code {K} keeper_code facts_code policy_code project_code settings_code desk_code counts_code move_code =
+    code_by (K × (DeskView × (FactsRoom × (KeyedRoom KeyedPolicy × (KeyedRoom NamedProject × (ToolSettings × (ℕ × (ℕ × (ℕ × (Counts × (List RecordedMove × ℕ)))))))))))
+    (coded× keeper_code (coded× desk_code (coded× facts_code (coded× (keyed_code policy_code) (coded× (keyed_code project_code)
+    (coded× settings_code (coded× coded_ℕ (coded× coded_ℕ (coded× coded_ℕ (coded× counts_code (coded× (coded_list move_code) coded_ℕ)))))))))))
     (λ r. (
       r.keeper,
       (
-        (held_room r).facts,
+        desk_room r,
         (
-          (held_room r).policies,
+          (held_room r).facts,
           (
-            (held_room r).projects,
-            (r.state.held.settings, (r.state.step, (r.state.next_entry, (r.state.moves_limit, (r.state.first, (r.state.moves, r.room.moves)))))),
+            (held_room r).policies,
+            (
+              (held_room r).projects,
+              (r.state.held.settings, (r.state.step, (r.state.next_entry, (r.state.moves_limit, (r.state.first, (r.state.moves, r.room.moves)))))),
+            ),
           ),
         ),
       ),
@@ -153,16 +192,18 @@ register_code {K} keeper_code facts_code policy_code project_code settings_code 
     (λ p. record {
       keeper = p.0;
       state = record {
-        held = record { facts = p.1.0.content; policies = p.1.1.0.items; projects = p.1.1.1.0.items; settings = p.1.1.1.1.0 };
-        step = p.1.1.1.1.1.0;
-        next_entry = p.1.1.1.1.1.1.0;
-        moves_limit = p.1.1.1.1.1.1.1.0;
-        first = p.1.1.1.1.1.1.1.1.0;
-        moves = p.1.1.1.1.1.1.1.1.1.0;
+        held = record { facts = p.1.1.0.content; policies = p.1.1.1.0.items; projects = p.1.1.1.1.0.items; settings = p.1.1.1.1.1.0 };
+        desk = p.1.0.content;
+        step = p.1.1.1.1.1.1.0;
+        next_entry = p.1.1.1.1.1.1.1.0;
+        moves_limit = p.1.1.1.1.1.1.1.1.0;
+        first = p.1.1.1.1.1.1.1.1.1.0;
+        moves = p.1.1.1.1.1.1.1.1.1.1.0;
       };
       room = record {
-        held = record { facts = p.1.0.room; policies = p.1.1.0.room; projects = p.1.1.1.0.room };
-        moves = p.1.1.1.1.1.1.1.1.1.1;
+        held = record { facts = p.1.1.0.room; policies = p.1.1.1.0.room; projects = p.1.1.1.1.0.room };
+        desk = p.1.0.room;
+        moves = p.1.1.1.1.1.1.1.1.1.1.1;
       };
     })
     (λ _. refl)

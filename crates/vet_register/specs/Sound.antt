@@ -28,6 +28,8 @@ use Rattle.vet_entries.specs.Step.{AreKnown}
 use Rattle.vet_entries.specs.declared.publisher_records.PackagePublishers.{PackagePublishers}
 use Rattle.vet_entries.specs.PublisherRecords.{IsByName, records_total}
 use Rattle.vet_entries.specs.Publishers as Publishers
+use Rattle.vet_desk.specs.Desk.{DeskState}
+use Rattle.vet_desk.specs.SoundDesk.{AreKnownTo, HaveEntriesGiven, IsSoundDesk}
 use Rattle.vet_graph.specs.declared.class.Class.{Class}
 use Rattle.vet_graph.specs.Moves.{arrivals_of, departures_of}
 use Rattle.vet_graph.specs.Standing.{count_in, count_of}
@@ -126,15 +128,23 @@ pub record IsSoundHeld (held : HeldValue) (next : ℕ) : Type 0 where
   pub policies : ArePolicies held.facts.criteria held.policies
   pub projects : AreProjects held.projects
 
+-- the desk is sound; reviews that aren't closed name no criteria but those of the table, and the number of a finished one's
+-- entry lies below the next one
+pub record IsSoundAtDesk (criteria : Criteria) (d : DeskState) (next : ℕ) : Type 0 where
+  pub desk : IsSoundDesk d
+  pub known : AreKnownTo criteria d.reviews
+  pub entries_given : HaveEntriesGiven next d.reviews
+
 -- moves stand in the order in which they were recorded, none of a later step than the last, and within the limit
 pub record AreInOrder (moves : List RecordedMove) (step limit : ℕ) : Type 0 where
   pub in_order : AllPairs ComesBefore moves
   pub steps : All (IsBy step) moves
   pub few : length moves ≤ limit
 
--- what is held and the moves are sound, numbers are within the limits, and the counts are balanced
+-- what is held, the desk and the moves are sound, numbers are within the limits, and the counts are balanced
 pub record IsSound (s : State) : Type 0 where
   pub held : IsSoundHeld s.held s.next_entry
+  pub desk : IsSoundAtDesk s.held.facts.criteria s.desk s.next_entry
   pub next_number : s.next_entry ≤ LAST_NUMBER + 1
   pub last_step : s.step ≤ LAST_STEP
   pub limit : (0 < s.moves_limit) × (s.moves_limit ≤ MOST_MOVES)

@@ -1,15 +1,18 @@
 -- The state of the machine, and where it begins (ours).
 use Rattle.std.specs.Prelude.{ℕ, List, [], map}
 use Rattle.vet_demand.specs.declared.pair.Pair.{Pair}
+use Rattle.vet_desk.specs.Desk.{DeskState, empty_desk}
 use Rattle.vet_graph.specs.declared.moves.Move.{Move}
 use Rattle.vet_graph.specs.declared.standing.Counts.{Counts}
 use Rattle.vet_graph.specs.declared.standing.Stand.{Stand}
 use Rattle.vet_register.specs.declared.moves.RecordedMove.{RecordedMove}
 use Rattle.vet_register.specs.Held.{HeldValue, demand_in, nothing_held, standing_in}
 
--- what is held, how many commands were accepted, the next entry's number, the most moves, the first counts, the moves
+-- what is held, the desk, how many commands were accepted, the next entry's number, the most moves, the first counts, the
+-- moves
 pub record State : Type 0 where
   pub held : HeldValue
+  pub desk : DeskState
   pub step : ℕ
   pub next_entry : ℕ
   pub moves_limit : ℕ
@@ -28,10 +31,11 @@ standing s = standing_in s.held
 abbrev pub no_counts : Counts
 no_counts = record { conflicting = 0; full = 0; partial = 0; exempted = 0; unvetted = 0 }
 
--- nothing is held, and so nothing demanded
+-- nothing is held, and so nothing demanded; nobody is at the desk
 abbrev pub start : ℕ → State
 start limit = record {
   held = nothing_held;
+  desk = empty_desk;
   step = 0;
   next_entry = 1;
   moves_limit = limit;

@@ -14,6 +14,10 @@ use Rattle.vet_base.specs.Defined.{defined}
 use Rattle.vet_base.specs.Gives.{Told, refuse_if, ◌>>=◌}
 use Rattle.vet_demand.specs.declared.policy_key.PolicyKey.{PolicyKey}
 use Rattle.vet_demand.specs.PolicyNames.{names_in, policy_names}
+use Rattle.vet_desk.specs.declared.command.DeskCommand.{DeskCommand}
+use Rattle.vet_desk.specs.DeskVerdict.{desk_held, desk_limits, desk_number, desk_references, desk_rules}
+use Rattle.vet_desk.specs.Review.{are_open_beyond, are_open_for}
+use Rattle.vet_entries.specs.declared.entry.Entry.{Entry}
 use Rattle.vet_entries.specs.declared.kind.Kind.{Kind}
 use Rattle.vet_entries.specs.declared.kind.Kind.TheVariants.{Wildcard, Trusted}
 use Rattle.vet_entries.specs.declared.kind.Window.{Window}
@@ -26,16 +30,17 @@ use Rattle.vet_entries.specs.PublisherRecords.{records_of, records_total, with_r
 use Rattle.vet_entries.specs.Publishers.{publishers_eq}
 use Rattle.vet_files.specs.FilesContent.{FilesValue, each_is_set}
 use Rattle.vet_register.specs.declared.command.Action.{Action}
-use Rattle.vet_register.specs.declared.command.Action.TheVariants.{SetCriterion, RemoveCriterion, AddEntry, DropEntry, SetPeer, DropPeer, ImportPeer, SetPublishers, SetPolicy, DropPolicy, LoadProject, DropProject, ReplaceFiles}
+use Rattle.vet_register.specs.declared.command.Action.TheVariants.{SetCriterion, RemoveCriterion, AddEntry, DropEntry, SetPeer, DropPeer, ImportPeer, SetPublishers, SetPolicy, DropPolicy, LoadProject, DropProject, ReplaceFiles, Desk, ClosePeriod}
 use Rattle.vet_register.specs.declared.command.Command.{Command}
 use Rattle.vet_register.specs.declared.verdict.Answer.{Answer}
 use Rattle.vet_register.specs.declared.verdict.Answer.TheVariants.{Already, Accepted}
+use Rattle.vet_register.specs.AtDesk.{added_by, finishes}
 use Rattle.vet_register.specs.Already.{has_content, has_files, has_policy, has_project, has_settings, is_held}
-use Rattle.vet_register.specs.Held.{HeldValue, policy_at, project_at}
+use Rattle.vet_register.specs.Held.{policy_at, project_at}
 use Rattle.vet_register.specs.NamesOfFiles.{counted, unknown_of_files}
 use Rattle.vet_register.specs.Replacing.{entries_of_files, new_of_files}
-use Rattle.vet_register.specs.State.{State}
-use Rattle.vet_register.specs.Machine.{moves_of, numbers_given}
+use Rattle.vet_register.specs.State.{State, demanded}
+use Rattle.vet_register.specs.Machine.{count_after, numbers_given}
 
 -- under which number a command's content is held already
 abbrev pub held_as : State → Action → Option (Option ℕ)
@@ -47,6 +52,7 @@ held_as s (SetPublishers name records) = if publishers_eq (records_of s.held.fac
 held_as s (SetPolicy policy) = if has_policy s.held.policies policy then Some None else None
 held_as s (LoadProject project) = if has_project s.held.projects project then Some None else None
 held_as s (ReplaceFiles files) = if has_files s.held files then Some None else None
+held_as s (Desk command) = if desk_held s.desk command then Some None else None
 held_as s _ = None
 
 -- there is a step for a command
@@ -95,6 +101,19 @@ files_limits s f =
     refuse_if (nat_lt MOST_POLICIES (length f.policies)) (TooLarge limit.Policies) >>= λ _.
     step_limit s >>= λ _. number_limit s (new_of_files s.held.facts f)
 
+-- there is a step for a command to the desk; of one that finishes a review this is asked after its rules
+abbrev pub step_before_rules : State → DeskCommand → Told (Unit {0})
+step_before_rules s command = if finishes command then Ok tt else step_limit s
+
+-- there is a step and, where an own entry is added, room and a number for it
+abbrev pub entry_limits : State → Option Entry → Told (Unit {0})
+entry_limits s None = step_limit s
+entry_limits s (Some entry) = entry_limit (entries_total s.held.facts + 1) >>= λ _. step_limit s >>= λ _. number_limit s 1
+
+-- the limits of a command that finishes a review, which come after its rules
+abbrev pub limits_after_rules : State → DeskCommand → Told (Unit {0})
+limits_after_rules s command = if finishes command then entry_limits s (added_by s command) else Ok tt
+
 -- what is held stays within its limit, and there is a step and, for each new entry, a number; of an import this is asked
 -- as if the peer were held
 abbrev pub limits : State → Action → Told (Unit {0})
@@ -106,6 +125,7 @@ limits s (SetPublishers name records) = publisher_limit s name records >>= λ _.
 limits s (SetPolicy policy) = policy_limit s policy.key >>= λ _. step_limit s
 limits s (LoadProject project) = project_limit s project.name >>= λ _. step_limit s
 limits s (ReplaceFiles files) = counted (defined files.criteria) >>= λ _. files_limits s files
+limits s (Desk command) = desk_limits s.desk command >>= λ _. step_before_rules s command >>= λ _. desk_number s.desk command
 limits s _ = step_limit s
 
 -- a peer of a name is held
@@ -140,6 +160,8 @@ references s (DropPolicy key) = held_policy s key
 references s (LoadProject project) = Ok tt
 references s (DropProject name) = held_project s name
 references s (ReplaceFiles files) = files_references files
+references s (Desk command) = desk_references s.held.facts.criteria s.desk command
+references s ClosePeriod = Ok tt
 
 -- the last day of a window comes before its first
 abbrev pub ends_before_it_begins : Window → Bool
@@ -159,17 +181,25 @@ kind_rules day (Wildcard window grant) = window_rules day window
 kind_rules day (Trusted window) = window_rules day window
 kind_rules day _ = Ok tt
 
--- an own entry, a target of a peer's map or a policy names a criterion
-abbrev pub is_used : HeldValue → List ℕ → Bool
-is_used held name = is_named held.facts name || list_any (policy_names name) held.policies
+-- an own entry, a target of a peer's map or a policy names a criterion, or a review that isn't closed
+abbrev pub is_used : State → List ℕ → Bool
+is_used s name = is_named s.held.facts name || (list_any (policy_names name) s.held.policies || are_open_for s.desk.reviews name)
 
 -- a built-in criterion is neither set nor removed, nor one removed that another implies, or that an own entry, a target of
--- a peer's map or a policy names; a window keeps its rules
+-- a peer's map, a policy or an open review names; files lack none that an open review names; a window keeps its rules, and
+-- a command to the desk those of the desk, by the demand as it stands
 abbrev pub rules : State → DayValue → Action → Told (Unit {0})
 rules s day (SetCriterion c) = set_rules c.name
-rules s day (RemoveCriterion name) = remove_rules s.held.facts.criteria name >>= λ _. refuse_if (is_used s.held name) CriterionInUse
+rules s day (RemoveCriterion name) = remove_rules s.held.facts.criteria name >>= λ _. refuse_if (is_used s name) CriterionInUse
 rules s day (AddEntry entry) = kind_rules day entry.kind
+rules s day (ReplaceFiles files) = refuse_if (are_open_beyond (defined files.criteria) s.desk.reviews) CriterionInUse
+rules s day (Desk command) = desk_rules (demanded s) s.desk command >>= λ _. limits_after_rules s command
 rules s day _ = Ok tt
+
+-- what is asked of a command to the desk but for the limits that come after rules
+abbrev pub asked_before : State → DeskCommand → Told (Unit {0})
+asked_before s command =
+    limits s (Desk command) >>= λ _. references s (Desk command) >>= λ _. desk_rules (demanded s) s.desk command
 
 -- what is asked of a command, on its day, but for room for its moves
 abbrev pub checked : State → DayValue → Action → Told (Unit {0})
@@ -180,19 +210,20 @@ abbrev pub held_or : Option (Option ℕ) → Told (Unit {0}) → Told Answer
 held_or (Some number) told = Ok (Already number)
 held_or None told = told >>= λ _. Ok Accepted
 
--- to compare an import, or files, with what is held takes memory
+-- to compare an import, files, or the entry of a finished review with what is held takes memory
 abbrev pub wants_memory : Action → Bool
 wants_memory (ImportPeer name content) = true
 wants_memory (ReplaceFiles files) = true
+wants_memory (Desk command) = finishes command
 wants_memory _ = false
 
 -- what a command is told, before its moves are known
 abbrev pub judged : State → DayValue → Action → Told Answer
 judged s day action = held_or (held_as s action) (checked s day action)
 
--- the moves of a command fit beside those recorded
+-- the moves that are recorded after a command are not too many
 abbrev pub moves_fit : State → Action → Told (Unit {0})
-moves_fit s action = refuse_if (nat_lt s.moves_limit (length s.moves + length (moves_of s action))) MovesFull
+moves_fit s action = refuse_if (nat_lt s.moves_limit (count_after s action)) MovesFull
 
 -- what is accepted is so where its moves fit
 abbrev pub fitting : State → Action → Answer → Told Answer

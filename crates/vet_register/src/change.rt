@@ -5,14 +5,24 @@ use crate::command::Outcome;
 use crate::held::HeldEdit;
 use crate::moves::Recording;
 use vet_demand::demand::Demand;
+use vet_desk::change::DeskChange;
 use vet_graph::keeper::Keeper;
 use vet_graph::touched::Touched;
+
+/// What an accepted command changes at the desk.
+#[derive(Drop)]
+pub struct DeskEdit {
+    pub(crate) change: DeskChange,
+    // the number of the entry of a review that is finished
+    pub(crate) entry: Option<u64>,
+}
 
 /// What an accepted command changes: the register that prepared it installs it.
 #[derive(Drop)]
 pub struct Change<K: Keeper> {
-    // an edit of what is held, unless that stays
-    pub(crate) edit: Option<HeldEdit>,
+    pub(crate) edit: HeldEdit,
+    // an edit of the desk, unless that stays
+    pub(crate) desk: Option<DeskEdit>,
     // another demand, unless it stays
     pub(crate) demand: Option<Demand>,
     pub(crate) update: K::Update,
@@ -23,8 +33,8 @@ pub struct Change<K: Keeper> {
 }
 
 impl<K: Keeper> Change<K> {
-    /// What comes of the command: its step, the number of the entry that it makes, and how many pairs it
-    /// moves. Takes no memory.
+    /// What comes of the command: its step, the number of the entry that it makes or of the review that it opens, or of
+    /// the entry of the review that it finishes, and how many pairs it moves. Takes no memory.
     pub fn outcome(&self) -> Outcome
         ensures { result ≡ self.now.outcome }
     {

@@ -1,4 +1,6 @@
 //! Commands, and what they are told.
+ghost use Rattle.std.specs.Prelude.{◌≡◌};
+ghost use Rattle.vet_register.specs.Machine.{ends_period};
 
 use vet_base::criterion::Criterion;
 use vet_base::day::Day;
@@ -6,6 +8,7 @@ use vet_base::name::{Name, PackageName};
 use vet_demand::policies::KeyedPolicy;
 use vet_demand::policy_key::PolicyKey;
 use vet_demand::project::NamedProject;
+use vet_desk::command::DeskCommand;
 use vet_entries::entry::Entry;
 use vet_entries::peer_content::PeerContent;
 use vet_entries::peer_settings::PeerSettings;
@@ -51,9 +54,13 @@ pub enum Action {
     LoadProject(NamedProject),
     /// Drops the project of this name.
     DropProject(PackageName),
-    /// Puts what three files hold in place of all that is held but projects. An entry that was held before, of the same
+    /// Puts what three files hold in place of all that is held but projects; the desk stays. An entry that was held before, of the same
     /// source, keeps its number; a peer of the config file that the imports file lacks is held with nothing imported.
     ReplaceFiles(FilesContent),
+    /// What is asked of the desk. A review that is finished adds an own entry, unless an equal one is held.
+    Desk(DeskCommand),
+    /// Begins another period: the counts at first are those that are present, and no move is recorded any more.
+    ClosePeriod,
 }
 
 impl Drop for Action {
@@ -72,6 +79,20 @@ impl Drop for Action {
             Action::LoadProject(_) => {}
             Action::DropProject(_) => {}
             Action::ReplaceFiles(_) => {}
+            Action::Desk(_) => {}
+            Action::ClosePeriod => {}
+        }
+    }
+}
+
+impl Action {
+    /// Whether it ends the period.
+    pub(crate) fn ends_period(&self) -> bool
+        ensures { result ≡ ends_period self.now }
+    {
+        match self {
+            Action::ClosePeriod => true,
+            _ => false,
         }
     }
 }
@@ -83,7 +104,8 @@ pub enum Outcome {
     Done {
         /// How many commands were accepted, this one among them.
         step: u64,
-        /// The number of the entry that it made.
+        /// The number of the entry that it made, of the review that it opened, or of the entry of the review that it
+        /// finished.
         number: Option<u64>,
         /// How many pairs it moved.
         moves: u64,

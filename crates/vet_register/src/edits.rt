@@ -13,6 +13,7 @@ ghost use Rattle.vet_register.specs.declared.command.Action.TheVariants as actio
 ghost use Rattle.vet_register.specs.RegisterView.{Asks, KeepsRoom};
 ghost use Rattle.vet_register.specs.Verdict.{judged};
 
+use crate::change::DeskEdit;
 use crate::command::{Action, Command};
 use crate::files_held::files_held;
 use crate::held::HeldEdit;
@@ -36,10 +37,12 @@ use vet_entries::publishers::Publishers;
 use vet_files::files_content::FilesContent;
 use vet_graph::keeper::Keeper;
 
-/// An edit of what is held, the number of the entry that a command makes, and the next number after it.
+/// Edits of what is held and of the desk, unless that stays; the number that a command is told, and the next number of an
+/// entry after it.
 #[derive(Drop)]
 pub struct Effect {
     pub(crate) edit: HeldEdit,
+    pub(crate) desk: Option<DeskEdit>,
     pub(crate) number: Option<u64>,
     pub(crate) next_entry: u64,
 }
@@ -56,7 +59,7 @@ pub enum Asked {
 impl<K: Keeper> Register<K> {
     /// What a command asks of the register, and room for it.
     pub(crate) fn asked_by(&mut self, alloc: Global, command: &Command) -> Result<Asked, Refusal>
-        ensures asked { Asks self.new command.now.action
+        ensures asked { Asks self.new command.now.day command.now.action
             (judged self.old.state command.now.day command.now.action) result }
         ensures state { self.new.state ≡ self.old.state }
         ensures keeper { self.new.keeper ≡ self.old.keeper }
@@ -78,11 +81,13 @@ impl<K: Keeper> Register<K> {
             Action::LoadProject(project) => self.load_project(project),
             Action::DropProject(name) => self.drop_project(name),
             Action::ReplaceFiles(files) => self.replace_files(alloc, files),
+            Action::Desk(asked) => self.ask_desk(alloc, command.day, asked),
+            Action::ClosePeriod => self.close_period(),
         }
     }
 
     fn set_criterion(&mut self, criterion: &Criterion) -> Result<Asked, Refusal>
-        ensures asked { (day : DayValue) → Asks self.new (action.SetCriterion criterion.now)
+        ensures asked { (day : DayValue) → Asks self.new day (action.SetCriterion criterion.now)
             (judged self.old.state day (action.SetCriterion criterion.now)) result }
         ensures state { self.new.state ≡ self.old.state }
         ensures keeper { self.new.keeper ≡ self.old.keeper }
@@ -94,13 +99,14 @@ impl<K: Keeper> Register<K> {
         let table = with_criterion(self.held.facts.criteria(), criterion)?;
         Ok(Asked::Effect(Effect {
             edit: HeldEdit::Facts(self.held.facts.edit_of_criteria(table)),
+            desk: None,
             number: None,
             next_entry: self.next_entry,
         }))
     }
 
     fn remove_criterion(&mut self, name: &Name) -> Result<Asked, Refusal>
-        ensures asked { (day : DayValue) → Asks self.new (action.RemoveCriterion name.now)
+        ensures asked { (day : DayValue) → Asks self.new day (action.RemoveCriterion name.now)
             (judged self.old.state day (action.RemoveCriterion name.now)) result }
         ensures state { self.new.state ≡ self.old.state }
         ensures keeper { self.new.keeper ≡ self.old.keeper }
@@ -110,13 +116,14 @@ impl<K: Keeper> Register<K> {
         let table = without_criterion(self.held.facts.criteria(), name)?;
         Ok(Asked::Effect(Effect {
             edit: HeldEdit::Facts(self.held.facts.edit_of_criteria(table)),
+            desk: None,
             number: None,
             next_entry: self.next_entry,
         }))
     }
 
     fn add_entry(&mut self, day: Day, entry: &Entry) -> Result<Asked, Refusal>
-        ensures asked { Asks self.new (action.AddEntry entry.now)
+        ensures asked { Asks self.new day (action.AddEntry entry.now)
             (judged self.old.state day (action.AddEntry entry.now)) result }
         ensures state { self.new.state ≡ self.old.state }
         ensures keeper { self.new.keeper ≡ self.old.keeper }
@@ -128,13 +135,14 @@ impl<K: Keeper> Register<K> {
         let own = entry.to_own()?;
         Ok(Asked::Effect(Effect {
             edit: HeldEdit::Facts(self.held.facts.edit_adding(self.next_entry, own)?),
+            desk: None,
             number: Some(self.next_entry),
             next_entry: self.next_entry + 1,
         }))
     }
 
     fn drop_entry(&mut self, number: u64) -> Result<Asked, Refusal>
-        ensures asked { (day : DayValue) → Asks self.new (action.DropEntry number)
+        ensures asked { (day : DayValue) → Asks self.new day (action.DropEntry number)
             (judged self.old.state day (action.DropEntry number)) result }
         ensures state { self.new.state ≡ self.old.state }
         ensures keeper { self.new.keeper ≡ self.old.keeper }
@@ -143,13 +151,14 @@ impl<K: Keeper> Register<K> {
         let place = self.judge_drop(number)?;
         Ok(Asked::Effect(Effect {
             edit: HeldEdit::Facts(self.held.facts.edit_dropping(place)),
+            desk: None,
             number: None,
             next_entry: self.next_entry,
         }))
     }
 
     fn set_peer(&mut self, alloc: Global, settings: &PeerSettings) -> Result<Asked, Refusal>
-        ensures asked { (day : DayValue) → Asks self.new (action.SetPeer settings.now)
+        ensures asked { (day : DayValue) → Asks self.new day (action.SetPeer settings.now)
             (judged self.old.state day (action.SetPeer settings.now)) result }
         ensures state { self.new.state ≡ self.old.state }
         ensures keeper { self.new.keeper ≡ self.old.keeper }
@@ -161,13 +170,14 @@ impl<K: Keeper> Register<K> {
         let copy = settings.clone()?;
         Ok(Asked::Effect(Effect {
             edit: HeldEdit::Facts(self.held.facts.edit_of_settings(alloc, copy)?),
+            desk: None,
             number: None,
             next_entry: self.next_entry,
         }))
     }
 
     fn drop_peer(&mut self, name: &Name) -> Result<Asked, Refusal>
-        ensures asked { (day : DayValue) → Asks self.new (action.DropPeer name.now)
+        ensures asked { (day : DayValue) → Asks self.new day (action.DropPeer name.now)
             (judged self.old.state day (action.DropPeer name.now)) result }
         ensures state { self.new.state ≡ self.old.state }
         ensures keeper { self.new.keeper ≡ self.old.keeper }
@@ -176,6 +186,7 @@ impl<K: Keeper> Register<K> {
         self.judge_peer_drop(name)?;
         Ok(Asked::Effect(Effect {
             edit: HeldEdit::Facts(self.held.facts.edit_dropping_peer(name)),
+            desk: None,
             number: None,
             next_entry: self.next_entry,
         }))
@@ -187,7 +198,7 @@ impl<K: Keeper> Register<K> {
         name: &Name,
         content: &PeerContent,
     ) -> Result<Asked, Refusal>
-        ensures asked { (day : DayValue) → Asks self.new (action.ImportPeer name.now content.now)
+        ensures asked { (day : DayValue) → Asks self.new day (action.ImportPeer name.now content.now)
             (judged self.old.state day (action.ImportPeer name.now content.now)) result }
         ensures state { self.new.state ≡ self.old.state }
         ensures keeper { self.new.keeper ≡ self.old.keeper }
@@ -202,6 +213,7 @@ impl<K: Keeper> Register<K> {
         let copy = copied(name)?;
         Ok(Asked::Effect(Effect {
             edit: HeldEdit::Facts(self.held.facts.edit_of_content(copy, after)),
+            desk: None,
             number: None,
             next_entry,
         }))
@@ -242,7 +254,7 @@ impl<K: Keeper> Register<K> {
         package: &PackageName,
         publishers: &Publishers,
     ) -> Result<Asked, Refusal>
-        ensures asked { (day : DayValue) → Asks self.new
+        ensures asked { (day : DayValue) → Asks self.new day
             (action.SetPublishers «package».now publishers.now)
             (judged self.old.state day (action.SetPublishers «package».now publishers.now)) result }
         ensures state { self.new.state ≡ self.old.state }
@@ -255,13 +267,14 @@ impl<K: Keeper> Register<K> {
         self.held.facts.records_stay_in_order(package, publishers);
         Ok(Asked::Effect(Effect {
             edit: HeldEdit::Facts(self.held.facts.publishers_edit(package, publishers)?),
+            desk: None,
             number: None,
             next_entry: self.next_entry,
         }))
     }
 
     fn set_policy(&mut self, policy: &KeyedPolicy) -> Result<Asked, Refusal>
-        ensures asked { (day : DayValue) → Asks self.new (action.SetPolicy policy.now)
+        ensures asked { (day : DayValue) → Asks self.new day (action.SetPolicy policy.now)
             (judged self.old.state day (action.SetPolicy policy.now)) result }
         ensures state { self.new.state ≡ self.old.state }
         ensures keeper { self.new.keeper ≡ self.old.keeper }
@@ -273,13 +286,14 @@ impl<K: Keeper> Register<K> {
         let copy = policy.clone()?;
         Ok(Asked::Effect(Effect {
             edit: self.held.edit_of_policy(copy)?,
+            desk: None,
             number: None,
             next_entry: self.next_entry,
         }))
     }
 
     fn drop_policy(&mut self, key: &PolicyKey) -> Result<Asked, Refusal>
-        ensures asked { (day : DayValue) → Asks self.new (action.DropPolicy key.now)
+        ensures asked { (day : DayValue) → Asks self.new day (action.DropPolicy key.now)
             (judged self.old.state day (action.DropPolicy key.now)) result }
         ensures state { self.new.state ≡ self.old.state }
         ensures keeper { self.new.keeper ≡ self.old.keeper }
@@ -288,13 +302,14 @@ impl<K: Keeper> Register<K> {
         self.judge_policy_drop(key)?;
         Ok(Asked::Effect(Effect {
             edit: self.held.edit_dropping_policy(key),
+            desk: None,
             number: None,
             next_entry: self.next_entry,
         }))
     }
 
     fn load_project(&mut self, project: &NamedProject) -> Result<Asked, Refusal>
-        ensures asked { (day : DayValue) → Asks self.new (action.LoadProject project.now)
+        ensures asked { (day : DayValue) → Asks self.new day (action.LoadProject project.now)
             (judged self.old.state day (action.LoadProject project.now)) result }
         ensures state { self.new.state ≡ self.old.state }
         ensures keeper { self.new.keeper ≡ self.old.keeper }
@@ -306,13 +321,14 @@ impl<K: Keeper> Register<K> {
         let copy = project.clone()?;
         Ok(Asked::Effect(Effect {
             edit: self.held.edit_of_project(copy)?,
+            desk: None,
             number: None,
             next_entry: self.next_entry,
         }))
     }
 
     fn drop_project(&mut self, name: &PackageName) -> Result<Asked, Refusal>
-        ensures asked { (day : DayValue) → Asks self.new (action.DropProject name.now)
+        ensures asked { (day : DayValue) → Asks self.new day (action.DropProject name.now)
             (judged self.old.state day (action.DropProject name.now)) result }
         ensures state { self.new.state ≡ self.old.state }
         ensures keeper { self.new.keeper ≡ self.old.keeper }
@@ -321,13 +337,14 @@ impl<K: Keeper> Register<K> {
         self.judge_project_drop(name)?;
         Ok(Asked::Effect(Effect {
             edit: self.held.edit_dropping_project(name),
+            desk: None,
             number: None,
             next_entry: self.next_entry,
         }))
     }
 
     fn replace_files(&mut self, alloc: Global, files: &FilesContent) -> Result<Asked, Refusal>
-        ensures asked { (day : DayValue) → Asks self.new (action.ReplaceFiles files.now)
+        ensures asked { (day : DayValue) → Asks self.new day (action.ReplaceFiles files.now)
             (judged self.old.state day (action.ReplaceFiles files.now)) result }
         ensures state { self.new.state ≡ self.old.state }
         ensures keeper { self.new.keeper ≡ self.old.keeper }
@@ -341,8 +358,22 @@ impl<K: Keeper> Register<K> {
         let held = files_held(alloc, self.next_entry, &self.held.facts, files, &comparison)?;
         Ok(Asked::Effect(Effect {
             edit: HeldEdit::Files(held),
+            desk: None,
             number: None,
             next_entry,
+        }))
+    }
+
+    fn close_period(&self) -> Result<Asked, Refusal>
+        ensures { (day : DayValue) → Asks self.now day action.ClosePeriod
+            (judged self.now.state day action.ClosePeriod) result }
+    {
+        self.check_step()?;
+        Ok(Asked::Effect(Effect {
+            edit: HeldEdit::Nothing,
+            desk: None,
+            number: None,
+            next_entry: self.next_entry,
         }))
     }
 }

@@ -10,7 +10,9 @@ ghost use Rattle.std.specs.Prelude.{◌≡◌, ◌&&◌, ℕ, List, IfErr, IfOk,
 ghost use Rattle.vet_base.specs.CriteriaChanges.{is_built_in};
 ghost use Rattle.vet_base.specs.Day.{DayValue};
 ghost use Rattle.vet_base.specs.Defined.{defined, least_undefined};
-ghost use Rattle.vet_base.specs.Gives.{Answers, Gives};
+ghost use Rattle.vet_base.specs.Gives.{Answers, Gives, refuse_if};
+ghost use Rattle.vet_base.specs.declared.refusal.Refusal.TheVariants.{CriterionInUse};
+ghost use Rattle.vet_desk.specs.Review.{are_open_beyond};
 ghost use Rattle.vet_register.specs.Already.{has_criteria, has_files, has_lists, has_peers, has_settings, is_held};
 ghost use Rattle.vet_register.specs.NamesOfFiles.{counted, named_alone, unknown_of_files, unknown_of_policies, unknown_of_targets};
 ghost use Rattle.vet_register.specs.Replacing.{compared_peer, entries_of_files, tool_of_files};
@@ -84,7 +86,18 @@ impl<K: Keeper> Register<K> {
         files.is_of_files();
         let known = defined_names(alloc, files.criteria())?;
         self.check_files_limits(files, comparison)?;
-        check_references(&known, files)
+        check_references(&known, files)?;
+        self.check_reviews(&known)
+    }
+
+    // Whether reviews that aren't closed name criteria of these alone.
+    fn check_reviews(&self, known: &DefinedNames) -> Result<(), Refusal>
+        ensures { result ≡ refuse_if (are_open_beyond known.now.table self.now.state.desk.reviews) CriterionInUse }
+    {
+        if self.desk.names_beyond(&known.table) {
+            return Err(Refusal::CriterionInUse);
+        }
+        Ok(())
     }
 
     // Whether files hold too much, where so many of their entries are new.

@@ -35,6 +35,8 @@ impl Drop for Held {
 /// A change of what is held, which takes no memory.
 #[derive(Drop)]
 pub enum HeldEdit {
+    /// Nothing changes.
+    Nothing,
     /// Of the facts of packages.
     Facts(Edit),
     /// Of the policies.
@@ -64,6 +66,7 @@ impl HeldEdit {
             HeldEdit::Policies(_) => false,
             HeldEdit::Projects(_) => false,
             HeldEdit::Files(_) => false,
+            HeldEdit::Nothing => true,
         }
     }
 }
@@ -159,6 +162,7 @@ impl Held {
             HeldEdit::Policies(edit) => HeldEdit::Policies(self.policies.apply(edit)),
             HeldEdit::Projects(edit) => HeldEdit::Projects(self.projects.apply(edit)),
             HeldEdit::Files(files) => HeldEdit::Files(self.exchange(files)),
+            HeldEdit::Nothing => HeldEdit::Nothing,
         }
     }
 

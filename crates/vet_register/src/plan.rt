@@ -2,7 +2,7 @@
 //!
 //! The edit is made, the demand found anew where the edit may change it, the keeper asked for the standing, and the
 //! edit undone, whether or not there was memory for all that.
-ghost use Rattle.std.specs.Prelude.{◌≡◌, ℕ, ◌+◌, ◌++◌, ◌≤◌, List, None, Ok, Some, IfOk, IfErr, IsTrue, length};
+ghost use Rattle.std.specs.Prelude.{◌≡◌, ℕ, ◌+◌, ◌++◌, ◌≤◌, false, List, None, Ok, Some, IfOk, IfErr, IsTrue, length};
 ghost use Rattle.vet_base.specs.Gives.{Gives};
 ghost use Rattle.vet_demand.specs.declared.pair.Pair.{Pair};
 ghost use Rattle.vet_demand.specs.DemandOf.{PoliciesAreKnown};
@@ -12,13 +12,13 @@ ghost use Rattle.vet_graph.specs.Moves.{moves_between};
 ghost use Rattle.vet_graph.specs.Touched.{SameOutside};
 ghost use Rattle.vet_register.specs.Changes.{FitsMoves, demand_by, first_by, moves_by};
 ghost use Rattle.vet_register.specs.Held.{Fits, content_of, demand_in, edited, standing_in};
-ghost use Rattle.vet_register.specs.Machine.{moves_of, number_after, number_given, outcome_of, records_of};
+ghost use Rattle.vet_register.specs.Machine.{ends_period, first_after, moves_after, moves_of, number_after, number_given, outcome_of, records_of};
 ghost use Rattle.vet_register.specs.RegisterView.{KeepsReady, KeepsRoom, held_room};
 ghost use Rattle.vet_register.specs.Sound.{IsSoundHeld};
 ghost use Rattle.vet_register.specs.State.{demanded, standing};
 ghost use Rattle.vet_register.specs.Verdict.{moves_fit, step_limit};
 
-use crate::change::Change;
+use crate::change::{Change, DeskEdit};
 use crate::command::{Command, Outcome};
 use crate::held::{Held, HeldEdit, held_edits_fit_with_more_room};
 use crate::moves::{RecordedMove, Recording, record};
@@ -103,6 +103,7 @@ impl<K: Keeper> Register<K> {
         command: &Command,
         number: Option<u64>,
         next_entry: u64,
+        desk: Option<DeskEdit>,
         planned: Planned<K>,
     ) -> Result<Change<K>, Refusal>
         requires step { step_limit self.old.state ≡ Ok tt }
@@ -110,12 +111,14 @@ impl<K: Keeper> Register<K> {
         requires next_entry { next_entry ≡ number_after self.old.state command.now.action }
         requires moves { K.keeping.moves_of planned.update ≡ moves_of self.old.state command.now.action }
         ensures told { Gives (λ c. tt) (moves_fit self.old.state command.now.action) result }
-        ensures edit { IfOk result (λ c. c.edit ≡ Some planned.edit) }
+        ensures edit { IfOk result (λ c. c.edit ≡ planned.edit) }
+        ensures desk { IfOk result (λ c. c.desk ≡ desk) }
         ensures demand { IfOk result (λ c. c.demand ≡ planned.demand) }
         ensures update { IfOk result (λ c. c.update ≡ planned.update) }
         ensures moves { IfOk result (λ c. moves_by c.recording self.old.state.moves
-            ≡ self.old.state.moves ++ records_of self.old.state command.now) }
-        ensures first { IfOk result (λ c. first_by c.recording self.old.state.first ≡ self.old.state.first) }
+            ≡ moves_after self.old.state command.now) }
+        ensures first { IfOk result (λ c. first_by c.recording self.old.state.first
+            ≡ first_after self.old.state command.now.action) }
         ensures room { IfOk result (λ c. FitsMoves c.recording self.new.room.moves) }
         ensures step { IfOk result (λ c. c.step ≡ self.old.state.step + 1) }
         ensures next_entry { IfOk result (λ c. c.next_entry ≡ number_after self.old.state command.now.action) }
@@ -125,7 +128,8 @@ impl<K: Keeper> Register<K> {
         ensures held_room { self.new.room.held ≡ self.old.room.held }
         ensures room_stays { KeepsRoom self.old self.new }
     {
-        let records = self.records(alloc, command, K::moves(&planned.update))?;
+        let moves = K::moves(&planned.update).len() as u64;
+        let recording = self.recording(alloc, command, K::moves(&planned.update))?;
         let step = self.step + 1;
         let Planned {
             edit,
@@ -136,15 +140,43 @@ impl<K: Keeper> Register<K> {
             outcome: Outcome::Done {
                 step,
                 number,
-                moves: records.len() as u64,
+                moves,
             },
             next_entry,
-            edit: Some(edit),
+            edit,
+            desk,
             demand,
             update,
-            recording: Recording::Behind(records),
+            recording,
             step,
         })
+    }
+
+    // What becomes of the recorded moves: a command's come behind them, and there is room for these; where it ends the
+    // period, none stays, and the counts at first are those that are present.
+    fn recording(
+        &mut self,
+        alloc: Global,
+        command: &Command,
+        moves: &[Move],
+    ) -> Result<Recording, Refusal>
+        requires step { step_limit self.old.state ≡ Ok tt }
+        requires moves { moves.now ≡ moves_of self.old.state command.now.action }
+        ensures told { Gives (λ r. tt) (moves_fit self.old.state command.now.action) result }
+        ensures moves { IfOk result (λ r. moves_by r self.old.state.moves ≡ moves_after self.old.state command.now) }
+        ensures first { IfOk result (λ r. first_by r self.old.state.first
+            ≡ first_after self.old.state command.now.action) }
+        ensures room { IfOk result (λ r. FitsMoves r self.new.room.moves) }
+        ensures state { self.new.state ≡ self.old.state }
+        ensures keeper { self.new.keeper ≡ self.old.keeper }
+        ensures held_room { self.new.room.held ≡ self.old.room.held }
+        ensures room_stays { KeepsRoom self.old self.new }
+    {
+        if command.action.ends_period() {
+            return Ok(Recording::Anew(self.keeper.counts()));
+        }
+        let records = self.records(alloc, command, moves)?;
+        Ok(Recording::Behind(records))
     }
 
     // The records of a command's moves, and room for them.
@@ -155,6 +187,7 @@ impl<K: Keeper> Register<K> {
         moves: &[Move],
     ) -> Result<Vec<RecordedMove>, Refusal>
         requires step { step_limit self.old.state ≡ Ok tt }
+        requires stays { ends_period command.now.action ≡ false }
         requires moves { moves.now ≡ moves_of self.old.state command.now.action }
         ensures told { Gives (λ r. tt) (moves_fit self.old.state command.now.action) result }
         ensures records { IfOk result (λ r. r.items ≡ records_of self.old.state command.now) }

@@ -6,7 +6,8 @@
 //! A command goes in two calls, so that a caller can write down in between what it changes. `prepare` does all that
 //! can fail: it judges the command (`verdict`), makes the edit that it asks for (`edits`), has the keeper plan the
 //! standing after it, and takes room for all that will be added. The state stays. `install` makes the change, takes
-//! no memory and can't fail. A change that isn't installed is let go.
+//! no memory and can't fail. A change that isn't installed is let go. What is asked of the review desk goes the same two
+//! ways there (`at_desk`).
 //!
 //! To plan (`plan`), the register makes the edit, finds the demand, asks the keeper, and makes the edit that undoes it,
 //! whether or not there was memory. So what is held is never copied, and the edit that comes back is the one that
@@ -19,19 +20,18 @@ ghost use Rattle.std.specs.Prelude.{◌≡◌, ◌<◌, ◌≤◌, Ok, IfOk, IfE
 ghost use Rattle.vet_base.specs.Gives.{Gives};
 ghost use Rattle.vet_graph.specs.Standing.{class_in, counts_of, total_of};
 ghost use Rattle.vet_graph.specs.StandingOf.{StandsAt};
-ghost use Rattle.vet_register.specs.Changes.{FitsHeld, demand_by, held_by};
-ghost use Rattle.vet_register.specs.Held.{content_of};
+ghost use Rattle.vet_register.specs.Changes.{demand_by, desk_edited};
 ghost use Rattle.vet_register.specs.Machine.{CommandValue, next};
-ghost use Rattle.vet_register.specs.RegisterView.{IsAnswer, IsExact, IsPrepared, KeepsPrepared, KeepsReady, KeepsRoom, answer_of};
+ghost use Rattle.vet_register.specs.RegisterView.{HoldsDesk, IsAnswer, IsExact, IsPrepared, KeepsPrepared, KeepsReady, KeepsRoom, answer_of};
 ghost use Rattle.vet_register.specs.Runs.{AreTurns, IsTurn};
 ghost use Rattle.vet_register.specs.Sound.{IsSound};
 ghost use Rattle.vet_register.specs.State.{demanded, standing, start};
 ghost use Rattle.vet_register.specs.Verdict.{judged, verdict, wants_memory};
 
-use crate::change::{Change, Prepared};
+use crate::change::{Change, DeskEdit, Prepared};
 use crate::command::{Command, Outcome};
 use crate::edits::{Asked, Effect};
-use crate::held::{Held, HeldEdit, held_edits_fit_with_more_room};
+use crate::held::{Held, held_edits_fit_with_more_room};
 use crate::moves::{RecordedMove, make_recording};
 use crate::tool_settings::ToolSettings;
 use std::alloc::Global;
@@ -46,6 +46,7 @@ use vet_demand::demand_of::{demand_is_least, nothing_is_demanded};
 use vet_demand::pair::Pair;
 use vet_demand::policies::KeyedPolicy;
 use vet_demand::project::NamedProject;
+use vet_desk::desk::Desk;
 use vet_entries::facts::{EntryFacts, HeldEntry};
 use vet_entries::held_peer::HeldPeer;
 use vet_entries::publisher_records::PackagePublishers;
@@ -60,6 +61,7 @@ use vet_graph::touched::Touched;
 /// classes; which one it is changes no answer.
 pub struct Register<K: Keeper> {
     pub(crate) held: Held,
+    pub(crate) desk: Desk,
     pub(crate) demand: Demand,
     pub(crate) keeper: K,
     pub(crate) step: u64,
@@ -80,17 +82,20 @@ impl<K: Keeper> Model for Register<K> {
     ghost use Rattle.vet_entries.specs.contracts.publisher_records.PackagePublishers as listed;
     ghost use Rattle.vet_demand.specs.contracts.policies.KeyedPolicy as policy;
     ghost use Rattle.vet_demand.specs.contracts.project.NamedProject as project;
+    ghost use Rattle.vet_desk.specs.DeskView.{desk_code};
+    ghost use Rattle.vet_desk.specs.contracts.review.Review as review;
     ghost use Rattle.vet_graph.specs.contracts.standing.Counts as counts;
     ghost use Rattle.vet_register.specs.contracts.tool_settings.ToolSettings as settings;
     ghost use Rattle.vet_register.specs.contracts.moves.RecordedMove as recorded;
 
     ghost Value = { RegisterView K };
 
-    ghost coded = { register_code K.code (facts_room_code entry.the_row.coded peer.the_row.coded listed.the_row.coded) policy.the_row.coded project.the_row.coded settings.the_row.coded counts.the_row.coded recorded.the_row.coded };
+    ghost coded = { register_code K.code (facts_room_code entry.the_row.coded peer.the_row.coded listed.the_row.coded) policy.the_row.coded project.the_row.coded settings.the_row.coded (desk_code review.the_row.coded) counts.the_row.coded recorded.the_row.coded };
 
     ghost view = { λ r. record {
       state = record {
         held = content_of r.held;
+        desk = r.desk.content;
         step = r.step;
         next_entry = r.next_entry;
         moves_limit = r.moves_limit;
@@ -100,12 +105,14 @@ impl<K: Keeper> Model for Register<K> {
       keeper = r.keeper;
       room = record {
         held = room_of r.held;
+        desk = r.desk.room;
         moves = vec_capacity r.moves - vec_len r.moves;
       };
     } };
 
     ghost invariant = { λ r. HasKept K.keeping r.keeper r.demand (content_of r.held) × IsSound (record {
       held = content_of r.held;
+      desk = r.desk.content;
       step = r.step;
       next_entry = r.next_entry;
       moves_limit = r.moves_limit;
@@ -118,6 +125,7 @@ impl<K: Keeper> Drop for Register<K> {
     fn drop(self) {
         let Register {
             held: _,
+            desk: _,
             demand: _,
             keeper: _,
             step: _,
@@ -131,7 +139,7 @@ impl<K: Keeper> Drop for Register<K> {
 
 impl<K: Keeper> Register<K> {
     /// A register that holds nothing but the built-in criteria, so that nothing is demanded and the counts at first
-    /// are zeros. Asks for a limit of 1 to 1,000,000 moves. Refused: `NoMemory`.
+    /// are zeros, with a desk at which nobody is. Asks for a limit of 1 to 1,000,000 moves. Refused: `NoMemory`.
     pub fn new(alloc: Global, moves_limit: usize) -> Result<Register<K>, Refusal>
         requires { (0 < moves_limit) × (moves_limit ≤ MOST_MOVES) }
         ensures start { IfOk result (λ r. r.state ≡ start moves_limit) }
@@ -143,6 +151,7 @@ impl<K: Keeper> Register<K> {
         let keeper = K::empty(alloc)?;
         Ok(Register {
             held,
+            desk: Desk::new(alloc),
             demand: Demand::none(alloc),
             keeper,
             step: 0,
@@ -162,11 +171,13 @@ impl<K: Keeper> Register<K> {
     /// What a command is told, and what it would change. The state stays, whatever is answered; room is taken
     /// for what `install` adds, and what was prepared on this state before can still be installed. The keeper
     /// is told that all packages are touched. Refused, the first that holds: `TooManyCriteria`, `TooLarge` of
-    /// `peers`, `entries`, `publishers`, `policies`, `projects`, `step` or `number`; `UnknownCriterion`,
-    /// `UnknownEntry`, `UnknownPeer`, `UnknownPolicy`, `UnknownProject`; `BuiltInCriterion`, `CriterionInUse`,
-    /// `EmptyWindow`, `WindowTooLong`; `MovesFull`. `NoMemory` comes in place of `UnknownCriterion`, or where none
-    /// before `MovesFull` holds; a command whose content is held never meets it, but for an import and files, whose
-    /// comparison with what is held takes memory.
+    /// `peers`, `entries`, `publishers`, `policies`, `projects`, `members`, `reviews`, `step` or `number`;
+    /// `UnknownCriterion`, `UnknownEntry`, `UnknownPeer`, `UnknownPolicy`, `UnknownProject`, `UnknownMember`,
+    /// `UnknownReview`; `BuiltInCriterion`, `CriterionInUse`, `EmptyWindow`, `WindowTooLong`, `ReviewClosed`,
+    /// `NotYours`, `WrongTarget`, `NotDemanded`; `MovesFull`. Of a review that is finished `TooLarge` comes after the
+    /// rules. `NoMemory` comes in place of `UnknownCriterion`, or where none before `MovesFull` holds; a command whose
+    /// content is held never meets it, but for an import and files, whose comparison with what is held takes memory; so
+    /// does that of the entry of a finished review.
     pub fn prepare(&mut self, alloc: Global, command: &Command) -> Result<Prepared<K>, Refusal>
         ensures told { Gives answer_of (verdict self.old.state command.now) result }
         ensures exact { IsExact (wants_memory command.now.action)
@@ -188,11 +199,12 @@ impl<K: Keeper> Register<K> {
                 self.state_is_sound();
                 let Effect {
                     edit,
+                    desk,
                     number,
                     next_entry,
                 } = effect;
                 let planned = self.plan(alloc, &Touched::All, edit)?;
-                let change = self.change(alloc, command, number, next_entry, planned)?;
+                let change = self.change(alloc, command, number, next_entry, desk, planned)?;
                 Ok(Prepared::Change(change))
             }
         }
@@ -207,6 +219,7 @@ impl<K: Keeper> Register<K> {
     {
         let Change {
             edit,
+            desk,
             demand,
             update,
             recording,
@@ -214,7 +227,8 @@ impl<K: Keeper> Register<K> {
             next_entry,
             outcome: _,
         } = change;
-        make_edit(&mut self.held, edit);
+        let _ = self.held.apply(edit);
+        change_desk(&mut self.desk, desk);
         exchange(&mut self.demand, demand);
         self.keeper.apply(update);
         self.step = step;
@@ -310,6 +324,13 @@ impl<K: Keeper> Register<K> {
         self.moves.as_slice()
     }
 
+    /// The review desk. Takes no memory.
+    pub fn desk(&self) -> &Desk
+        ensures { result.now.content ≡ self.now.state.desk }
+    {
+        &self.desk
+    }
+
     /// How many commands were accepted. Takes no memory.
     pub fn step(&self) -> u64
         ensures { result ≡ self.now.state.step }
@@ -382,13 +403,14 @@ impl<K: Keeper> Register<K> {
     }
 }
 
-// Makes an edit of what is held, if there is one, for which there is room.
-fn make_edit(held: &mut Held, edit: Option<HeldEdit>)
-    requires { FitsHeld edit held.old }
-    ensures { content_of held.new ≡ held_by edit (content_of held.old) }
+// Makes an edit of the desk, if there is one, that it prepared.
+fn change_desk(desk: &mut Desk, edit: Option<DeskEdit>)
+    requires { HoldsDesk edit desk.old }
+    ensures { desk.new.content ≡ desk_edited edit desk.old.content }
 {
     if let Some(edit) = edit {
-        let _ = held.apply(edit);
+        let DeskEdit { change, entry } = edit;
+        desk.install(change, entry);
     }
 }
 

@@ -237,14 +237,17 @@ impl<K: Keeper> Register<K> {
         self.check_project(name)
     }
 
-    // Whether an own entry, a target of a peer's map or a policy names a criterion.
+    // Whether an own entry, a target of a peer's map or a policy names a criterion, or a review that isn't closed.
     fn uses_criterion(&self, name: &Name) -> bool
-        ensures { result ≡ is_used self.now.state.held name.now }
+        ensures { result ≡ is_used self.now.state name.now }
     {
         if self.held.facts.names_criterion(name) {
             return true;
         }
-        names_criterion(self.held.policies.items(), name)
+        if names_criterion(self.held.policies.items(), name) {
+            return true;
+        }
+        self.desk.names_criterion(name)
     }
 
     // Whether a policy is held as it is.
@@ -312,8 +315,8 @@ impl<K: Keeper> Register<K> {
         Ok(())
     }
 
-    // How many entries there are of all sources.
-    fn entries_total(&self) -> usize
+    /// How many entries there are of all sources.
+    pub(crate) fn entries_total(&self) -> usize
         ensures value { result ≡ entries_total self.now.state.held.facts }
         ensures few { result ≤ MOST_ENTRIES }
     {
@@ -385,8 +388,8 @@ impl<K: Keeper> Register<K> {
     }
 }
 
-// So many entries, and so many more, are within their limit.
-fn check_entry_limit(held: usize, more: usize) -> Result<(), Refusal>
+/// So many entries, and so many more, are within their limit.
+pub(crate) fn check_entry_limit(held: usize, more: usize) -> Result<(), Refusal>
     requires { held ≤ MOST_ENTRIES }
     ensures { result ≡ entry_limit (held + more) }
 {

@@ -16,13 +16,13 @@ use Rattle.vet_register.proofs.register.Register.add_entry.Goals as goal
 pub returns-in_err-number-clause-asked : goal.returns-in_err-number-clause-asked
 returns-in_err-number-clause-asked g c =
     let passed = err_from_is_err_and c.from_residual.result c.from_residual.ensures.1 in
-    rw (passed.1, passed.2) (refused _ _ _ _ c.in_err-number.ensures)
+    rw (passed.1, passed.2) (refused _ _ _ _ _ c.in_err-number.ensures)
 
 pub returns-in_err-edit_adding-clause-asked : goal.returns-in_err-edit_adding-clause-asked
 returns-in_err-edit_adding-clause-asked g c =
     let passed = err_from_is_err_and c.from_residual-in_err-edit_adding.result c.from_residual-in_err-edit_adding.ensures.1 in
     let told : judged c.args.self.now.state c.args.day (action.AddEntry c.args.entry.now) ≡ Ok Accepted = answered _ _ c.in_ok-number.ensures ∙ ap Ok c.in_default.is in
-    rw (passed.1, passed.2) (no_memory _ _ _ _ told c.in_err-edit_adding.ensures.memory)
+    rw (passed.1, passed.2) (no_memory _ _ _ _ _ told c.in_err-edit_adding.ensures.memory)
 
 pub returns-clause-asked : goal.returns-clause-asked
 returns-clause-asked g c =
@@ -33,6 +33,7 @@ returns-clause-asked g c =
     let added = c.in_ok-edit_adding.ensures in
     let before : State = record {
       held = content_of c.self.inside.held;
+      desk = c.self.inside.desk.content;
       step = c.self.inside.step;
       next_entry = c.self.inside.next_entry;
       moves_limit = c.self.inside.moves_limit;
@@ -52,7 +53,7 @@ returns-clause-asked g c =
     let number = ap (λ (r : RegisterView _). Some r.state.next_entry) c.self.view_is in
     let held = ap (λ (r : RegisterView _). r.state.next_entry) c.self.view_is in
     let next : c.self.inside.next_entry + 1 ≡ number_after state asks = omega (arith, held) in
-    effective _ _ _ _ told (facts_effect _ asks state c.args.day c.in_ok-edit_adding.field-0 _ _ stays sound told tt facts refl refl refl number next added.fits sound.held.facts.criteria sound.held.facts.publishers)
+    effective _ _ _ _ _ told (facts_effect _ _ asks state c.in_ok-edit_adding.field-0 _ _ stays sound told tt facts refl refl refl refl number next added.fits sound.held.facts.criteria sound.held.facts.publishers)
 
 pub edit_adding-requires : goal.edit_adding-requires
 edit_adding-requires g c =

@@ -31,4 +31,4 @@ returns-clause-asked g c day =
     let fits = subst (λ (r : RegisterView _). Fits c.edit_dropping.result (held_room r).facts) c.self.view_is c.edit_dropping.ensures.fits in
     let held = ap (λ (r : RegisterView _). r.state.next_entry) c.self.view_is in
     let next : c.self.inside.next_entry ≡ number_after state asks = omega (arith, held) in
-    effective _ _ _ _ told (facts_effect _ asks state day c.edit_dropping.result _ _ refl sound told tt facts refl refl refl refl next fits sound.held.facts.criteria sound.held.facts.publishers)
+    effective _ _ _ _ _ told (facts_effect _ _ asks state c.edit_dropping.result _ _ refl sound told tt facts refl refl refl refl refl next fits sound.held.facts.criteria sound.held.facts.publishers)

@@ -6,7 +6,7 @@ use Rattle.vet_register.specs.Machine.{number_after}
 use Rattle.vet_register.specs.RegisterView.{RegisterView, held_room}
 use Rattle.vet_register.specs.Sound.{IsSound}
 use Rattle.vet_register.specs.Verdict.{held_or, judged}
-use Rattle.vet_register.proofs.Asking.{answered, effect_is, effective, some_day}
+use Rattle.vet_register.proofs.Asking.{answered, held_effect, effective, some_day}
 use Rattle.vet_register.proofs.HeldEffects.{policy_held, sound_held}
 use Rattle.vet_register.proofs.register.Register.drop_policy.Goals as goal
 
@@ -27,5 +27,5 @@ returns-clause-asked g c day =
     let fits = subst (λ (r : RegisterView _). Fits c.edit_dropping_policy.result (held_room r)) c.self.view_is c.edit_dropping_policy.ensures.fits in
     let number = ap (λ (r : RegisterView _). r.state.next_entry) c.self.view_is in
     let next : c.self.inside.next_entry ≡ number_after state asks = omega (arith, number) in
-    effective _ _ _ _ told (effect_is _ _ state _ refl held refl next fits
-    (sound_held state day asks told sound.held tt sound.held.facts.criteria sound.held.facts.publishers))
+    effective _ _ _ _ _ told (held_effect _ _ _ state _ refl held refl refl refl next fits
+    (sound_held state day asks told sound tt sound.held.facts.criteria sound.held.facts.publishers))

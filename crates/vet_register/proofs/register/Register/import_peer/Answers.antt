@@ -57,4 +57,4 @@ returns-clause-asked g c day =
     let fits = subst (λ (r : RegisterView _). Fits c.edit_of_content.result (held_room r).facts) c.self.view_is c.edit_of_content.ensures.fits in
     let held = ap (λ (r : RegisterView _). r.state.next_entry) c.self.view_is in
     let next : c.self.inside.next_entry + c.new_count.result ≡ number_after state asks = omega (arith, held, found.0, c.new_count.ensures) in
-    inr (effective _ _ _ _ accepted.told (facts_effect _ asks state day c.edit_of_content.result _ _ refl sound accepted.told c.entries.ensures.content facts refl refl refl refl next fits sound.held.facts.criteria sound.held.facts.publishers))
+    inr (effective _ _ _ _ _ accepted.told (facts_effect _ _ asks state c.edit_of_content.result _ _ refl sound accepted.told c.entries.ensures.content facts refl refl refl refl refl next fits sound.held.facts.criteria sound.held.facts.publishers))

@@ -14,6 +14,7 @@ invariant_of-self g c =
     let prepared = subst (λ r. IsPrepared g.K.Keeper.keeping r command change) (sym c.self.view_is) c.requires.1 in
     let s : State = record {
       held = content_of c.self.inside.held;
+      desk = c.self.inside.desk.content;
       step = c.self.inside.step;
       next_entry = c.self.inside.next_entry;
       moves_limit = c.self.inside.moves_limit;
@@ -21,7 +22,8 @@ invariant_of-self g c =
       moves = c.self.inside.moves.items;
     } in
     let left : State = record {
-      held = content_of c.make_edit.new.held;
+      held = content_of c.apply.new.self;
+      desk = c.change_desk.new.desk.content;
       step = change.step;
       next_entry = change.next_entry;
       moves_limit = c.self.inside.moves_limit;
@@ -29,7 +31,8 @@ invariant_of-self g c =
       moves = c.make_recording.new.moves.items;
     } in
     let made : changed change s ≡ left = λ i. record {
-      held = sym c.make_edit.ensures i;
+      held = sym c.apply.ensures.content i;
+      desk = sym c.change_desk.ensures i;
       step = change.step;
       next_entry = change.next_entry;
       moves_limit = c.self.inside.moves_limit;
@@ -38,16 +41,21 @@ invariant_of-self g c =
     } in
     let same : next s command ≡ left = sym prepared.step.becomes ∙ made in (
       (
-        c.apply.ensures.keeps _ _ (subst (λ (t : State). g.K.Keeper.keeping.plans change.update t.held.facts (demanded t)) same prepared.step.basis),
+        c.apply-2.ensures.keeps _ _ (subst (λ (t : State). g.K.Keeper.keeping.plans change.update t.held.facts (demanded t)) same prepared.step.basis),
         (
-          c.apply.ensures.standing ∙ prepared.step.standing ∙ ap standing same,
+          c.apply-2.ensures.standing ∙ prepared.step.standing ∙ ap standing same,
           c.exchange.ensures ∙ ap (demand_by change.demand) c.self.invariant.0.1.1 ∙ prepared.step.demand ∙ ap demanded same,
         ),
       ),
       subst IsSound same prepared.step.sound,
     )
 
-pub make_edit-requires : goal.make_edit-requires
-make_edit-requires g c =
+pub apply-requires : goal.apply-requires
+apply-requires g c =
     let prepared = subst (λ r. IsPrepared g.K.Keeper.keeping r c.requires.0 c.args.change) (sym c.self.view_is) c.requires.1 in
     prepared.fits
+
+pub change_desk-requires : goal.change_desk-requires
+change_desk-requires g c =
+    let prepared = subst (λ r. IsPrepared g.K.Keeper.keeping r c.requires.0 c.args.change) (sym c.self.view_is) c.requires.1 in
+    prepared.desk

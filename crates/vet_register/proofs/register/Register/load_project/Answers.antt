@@ -8,14 +8,14 @@ use Rattle.vet_register.specs.RegisterView.{RegisterView}
 use Rattle.vet_register.specs.Sound.{IsSound}
 use Rattle.vet_register.specs.State.{State}
 use Rattle.vet_register.specs.Verdict.{judged}
-use Rattle.vet_register.proofs.Asking.{answered, effect_is, effective, refused}
+use Rattle.vet_register.proofs.Asking.{answered, held_effect, effective, refused}
 use Rattle.vet_register.proofs.HeldEffects.{sound_held}
 use Rattle.vet_register.proofs.register.Register.load_project.Goals as goal
 
 pub returns-in_err-number-clause-asked : goal.returns-in_err-number-clause-asked
 returns-in_err-number-clause-asked g c day =
     let passed = err_from_is_err_and c.from_residual.result c.from_residual.ensures.1 in
-    rw (passed.1, passed.2) (refused _ _ _ _ (c.in_err-number.ensures day))
+    rw (passed.1, passed.2) (refused _ _ _ _ _ (c.in_err-number.ensures day))
 
 pub returns-clause-asked : goal.returns-clause-asked
 returns-clause-asked g c day =
@@ -26,6 +26,7 @@ returns-clause-asked g c day =
     let set = c.in_ok-edit_of_project.ensures in
     let before : State = record {
       held = content_of c.self.inside.held;
+      desk = c.self.inside.desk.content;
       step = c.self.inside.step;
       next_entry = c.self.inside.next_entry;
       moves_limit = c.self.inside.moves_limit;
@@ -39,5 +40,5 @@ returns-clause-asked g c day =
     let held = edit ∙ (λ i. record state.held { projects = with_project (same i) state.held.projects }) in
     let number = ap (λ (r : RegisterView _). r.state.next_entry) c.self.view_is in
     let next : c.self.inside.next_entry ≡ number_after state asks = omega (arith, number) in
-    effective _ _ _ _ told (effect_is _ _ state _ stays held refl next set.fits
-    (sound_held state day asks told sound.held tt sound.held.facts.criteria sound.held.facts.publishers))
+    effective _ _ _ _ _ told (held_effect _ _ _ state _ stays held refl refl refl next set.fits
+    (sound_held state day asks told sound tt sound.held.facts.criteria sound.held.facts.publishers))

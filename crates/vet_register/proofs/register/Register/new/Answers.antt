@@ -15,18 +15,20 @@ invariant_of-result g c =
     let kept = subst (λ d. g.K.Keeper.keeping.keeps c.in_ok-keeper.keeper no_facts d) (sym none) (c.in_ok-keeper.ensures.keeps no_facts c.nothing_vets_nothing.ensures.gives) in
     let same : start c.args.moves_limit ≡ record {
       held = content_of c.in_ok-held.held;
+      desk = c.new-2.result.content;
       step = 0;
       next_entry = 1;
       moves_limit = c.args.moves_limit;
       first = no_counts;
-      moves = c.new-2.result.items;
+      moves = c.new-3.result.items;
     } = λ i. record {
       held = held i;
+      desk = sym c.new-2.ensures i;
       step = 0;
       next_entry = 1;
       moves_limit = c.args.moves_limit;
       first = no_counts;
-      moves = sym c.new-2.ensures.items i;
+      moves = sym c.new-3.ensures.items i;
     } in (
       (
         subst (λ h. g.K.Keeper.keeping.keeps c.in_ok-keeper.keeper h.facts (demand_in h)) held kept,

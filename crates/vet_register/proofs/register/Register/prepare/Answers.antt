@@ -1,54 +1,55 @@
 use Rattle.std.proofs.Common.{◌≡◌, ◌∙◌, ap, sym, subst, Ok}
 use Rattle.std.proofs.lemmas.Result.{err_from_is_err_and}
 use Rattle.vet_register.specs.declared.held.Held.{Held}
-use Rattle.vet_register.specs.Held.{Fits, demand_in, held_with, standing_in}
+use Rattle.vet_register.specs.Held.{Fits, demand_in, edited, held_with, standing_in}
 use Rattle.vet_register.specs.declared.verdict.Answer.TheVariants.{Accepted}
-use Rattle.vet_register.specs.Changes.{FitsHeld, demand_by, held_by}
-use Rattle.vet_register.specs.Machine.{moves_of, number_after}
-use Rattle.vet_register.specs.RegisterView.{Asks, IsStep, held_room}
+use Rattle.vet_register.specs.Changes.{demand_by, desk_edited}
+use Rattle.vet_register.specs.Machine.{moves_of, number_after, number_given}
+use Rattle.vet_register.specs.RegisterView.{Asks, HoldsDesk, IsStep, desk_room, held_room}
 use Rattle.vet_graph.specs.Moves.{moves_between}
 use Rattle.vet_register.specs.State.{State, demanded, standing}
 use Rattle.vet_register.specs.Sound.{IsSoundHeld}
 use Rattle.vet_register.specs.Verdict.{judged, step_limit}
 use Rattle.vet_register.proofs.Asking.{accepted, accepted_exact, refusal_exact, refusal_told}
+use Rattle.vet_register.proofs.AskingDesk.{room_onward}
 use Rattle.vet_register.proofs.Effects.{passed, step_passed}
-use Rattle.vet_register.proofs.Prepared.{AreParts, IsUpdate, fit_told, fits_told, is_step, prepared_stays}
+use Rattle.vet_register.proofs.Prepared.{AreParts, IsUpdate, desk_still, fit_told, fits_told, is_step, prepared_stays, same_keeper}
 use Rattle.vet_register.proofs.Soundness.{MoveLaws}
 use Rattle.vet_register.proofs.register.Register.prepare.Goals as goal
 
 pub returns-in_err-number-clause-told : goal.returns-in_err-number-clause-told
 returns-in_err-number-clause-told g c =
     let passed = err_from_is_err_and c.from_residual.result c.from_residual.ensures.1 in
-    rw (passed.1, passed.2) (refusal_told _ _ _ _ _ c.in_err-number.ensures.asked)
+    rw (passed.1, passed.2) (refusal_told _ _ _ _ _ _ c.in_err-number.ensures.asked)
 
 pub returns-in_err-number-clause-exact : goal.returns-in_err-number-clause-exact
 returns-in_err-number-clause-exact g c =
     let passed = err_from_is_err_and c.from_residual.result c.from_residual.ensures.1 in
-    rw (passed.1, passed.2) (refusal_exact _ _ _ _ _ c.in_err-number.ensures.asked)
+    rw (passed.1, passed.2) (refusal_exact _ _ _ _ _ _ c.in_err-number.ensures.asked)
 
 pub change-requires-clause-step : goal.change-requires-clause-step
 change-requires-clause-step g c =
     let command = c.args.command.now in
     let action = command.action in
-    let asks = accepted c.asked_by.new.self action (judged c.args.self.now.state command.day action) c.in-Effect.effect
-    (subst (Asks c.asked_by.new.self action (judged c.args.self.now.state command.day action)) (ap Ok c.in-Effect.is) c.in_ok-number.ensures.asked) in
+    let asks = accepted c.asked_by.new.self command.day action (judged c.args.self.now.state command.day action) c.in-Effect.effect
+    (subst (Asks c.asked_by.new.self command.day action (judged c.args.self.now.state command.day action)) (ap Ok c.in-Effect.is) c.in_ok-number.ensures.asked) in
     let s = c.args.self.now.state in
-    subst (λ (t : State). step_limit t ≡ Ok tt) (sym (c.plan.ensures.state ∙ c.asked_by.ensures.state)) (step_passed s action (passed s command.day action asks.0).limits)
+    subst (λ (t : State). step_limit t ≡ Ok tt) (sym (c.plan.ensures.state ∙ c.asked_by.ensures.state)) (step_passed s command.day action (passed s command.day action asks.0))
 
 pub change-requires-clause-next_entry : goal.change-requires-clause-next_entry
 change-requires-clause-next_entry g c =
     let command = c.args.command.now in
     let action = command.action in
-    let asks = accepted c.asked_by.new.self action (judged c.args.self.now.state command.day action) c.in-Effect.effect
-    (subst (Asks c.asked_by.new.self action (judged c.args.self.now.state command.day action)) (ap Ok c.in-Effect.is) c.in_ok-number.ensures.asked) in
+    let asks = accepted c.asked_by.new.self command.day action (judged c.args.self.now.state command.day action) c.in-Effect.effect
+    (subst (Asks c.asked_by.new.self command.day action (judged c.args.self.now.state command.day action)) (ap Ok c.in-Effect.is) c.in_ok-number.ensures.asked) in
     asks.1.next_entry ∙ ap (λ (t : State). number_after t action) (sym c.plan.ensures.state)
 
 pub change-requires-clause-moves : goal.change-requires-clause-moves
 change-requires-clause-moves g c =
     let command = c.args.command.now in
     let action = command.action in
-    let asks = accepted c.asked_by.new.self action (judged c.args.self.now.state command.day action) c.in-Effect.effect
-    (subst (Asks c.asked_by.new.self action (judged c.args.self.now.state command.day action)) (ap Ok c.in-Effect.is) c.in_ok-number.ensures.asked) in
+    let asks = accepted c.asked_by.new.self command.day action (judged c.args.self.now.state command.day action) c.in-Effect.effect
+    (subst (Asks c.asked_by.new.self command.day action (judged c.args.self.now.state command.day action)) (ap Ok c.in-Effect.is) c.in_ok-number.ensures.asked) in
     let s = c.asked_by.new.self.state in
     c.in_ok-planned-in-Effect.ensures.moves ∙ ap (λ h. moves_between (standing s) (standing_in h)) asks.1.held
     ∙ ap (λ (t : State). moves_of t action) (sym c.plan.ensures.state)
@@ -57,8 +58,8 @@ pub returns-in_err-change-in-Effect-clause-told : goal.returns-in_err-change-in-
 returns-in_err-change-in-Effect-clause-told g c =
     let command = c.args.command.now in
     let action = command.action in
-    let asks = accepted c.asked_by.new.self action (judged c.args.self.now.state command.day action) c.in-Effect.effect
-    (subst (Asks c.asked_by.new.self action (judged c.args.self.now.state command.day action)) (ap Ok c.in-Effect.is) c.in_ok-number.ensures.asked) in
+    let asks = accepted c.asked_by.new.self command.day action (judged c.args.self.now.state command.day action) c.in-Effect.effect
+    (subst (Asks c.asked_by.new.self command.day action (judged c.args.self.now.state command.day action)) (ap Ok c.in-Effect.is) c.in_ok-number.ensures.asked) in
     let gone = err_from_is_err_and c.from_residual-in_err-change-in-Effect.result c.from_residual-in_err-change-in-Effect.ensures.1 in
     rw (gone.1, gone.2) (fit_told c.args.self.now.state c.plan.new.self.state command _ (c.plan.ensures.state ∙ c.asked_by.ensures.state) asks.0
     c.in_err-change-in-Effect.ensures.told)
@@ -67,24 +68,24 @@ pub returns-in_err-change-in-Effect-clause-exact : goal.returns-in_err-change-in
 returns-in_err-change-in-Effect-clause-exact g c =
     let command = c.args.command.now in
     let action = command.action in
-    let asks = accepted c.asked_by.new.self action (judged c.args.self.now.state command.day action) c.in-Effect.effect
-    (subst (Asks c.asked_by.new.self action (judged c.args.self.now.state command.day action)) (ap Ok c.in-Effect.is) c.in_ok-number.ensures.asked) in
+    let asks = accepted c.asked_by.new.self command.day action (judged c.args.self.now.state command.day action) c.in-Effect.effect
+    (subst (Asks c.asked_by.new.self command.day action (judged c.args.self.now.state command.day action)) (ap Ok c.in-Effect.is) c.in_ok-number.ensures.asked) in
     accepted_exact action (judged c.args.self.now.state command.day action) c.from_residual-in_err-change-in-Effect.result asks.0
 
 pub returns-in_ok-change-in-Effect-clause-told : goal.returns-in_ok-change-in-Effect-clause-told
 returns-in_ok-change-in-Effect-clause-told g c =
     let command = c.args.command.now in
     let action = command.action in
-    let asks = accepted c.asked_by.new.self action (judged c.args.self.now.state command.day action) c.in-Effect.effect
-    (subst (Asks c.asked_by.new.self action (judged c.args.self.now.state command.day action)) (ap Ok c.in-Effect.is) c.in_ok-number.ensures.asked) in
+    let asks = accepted c.asked_by.new.self command.day action (judged c.args.self.now.state command.day action) c.in-Effect.effect
+    (subst (Asks c.asked_by.new.self command.day action (judged c.args.self.now.state command.day action)) (ap Ok c.in-Effect.is) c.in_ok-number.ensures.asked) in
     fits_told c.args.self.now.state c.plan.new.self.state command (c.plan.ensures.state ∙ c.asked_by.ensures.state) asks.0 c.in_ok-change-in-Effect.ensures.told
 
 pub returns-in_ok-change-in-Effect-clause-exact : goal.returns-in_ok-change-in-Effect-clause-exact
 returns-in_ok-change-in-Effect-clause-exact g c =
     let command = c.args.command.now in
     let action = command.action in
-    let asks = accepted c.asked_by.new.self action (judged c.args.self.now.state command.day action) c.in-Effect.effect
-    (subst (Asks c.asked_by.new.self action (judged c.args.self.now.state command.day action)) (ap Ok c.in-Effect.is) c.in_ok-number.ensures.asked) in
+    let asks = accepted c.asked_by.new.self command.day action (judged c.args.self.now.state command.day action) c.in-Effect.effect
+    (subst (Asks c.asked_by.new.self command.day action (judged c.args.self.now.state command.day action)) (ap Ok c.in-Effect.is) c.in_ok-number.ensures.asked) in
     accepted_exact action (judged c.args.self.now.state command.day action) _ asks.0
 
 pub returns-in_ok-change-in-Effect-clause-prepared : goal.returns-in_ok-change-in-Effect-clause-prepared
@@ -93,8 +94,8 @@ returns-in_ok-change-in-Effect-clause-prepared g c =
     let action = command.action in
     let change = c.in_ok-change-in-Effect.change in
     let s = c.asked_by.new.self.state in
-    let asks = accepted c.asked_by.new.self action (judged c.args.self.now.state command.day action) c.in-Effect.effect
-    (subst (Asks c.asked_by.new.self action (judged c.args.self.now.state command.day action)) (ap Ok c.in-Effect.is) c.in_ok-number.ensures.asked) in
+    let asks = accepted c.asked_by.new.self command.day action (judged c.args.self.now.state command.day action) c.in-Effect.effect
+    (subst (Asks c.asked_by.new.self command.day action (judged c.args.self.now.state command.day action)) (ap Ok c.in-Effect.is) c.in_ok-number.ensures.asked) in
     let told = subst (λ (s : State). judged s command.day action ≡ Ok Accepted) (sym c.asked_by.ensures.state) asks.0 in
     let planned = c.in_ok-planned-in-Effect.ensures in
     let made = c.in_ok-change-in-Effect.ensures in
@@ -119,15 +120,19 @@ returns-in_ok-change-in-Effect-clause-prepared g c =
       departures = c.runs_of_moves_add.ensures.departures;
       least = c.demand_is_least.ensures.least;
     } in
-    let by = ap (λ e. held_by e s.held) made.edit ∙ planned.edit ∙ held in
+    let by = ap (λ e. edited e s.held) made.edit ∙ planned.edit ∙ held in
+    let desk = ap (λ o. desk_edited o s.desk) made.desk ∙ asks.1.desk in
     let demand = ap (λ d. demand_by d (demanded s)) made.demand ∙ planned.demand ∙ ap demand_in held in
     let step = is_step laws g.K.Keeper.keeping s command change c.state_is_sound.ensures told asks.1.sound
-    (subst (λ (t : State). AreParts t command change) c.plan.ensures.state parts) by demand update in
+    (subst (λ (t : State). AreParts t command change) c.plan.ensures.state parts) by desk demand update in
     let left : Held = held_room c.change.new.self in
     let room : held_room c.plan.new.self ≡ left = λ i. held_with ((sym made.state i).held) (sym made.held_room i) in
     record {
       step = subst (λ (t : State). IsStep g.K.Keeper.keeping t command change) (sym (made.state ∙ c.plan.ensures.state)) step;
-      fits = subst (λ e. FitsHeld e left) (sym made.edit) (subst (Fits c.in_ok-planned-in-Effect.planned.edit) room planned.fits);
+      fits = subst (λ e. Fits e left) (sym made.edit) (subst (Fits c.in_ok-planned-in-Effect.planned.edit) room planned.fits);
+      desk = subst (λ o. HoldsDesk o (desk_room c.change.new.self)) (sym made.desk)
+          (desk_still (desk_room c.plan.new.self) (desk_room c.change.new.self) made.room_stays.1.1 c.in-Effect.effect.desk
+          (desk_still (desk_room c.asked_by.new.self) (desk_room c.plan.new.self) c.plan.ensures.room_stays.1.1 c.in-Effect.effect.desk asks.1.holds));
       move_room = made.room;
       ready = subst (λ k. g.K.Keeper.keeping.is_ready k change.update) (sym made.keeper)
           (subst (λ u. g.K.Keeper.keeping.is_ready c.plan.new.self.keeper u) (sym made.update) planned.ready);
@@ -138,11 +143,77 @@ plan-requires-clause-sound g c =
     let command = c.args.command.now in
     let action = command.action in
     let s = c.asked_by.new.self.state in
-    let asks = accepted c.asked_by.new.self action (judged c.args.self.now.state command.day action) c.in-Effect.effect
-    (subst (Asks c.asked_by.new.self action (judged c.args.self.now.state command.day action)) (ap Ok c.in-Effect.is) c.in_ok-number.ensures.asked) in
+    let asks = accepted c.asked_by.new.self command.day action (judged c.args.self.now.state command.day action) c.in-Effect.effect
+    (subst (Asks c.asked_by.new.self command.day action (judged c.args.self.now.state command.day action)) (ap Ok c.in-Effect.is) c.in_ok-number.ensures.asked) in
     (number_after s action, subst (λ h. IsSoundHeld h (number_after s action)) (sym asks.1.held) asks.1.sound)
+
+pub plan-requires-clause-fits : goal.plan-requires-clause-fits
+plan-requires-clause-fits g c =
+    let command = c.args.command.now in
+    let action = command.action in
+    let asks = accepted c.asked_by.new.self command.day action (judged c.args.self.now.state command.day action) c.in-Effect.effect
+    (subst (Asks c.asked_by.new.self command.day action (judged c.args.self.now.state command.day action)) (ap Ok c.in-Effect.is) c.in_ok-number.ensures.asked) in
+    asks.1.fits
+
+pub change-requires-clause-number : goal.change-requires-clause-number
+change-requires-clause-number g c =
+    let command = c.args.command.now in
+    let action = command.action in
+    let asks = accepted c.asked_by.new.self command.day action (judged c.args.self.now.state command.day action) c.in-Effect.effect
+    (subst (Asks c.asked_by.new.self command.day action (judged c.args.self.now.state command.day action)) (ap Ok c.in-Effect.is) c.in_ok-number.ensures.asked) in
+    asks.1.number ∙ ap (λ (t : State). number_given t action) (sym c.plan.ensures.state)
+
+-- ---- what was prepared before
 
 pub returns-in_err-number-clause-prepared_stays : goal.returns-in_err-number-clause-prepared_stays
 returns-in_err-number-clause-prepared_stays g c =
-    prepared_stays c.held_edits_fit_with_more_room.ensures.fits g.K.Keeper.keeping c.args.self.now c.asked_by.new.self c.asked_by.ensures.state c.asked_by.ensures.keeper
-    c.asked_by.ensures.room_stays
+    let keeping = g.K.Keeper.keeping in
+    prepared_stays c.held_edits_fit_with_more_room.ensures.fits keeping c.args.self.now c.asked_by.new.self c.asked_by.ensures.state
+    (same_keeper keeping c.args.self.now c.asked_by.new.self c.asked_by.ensures.keeper) c.asked_by.ensures.room_stays
+
+pub returns-in-Already-clause-prepared_stays : goal.returns-in-Already-clause-prepared_stays
+returns-in-Already-clause-prepared_stays g c =
+    let keeping = g.K.Keeper.keeping in
+    prepared_stays c.held_edits_fit_with_more_room.ensures.fits keeping c.args.self.now c.asked_by.new.self c.asked_by.ensures.state
+    (same_keeper keeping c.args.self.now c.asked_by.new.self c.asked_by.ensures.keeper) c.asked_by.ensures.room_stays
+
+pub returns-in_err-planned-in-Effect-clause-room_stays : goal.returns-in_err-planned-in-Effect-clause-room_stays
+returns-in_err-planned-in-Effect-clause-room_stays g c = room_onward c.args.self.now c.asked_by.new.self c.plan.new.self c.asked_by.ensures.room_stays c.plan.ensures.room_stays
+
+pub returns-in_err-planned-in-Effect-clause-prepared_stays : goal.returns-in_err-planned-in-Effect-clause-prepared_stays
+returns-in_err-planned-in-Effect-clause-prepared_stays g c =
+    let keeping = g.K.Keeper.keeping in
+    let asked = same_keeper keeping c.args.self.now c.asked_by.new.self c.asked_by.ensures.keeper in
+    prepared_stays c.held_edits_fit_with_more_room.ensures.fits keeping c.args.self.now c.plan.new.self (c.plan.ensures.state ∙ c.asked_by.ensures.state)
+    (λ u h. c.plan.ensures.ready_stays u (asked u h))
+    (room_onward c.args.self.now c.asked_by.new.self c.plan.new.self c.asked_by.ensures.room_stays c.plan.ensures.room_stays)
+
+pub returns-in_err-change-in-Effect-clause-room_stays : goal.returns-in_err-change-in-Effect-clause-room_stays
+returns-in_err-change-in-Effect-clause-room_stays g c =
+    room_onward c.args.self.now c.plan.new.self c.change.new.self
+    (room_onward c.args.self.now c.asked_by.new.self c.plan.new.self c.asked_by.ensures.room_stays c.plan.ensures.room_stays) c.change.ensures.room_stays
+
+pub returns-in_err-change-in-Effect-clause-prepared_stays : goal.returns-in_err-change-in-Effect-clause-prepared_stays
+returns-in_err-change-in-Effect-clause-prepared_stays g c =
+    let keeping = g.K.Keeper.keeping in
+    let asked = same_keeper keeping c.args.self.now c.asked_by.new.self c.asked_by.ensures.keeper in
+    let after = same_keeper keeping c.plan.new.self c.change.new.self c.change.ensures.keeper in
+    prepared_stays c.held_edits_fit_with_more_room.ensures.fits keeping c.args.self.now c.change.new.self
+    (c.change.ensures.state ∙ c.plan.ensures.state ∙ c.asked_by.ensures.state) (λ u h. after u (c.plan.ensures.ready_stays u (asked u h)))
+    (room_onward c.args.self.now c.plan.new.self c.change.new.self
+    (room_onward c.args.self.now c.asked_by.new.self c.plan.new.self c.asked_by.ensures.room_stays c.plan.ensures.room_stays) c.change.ensures.room_stays)
+
+pub returns-in_ok-change-in-Effect-clause-room_stays : goal.returns-in_ok-change-in-Effect-clause-room_stays
+returns-in_ok-change-in-Effect-clause-room_stays g c =
+    room_onward c.args.self.now c.plan.new.self c.change.new.self
+    (room_onward c.args.self.now c.asked_by.new.self c.plan.new.self c.asked_by.ensures.room_stays c.plan.ensures.room_stays) c.change.ensures.room_stays
+
+pub returns-in_ok-change-in-Effect-clause-prepared_stays : goal.returns-in_ok-change-in-Effect-clause-prepared_stays
+returns-in_ok-change-in-Effect-clause-prepared_stays g c =
+    let keeping = g.K.Keeper.keeping in
+    let asked = same_keeper keeping c.args.self.now c.asked_by.new.self c.asked_by.ensures.keeper in
+    let after = same_keeper keeping c.plan.new.self c.change.new.self c.change.ensures.keeper in
+    prepared_stays c.held_edits_fit_with_more_room.ensures.fits keeping c.args.self.now c.change.new.self
+    (c.change.ensures.state ∙ c.plan.ensures.state ∙ c.asked_by.ensures.state) (λ u h. after u (c.plan.ensures.ready_stays u (asked u h)))
+    (room_onward c.args.self.now c.plan.new.self c.change.new.self
+    (room_onward c.args.self.now c.asked_by.new.self c.plan.new.self c.asked_by.ensures.room_stays c.plan.ensures.room_stays) c.change.ensures.room_stays)

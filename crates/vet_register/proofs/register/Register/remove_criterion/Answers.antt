@@ -1,4 +1,5 @@
 use Rattle.std.proofs.Common.{arith, ◌≡◌, ◌∙◌, ap, refl, subst, None, Ok}
+use Rattle.std.proofs.lemmas.Result.{err_from_is_err_and}
 use Rattle.std.specs.FinMap as map
 use Rattle.vet_base.specs.Criteria.{IsTable}
 use Rattle.vet_entries.specs.Facts.{Fits, edited}
@@ -8,7 +9,8 @@ use Rattle.vet_register.specs.Machine.{number_after}
 use Rattle.vet_register.specs.RegisterView.{RegisterView, held_room}
 use Rattle.vet_register.specs.Sound.{IsSound}
 use Rattle.vet_register.specs.Verdict.{held_or, judged}
-use Rattle.vet_register.proofs.Asking.{some_day, answered, facts_effect, effective, remove_passed}
+use Rattle.vet_register.proofs.Asking.{answered, effective, facts_effect, refused, remove_passed, some_day}
+use Rattle.vet_register.proofs.AskingDesk.{refused_first}
 use Rattle.vet_base.specs.CriteriaChanges.{remove_verdict}
 use Rattle.vet_register.proofs.register.Register.remove_criterion.Goals as goal
 
@@ -33,4 +35,9 @@ returns-clause-asked g c day =
     let fits = subst (λ (r : RegisterView _). Fits c.edit_of_criteria.result (held_room r).facts) c.self.view_is c.edit_of_criteria.ensures.fits in
     let held = ap (λ (r : RegisterView _). r.state.next_entry) c.self.view_is in
     let next : c.self.inside.next_entry ≡ number_after state asks = omega (arith, held) in
-    effective _ _ _ _ told (facts_effect _ asks state day c.edit_of_criteria.result _ _ refl sound told tt facts refl refl refl refl next fits (subst IsTable table made.table) sound.held.facts.publishers)
+    effective _ _ _ _ _ told (facts_effect _ _ asks state c.edit_of_criteria.result _ _ refl sound told tt facts refl refl refl refl refl next fits (subst IsTable table made.table) sound.held.facts.publishers)
+
+pub returns-in_err-judge_removal-clause-asked : goal.returns-in_err-judge_removal-clause-asked
+returns-in_err-judge_removal-clause-asked g c day =
+    let passed = err_from_is_err_and c.from_residual.result c.from_residual.ensures.1 in
+    rw (passed.1, passed.2) (refused _ _ _ _ _ (refused_first _ (λ _. Ok Accepted) _ (c.in_err-judge_removal.ensures day)))

@@ -9,7 +9,7 @@ use Rattle.vet_register.specs.Machine.{facts_after, held_after, number_after}
 use Rattle.vet_register.specs.RegisterView.{RegisterView}
 use Rattle.vet_register.specs.ReplacingFound.{IsCompared}
 use Rattle.vet_register.specs.Sound.{IsSound}
-use Rattle.vet_register.proofs.Asking.{effect_is, effective, some_day}
+use Rattle.vet_register.proofs.Asking.{effective, held_effect, some_day}
 use Rattle.vet_register.proofs.Effects.{passed}
 use Rattle.vet_register.proofs.FilesAccepted.{accepted_files, files_new, files_numbered}
 use Rattle.vet_register.proofs.FilesEffects.{peer_before}
@@ -86,6 +86,6 @@ returns-clause-asked g c day =
     let held = ap (λ (r : RegisterView _). r.state.next_entry) c.self.view_is in
     let next : c.self.inside.next_entry + c.new_count.result ≡ number_after state asks =
     omega (arith, held, files_new state files c.in-Some.comparison accepted.compared, c.new_count.ensures) in
-    let after = sound_held state day asks accepted.told sound.held c.is_of_files.ensures (subst IsTable (ap (λ (f : Facts). f.criteria) facts) made.table) (files_records files c.is_of_files.ensures fit.records) in
-    let effect : Effect = record { edit = edit.Files c.in_ok-held.held; number = None; next_entry = c.self.inside.next_entry + c.new_count.result } in
-    inr (effective _ _ _ _ accepted.told (effect_is _ asks state effect refl becomes refl next tt after))
+    let after = sound_held state day asks accepted.told sound c.is_of_files.ensures (subst IsTable (ap (λ (f : Facts). f.criteria) facts) made.table) (files_records files c.is_of_files.ensures fit.records) in
+    let effect : Effect = record { edit = edit.Files c.in_ok-held.held; desk = None; number = None; next_entry = c.self.inside.next_entry + c.new_count.result } in
+    inr (effective _ _ _ _ _ accepted.told (held_effect _ day asks state effect refl becomes refl refl refl next tt after))

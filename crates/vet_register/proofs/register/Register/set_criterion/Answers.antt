@@ -16,7 +16,7 @@ use Rattle.vet_register.proofs.register.Register.set_criterion.Goals as goal
 pub returns-in_err-number-clause-asked : goal.returns-in_err-number-clause-asked
 returns-in_err-number-clause-asked g c day =
     let passed = err_from_is_err_and c.from_residual.result c.from_residual.ensures.1 in
-    rw (passed.1, passed.2) (refused _ _ _ _ (c.in_err-number.ensures day))
+    rw (passed.1, passed.2) (refused _ _ _ _ _ (c.in_err-number.ensures day))
 
 pub with_criterion-requires : goal.with_criterion-requires
 with_criterion-requires g c =
@@ -39,4 +39,4 @@ returns-clause-asked g c day =
     let fits = subst (λ (r : RegisterView _). Fits c.edit_of_criteria.result (held_room r).facts) c.self.view_is c.edit_of_criteria.ensures.fits in
     let held = ap (λ (r : RegisterView _). r.state.next_entry) c.self.view_is in
     let next : c.self.inside.next_entry ≡ number_after state asks = omega (arith, held) in
-    effective _ _ _ _ told (facts_effect _ asks state day c.edit_of_criteria.result _ _ refl sound told tt facts refl refl refl refl next fits (subst IsTable table made.table) sound.held.facts.publishers)
+    effective _ _ _ _ _ told (facts_effect _ _ asks state c.edit_of_criteria.result _ _ refl sound told tt facts refl refl refl refl refl next fits (subst IsTable table made.table) sound.held.facts.publishers)

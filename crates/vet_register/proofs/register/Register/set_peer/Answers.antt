@@ -16,7 +16,7 @@ use Rattle.vet_register.proofs.register.Register.set_peer.Goals as goal
 pub returns-in_err-number-clause-asked : goal.returns-in_err-number-clause-asked
 returns-in_err-number-clause-asked g c day =
     let passed = err_from_is_err_and c.from_residual.result c.from_residual.ensures.1 in
-    rw (passed.1, passed.2) (refused _ _ _ _ (c.in_err-number.ensures day))
+    rw (passed.1, passed.2) (refused _ _ _ _ _ (c.in_err-number.ensures day))
 
 pub returns-clause-asked : goal.returns-clause-asked
 returns-clause-asked g c day =
@@ -27,6 +27,7 @@ returns-clause-asked g c day =
     let set = c.in_ok-edit_of_settings.ensures in
     let before : State = record {
       held = content_of c.self.inside.held;
+      desk = c.self.inside.desk.content;
       step = c.self.inside.step;
       next_entry = c.self.inside.next_entry;
       moves_limit = c.self.inside.moves_limit;
@@ -40,4 +41,4 @@ returns-clause-asked g c day =
     let facts = edit ∙ (λ i. record { criteria = state.held.facts.criteria; entries = state.held.facts.entries; peers = with_settings (same i) state.held.facts.peers; publishers = state.held.facts.publishers }) in
     let held = ap (λ (r : RegisterView _). r.state.next_entry) c.self.view_is in
     let next : c.self.inside.next_entry ≡ number_after state asks = omega (arith, held) in
-    effective _ _ _ _ told (facts_effect _ asks state day c.in_ok-edit_of_settings.field-0 _ _ stays sound told tt facts refl refl refl refl next set.fits sound.held.facts.criteria sound.held.facts.publishers)
+    effective _ _ _ _ _ told (facts_effect _ _ asks state c.in_ok-edit_of_settings.field-0 _ _ stays sound told tt facts refl refl refl refl refl next set.fits sound.held.facts.criteria sound.held.facts.publishers)

@@ -38,6 +38,7 @@ returns-clause-asked g c day =
     let set = c.in_ok-publishers_edit.ensures in
     let before : State = record {
       held = content_of c.self.inside.held;
+      desk = c.self.inside.desk.content;
       step = c.self.inside.step;
       next_entry = c.self.inside.next_entry;
       moves_limit = c.self.inside.moves_limit;
@@ -52,4 +53,4 @@ returns-clause-asked g c day =
     let are = records_sound state day name records told sound.held.facts.publishers c.records_stay_in_order.ensures.in_order named in
     let held = ap (λ (r : RegisterView _). r.state.next_entry) c.self.view_is in
     let next : c.self.inside.next_entry ≡ number_after state (action.SetPublishers name records) = omega (arith, held) in
-    effective _ _ _ _ told (facts_effect _ (action.SetPublishers name records) state day c.in_ok-publishers_edit.field-0 _ _ stays sound told tt facts refl refl refl refl next set.fits sound.held.facts.criteria are)
+    effective _ _ _ _ _ told (facts_effect _ _ (action.SetPublishers name records) state c.in_ok-publishers_edit.field-0 _ _ stays sound told tt facts refl refl refl refl refl next set.fits sound.held.facts.criteria are)
