@@ -63,7 +63,7 @@ def remove_criterion(held, words):
     naming += [entry.criteria for entry in held.entries.values()]
     naming += [names for policy in held.policies.values() for names in lists_of(policy)]
     naming += [settings.targets() for settings in held.settings.values()]
-    if any(name in names for names in naming):
+    if any(name in names for names in [*naming, held.in_review()]):
         raise Refused("8 CriterionInUse")
     del held.criteria[name]
 
@@ -242,6 +242,8 @@ def replace_files(held, words):
         return "already"
     limits(files)
     references(files)
+    if not held.in_review() <= {*files.criteria, *BUILT_IN}:
+        raise Refused("8 CriterionInUse")
     held.criteria, held.publishers, held.policies = files.criteria, files.publishers, files.policies
     held.settings, held.tool = files.settings, files.tool
     held.entries = numbered(held, held.entries, files.entries())

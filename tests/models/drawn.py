@@ -1,6 +1,7 @@
 """Commands that are drawn, of few names, so that they meet. Files that are drawn hold mostly what is held, or was held
 before: some of it is taken away or changed, and something added."""
 
+from models.drawn_desk import DrawnDesk
 from models.files import Content, Criterion, Entry, Settings
 from models.held import BUILT_IN
 from models.machine import MOST_MOVES, Machine
@@ -19,10 +20,10 @@ PROJECTS = ("app", "one", "two")
 DAYS = ("2023-02-01", "2023-02-03", "2023-02-05")
 USERS = (5, 6)
 # how many commands a list has
-LENGTH = 30
+LENGTH = 40
 
 
-class Drawn:
+class Drawn(DrawnDesk):
     """A machine that was given drawn commands, with these and what it told."""
 
     def __init__(self, dice):
@@ -32,7 +33,7 @@ class Drawn:
         self.lines, self.answers = [], []
         # all that was held at some time
         self.states = [self.machine.held]
-        for command in ("set-criterion x", "set-criterion y x"):
+        for command in ("set-criterion x", "set-criterion y x", self.member(), self.project()):
             self.give(f"2024-05-01 {command}")
         for place in range(LENGTH):
             self.give(f"2024-05-{1 + place // 10:02} {self.command()}")
@@ -50,7 +51,11 @@ class Drawn:
 
     def command(self):
         drawn = (self.criterion, self.entry, self.policy, self.policy, self.project, self.project, self.dropped)
-        return self.dice.choice((*drawn, self.publishers, self.peer, self.imported, self.imported, self.files))()
+        drawn += (self.publishers, self.peer, self.imported, self.imported, self.files)
+        return self.dice.choice((*drawn, *[self.at_desk] * 10, *[self.period] * (self.dice.random() < 0.3)))()
+
+    def period(self):
+        return "close-period"
 
     def some(self, things, least, most):
         return [self.dice.choice(things) for _ in range(self.dice.randrange(least, most + 1))]
@@ -168,6 +173,7 @@ class Drawn:
         """What is held in files, or was held at some time, and some of it changed."""
         held = self.dice.choice((self.machine.held, self.machine.held, self.dice.choice(self.states))).copy()
         changes = (self.own, self.own, self.criteria_held, self.tool, self.policies, self.records, self.peers)
+        changes += (self.unreviewed,)
         for _ in range(self.dice.choice((0, 0, 1, 2, 4))):
             self.dice.choice(changes)(held)
         audits, config = held_audits(held), held_config(held)

@@ -25,7 +25,9 @@ class Held:
         self.publishers, self.policies, self.projects = {}, {}, {}
         # the version of cargo-vet, and the criteria for a new audit
         self.tool = (None, None)
-        self.next_entry = 1
+        # members, and reviews by their numbers
+        self.members, self.reviews = {}, {}
+        self.next_entry = self.next_review = 1
 
     def copy(self):
         other = Held()
@@ -35,6 +37,10 @@ class Held:
 
     def has(self, name):
         return name in self.criteria or name in BUILT_IN
+
+    def in_review(self):
+        """The criteria of the reviews that aren't closed."""
+        return set().union(*(review.criteria for review in self.reviews.values() if not review.is_closed()))
 
     def closed(self, names):
         return reached(BUILT_IN | {name: it.implies for name, it in self.criteria.items()}, names)

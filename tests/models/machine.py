@@ -1,6 +1,7 @@
 """The machine that keeps the accepted commands, by a plain model, and the lines that `trials` prints of it."""
 
 from models.commands import COMMANDS
+from models.desk import DESK_COMMANDS, desk_lines
 from models.held import BUILT_IN, CLASSES, Held
 from models.files import Criterion
 from models.refused import Refused
@@ -13,34 +14,52 @@ MOST_MOVES = 1_000_000
 class Machine:
     def __init__(self, limit=MOST_MOVES):
         self.held, self.limit, self.step, self.moves = Held(), limit, 0, []
+        # the class of each pair that was demanded when the period began
+        self.first = []
 
     def told(self, line):
         day, word, *words = line.split(" ")
+        if word == "close-period":
+            return self.closed()
         after = self.held.copy()
         try:
-            held_as = COMMANDS[word](after, words)
+            at_desk = word in DESK_COMMANDS
+            held_as = DESK_COMMANDS[word](after, day, words) if at_desk else COMMANDS[word](after, words)
         except Refused as refusal:
             return f"refused {refusal}"
-        return held_as or self.done(day, word, after)
+        return held_as or self.done(day, word, words, after)
 
-    def done(self, day, word, after):
+    def closed(self):
+        self.step, self.first, self.moves = self.step + 1, list(self.held.standing().values()), []
+        return f"done {self.step} moves 0"
+
+    def done(self, day, word, words, after):
         old, new = self.held.standing(), after.standing()
         classes = [(pair, old.get(pair, "undemanded"), new.get(pair, "undemanded")) for pair in sorted({**old, **new})]
         moves = [f"{day} {' '.join(pair)} {a} {b}" for pair, a, b in classes if a != b]
         if len(self.moves) + len(moves) > self.limit:
             return "refused 25 MovesFull"
         self.step += 1
-        number = f" number {self.held.next_entry}" if word == "add-entry" else ""
+        number = self.number(word, words, after)
         self.held, self.moves = after, self.moves + [f"move {self.step} {move}" for move in moves]
         return f"done {self.step}{number} moves {len(moves)}"
+
+    def number(self, word, words, after):
+        """What is told of a number: that of an entry that was added, of a review, or of the entry of one."""
+        if word in ("add-entry", "add-audit"):
+            return f" number {self.held.next_entry}"
+        if word == "open-review":
+            return f" number {self.held.next_review}"
+        return f" number {after.reviews[int(words[0])].by}" if word == "finish-review" else ""
 
     def contents(self):
         standing = self.held.standing()
         yield f"step {self.step}"
         yield from held_lines(self.held)
+        yield from desk_lines(self.held)
         yield from (f"pair {' '.join(pair)} {word}" for pair, word in standing.items())
         yield counts_line("counts", list(standing.values()))
-        yield counts_line("first", [])
+        yield counts_line("first", self.first)
         yield from self.moves
 
 

@@ -9,7 +9,8 @@
 //! - `DAY set-publishers PACKAGE [VERSION,USER,DAY ..]` sets the publisher records of a package, without
 //!   logins and names.
 //!
-//! Those of policies and projects stand in `demands`, those of peers in `peers`, and that of files in `replaced`.
+//! Those of policies and projects stand in `demands`, those of the desk in `reviews`, those of peers in `peers`, and
+//! that of files in `replaced`.
 ghost use Rattle.std.specs.Prelude.{◌≡◌, OnErr};
 
 use crate::demands::demand_action;

@@ -5,9 +5,9 @@
 
 use crate::fault::Fault;
 use crate::line::one;
-use crate::peers::peer_action;
 use crate::policies::keyed_policy;
 use crate::projects::named_project;
+use crate::reviews::desk_action;
 use std::alloc::Global;
 use vet_base::name::PackageName;
 use vet_demand::policy_key::PolicyKey;
@@ -20,7 +20,7 @@ pub fn demand_action(alloc: Global, word: &str, texts: &[String]) -> Result<Acti
         "drop-policy" => drop_policy(alloc, texts),
         "load-project" => Ok(Action::LoadProject(named_project(alloc, texts)?)),
         "drop-project" => drop_project(alloc, texts),
-        _ => peer_action(alloc, word, texts),
+        _ => desk_action(alloc, word, texts),
     }
 }
 

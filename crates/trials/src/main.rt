@@ -5,8 +5,8 @@
 //! answer and, where there is a command, in the end what the register holds.
 //! `trials --contents` prints also before each command what it holds. `trials --relay` does as
 //! `trials`, with a keeper that hands all on to the plain one, and `trials --together` gives the commands as
-//! lists. What lines there are stands in `line`, `setting`, `commands`, `demands`, `peers`, `replaced`, `values`,
-//! `steps`, `versions`, `days`, `files`, `projects`, `written`, `held_texts`, `lists` and `tables`.
+//! lists. What lines there are stands in `line`, `setting`, `commands`, `demands`, `peers`, `replaced`, `reviews`,
+//! `values`, `steps`, `versions`, `days`, `files`, `projects`, `written`, `held_texts`, `lists` and `tables`.
 //! `trials --demand` has no register, asks what projects demand, and has the lines of `workspace`, with the words of
 //! `policies` and `projects`. Where memory is wanting, the run ends with that refusal and what the register holds then,
 //! and with status 1. At other words, an input that can't be read, or a line that isn't understood, a message goes to
@@ -19,6 +19,7 @@ mod demands;
 mod fault;
 mod files;
 mod held;
+mod held_desk;
 mod held_projects;
 mod held_settings;
 mod held_texts;
@@ -32,6 +33,7 @@ mod print;
 mod projects;
 mod relay;
 mod replaced;
+mod reviews;
 mod run;
 mod setting;
 mod steps;

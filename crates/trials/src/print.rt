@@ -1,6 +1,7 @@
 //! What a run prints, a line at a time. Printing takes no memory.
 
 use crate::held::{print_criterion, print_entries, print_optional_text, print_peers};
+use crate::held_desk::print_desk;
 use crate::held_projects::{print_policies, print_projects};
 use crate::held_settings::print_tool_settings;
 use std::io;
@@ -55,7 +56,7 @@ fn print_details(rt: &impl Print, refusal: &Refusal) -> io::Result<()> {
 }
 
 /// Prints what a register holds: its step, criteria, own entries, peers, publisher records, what a config file says to
-/// the tool alone, policies, projects, demanded pairs, counts and recorded moves.
+/// the tool alone, policies, projects, members, reviews, demanded pairs, counts and recorded moves.
 pub fn print_contents<K: Keeper>(rt: &impl Print, register: &Register<K>) -> io::Result<()> {
     println!(rt; "step {}", register.step())?;
     print_held(rt, register)?;
@@ -69,7 +70,8 @@ fn print_held<K: Keeper>(rt: &impl Print, register: &Register<K>) -> io::Result<
     print_packages(rt, register.publishers())?;
     print_tool_settings(rt, register.settings())?;
     print_policies(rt, register.policies())?;
-    print_projects(rt, register.projects())
+    print_projects(rt, register.projects())?;
+    print_desk(rt, register.desk())
 }
 
 fn print_standing<K: Keeper>(rt: &impl Print, register: &Register<K>) -> io::Result<()> {

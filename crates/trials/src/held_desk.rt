@@ -1,0 +1,39 @@
+//! Prints the members and the reviews that a desk holds, a line each. Printing takes no memory.
+//!
+//! Behind the version of a review stands its state, with the member to whom it is assigned or the number of the entry
+//! that finished it, and then its criteria.
+
+use crate::held::print_names;
+use std::io;
+use vet_desk::desk::Desk;
+use vet_desk::review::{Review, ReviewState};
+
+/// Prints what a desk holds.
+pub fn print_desk(rt: &impl Print, desk: &Desk) -> io::Result<()> {
+    for member in desk.members() {
+        println!(rt; "member {member}")?;
+    }
+    for review in desk.reviews() {
+        print_review(rt, review)?;
+    }
+    Ok(())
+}
+
+fn print_review(rt: &impl Print, review: &Review) -> io::Result<()> {
+    print!(rt;
+        "review {} {} {} {}",
+        review.number, review.day, review.package, review.version
+    )?;
+    print_state(rt, &review.state)?;
+    print_names(rt, review.criteria.as_slice())?;
+    println!(rt; "")
+}
+
+fn print_state(rt: &impl Print, state: &ReviewState) -> io::Result<()> {
+    match state {
+        ReviewState::Waiting => print!(rt; " waiting"),
+        ReviewState::Assigned(member) => print!(rt; " assigned={member}"),
+        ReviewState::Finished(entry) => print!(rt; " finished={entry}"),
+        ReviewState::Withdrawn => print!(rt; " withdrawn"),
+    }
+}
