@@ -90,6 +90,16 @@ pub fn set_criterion(alloc: Global) -> Result<Command, Refusal> {
     }))
 }
 
+/// Removes that criterion.
+pub fn remove_criterion(alloc: Global) -> Result<Command, Refusal> {
+    command(Action::RemoveCriterion(Name::parse(alloc, OTHER_CRITERION)?))
+}
+
+/// Drops the own entry of a number.
+pub fn drop_entry(number: u64) -> Result<Command, Refusal> {
+    command(Action::DropEntry(number))
+}
+
 /// Adds the own entry that vouches for the demanded version of a package.
 pub fn add_demanded(alloc: Global, place: usize) -> Result<Command, Refusal> {
     add_entry(alloc, place, VetVersion::parse(alloc, VERSION)?)
@@ -113,7 +123,8 @@ fn add_entry(alloc: Global, place: usize, version: VetVersion) -> Result<Command
     }))
 }
 
-fn command(action: Action) -> Result<Command, Refusal> {
+/// A command of the day.
+pub fn command(action: Action) -> Result<Command, Refusal> {
     Ok(Command {
         day: Day::parse(DAY)?,
         action,

@@ -13,6 +13,9 @@ pub const BETWEEN_FILES: &str = "\n---\n";
 /// The word by which replacements are timed.
 const REPLACE: &str = "replace";
 
+/// The word by which commands to the review desk are timed.
+const DESK: &str = "desk";
+
 /// What is to be timed, and how much of it.
 #[derive(Clone, Copy)]
 pub enum Task {
@@ -20,6 +23,8 @@ pub enum Task {
     Imports(Sizes),
     /// So many rounds of replacements.
     Replacements(usize),
+    /// So many rounds of commands to the review desk.
+    Desk(Reviews),
 }
 
 /// How much is to be timed of imports.
@@ -31,6 +36,15 @@ pub struct Sizes {
     pub own: usize,
 }
 
+/// How much is to be timed of the review desk.
+#[derive(Clone, Copy)]
+pub struct Reviews {
+    /// How many reviews there are in the end.
+    pub count: usize,
+    /// How many rounds.
+    pub rounds: usize,
+}
+
 /// What the words say.
 pub fn read_task(rt: &HostRuntime) -> Result<Task, Fault> {
     let mut words = env::args(rt)?;
@@ -40,6 +54,12 @@ pub fn read_task(rt: &HostRuntime) -> Result<Task, Fault> {
     };
     if first.as_str() == REPLACE {
         return Ok(Task::Replacements(number(words.next())?));
+    }
+    if first.as_str() == DESK {
+        return Ok(Task::Desk(Reviews {
+            count: number(words.next())?,
+            rounds: number(words.next())?,
+        }));
     }
     Ok(Task::Imports(Sizes {
         rounds: number(Some(first))?,

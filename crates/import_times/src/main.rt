@@ -1,5 +1,5 @@
-//! Times imports into a register, and files that replace what it holds, by the clock: a program of benches, no part of
-//! the product.
+//! Times imports into a register, files that replace what it holds, and commands to its review desk, by the clock: a
+//! program of benches, no part of the product.
 //!
 //! Two numbers have imports timed. Standard input holds audits files of a peer, each after the one before it and a
 //! line `---` between two. They are read, and a register is made of a project's demand and own entries. Then in each
@@ -13,19 +13,28 @@
 //! are read and replace what is held, part after part, and then a criterion is set. Of each part
 //! `read COUNT NANOSECONDS NANOSECONDS` is printed: its entries, until it was read, and until it was one value.
 //!
+//! The word `desk`, a number of reviews and one of rounds have commands to the review desk timed. Standard input is not
+//! looked at. A register is made of one demanded pair, a member and reviews of all states. In each round a review is
+//! opened; one is assigned and finished by its version, for which an equal entry is held; another is assigned and
+//! finished by a delta; one is withdrawn; a peer is set; and a criterion is removed. In the end `reviews COUNT` is
+//! printed: how many there are.
+//!
 //! Of each command of a round a line is printed of what it is, its nanoseconds and its outcome. The status is 1 where
 //! anything is refused or fails, and 2 where the words or the parts are not understood.
 #![tactic(auto)]
 
 mod clock;
 mod commands;
+mod desk_rounds;
 mod fault;
 mod files;
 mod input;
 mod project;
 mod replacements;
+mod reviews;
 mod rounds;
 
+use desk_rounds::run_reviews;
 use fault::Fault;
 use input::{Task, contents_of, read_task, read_text};
 use replacements::run_replacements;
@@ -49,5 +58,6 @@ fn run_whole(rt: &HostRuntime) -> Result<(), Fault> {
     match task {
         Task::Imports(sizes) => run(rt, sizes, contents_of(rt.alloc(), text.as_str())?),
         Task::Replacements(rounds) => run_replacements(rt, rounds, text.as_str()),
+        Task::Desk(reviews) => run_reviews(rt, reviews),
     }
 }

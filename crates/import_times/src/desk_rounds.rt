@@ -1,0 +1,130 @@
+//! The rounds of commands to the review desk.
+//!
+//! Reviews are opened but for one a round, and of four in a row one each is assigned, finished and withdrawn: so every
+//! state is there. A round opens one more, and changes three that wait, far from those of other rounds. So in the last
+//! round there are as many as were asked for. The entry that a round adds is dropped, so that no round has more to plan
+//! than another.
+
+use crate::clock::timed;
+use crate::commands::{drop_entry, load_project, remove_criterion, set_criterion, set_other_peer};
+use crate::fault::Fault;
+use crate::input::Reviews;
+use crate::reviews::{
+    add_member, assign_review, finish_by_delta, finish_in_full, open_review, withdraw_review,
+};
+use std::alloc::Global;
+use vet_base::limits::MOST_MOVES;
+use vet_graph::plain::PlainKeeper;
+use vet_register::register::Register;
+
+// How many packages the project demands.
+const DEMANDED: usize = 1;
+
+// How many reviews in a row have one of each state.
+const IN_A_ROW: usize = 4;
+
+// How far the numbers of two reviews that wait lie apart.
+const BETWEEN_WAITING: u64 = 4;
+
+// How many reviews a round needs, as it changes three that wait.
+const FOR_A_ROUND: usize = 12;
+
+/// Times the rounds, and tells how many reviews there are in the end.
+pub fn run_reviews(rt: &HostRuntime, reviews: Reviews) -> Result<(), Fault> {
+    let Reviews { count, rounds } = reviews;
+    if rounds == 0 {
+        return Err(Fault::Words);
+    }
+    let opened = count.saturating_sub(rounds);
+    let apart = opened / rounds;
+    if apart < FOR_A_ROUND {
+        return Err(Fault::Words);
+    }
+    let mut register = register_of(rt.alloc(), opened)?;
+    for round in 0..rounds {
+        run_round(rt, &mut register, round, waiting_from(round, apart))?;
+    }
+    let held = register.desk().reviews().len();
+    println!(rt; "reviews {held}")?;
+    Ok(())
+}
+
+// The place of the first review that a round changes, where so many lie between two rounds.
+fn waiting_from(round: usize, apart: usize) -> usize {
+    let waiting = round.saturating_mul(apart / IN_A_ROW);
+    waiting.saturating_mul(IN_A_ROW)
+}
+
+// A register at whose desk so many reviews were opened, all of the one pair that is demanded.
+fn register_of(alloc: Global, opened: usize) -> Result<Register<PlainKeeper>, Fault> {
+    let mut register = Register::new(alloc, MOST_MOVES)?;
+    register.run(alloc, &load_project(alloc, DEMANDED)?)?;
+    register.run(alloc, &add_member(alloc)?)?;
+    for place in 0..opened {
+        register.run(alloc, &open_review(alloc)?)?;
+        change_state(alloc, &mut register, place)?;
+    }
+    Ok(register)
+}
+
+// Of four reviews in a row the first waits on.
+fn change_state(
+    alloc: Global,
+    register: &mut Register<PlainKeeper>,
+    place: usize,
+) -> Result<(), Fault> {
+    let review = number_at(place);
+    let turn = place % IN_A_ROW;
+    if turn == 1 || turn == 2 {
+        register.run(alloc, &assign_review(alloc, review)?)?;
+    }
+    if turn == 2 {
+        register.run(alloc, &finish_in_full(alloc, review)?)?;
+    }
+    if turn == 3 {
+        register.run(alloc, &withdraw_review(alloc, review)?)?;
+    }
+    Ok(())
+}
+
+// The commands of a round, of three reviews that wait, from the one at this place on.
+fn run_round(
+    rt: &HostRuntime,
+    register: &mut Register<PlainKeeper>,
+    round: usize,
+    place: usize,
+) -> Result<(), Fault> {
+    let alloc = rt.alloc();
+    let first = number_at(place);
+    let second = first.saturating_add(BETWEEN_WAITING);
+    let third = second.saturating_add(BETWEEN_WAITING);
+    timed(rt, register, "open", &open_review(alloc)?)?;
+    timed(rt, register, "assign", &assign_review(alloc, first)?)?;
+    timed(rt, register, "finish-held", &finish_in_full(alloc, first)?)?;
+    timed(rt, register, "assign", &assign_review(alloc, second)?)?;
+    timed(
+        rt,
+        register,
+        "finish",
+        &finish_by_delta(alloc, second, round)?,
+    )?;
+    timed(rt, register, "withdraw", &withdraw_review(alloc, third)?)?;
+    drop_last_entry(alloc, register)?;
+    timed(rt, register, "plan", &set_other_peer(alloc, round, 0)?)?;
+    register.run(alloc, &set_criterion(alloc)?)?;
+    timed(rt, register, "remove", &remove_criterion(alloc)?)
+}
+
+// Drops the entry that was added last.
+fn drop_last_entry(alloc: Global, register: &mut Register<PlainKeeper>) -> Result<(), Fault> {
+    if let Some(held) = register.entries().last() {
+        let dropped = drop_entry(held.number)?;
+        register.run(alloc, &dropped)?;
+    }
+    Ok(())
+}
+
+// The number of the review at a place.
+fn number_at(place: usize) -> u64 {
+    (place as u64).saturating_add(1)
+}
