@@ -56,8 +56,8 @@ refuses_too A B (UnknownCriterion n) f (inr h) = inr (ap Err (cc h))
 refuses_too A B e f h = ap Err (cc h)
 
 -- of what is accepted nothing is asked before its moves are known
-pub accepted_exact : {K U : Type 0} (a : Action) (t : Told Answer) (answer : Result (Prepared K U) Refusal) → t ≡ Ok Accepted → IsExact (wants_memory a) t answer
-accepted_exact {K} {U} a t answer told = by (wants_memory a)
+pub accepted_exact : {K U : Type 0} (s : State) (a : Action) (t : Told Answer) (answer : Result (Prepared K U) Refusal) → t ≡ Ok Accepted → IsExact (wants_memory s a) t answer
+accepted_exact {K} {U} s a t answer told = by (wants_memory s a)
   where
     accepted_so : IsExactly t answer
     accepted_so = rw told tt
@@ -68,8 +68,8 @@ accepted_exact {K} {U} a t answer told = by (wants_memory a)
 
 module _ {K : Type 0} (r : RegisterView K) (day : DayValue) (a : Action) where
   -- what is answered exactly may be answered
-  pub exactly : (t : Told Answer) (x : Result Asked Refusal) → AsksExactly r day a t x → Asks r day a t x
-  exactly t x h = by (wants_memory a)
+  pub exactly : (s : State) (t : Told Answer) (x : Result Asked Refusal) → AsksExactly r day a t x → Asks s r day a t x
+  exactly s t x h = by (wants_memory s a)
     where
       by : (wants : Bool) → AsksBy wants r day a t x
       by true = inr h
@@ -94,8 +94,8 @@ module _ {K : Type 0} (r : RegisterView K) (day : DayValue) (a : Action) where
   accepted_exactly (Ok Accepted) e h = (refl, h)
 
   -- what has an effect was accepted
-  pub accepted : (t : Told Answer) (e : Effect) → Asks r day a t (Ok (asked.Effect e)) → (t ≡ Ok Accepted) × IsEffect r day a e
-  accepted t e h = by (wants_memory a) h
+  pub accepted : (s : State) (t : Told Answer) (e : Effect) → Asks s r day a t (Ok (asked.Effect e)) → (t ≡ Ok Accepted) × IsEffect r day a e
+  accepted s t e h = by (wants_memory s a) h
     where
       by : (wants : Bool) → AsksBy wants r day a t (Ok (asked.Effect e)) → (t ≡ Ok Accepted) × IsEffect r day a e
       by true (inl lacks) = cc lacks
@@ -110,8 +110,8 @@ module _ {K : Type 0} (r : RegisterView K) (day : DayValue) (a : Action) where
   told_exactly (Ok Accepted) then f h = inl h
 
   -- what is refused was refused by the verdict, or for want of memory
-  pub refusal_told : {B : Type 0} (t : Told Answer) (then : Answer → Told B) (f : Refusal) → Asks r day a t (Err f) → (f ≡ NoMemory) ⊎ ((t >>= then) ≡ Err f)
-  refusal_told {B} t then f h = by (wants_memory a) h
+  pub refusal_told : {B : Type 0} (s : State) (t : Told Answer) (then : Answer → Told B) (f : Refusal) → Asks s r day a t (Err f) → (f ≡ NoMemory) ⊎ ((t >>= then) ≡ Err f)
+  refusal_told {B} s t then f h = by (wants_memory s a) h
     where
       by : (wants : Bool) → AsksBy wants r day a t (Err f) → (f ≡ NoMemory) ⊎ ((t >>= then) ≡ Err f)
       by true (inl lacks) = inl (cc lacks)
@@ -124,8 +124,8 @@ module _ {K : Type 0} (r : RegisterView K) (day : DayValue) (a : Action) where
   exact_exactly U (Ok Accepted) f h = tt
 
   -- and before moves are known, exactly so
-  pub refusal_exact : (U : Type 0) (t : Told Answer) (f : Refusal) → Asks r day a t (Err f) → IsExact {K = K} {U = U} (wants_memory a) t (Err f)
-  refusal_exact U t f h = by (wants_memory a) h
+  pub refusal_exact : (s : State) (U : Type 0) (t : Told Answer) (f : Refusal) → Asks s r day a t (Err f) → IsExact {K = K} {U = U} (wants_memory s a) t (Err f)
+  refusal_exact s U t f h = by (wants_memory s a) h
     where
       by : (wants : Bool) → AsksBy wants r day a t (Err f) → IsExact {K = K} {U = U} wants t (Err f)
       by true (inl lacks) = inl (ap Err (cc lacks))

@@ -1,5 +1,5 @@
 -- The answer to a command to the desk: what is judged of it, or its effect.
-use Rattle.std.proofs.Common.{◌≡◌, ◌⊎◌, Bool, true, false, cond, is_some, Option, Some, None, option_map, Result, Ok, Err, refl, sym, ap, subst, ◌∙◌, inl, inr, arith}
+use Rattle.std.proofs.Common.{◌≡◌, ◌⊎◌, Bool, true, false, cond, ◌&&◌, is_ok, is_some, Option, Some, None, option_map, Result, Ok, Err, refl, sym, ap, subst, ◌∙◌, inl, inr, arith}
 use Rattle.vet_base.specs.declared.refusal.Refusal.{Refusal}
 use Rattle.vet_base.specs.declared.refusal.Refusal.TheVariants.{NoMemory, UnknownCriterion}
 use Rattle.vet_base.specs.Criteria.{IsTable}
@@ -88,30 +88,30 @@ module _ (s : State) (command : DeskCommand) where
 
 module _ {K : Type 0} (r : RegisterView K) (s : State) (day : DayValue) (command : DeskCommand) (new : desk_held s.desk command ≡ false) where
   -- a refusal of what is asked before
-  pub refused_before : (f : Refusal) → Answers (asked_before s command) (Err f) → Asks r day (Desk command) (judged s day (Desk command)) (Err f)
+  pub refused_before : (f : Refusal) → Answers (asked_before s command) (Err f) → Asks s r day (Desk command) (judged s day (Desk command)) (Err f)
   refused_before f h =
       let told = refused_first (asked_before s command >>= λ _. limits_after_rules s command) (λ _. Ok Accepted) f
       (refused_first (asked_before s command) (λ _. limits_after_rules s command) f h) in
-      exactly r day (Desk command) (judged s day (Desk command)) (Err f)
+      exactly r day (Desk command) s (judged s day (Desk command)) (Err f)
       (refused r day (Desk command) (judged s day (Desk command)) f (subst (λ (t : Told Answer). Answers t (Err f)) (sym (judged_in_turn s command day new)) told))
 
   module _ (passed : asked_before s command ≡ Ok tt) where
     -- or memory is wanting
-    pub wanting : (f : Refusal) → f ≡ NoMemory → Asks r day (Desk command) (judged s day (Desk command)) (Err f)
+    pub wanting : (f : Refusal) → f ≡ NoMemory → Asks s r day (Desk command) (judged s day (Desk command)) (Err f)
     wanting f lacks = by (finishes command) refl
       where
-        by : (b : Bool) → finishes command ≡ b → AsksBy b r day (Desk command) (judged s day (Desk command)) (Err f)
-        by true is = inl (ap Err lacks)
+        by : (b : Bool) → finishes command ≡ b → AsksBy (b && is_ok (asked_before s command)) r day (Desk command) (judged s day (Desk command)) (Err f)
+        by true is = subst (λ t. AsksBy (is_ok t) r day (Desk command) (judged s day (Desk command)) (Err f)) (sym passed) (inl (ap Err lacks))
         by false is =
             no_memory r day (Desk command) (judged s day (Desk command)) f
             (accepted_after s command day new passed (ap (λ b. cond b (entry_limits s (added_by s command)) (Ok tt)) is)) lacks
 
     -- a refusal by the limits after rules
-    pub refused_last : (f : Refusal) → (f ≡ NoMemory) ⊎ (limits_after_rules s command ≡ Err f) → Asks r day (Desk command) (judged s day (Desk command)) (Err f)
+    pub refused_last : (f : Refusal) → (f ≡ NoMemory) ⊎ (limits_after_rules s command ≡ Err f) → Asks s r day (Desk command) (judged s day (Desk command)) (Err f)
     refused_last f (inl lacks) = wanting f lacks
     refused_last f (inr told) =
         let is : judged s day (Desk command) ≡ Err f = judged_after s command day new passed ∙ ap (λ t. t >>= λ _. Ok Accepted) told in
-        exactly r day (Desk command) (judged s day (Desk command)) (Err f)
+        exactly r day (Desk command) s (judged s day (Desk command)) (Err f)
         (refused r day (Desk command) (judged s day (Desk command)) f (answers_itself (judged s day (Desk command)) (Err f) (sym is)))
 
 some_mapped : {A B : Type 0} (f : A → B) (o : Option A) → is_some (option_map f o) ≡ is_some o

@@ -164,8 +164,9 @@ abbrev pub AsksBy : {K : Type 0} → Bool → RegisterView K → DayValue → Ac
 AsksBy false r day action told answer = AsksExactly r day action told answer
 AsksBy true r day action told answer = (answer ≡ Err NoMemory) ⊎ AsksExactly r day action told answer
 
-abbrev pub Asks : {K : Type 0} → RegisterView K → DayValue → Action → Told Answer → Result Asked Refusal → Type 0
-Asks r day action told answer = AsksBy (wants_memory action) r day action told answer
+-- the answer to an action in a state, where the register has room for its effect
+abbrev pub Asks : {K : Type 0} → State → RegisterView K → DayValue → Action → Told Answer → Result Asked Refusal → Type 0
+Asks s r day action told answer = AsksBy (wants_memory s action) r day action told answer
 
 -- a register is stored as the tuple of its keeper, the parts of its state, and its rooms
 abbrev pub register_code : {K : Type 0} → Coded K → Coded FactsRoom → Coded KeyedPolicy → Coded NamedProject → Coded ToolSettings → Coded DeskView → Coded Counts → Coded RecordedMove → Coded (RegisterView K)

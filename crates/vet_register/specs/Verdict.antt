@@ -1,6 +1,6 @@
 -- What a command is told in a state (ours): the first that holds of: it is held already; a limit; what it refers to is
 -- not held; a rule; its moves do not fit; it is accepted.
-use Rattle.std.specs.Prelude.{ℕ, ◌+◌, ◌&&◌, ◌||◌, not, nat_lt, Bool, true, false, is_none, List, Option, Some, None, Ok, if◌then◌else◌, length, option_map, ◌+ℤ◌, pos}
+use Rattle.std.specs.Prelude.{ℕ, ◌+◌, ◌&&◌, ◌||◌, not, nat_lt, Bool, true, false, is_none, is_ok, List, Option, Some, None, Ok, if◌then◌else◌, length, option_map, ◌+ℤ◌, pos}
 use Rattle.std.specs.List.{list_any}
 use Rattle.std.specs.Ordering.{int_cmp, is_lt}
 use Rattle.std.specs.FinMap as table
@@ -210,12 +210,13 @@ abbrev pub held_or : Option (Option ℕ) → Told (Unit {0}) → Told Answer
 held_or (Some number) told = Ok (Already number)
 held_or None told = told >>= λ _. Ok Accepted
 
--- to compare an import, files, or the entry of a finished review with what is held takes memory
-abbrev pub wants_memory : Action → Bool
-wants_memory (ImportPeer name content) = true
-wants_memory (ReplaceFiles files) = true
-wants_memory (Desk command) = finishes command
-wants_memory _ = false
+-- to compare an import, files, or the entry of a finished review with what is held takes memory; the entry is made once
+-- all was passed that is asked of the command before the limits that come after rules
+abbrev pub wants_memory : State → Action → Bool
+wants_memory s (ImportPeer name content) = true
+wants_memory s (ReplaceFiles files) = true
+wants_memory s (Desk command) = finishes command && is_ok (asked_before s command)
+wants_memory s _ = false
 
 -- what a command is told, before its moves are known
 abbrev pub judged : State → DayValue → Action → Told Answer

@@ -38,7 +38,7 @@ impl<K: Keeper> Register<K> {
         day: Day,
         command: &DeskCommand,
     ) -> Result<Asked, Refusal>
-        ensures asked { Asks self.new day (action.Desk command.now)
+        ensures asked { Asks self.old.state self.new day (action.Desk command.now)
             (judged self.old.state day (action.Desk command.now)) result }
         ensures state { self.new.state ≡ self.old.state }
         ensures keeper { self.new.keeper ≡ self.old.keeper }

@@ -59,7 +59,7 @@ pub enum Asked {
 impl<K: Keeper> Register<K> {
     /// What a command asks of the register, and room for it.
     pub(crate) fn asked_by(&mut self, alloc: Global, command: &Command) -> Result<Asked, Refusal>
-        ensures asked { Asks self.new command.now.day command.now.action
+        ensures asked { Asks self.old.state self.new command.now.day command.now.action
             (judged self.old.state command.now.day command.now.action) result }
         ensures state { self.new.state ≡ self.old.state }
         ensures keeper { self.new.keeper ≡ self.old.keeper }
@@ -87,7 +87,7 @@ impl<K: Keeper> Register<K> {
     }
 
     fn set_criterion(&mut self, criterion: &Criterion) -> Result<Asked, Refusal>
-        ensures asked { (day : DayValue) → Asks self.new day (action.SetCriterion criterion.now)
+        ensures asked { (day : DayValue) → Asks self.old.state self.new day (action.SetCriterion criterion.now)
             (judged self.old.state day (action.SetCriterion criterion.now)) result }
         ensures state { self.new.state ≡ self.old.state }
         ensures keeper { self.new.keeper ≡ self.old.keeper }
@@ -106,7 +106,7 @@ impl<K: Keeper> Register<K> {
     }
 
     fn remove_criterion(&mut self, name: &Name) -> Result<Asked, Refusal>
-        ensures asked { (day : DayValue) → Asks self.new day (action.RemoveCriterion name.now)
+        ensures asked { (day : DayValue) → Asks self.old.state self.new day (action.RemoveCriterion name.now)
             (judged self.old.state day (action.RemoveCriterion name.now)) result }
         ensures state { self.new.state ≡ self.old.state }
         ensures keeper { self.new.keeper ≡ self.old.keeper }
@@ -123,7 +123,7 @@ impl<K: Keeper> Register<K> {
     }
 
     fn add_entry(&mut self, day: Day, entry: &Entry) -> Result<Asked, Refusal>
-        ensures asked { Asks self.new day (action.AddEntry entry.now)
+        ensures asked { Asks self.old.state self.new day (action.AddEntry entry.now)
             (judged self.old.state day (action.AddEntry entry.now)) result }
         ensures state { self.new.state ≡ self.old.state }
         ensures keeper { self.new.keeper ≡ self.old.keeper }
@@ -142,7 +142,7 @@ impl<K: Keeper> Register<K> {
     }
 
     fn drop_entry(&mut self, number: u64) -> Result<Asked, Refusal>
-        ensures asked { (day : DayValue) → Asks self.new day (action.DropEntry number)
+        ensures asked { (day : DayValue) → Asks self.old.state self.new day (action.DropEntry number)
             (judged self.old.state day (action.DropEntry number)) result }
         ensures state { self.new.state ≡ self.old.state }
         ensures keeper { self.new.keeper ≡ self.old.keeper }
@@ -158,7 +158,7 @@ impl<K: Keeper> Register<K> {
     }
 
     fn set_peer(&mut self, alloc: Global, settings: &PeerSettings) -> Result<Asked, Refusal>
-        ensures asked { (day : DayValue) → Asks self.new day (action.SetPeer settings.now)
+        ensures asked { (day : DayValue) → Asks self.old.state self.new day (action.SetPeer settings.now)
             (judged self.old.state day (action.SetPeer settings.now)) result }
         ensures state { self.new.state ≡ self.old.state }
         ensures keeper { self.new.keeper ≡ self.old.keeper }
@@ -177,7 +177,7 @@ impl<K: Keeper> Register<K> {
     }
 
     fn drop_peer(&mut self, name: &Name) -> Result<Asked, Refusal>
-        ensures asked { (day : DayValue) → Asks self.new day (action.DropPeer name.now)
+        ensures asked { (day : DayValue) → Asks self.old.state self.new day (action.DropPeer name.now)
             (judged self.old.state day (action.DropPeer name.now)) result }
         ensures state { self.new.state ≡ self.old.state }
         ensures keeper { self.new.keeper ≡ self.old.keeper }
@@ -198,7 +198,7 @@ impl<K: Keeper> Register<K> {
         name: &Name,
         content: &PeerContent,
     ) -> Result<Asked, Refusal>
-        ensures asked { (day : DayValue) → Asks self.new day (action.ImportPeer name.now content.now)
+        ensures asked { (day : DayValue) → Asks self.old.state self.new day (action.ImportPeer name.now content.now)
             (judged self.old.state day (action.ImportPeer name.now content.now)) result }
         ensures state { self.new.state ≡ self.old.state }
         ensures keeper { self.new.keeper ≡ self.old.keeper }
@@ -254,7 +254,7 @@ impl<K: Keeper> Register<K> {
         package: &PackageName,
         publishers: &Publishers,
     ) -> Result<Asked, Refusal>
-        ensures asked { (day : DayValue) → Asks self.new day
+        ensures asked { (day : DayValue) → Asks self.old.state self.new day
             (action.SetPublishers «package».now publishers.now)
             (judged self.old.state day (action.SetPublishers «package».now publishers.now)) result }
         ensures state { self.new.state ≡ self.old.state }
@@ -274,7 +274,7 @@ impl<K: Keeper> Register<K> {
     }
 
     fn set_policy(&mut self, policy: &KeyedPolicy) -> Result<Asked, Refusal>
-        ensures asked { (day : DayValue) → Asks self.new day (action.SetPolicy policy.now)
+        ensures asked { (day : DayValue) → Asks self.old.state self.new day (action.SetPolicy policy.now)
             (judged self.old.state day (action.SetPolicy policy.now)) result }
         ensures state { self.new.state ≡ self.old.state }
         ensures keeper { self.new.keeper ≡ self.old.keeper }
@@ -293,7 +293,7 @@ impl<K: Keeper> Register<K> {
     }
 
     fn drop_policy(&mut self, key: &PolicyKey) -> Result<Asked, Refusal>
-        ensures asked { (day : DayValue) → Asks self.new day (action.DropPolicy key.now)
+        ensures asked { (day : DayValue) → Asks self.old.state self.new day (action.DropPolicy key.now)
             (judged self.old.state day (action.DropPolicy key.now)) result }
         ensures state { self.new.state ≡ self.old.state }
         ensures keeper { self.new.keeper ≡ self.old.keeper }
@@ -309,7 +309,7 @@ impl<K: Keeper> Register<K> {
     }
 
     fn load_project(&mut self, project: &NamedProject) -> Result<Asked, Refusal>
-        ensures asked { (day : DayValue) → Asks self.new day (action.LoadProject project.now)
+        ensures asked { (day : DayValue) → Asks self.old.state self.new day (action.LoadProject project.now)
             (judged self.old.state day (action.LoadProject project.now)) result }
         ensures state { self.new.state ≡ self.old.state }
         ensures keeper { self.new.keeper ≡ self.old.keeper }
@@ -328,7 +328,7 @@ impl<K: Keeper> Register<K> {
     }
 
     fn drop_project(&mut self, name: &PackageName) -> Result<Asked, Refusal>
-        ensures asked { (day : DayValue) → Asks self.new day (action.DropProject name.now)
+        ensures asked { (day : DayValue) → Asks self.old.state self.new day (action.DropProject name.now)
             (judged self.old.state day (action.DropProject name.now)) result }
         ensures state { self.new.state ≡ self.old.state }
         ensures keeper { self.new.keeper ≡ self.old.keeper }
@@ -344,7 +344,7 @@ impl<K: Keeper> Register<K> {
     }
 
     fn replace_files(&mut self, alloc: Global, files: &FilesContent) -> Result<Asked, Refusal>
-        ensures asked { (day : DayValue) → Asks self.new day (action.ReplaceFiles files.now)
+        ensures asked { (day : DayValue) → Asks self.old.state self.new day (action.ReplaceFiles files.now)
             (judged self.old.state day (action.ReplaceFiles files.now)) result }
         ensures state { self.new.state ≡ self.old.state }
         ensures keeper { self.new.keeper ≡ self.old.keeper }
@@ -365,7 +365,7 @@ impl<K: Keeper> Register<K> {
     }
 
     fn close_period(&self) -> Result<Asked, Refusal>
-        ensures { (day : DayValue) → Asks self.now day action.ClosePeriod
+        ensures { (day : DayValue) → Asks self.now.state self.now day action.ClosePeriod
             (judged self.now.state day action.ClosePeriod) result }
     {
         self.check_step()?;

@@ -175,12 +175,13 @@ impl<K: Keeper> Register<K> {
     /// `UnknownCriterion`, `UnknownEntry`, `UnknownPeer`, `UnknownPolicy`, `UnknownProject`, `UnknownMember`,
     /// `UnknownReview`; `BuiltInCriterion`, `CriterionInUse`, `EmptyWindow`, `WindowTooLong`, `ReviewClosed`,
     /// `NotYours`, `WrongTarget`, `NotDemanded`; `MovesFull`. Of a review that is finished `TooLarge` comes after the
-    /// rules. `NoMemory` comes in place of `UnknownCriterion`, or where none before `MovesFull` holds; a command whose
-    /// content is held never meets it, but for an import and files, whose comparison with what is held takes memory; so
-    /// does that of the entry of a finished review.
+    /// rules. `NoMemory` comes in place of `UnknownCriterion`, or if none before `MovesFull` holds; a command whose
+    /// content is held never meets it. Three commands compare with what is held, which takes memory: an import, files,
+    /// and a review that is finished. So of an import and of files it comes in place of anything; of a review that is
+    /// finished, of what is told after the rules of the desk.
     pub fn prepare(&mut self, alloc: Global, command: &Command) -> Result<Prepared<K>, Refusal>
         ensures told { Gives answer_of (verdict self.old.state command.now) result }
-        ensures exact { IsExact (wants_memory command.now.action)
+        ensures exact { IsExact (wants_memory self.old.state command.now.action)
             (judged self.old.state command.now.day command.now.action) result }
         ensures prepared { IfOk result (IsAnswer K.keeping self.new command.now) }
         ensures state { self.new.state ≡ self.old.state }

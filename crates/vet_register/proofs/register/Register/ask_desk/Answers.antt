@@ -53,7 +53,7 @@ returns-clause-asked g c =
     c.desk_effect.ensures.room_stays.1.1 c.args.day command c.in_ok-change.change c.in_ok-change.ensures.change in
     let is = desk_effective c.desk_effect.new.self state c.args.day command c.in_ok-change.change c.in_ok-effect.effect
     (c.desk_effect.ensures.state ∙ c.desk_change.ensures.state) sound told prepared c.in_ok-effect.ensures.effect in
-    exactly _ _ _ _ _ (effective _ _ _ _ _ told is)
+    exactly _ _ _ state _ _ (effective _ _ _ _ _ told is)
 
 pub returns-clause-room_stays : goal.returns-clause-room_stays
 returns-clause-room_stays g c = room_onward c.args.self.now c.desk_change.new.self c.desk_effect.new.self c.desk_change.ensures.room_stays c.desk_effect.ensures.room_stays

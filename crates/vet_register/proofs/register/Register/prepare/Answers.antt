@@ -20,19 +20,19 @@ use Rattle.vet_register.proofs.register.Register.prepare.Goals as goal
 pub returns-in_err-number-clause-told : goal.returns-in_err-number-clause-told
 returns-in_err-number-clause-told g c =
     let passed = err_from_is_err_and c.from_residual.result c.from_residual.ensures.1 in
-    rw (passed.1, passed.2) (refusal_told _ _ _ _ _ _ c.in_err-number.ensures.asked)
+    rw (passed.1, passed.2) (refusal_told _ _ _ c.args.self.now.state _ _ _ c.in_err-number.ensures.asked)
 
 pub returns-in_err-number-clause-exact : goal.returns-in_err-number-clause-exact
 returns-in_err-number-clause-exact g c =
     let passed = err_from_is_err_and c.from_residual.result c.from_residual.ensures.1 in
-    rw (passed.1, passed.2) (refusal_exact _ _ _ _ _ _ c.in_err-number.ensures.asked)
+    rw (passed.1, passed.2) (refusal_exact _ _ _ c.args.self.now.state _ _ _ c.in_err-number.ensures.asked)
 
 pub change-requires-clause-step : goal.change-requires-clause-step
 change-requires-clause-step g c =
     let command = c.args.command.now in
     let action = command.action in
-    let asks = accepted c.asked_by.new.self command.day action (judged c.args.self.now.state command.day action) c.in-Effect.effect
-    (subst (Asks c.asked_by.new.self command.day action (judged c.args.self.now.state command.day action)) (ap Ok c.in-Effect.is) c.in_ok-number.ensures.asked) in
+    let asks = accepted c.asked_by.new.self command.day action c.args.self.now.state (judged c.args.self.now.state command.day action) c.in-Effect.effect
+    (subst (Asks c.args.self.now.state c.asked_by.new.self command.day action (judged c.args.self.now.state command.day action)) (ap Ok c.in-Effect.is) c.in_ok-number.ensures.asked) in
     let s = c.args.self.now.state in
     subst (λ (t : State). step_limit t ≡ Ok tt) (sym (c.plan.ensures.state ∙ c.asked_by.ensures.state)) (step_passed s command.day action (passed s command.day action asks.0))
 
@@ -40,16 +40,16 @@ pub change-requires-clause-next_entry : goal.change-requires-clause-next_entry
 change-requires-clause-next_entry g c =
     let command = c.args.command.now in
     let action = command.action in
-    let asks = accepted c.asked_by.new.self command.day action (judged c.args.self.now.state command.day action) c.in-Effect.effect
-    (subst (Asks c.asked_by.new.self command.day action (judged c.args.self.now.state command.day action)) (ap Ok c.in-Effect.is) c.in_ok-number.ensures.asked) in
+    let asks = accepted c.asked_by.new.self command.day action c.args.self.now.state (judged c.args.self.now.state command.day action) c.in-Effect.effect
+    (subst (Asks c.args.self.now.state c.asked_by.new.self command.day action (judged c.args.self.now.state command.day action)) (ap Ok c.in-Effect.is) c.in_ok-number.ensures.asked) in
     asks.1.next_entry ∙ ap (λ (t : State). number_after t action) (sym c.plan.ensures.state)
 
 pub change-requires-clause-moves : goal.change-requires-clause-moves
 change-requires-clause-moves g c =
     let command = c.args.command.now in
     let action = command.action in
-    let asks = accepted c.asked_by.new.self command.day action (judged c.args.self.now.state command.day action) c.in-Effect.effect
-    (subst (Asks c.asked_by.new.self command.day action (judged c.args.self.now.state command.day action)) (ap Ok c.in-Effect.is) c.in_ok-number.ensures.asked) in
+    let asks = accepted c.asked_by.new.self command.day action c.args.self.now.state (judged c.args.self.now.state command.day action) c.in-Effect.effect
+    (subst (Asks c.args.self.now.state c.asked_by.new.self command.day action (judged c.args.self.now.state command.day action)) (ap Ok c.in-Effect.is) c.in_ok-number.ensures.asked) in
     let s = c.asked_by.new.self.state in
     c.in_ok-planned-in-Effect.ensures.moves ∙ ap (λ h. moves_between (standing s) (standing_in h)) asks.1.held
     ∙ ap (λ (t : State). moves_of t action) (sym c.plan.ensures.state)
@@ -58,8 +58,8 @@ pub returns-in_err-change-in-Effect-clause-told : goal.returns-in_err-change-in-
 returns-in_err-change-in-Effect-clause-told g c =
     let command = c.args.command.now in
     let action = command.action in
-    let asks = accepted c.asked_by.new.self command.day action (judged c.args.self.now.state command.day action) c.in-Effect.effect
-    (subst (Asks c.asked_by.new.self command.day action (judged c.args.self.now.state command.day action)) (ap Ok c.in-Effect.is) c.in_ok-number.ensures.asked) in
+    let asks = accepted c.asked_by.new.self command.day action c.args.self.now.state (judged c.args.self.now.state command.day action) c.in-Effect.effect
+    (subst (Asks c.args.self.now.state c.asked_by.new.self command.day action (judged c.args.self.now.state command.day action)) (ap Ok c.in-Effect.is) c.in_ok-number.ensures.asked) in
     let gone = err_from_is_err_and c.from_residual-in_err-change-in-Effect.result c.from_residual-in_err-change-in-Effect.ensures.1 in
     rw (gone.1, gone.2) (fit_told c.args.self.now.state c.plan.new.self.state command _ (c.plan.ensures.state ∙ c.asked_by.ensures.state) asks.0
     c.in_err-change-in-Effect.ensures.told)
@@ -68,25 +68,25 @@ pub returns-in_err-change-in-Effect-clause-exact : goal.returns-in_err-change-in
 returns-in_err-change-in-Effect-clause-exact g c =
     let command = c.args.command.now in
     let action = command.action in
-    let asks = accepted c.asked_by.new.self command.day action (judged c.args.self.now.state command.day action) c.in-Effect.effect
-    (subst (Asks c.asked_by.new.self command.day action (judged c.args.self.now.state command.day action)) (ap Ok c.in-Effect.is) c.in_ok-number.ensures.asked) in
-    accepted_exact action (judged c.args.self.now.state command.day action) c.from_residual-in_err-change-in-Effect.result asks.0
+    let asks = accepted c.asked_by.new.self command.day action c.args.self.now.state (judged c.args.self.now.state command.day action) c.in-Effect.effect
+    (subst (Asks c.args.self.now.state c.asked_by.new.self command.day action (judged c.args.self.now.state command.day action)) (ap Ok c.in-Effect.is) c.in_ok-number.ensures.asked) in
+    accepted_exact c.args.self.now.state action (judged c.args.self.now.state command.day action) c.from_residual-in_err-change-in-Effect.result asks.0
 
 pub returns-in_ok-change-in-Effect-clause-told : goal.returns-in_ok-change-in-Effect-clause-told
 returns-in_ok-change-in-Effect-clause-told g c =
     let command = c.args.command.now in
     let action = command.action in
-    let asks = accepted c.asked_by.new.self command.day action (judged c.args.self.now.state command.day action) c.in-Effect.effect
-    (subst (Asks c.asked_by.new.self command.day action (judged c.args.self.now.state command.day action)) (ap Ok c.in-Effect.is) c.in_ok-number.ensures.asked) in
+    let asks = accepted c.asked_by.new.self command.day action c.args.self.now.state (judged c.args.self.now.state command.day action) c.in-Effect.effect
+    (subst (Asks c.args.self.now.state c.asked_by.new.self command.day action (judged c.args.self.now.state command.day action)) (ap Ok c.in-Effect.is) c.in_ok-number.ensures.asked) in
     fits_told c.args.self.now.state c.plan.new.self.state command (c.plan.ensures.state ∙ c.asked_by.ensures.state) asks.0 c.in_ok-change-in-Effect.ensures.told
 
 pub returns-in_ok-change-in-Effect-clause-exact : goal.returns-in_ok-change-in-Effect-clause-exact
 returns-in_ok-change-in-Effect-clause-exact g c =
     let command = c.args.command.now in
     let action = command.action in
-    let asks = accepted c.asked_by.new.self command.day action (judged c.args.self.now.state command.day action) c.in-Effect.effect
-    (subst (Asks c.asked_by.new.self command.day action (judged c.args.self.now.state command.day action)) (ap Ok c.in-Effect.is) c.in_ok-number.ensures.asked) in
-    accepted_exact action (judged c.args.self.now.state command.day action) _ asks.0
+    let asks = accepted c.asked_by.new.self command.day action c.args.self.now.state (judged c.args.self.now.state command.day action) c.in-Effect.effect
+    (subst (Asks c.args.self.now.state c.asked_by.new.self command.day action (judged c.args.self.now.state command.day action)) (ap Ok c.in-Effect.is) c.in_ok-number.ensures.asked) in
+    accepted_exact c.args.self.now.state action (judged c.args.self.now.state command.day action) _ asks.0
 
 pub returns-in_ok-change-in-Effect-clause-prepared : goal.returns-in_ok-change-in-Effect-clause-prepared
 returns-in_ok-change-in-Effect-clause-prepared g c =
@@ -94,8 +94,8 @@ returns-in_ok-change-in-Effect-clause-prepared g c =
     let action = command.action in
     let change = c.in_ok-change-in-Effect.change in
     let s = c.asked_by.new.self.state in
-    let asks = accepted c.asked_by.new.self command.day action (judged c.args.self.now.state command.day action) c.in-Effect.effect
-    (subst (Asks c.asked_by.new.self command.day action (judged c.args.self.now.state command.day action)) (ap Ok c.in-Effect.is) c.in_ok-number.ensures.asked) in
+    let asks = accepted c.asked_by.new.self command.day action c.args.self.now.state (judged c.args.self.now.state command.day action) c.in-Effect.effect
+    (subst (Asks c.args.self.now.state c.asked_by.new.self command.day action (judged c.args.self.now.state command.day action)) (ap Ok c.in-Effect.is) c.in_ok-number.ensures.asked) in
     let told = subst (λ (s : State). judged s command.day action ≡ Ok Accepted) (sym c.asked_by.ensures.state) asks.0 in
     let planned = c.in_ok-planned-in-Effect.ensures in
     let made = c.in_ok-change-in-Effect.ensures in
@@ -143,24 +143,24 @@ plan-requires-clause-sound g c =
     let command = c.args.command.now in
     let action = command.action in
     let s = c.asked_by.new.self.state in
-    let asks = accepted c.asked_by.new.self command.day action (judged c.args.self.now.state command.day action) c.in-Effect.effect
-    (subst (Asks c.asked_by.new.self command.day action (judged c.args.self.now.state command.day action)) (ap Ok c.in-Effect.is) c.in_ok-number.ensures.asked) in
+    let asks = accepted c.asked_by.new.self command.day action c.args.self.now.state (judged c.args.self.now.state command.day action) c.in-Effect.effect
+    (subst (Asks c.args.self.now.state c.asked_by.new.self command.day action (judged c.args.self.now.state command.day action)) (ap Ok c.in-Effect.is) c.in_ok-number.ensures.asked) in
     (number_after s action, subst (λ h. IsSoundHeld h (number_after s action)) (sym asks.1.held) asks.1.sound)
 
 pub plan-requires-clause-fits : goal.plan-requires-clause-fits
 plan-requires-clause-fits g c =
     let command = c.args.command.now in
     let action = command.action in
-    let asks = accepted c.asked_by.new.self command.day action (judged c.args.self.now.state command.day action) c.in-Effect.effect
-    (subst (Asks c.asked_by.new.self command.day action (judged c.args.self.now.state command.day action)) (ap Ok c.in-Effect.is) c.in_ok-number.ensures.asked) in
+    let asks = accepted c.asked_by.new.self command.day action c.args.self.now.state (judged c.args.self.now.state command.day action) c.in-Effect.effect
+    (subst (Asks c.args.self.now.state c.asked_by.new.self command.day action (judged c.args.self.now.state command.day action)) (ap Ok c.in-Effect.is) c.in_ok-number.ensures.asked) in
     asks.1.fits
 
 pub change-requires-clause-number : goal.change-requires-clause-number
 change-requires-clause-number g c =
     let command = c.args.command.now in
     let action = command.action in
-    let asks = accepted c.asked_by.new.self command.day action (judged c.args.self.now.state command.day action) c.in-Effect.effect
-    (subst (Asks c.asked_by.new.self command.day action (judged c.args.self.now.state command.day action)) (ap Ok c.in-Effect.is) c.in_ok-number.ensures.asked) in
+    let asks = accepted c.asked_by.new.self command.day action c.args.self.now.state (judged c.args.self.now.state command.day action) c.in-Effect.effect
+    (subst (Asks c.args.self.now.state c.asked_by.new.self command.day action (judged c.args.self.now.state command.day action)) (ap Ok c.in-Effect.is) c.in_ok-number.ensures.asked) in
     asks.1.number ∙ ap (λ (t : State). number_given t action) (sym c.plan.ensures.state)
 
 -- ---- what was prepared before
