@@ -175,10 +175,10 @@ impl<K: Keeper> Register<K> {
     /// `UnknownCriterion`, `UnknownEntry`, `UnknownPeer`, `UnknownPolicy`, `UnknownProject`, `UnknownMember`,
     /// `UnknownReview`; `BuiltInCriterion`, `CriterionInUse`, `EmptyWindow`, `WindowTooLong`, `ReviewClosed`,
     /// `NotYours`, `WrongTarget`, `NotDemanded`; `MovesFull`. Of a review that is finished `TooLarge` comes after the
-    /// rules. `NoMemory` comes in place of `UnknownCriterion`, or if none before `MovesFull` holds; a command whose
-    /// content is held never meets it. Three commands compare with what is held, which takes memory: an import, files,
-    /// and a review that is finished. So of an import and of files it comes in place of anything; of a review that is
-    /// finished, of what is told after the rules of the desk.
+    /// rules. `NoMemory` comes in place of `UnknownCriterion`, or if none before `MovesFull` holds. A command whose
+    /// content is held never meets it, except an import and files: to compare these with what is held takes memory,
+    /// so it comes in place of anything. The entry of a review that is finished is compared too, once the rules of the
+    /// desk are passed: it comes in place of what is told after these, and of nothing before.
     pub fn prepare(&mut self, alloc: Global, command: &Command) -> Result<Prepared<K>, Refusal>
         ensures told { Gives answer_of (verdict self.old.state command.now) result }
         ensures exact { IsExact (wants_memory self.old.state command.now.action)
