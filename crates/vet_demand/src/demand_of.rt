@@ -2,6 +2,27 @@
 //!
 //! **The demand holds exactly the pairs that are needed at an audited node of some project, and the needs are the
 //! least that policies and edges ask for.**
+//!
+//! Each criterion is needed by itself. It begins at some nodes, and goes along some edges, and is needed just where
+//! such a way leads. So the least needs are what is reached, however the dependencies circle.
+//!
+//! Where it begins (`passed`). A root begins with the closure of `safe-to-deploy`. A first-party node whose policy has
+//! criteria begins with the closure of these, and takes nothing else. An edge passes either a list, which a policy or
+//! a default names, or all that its node needs. A list is closed by itself and doesn't depend on what else is needed.
+//! So it begins at the node where the edge ends, and that edge is done with (`flow`).
+//!
+//! Along which edges it goes. What remains are the edges that pass what their node needs. Criteria don't mix on their
+//! way, so each is led on by itself, by a worklist in which a node stands once (`spread`). When the list has come to
+//! its end, each node to which it leads has the criterion: that is complete. And each node in it was put there by one
+//! before it, back to a beginning: that is least.
+//!
+//! What is demanded (`audited`). A node's needs are demanded where it is third-party, or its policy says that it is
+//! audited as at crates.io. The nodes of a project stand in order. The lists of two halves of the projects are merged,
+//! so a node of many projects stands once, with what it needs in any of them. Pairs are made of it at the end, in the
+//! order of reports.
+//!
+//! What it costs. Each edge is looked at once, and once more for each criterion that the node gets where it starts. A
+//! node of one of n projects is moved log n times.
 ghost use Rattle.std.specs.Prelude.{◌≡◌, ◌↔◌, ◌++◌, ◌∷◌, [], IfOk, IfErr, cond, length};
 ghost use Rattle.std.specs.List.{Contains};
 ghost use Rattle.vet_base.specs.Names.{IsRising};

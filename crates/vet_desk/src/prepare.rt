@@ -1,4 +1,13 @@
 //! What an accepted command changes, and room for it: one function a command. What the desk holds stays.
+//!
+//! A command to the desk goes in two calls. The verdict is a call for each of its parts (`verdict`), since the
+//! register asks for a step between two of them. `judge` asks for all in their order. What changes is made here, with
+//! its copies and its room, and the own entry that finishes a review by `finished`. `install` takes the number of that
+//! entry, which the register knows: that of an equal own entry, or the next one.
+//!
+//! Reviews stand in the order of their numbers. A new one comes last, and one that is found by halving is changed
+//! where it stands. So no command walks over the others. Only the question whether an open review names a criterion
+//! does: it is asked where a criterion is removed, or files are replaced.
 ghost use Rattle.std.specs.Prelude.{◌≡◌, ◌<◌, ◌≤◌, ℕ, IfErr, IfOk, List, Ok, is_some, length, true};
 ghost use Rattle.std.specs.Ordering.{nat_cmp};
 ghost use Rattle.vet_base.specs.Day.{DayValue};

@@ -1,4 +1,28 @@
 //! Entries that are found by their packages, and by their numbers.
+//!
+//! **Each entry stands once, at the place of its number, and the places of a package's entries stand side by side.**
+//!
+//! Entries stand by source: one's own in one list, those of each peer with the peer. Each list is in the order of
+//! numbers. Beside it stand the places of its entries in the order of their packages. So the entries of a package are
+//! found by two binary searches, and none of a peer has to be sought among all. What is wanted of all sources is
+//! gathered source by source and put in the order of numbers (`source`, `step`).
+//!
+//! Why by source. A peer goes with all that is held of it. An import exchanges one value for another, and looks at no
+//! entry of another source. And own entries are found as if there were no peers.
+//!
+//! A number tells an entry for ever, and rises along the list. A new entry has the greatest number, so it comes last
+//! and moves none. Its place goes among those of its package. To take an entry out moves those behind it, and lowers
+//! the places that point to them. Both undo each other, so an edit can be made, and taken back, with no memory at all.
+//!
+//! How a peer is held. It has its settings with its map (`peer_settings`, `criteria_map`) and what was imported from
+//! it (`holding`). That is its criteria as it defines them, and such a list of entries, in its own words. A peer's
+//! words become one's own criteria once a plan (`local_criteria`), so no command has to keep them in step.
+//!
+//! How an import goes (`import`). Held entries go into a table of hashes, and those that come are looked up. A mark
+//! for each says what comes again and what is new. If all comes again, nothing is new and the criteria are the same,
+//! the content is held already. Else what is held after it is made whole. It is copies of the held entries that come
+//! again, with their old numbers, and then the new ones with the next numbers. So the list stands by number without a
+//! sort.
 ghost use Rattle.std.specs.Prelude.{◌≡◌, ◌<◌, ◌≤◌, ◌+◌, ◌-◌, [], IfOk, IsOk, OnOk, OnErr, filter, insert, length, map, remove, slice_index_or, true, false, vec_capacity, vec_len};
 ghost use Rattle.std.specs.List.{All, range_with_len};
 ghost use Rattle.std.specs.List.Sorted.{IsNonDecreasingBy, IsPartitionPoint};

@@ -1,4 +1,17 @@
 //! Tables printed as documents.
+//!
+//! **What is written is a text that `toml` reads as exactly the table of the content.**
+//!
+//! A writer builds the table of its file and has `toml` print it. No text of a file is put together here. The table is
+//! a function of what the file holds (`audits_table` and its like, in `specs/`). Each type that stands at a key says
+//! how it is read and also as what it is written (`Field`). Tables of known keys are made of these, a small function a
+//! table. Tables by name (of criteria, peers, policies) are made by one walk over a list, the lists of a package's
+//! entries by another.
+//!
+//! That what is written is read again is proved in three parts. What the types alone know goes up in the contracts, as
+//! that the text of a version is read as that version (`specs/ReadAgain.antt`). Lemmas show of any table made of such
+//! parts that the reader's definition tells the same content. The two meet in the writer's contract, where `toml`
+//! gives the text. So nothing of the code of readers is looked at again, only what they tell.
 ghost use Rattle.std.specs.Prelude.{◌≡◌, ◌≤◌, IfErr, IfOk, Ok, Some, string_bytes};
 ghost use Rattle.toml.specs.Data.{members_depth};
 ghost use Rattle.toml.specs.Parse.{parse_document};

@@ -1,4 +1,25 @@
 //! Walks over the keys of a table and over the items of a list.
+//!
+//! **A walk tells what the definition tells of the table: what was found at each key in turn, or the first fault.**
+//!
+//! The bytes of a file go to `toml`, which gives a table or refuses them. Nothing is judged before all of it is TOML.
+//! Then one walk goes over that table, and what it finds are values of the lower crates. What is no such value ends
+//! the walk with its refusal, so the fault that is told is the first one in the order of the walk.
+//!
+//! The walk is two calls, over the keys of a table (`each_member`) and over the items of a list (`each_item`). What is
+//! read at a key, and how it goes on from what was found before, is handed to them. So each table of the files is one
+//! small reader. It asks for its keys in their order by `required` and `optional`, and the type of each key is the
+//! type of the value that is wanted (`Field`). The walk is proved once for all readers, since what one tells is a
+//! ghost member of its trait.
+//!
+//! The keys come in the order of their bytes, each once. The loop keeps one equation: what is told of all keys is what
+//! is told of the rest, going on from what was found. At the end nothing is left, and the equation is the contract.
+//!
+//! A peer's audits are read by the same readers as one's own. They differ in whose words they are (`Whose`) and in the
+//! path that a fault tells. Beside what it found a reader carries what it passed over (`Found`, `Notices`).
+//!
+//! What is to be a set is gathered in the order of the file and put in its own order once. So no order of a file takes
+//! the square of its length.
 ghost use Rattle.std.specs.Prelude.{◌≡◌, ℕ, List};
 ghost use Rattle.toml.specs.Data.{Data};
 ghost use Rattle.toml.specs.View.{array_view, table_view, view};

@@ -16,6 +16,23 @@
 //! What a change makes of a state is one equation (`changed`). Where it is prepared, the command is at hand: there it
 //! is proved to be the machine's step, and the state after it to be sound. `install` makes what the equation says,
 //! for all commands alike.
+//!
+//! The parts of `prepare`, in their order, and where each takes memory:
+//!
+//! - The verdict (`verdict`; of files `files_verdict`, of the desk `at_desk`): is it held already, limits, references,
+//!   rules. It takes memory for the name of an unknown criterion. To compare an import or files, and to make the entry
+//!   of a finished review, it takes more.
+//! - The edit (`edits`, `at_desk`): copies of what is set or added, and room for it. Commands that drop something take
+//!   none, nor does ClosePeriod.
+//! - The plan (`plan`): the demand after the edit, the standing by it, and the moves to that. Between an edit and its
+//!   undo the demand is found anew, unless the edit keeps it (`keeps_demand`).
+//! - The change (`plan`): whether the moves fit, copies of those to record, and room for them.
+//!
+//! Where memory is wanting in any part, the refusal is `NoMemory` and the state is as it was.
+//!
+//! `install` asks that this register prepared the change, on this state, and still has the room. Another command that
+//! is prepared in between leaves the state, loses no room (`KeepsRoom`) and leaves the keeper ready (`KeepsReady`). So
+//! what was prepared stays prepared (`KeepsPrepared`), and can be installed after it.
 ghost use Rattle.std.specs.Prelude.{◌≡◌, ◌<◌, ◌≤◌, Ok, IfOk, IfErr, OnErr, length};
 ghost use Rattle.vet_base.specs.Gives.{Gives};
 ghost use Rattle.vet_graph.specs.Standing.{class_in, counts_of, total_of};
