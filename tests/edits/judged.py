@@ -58,6 +58,13 @@ def refusal(function, said, answered, had):
     return Judged(NAMES, f"{function}: {said.verdicts[function][:160]}")
 
 
+def to_be_compared(edits, said, answered):
+    """The functions of edits whose failing goals are compared with those that they had before."""
+    edited = set().union(*(edit.functions for edit in edits))
+    refused = [name for name, it in said.verdicts.items() if words.is_refusal(it) and is_among(name, edited)]
+    return [name for name in refused if answered(name) and set(said.goals.get(name, [])) - set(answered(name))]
+
+
 def shown(fault):
     return f"{fault.path}:{fault.line}: {fault.text}"[:200]
 

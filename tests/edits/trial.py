@@ -55,18 +55,36 @@ class Trial:
     def goals_of(self, function):
         """The names of the goals that a function has with no edit."""
         if function not in self.goals:
-            made = os.path.join(self.room, "made")
-            self.run(self.texts, ["--start", function, "--generated", made])
-            folder = said.folder_of(function).replace("proofs", f"Rattle-{self.crate.name}-proofs", 1)
-            file = os.path.join(made, folder, "AnswersOffered.antt")
-            self.goals[function] = []
-            if os.path.isfile(file):
-                with open(file, encoding="utf-8") as it:
-                    self.goals[function] = DECLARED.findall(it.read())
-            shutil.rmtree(made, ignore_errors=True)
+            self.learn_goals([function])
         return self.goals[function]
 
+    def learn_goals(self, functions):
+        """Asks for the goals of functions with no edit, by one run: most of what a run takes goes into its start."""
+        wanted = sorted(it for it in functions if it not in self.goals)
+        if not wanted:
+            return
+        made = os.path.join(self.room, "made")
+        words = [word for it in wanted for word in ("--start", it)]
+        self.run(self.texts, [*words, "--generated", made])
+        found = {it: self.goals_made(made, it) for it in wanted}
+        shutil.rmtree(made, ignore_errors=True)
+        if len(wanted) > 1 and not any(found.values()):
+            # one that the prover cannot start keeps it from starting the others
+            for it in wanted:
+                self.learn_goals([it])
+        else:
+            self.goals |= found
+
+    def goals_made(self, made, function):
+        folder = said.folder_of(function).replace("proofs", f"Rattle-{self.crate.name}-proofs", 1)
+        file = os.path.join(made, folder, "AnswersOffered.antt")
+        if not os.path.isfile(file):
+            return []
+        with open(file, encoding="utf-8") as it:
+            return DECLARED.findall(it.read())
+
     def judge(self, edits, told):
+        self.learn_goals(judged.to_be_compared(edits, told, self.answers))
         return judged.judge(edits, told, self.answers, self.goals_of)
 
     def batch(self, edits):
@@ -85,7 +103,7 @@ class Trial:
             taken = self.batch(left)
             told = self.check(taken)
             found = self.judge(taken, told) or self.at_fault(taken, told)
-            came_of |= {edit: self.second_look(edit, it, told) for edit, it in found.items()}
+            came_of |= self.second_looks(found, told)
             left = [edit for edit in left if edit not in came_of]
         return came_of
 
@@ -103,23 +121,33 @@ class Trial:
             found |= self.judge([edit], told) or self.at_fault([edit], told)
         return found
 
-    def second_look(self, edit, found, told):
-        """What comes of an edit once the answers that name what it took away are set aside."""
-        if found.sort != judged.NAMES:
-            return found
-        aside = Aside(self.room)
-        try:
-            while aside.set(it for name in edit.functions for it in told.faults_of(name)):
-                told = self.check([edit])
-        finally:
-            aside.put_back()
-        again = self.judge([edit], told).get(edit) if aside.were else None
-        if again and again.sort is None:
-            return judged.Judged(None, f"{again.why} once the answers that name what it took away are set aside")
-        if again and again.sort == judged.GOAL:
-            again.why += ", once the answers that name what it took away are set aside"
-            return again
+    def second_looks(self, found, told):
+        """What comes of edits once the answers that name what they took away are set aside."""
+        of_names = [edit for edit, it in found.items() if it.sort == judged.NAMES]
+        again = self.without_names(of_names, told)
+        for edit in of_names:
+            # beside another edit it came to no verdict
+            if edit not in again and len(of_names) > 1:
+                again |= self.without_names([edit], told)
+        for edit, it in again.items():
+            beside = "once the answers that name what it took away are set aside"
+            if it.sort is None:
+                found[edit] = judged.Judged(None, f"{it.why} {beside}")
+            elif it.sort == judged.GOAL:
+                found[edit] = judged.Judged(it.sort, f"{it.why}, {beside}")
         return found
+
+    def without_names(self, edits, told):
+        """What the prover says of edits that are tried together, with the answers set aside that name what is gone."""
+        asides = {edit: Aside(self.room) for edit in edits}
+        try:
+            while any([asides[edit].set(it for name in edit.functions for it in told.faults_of(name)) for edit in edits]):
+                told = self.check(edits)
+        finally:
+            for aside in asides.values():
+                aside.put_back()
+        looked_at = [edit for edit in edits if asides[edit].were]
+        return {edit: it for edit, it in self.judge(edits, told).items() if edit in looked_at} if looked_at else {}
 
 
 class Aside:
