@@ -14,7 +14,7 @@ use Rattle.vet_base.specs.VersionOrder.{version_eq, version_eq-Decides}
 use Rattle.vet_graph.specs.declared.guarded.GuardedStep.{GuardedStep}
 use Rattle.vet_graph.specs.declared.search.Terms.{Terms}
 use Rattle.vet_graph.specs.Chain.{Leads}
-use Rattle.vet_graph.specs.Decisions.{AllPairs-head, AllPairs-tail, Contains-cons_cases, Contains-here, Contains-later, Contains-map}
+use Rattle.vet_graph.specs.ListLaws.{AllPairs-head, AllPairs-tail, Contains-cons_cases, Contains-here, Contains-later, Contains-map}
 use Rattle.vet_graph.specs.declared.links.Links.{Links}
 use Rattle.vet_graph.specs.Links.{AreFrom, IsLinked, lists_in, origin_at}
 use Rattle.vet_graph.specs.Reaching.{IsDone, IsOpenChain, IsReaching, IsSound, LeadsFrom, LeadsOn, Stands, StandsBefore}

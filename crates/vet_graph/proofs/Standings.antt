@@ -11,14 +11,15 @@ use Rattle.vet_entries.specs.declared.step.Step.{Step}
 use Rattle.vet_entries.specs.Facts.{Facts, no_facts}
 use Rattle.vet_graph.specs.declared.class.Class.TheVariants.{Unvetted}
 use Rattle.vet_graph.specs.Chain.{Condemned, IsChain}
-use Rattle.vet_graph.specs.ClassAt.{class_at, class_at-is, class_at-unique}
+use Rattle.vet_graph.specs.ClassAt.{class_at}
+use Rattle.vet_graph.specs.ClassAtLaws.{class_at-is, class_at-unique}
 use Rattle.vet_graph.specs.Class.{IsClass, IsClassOfPair}
-use Rattle.vet_graph.specs.Decisions.{Contains-cons_cases, Contains-here, Contains-later}
+use Rattle.vet_graph.specs.ListLaws.{Contains-cons_cases, Contains-here, Contains-later}
 use Rattle.std.proofs.lemmas.Bool.{false≢true}
 use Rattle.vet_graph.specs.declared.class.Class.{Class}
 use Rattle.vet_demand.specs.Pair.{IsInOrder, pair_eq, pair_eq-Decides}
 use Rattle.vet_graph.specs.Standing.{IsStanding, class_in, pairs_of}
-use Rattle.vet_graph.specs.Plain.{AreStepsOf}
+use Rattle.vet_graph.specs.PackageSteps.{AreStepsOf}
 use Rattle.vet_graph.specs.StandingOf.{PairClassHolds, PairClassIsOnly, PairsStandAtTheirClass, class_of_pair, condemned_of, standing_of}
 use Rattle.vet_entries.specs.declared.condemned.Violation.{Violation}
 use Rattle.vet_entries.specs.Condemned.{ViolationsCondemn, condemned_by, violations_of}

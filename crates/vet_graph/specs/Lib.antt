@@ -1,10 +1,16 @@
 pub mod Chain
+pub mod ChainDecisions
 pub mod Class
 pub mod ClassAt
+pub mod ClassAtLaws
 pub mod Decisions
+pub mod DecisionsLaws
+pub mod Encodings
 pub mod Keeping
 pub mod Links
+pub mod ListLaws
 pub mod Moves
+pub mod PackageSteps
 pub mod Plain
 pub mod Reaching
 pub mod Search

@@ -1,9 +1,9 @@
 //! The class that chains of steps give a version.
-ghost use Rattle.std.specs.Prelude.{◌≡◌, ◌↔◌, ℕ, IsTrue, IfOk, IfErr};
+ghost use Rattle.std.specs.Prelude.{◌≡◌, ◌↔◌, ℕ, true, IsTrue, IfOk, IfErr};
 ghost use Rattle.vet_base.specs.CriteriaSet.{has};
 ghost use Rattle.vet_graph.specs.Chain.{Condemned};
 ghost use Rattle.vet_graph.specs.Class.{IsClass, IsConflicting, IsExempted, IsFull, IsPartial, class_word};
-ghost use Rattle.vet_graph.specs.ClassAt.{ClassHolds, ClassIsOnly, class_at};
+ghost use Rattle.vet_graph.specs.ClassAt.{class_at};
 ghost use Rattle.vet_graph.specs.Search.{Agrees, AreGuardedAt, IsReached, steps_in};
 
 use crate::links::LinkedSteps;
@@ -48,7 +48,7 @@ impl Class {
 /// and the version say. Asks that there are such: steps to one version say the same of this criterion, and so
 /// does the version. Costs at most four searches, each of which looks at each step at most once. Refused:
 /// `NoMemory`.
-pub fn class_of(
+pub(crate) fn class_of(
     alloc: Global,
     steps: &LinkedSteps,
     condemned: &CriteriaSet,
@@ -111,12 +111,7 @@ fn is_fully_vetted(
         → IfOk result (λ b. IsTrue b ↔ IsFull (steps_in steps.now) condemned_for place version.now) }
     ensures memory { IfErr result (λ e. e ≡ Refusal.NoMemory) }
 {
-    let terms = Terms {
-        place,
-        barred: true,
-        skip: Skip::Exempt,
-    };
-    is_reached(alloc, steps, &terms, version)
+    is_cleanly_reached(alloc, steps, place, Skip::Exempt, version)
 }
 
 // Whether some clean chain ends in a step that isn't exempt.
@@ -131,12 +126,7 @@ fn is_partly_vetted(
     ensures memory { IfErr result (λ e. e ≡ Refusal.NoMemory) }
 {
     let skip = Skip::ExemptTo(version);
-    let terms = Terms {
-        place,
-        barred: true,
-        skip,
-    };
-    is_reached(alloc, steps, &terms, version)
+    is_cleanly_reached(alloc, steps, place, skip, version)
 }
 
 // Whether some clean chain leads to the version.
@@ -150,10 +140,25 @@ fn is_vouched_for(
         → IfOk result (λ b. IsTrue b ↔ IsExempted (steps_in steps.now) condemned_for place version.now) }
     ensures memory { IfErr result (λ e. e ≡ Refusal.NoMemory) }
 {
+    is_cleanly_reached(alloc, steps, place, Skip::Nothing, version)
+}
+
+// Whether a search that skips these steps, and goes through no condemned version, reaches the version.
+fn is_cleanly_reached(
+    alloc: Global,
+    steps: &LinkedSteps,
+    place: usize,
+    skip: Skip<'_>,
+    version: &VetVersion,
+) -> Result<bool, Refusal>
+    ensures ok { IfOk result (λ b.
+        IsTrue b ↔ IsReached steps.now (record { place = place; barred = true; skip = skip.entry }) version.now) }
+    ensures memory { IfErr result (λ e. e ≡ Refusal.NoMemory) }
+{
     let terms = Terms {
         place,
         barred: true,
-        skip: Skip::Nothing,
+        skip,
     };
     is_reached(alloc, steps, &terms, version)
 }
@@ -171,9 +176,3 @@ fn is_reached(
     let reached = search(alloc, steps, terms)?;
     Ok(leads_to(steps.steps(), reached.as_slice(), version))
 }
-
-/// The class that the definition gives is the first that holds, and no other one is.
-pub fn class_is_first_that_holds()
-    ensures first { ClassHolds }
-    ensures only { ClassIsOnly }
-{}

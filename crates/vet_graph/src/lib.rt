@@ -7,11 +7,14 @@
 #![tactic(auto)]
 
 pub mod class;
-pub mod guarded;
+mod guarded;
 pub mod keeper;
-pub mod links;
+pub mod laws;
+mod links;
 pub mod moves;
+mod package_steps;
+pub mod pair_class;
 pub mod plain;
-pub mod search;
+mod search;
 pub mod standing;
 pub mod touched;

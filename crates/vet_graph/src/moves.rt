@@ -2,7 +2,7 @@
 //!
 //! **The moves are the pairs at which the standings differ, each once, in order, with both classes.**
 ghost use Rattle.std.specs.Prelude.{◌≡◌, ◌++◌, ◌∷◌, [], IfOk, IfErr, OnOk, map};
-ghost use Rattle.vet_graph.specs.Moves.{changes, comes, leaves, moves_between, ArrivalsAdd, DeparturesAdd, MovesAreDifferences, MovesBalance};
+ghost use Rattle.vet_graph.specs.Moves.{changes, comes, leaves, moves_between};
 
 use crate::class::Class;
 use crate::standing::Stand;
@@ -134,20 +134,3 @@ fn push_all_coming(moves: &mut Vec<Move>, standing: &[Stand]) -> Result<(), Refu
     }
     Ok(())
 }
-
-/// What stands in a class, with what departed from it, is what stood there before, with what arrived.
-pub fn moves_balance()
-    ensures { MovesBalance }
-{}
-
-/// Where both standings are in order, the moves between them are the pairs at which they differ, each once,
-/// in order, with both classes.
-pub fn moves_are_differences()
-    ensures { MovesAreDifferences }
-{}
-
-/// The arrivals of two runs of moves add up, and so do the departures.
-pub fn runs_of_moves_add()
-    ensures arrivals { ArrivalsAdd }
-    ensures departures { DeparturesAdd }
-{}

@@ -1,47 +1,29 @@
 //! A keeper of the classes of demanded pairs, which finds every class anew.
 ghost use Rattle.std.specs.Prelude.{◌≡◌, [], IfOk, IfErr, IfSome, IsOk};
-ghost use Rattle.vet_entries.specs.Facts.{Facts, no_facts};
-ghost use Rattle.vet_entries.specs.Condemned.{condemned_by};
+ghost use Rattle.vet_entries.specs.Facts.{Facts};
 ghost use Rattle.vet_entries.specs.LocalCriteria.{AreLocal};
-ghost use Rattle.vet_graph.specs.Class.{IsClassOfPair};
-ghost use Rattle.vet_graph.specs.Plain.{AreStepsOf};
-ghost use Rattle.vet_graph.specs.Search.{AreGuarded, steps_in};
-ghost use Rattle.vet_graph.specs.StandingOf.{NoneIsVetted, PairClassHolds, PairClassIsOnly, PairsStandAtTheirClass, class_of_pair, standing_of};
+ghost use Rattle.vet_graph.specs.PackageSteps.{AreStepsOf};
+ghost use Rattle.vet_graph.specs.StandingOf.{class_of_pair, standing_of};
 ghost use Rattle.vet_graph.specs.Touched.{GiveNothing};
 
-use crate::class::{Class, class_of};
-use crate::guarded::GuardedStep;
+use crate::class::Class;
 use crate::keeper::Keeper;
 use crate::links::LinkedSteps;
 use crate::moves::{Move, differences};
+use crate::package_steps::{PackageSteps, found_steps};
+use crate::pair_class::class_by;
 use crate::standing::{Counts, Stand, class_in, counts_of};
 use crate::touched::Touched;
 use std::alloc::Global;
-use std::collections::BTreeMap;
 use std::marker::Model;
 use vet_base::name::{Name, PackageName};
 use vet_base::refusal::Refusal;
 use vet_base::version::VetVersion;
 use vet_demand::demand::Demand;
 use vet_demand::pair::Pair;
-use vet_entries::condemned::{Violation, condemned_by, violations_by, violations_condemn};
+use vet_entries::condemned::Violation;
 use vet_entries::facts::EntryFacts;
-use vet_entries::judge::{judge, merged};
 use vet_entries::local_criteria::LocalCriteria;
-use vet_entries::step::{Step, steps_by};
-
-/// The class of a pair by these facts: `Unvetted` where the table lacks its criterion. Finds the local criteria of all
-/// sources and the steps of the package, and searches these at most four times. Refused: `NoMemory`.
-pub fn class_of_pair(alloc: Global, facts: &EntryFacts, pair: &Pair) -> Result<Class, Refusal>
-    ensures is { IfOk result (IsClassOfPair facts.now.content pair.now) }
-    ensures ok { IfOk result (λ class. class ≡ class_of_pair facts.now.content pair.now) }
-    ensures memory { IfErr result (λ e. e ≡ Refusal.NoMemory) }
-{
-    let local = LocalCriteria::of(alloc, facts)?;
-    let found = found_steps(alloc, &pair.package, facts, &local)?;
-    let violations = found.violations.as_slice();
-    class_by(alloc, facts, &found.steps, violations, pair)
-}
 
 /// The class of each demanded pair, in the order of the pairs.
 #[derive(Drop)]
@@ -72,7 +54,8 @@ pub struct PlainUpdate {
 
 impl Model for PlainUpdate {
     ghost use Rattle.vet_graph.specs.Standing.{IsStanding};
-    ghost use Rattle.vet_graph.specs.Plain.{UpdateView, update_code};
+    ghost use Rattle.vet_graph.specs.Encodings.{update_code};
+    ghost use Rattle.vet_graph.specs.Plain.{UpdateView};
     ghost use Rattle.vet_graph.specs.contracts.moves.Move as change;
     ghost use Rattle.vet_graph.specs.contracts.standing.Stand as stand;
     ghost use Rattle.vet_graph.specs.contracts.touched.Touched as told;
@@ -115,8 +98,9 @@ impl Keeper for PlainKeeper {
         })
     }
 
-    /// Finds every class anew, whatever is touched. Finds the local criteria of all sources once, and the steps and the violations of each package once, and
-    /// searches them at most four times for each of its pairs. Refused: `NoMemory`.
+    /// Finds every class anew, whatever is touched. Finds the local criteria of all sources once, and the steps
+    /// and the violations of each package once, and searches them at most four times for each of its pairs.
+    /// Refused: `NoMemory`.
     #[tactic(auto, using(crate::proofs::Standings::standing_in_order))]
     fn plan(
         &mut self,
@@ -165,23 +149,6 @@ impl Keeper for PlainKeeper {
     }
 }
 
-// What is known of one package: its steps, each with what condemns its target, and its violations.
-struct PackageSteps {
-    package: PackageName,
-    steps: LinkedSteps,
-    violations: Vec<Violation>,
-}
-
-impl Drop for PackageSteps {
-    fn drop(self) {
-        let PackageSteps {
-            package: _,
-            steps: _,
-            violations: _,
-        } = self;
-    }
-}
-
 // Each pair of a demand with its class. The pairs of a package stand side by side, so its steps are found once.
 fn stands_of(alloc: Global, facts: &EntryFacts, demand: &[Pair]) -> Result<Vec<Stand>, Refusal>
     ensures ok { IfOk result (λ s. s.items ≡ standing_of facts.now.content demand.now) }
@@ -225,52 +192,6 @@ fn package_steps(
     found_steps(alloc, package, facts, local)
 }
 
-// The steps of a package, each with the criteria for which its target is condemned.
-fn found_steps(
-    alloc: Global,
-    package: &PackageName,
-    facts: &EntryFacts,
-    local: &LocalCriteria,
-) -> Result<PackageSteps, Refusal>
-    requires { AreLocal facts.now.content local.now }
-    ensures package { IfOk result (λ h. h.«package» ≡ «package».now) }
-    ensures steps { IfOk result (λ h.
-        AreStepsOf facts.now.content «package».now h.steps h.violations.items) }
-    ensures held { IfOk result (λ h.
-        AreStepsOf facts.now.content h.«package» h.steps h.violations.items) }
-    ensures memory { IfErr result (λ e. e ≡ Refusal.NoMemory) }
-{
-    let steps = steps_by(alloc, package, facts, local)?;
-    let violations = violations_by(alloc, package, facts, local.own())?;
-    let guarded = guarded(alloc, steps, violations.as_slice())?;
-    Ok(PackageSteps {
-        package: package.clone()?,
-        steps: LinkedSteps::of(alloc, guarded)?,
-        violations,
-    })
-}
-
-// Steps, each with the criteria for which these violations condemn its target. Each different version is judged
-// once, by each different requirement.
-fn guarded(
-    alloc: Global,
-    steps: Vec<Step>,
-    violations: &[Violation],
-) -> Result<Vec<GuardedStep>, Refusal>
-    ensures steps { IfOk result (λ guarded. steps_in guarded.items ≡ steps.items) }
-    ensures guards { IfOk result (λ guarded. AreGuarded (condemned_by violations.now) guarded.items) }
-    ensures memory { IfErr result (λ e. e ≡ Refusal.NoMemory) }
-{
-    let merged = merged(alloc, violations)?;
-    let mut judged = BTreeMap::new(alloc);
-    let mut guarded = Vec::new(alloc);
-    'steps: for step in steps {
-        let condemned = judge(&mut judged, merged.as_slice(), &step.target)?;
-        guarded.push(GuardedStep { step, condemned })?;
-    }
-    Ok(guarded)
-}
-
 // A pair with its class, where these are its package's steps and violations.
 fn stand_of(
     alloc: Global,
@@ -290,37 +211,3 @@ fn stand_of(
         class,
     })
 }
-
-// The class of a pair, where these are its package's steps and violations.
-fn class_by(
-    alloc: Global,
-    facts: &EntryFacts,
-    steps: &LinkedSteps,
-    violations: &[Violation],
-    pair: &Pair,
-) -> Result<Class, Refusal>
-    requires { AreStepsOf facts.now.content pair.now.«package» steps.now violations.now }
-    ensures ok { IfOk result (λ class. class ≡ class_of_pair facts.now.content pair.now) }
-    ensures memory { IfErr result (λ e. e ≡ Refusal.NoMemory) }
-{
-    violations_condemn();
-    let Some(place) = facts.criteria().place(&pair.criterion) else {
-        return Ok(Class::Unvetted);
-    };
-    let condemned = condemned_by(violations, &pair.version);
-    class_of(alloc, steps, &condemned, place, &pair.version)
-}
-
-/// The class of each pair by any facts is the first that holds, and no other one is. In the standing of a
-/// demand just the pairs demanded stand, each at its class.
-pub fn each_pair_has_its_class()
-    ensures holds { PairClassHolds }
-    ensures only { PairClassIsOnly }
-    ensures stands { PairsStandAtTheirClass }
-{}
-
-/// Where nothing is held, there are no steps, no version is condemned, and no pair is vetted.
-pub fn nothing_vets_nothing()
-    ensures vets { NoneIsVetted no_facts }
-    ensures gives { GiveNothing no_facts }
-{}

@@ -1,7 +1,7 @@
 //! The standing: the demanded pairs, and the class of each.
 ghost use Rattle.std.specs.Prelude.{◌≡◌};
 ghost use Rattle.vet_demand.specs.Pair.{pair_cmp};
-ghost use Rattle.vet_graph.specs.Standing.{class_in, count_in, count_of, counts_of, ClassesAddUp, IsStanding};
+ghost use Rattle.vet_graph.specs.Standing.{class_in, count_in, count_of, counts_of, IsStanding};
 
 use crate::class::Class;
 use std::cmp::Ordering;
@@ -92,8 +92,3 @@ pub fn class_in(
         Err(_) => None,
     }
 }
-
-/// The five counts of a standing add up to the number of its pairs.
-pub fn classes_add_up()
-    ensures { ClassesAddUp }
-{}

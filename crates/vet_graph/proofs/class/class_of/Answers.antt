@@ -1,6 +1,6 @@
 use Rattle.std.proofs.lemmas.Bool.{iff_false}
 use Rattle.vet_graph.specs.declared.class.Class.TheVariants.{Conflicting, Exempted, Full, Partial, Unvetted}
-use Rattle.vet_graph.specs.ClassAt.{class_at-unique}
+use Rattle.vet_graph.specs.ClassAtLaws.{class_at-unique}
 use Rattle.vet_graph.specs.Search.{steps_in}
 use Rattle.vet_graph.proofs.class.class_of.Goals as goal
 

@@ -1,6 +1,6 @@
 -- The pairs so far, each with its class, and the steps of the last one's package.
 use Rattle.std.proofs.Common.{◌≡◌, IfSome, take}
-use Rattle.vet_graph.specs.Plain.{AreStepsOf}
+use Rattle.vet_graph.specs.PackageSteps.{AreStepsOf}
 use Rattle.vet_graph.specs.StandingOf.{standing_of}
 use Rattle.vet_graph.proofs.plain.stands_of.Given as goal
 

@@ -5,7 +5,7 @@ use Rattle.vet_base.specs.VersionOrder.{version_cmp}
 use Rattle.vet_entries.specs.Condemned.{condemned_by}
 use Rattle.vet_entries.specs.Judge.{AreJudged}
 use Rattle.vet_graph.specs.Search.{AreGuarded, steps_in}
-use Rattle.vet_graph.proofs.plain.guarded.Given as goal
+use Rattle.vet_graph.proofs.package_steps.guarded.Given as goal
 
 abbrev pub invariant-steps : goal.invariant-steps
 invariant-steps l =

@@ -6,7 +6,7 @@ use Rattle.vet_graph.specs.ClassAt.{class_at}
 use Rattle.vet_graph.specs.Search.{steps_in}
 use Rattle.vet_graph.specs.StandingOf.{class_of_pair}
 use Rattle.vet_graph.proofs.Standings.{class_by_place}
-use Rattle.vet_graph.proofs.plain.class_by.Goals as goal
+use Rattle.vet_graph.proofs.pair_class.class_by.Goals as goal
 
 pub returns-clause-ok : goal.returns-clause-ok
 returns-clause-ok c =

@@ -1,6 +1,6 @@
 use Rattle.std.proofs.Common.{refl}
 use Rattle.vet_graph.proofs.Standings.{none_is_vetted}
-use Rattle.vet_graph.proofs.plain.nothing_vets_nothing.Goals as goal
+use Rattle.vet_graph.proofs.laws.nothing_vets_nothing.Goals as goal
 
 pub returns-clause-vets : goal.returns-clause-vets
 returns-clause-vets c = none_is_vetted

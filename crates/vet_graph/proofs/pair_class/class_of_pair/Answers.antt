@@ -3,7 +3,7 @@ use Rattle.std.proofs.lemmas.Result.{IfOk-weaker}
 use Rattle.vet_graph.specs.Class.{IsClassOfPair}
 use Rattle.vet_graph.specs.StandingOf.{class_of_pair}
 use Rattle.vet_graph.proofs.Standings.{pair_class_holds}
-use Rattle.vet_graph.proofs.plain.class_of_pair.Goals as goal
+use Rattle.vet_graph.proofs.pair_class.class_of_pair.Goals as goal
 
 pub returns-clause-is : goal.returns-clause-is
 returns-clause-is c =

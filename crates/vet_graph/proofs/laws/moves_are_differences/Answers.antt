@@ -1,5 +1,5 @@
 use Rattle.vet_graph.proofs.Differences.{are_moves}
-use Rattle.vet_graph.proofs.moves.moves_are_differences.Goals as goal
+use Rattle.vet_graph.proofs.laws.moves_are_differences.Goals as goal
 
 pub returns : goal.returns
 returns c = are_moves

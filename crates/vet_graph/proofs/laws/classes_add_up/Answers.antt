@@ -1,5 +1,5 @@
 use Rattle.vet_graph.proofs.Balance.{total_is_length}
-use Rattle.vet_graph.proofs.standing.classes_add_up.Goals as goal
+use Rattle.vet_graph.proofs.laws.classes_add_up.Goals as goal
 
 pub returns : goal.returns
 returns c = total_is_length

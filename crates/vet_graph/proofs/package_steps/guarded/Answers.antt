@@ -7,7 +7,7 @@ use Rattle.vet_entries.specs.Condemned.{condemned_by}
 use Rattle.vet_entries.specs.Judge.{AreJudged}
 use Rattle.vet_graph.specs.declared.guarded.GuardedStep.{GuardedStep}
 use Rattle.vet_graph.proofs.Standings.{steps_push}
-use Rattle.vet_graph.proofs.plain.guarded.Goals as goal
+use Rattle.vet_graph.proofs.package_steps.guarded.Goals as goal
 
 pub steps-preserved : goal.steps-preserved
 steps-preserved c =

@@ -1,5 +1,0 @@
-use Rattle.vet_graph.specs.ClassAt.{class_at-is, class_at-unique}
-use Rattle.vet_graph.proofs.class.class_is_first_that_holds.Goals as goal
-
-pub returns : goal.returns
-returns c = record { first = class_at-is; only = class_at-unique }

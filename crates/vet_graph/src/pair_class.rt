@@ -1,0 +1,48 @@
+//! The class of one pair by the facts.
+ghost use Rattle.std.specs.Prelude.{◌≡◌, IfOk, IfErr};
+ghost use Rattle.vet_graph.specs.Class.{IsClassOfPair};
+ghost use Rattle.vet_graph.specs.PackageSteps.{AreStepsOf};
+ghost use Rattle.vet_graph.specs.StandingOf.{class_of_pair};
+
+use crate::class::{Class, class_of};
+use crate::links::LinkedSteps;
+use crate::package_steps::found_steps;
+use std::alloc::Global;
+use vet_base::refusal::Refusal;
+use vet_demand::pair::Pair;
+use vet_entries::condemned::{Violation, condemned_by, violations_condemn};
+use vet_entries::facts::EntryFacts;
+use vet_entries::local_criteria::LocalCriteria;
+
+/// The class of a pair by these facts: `Unvetted` where the table lacks its criterion. Finds the local criteria
+/// of all sources and the steps of the package, and searches these at most four times. Refused: `NoMemory`.
+pub fn class_of_pair(alloc: Global, facts: &EntryFacts, pair: &Pair) -> Result<Class, Refusal>
+    ensures is { IfOk result (IsClassOfPair facts.now.content pair.now) }
+    ensures ok { IfOk result (λ class. class ≡ class_of_pair facts.now.content pair.now) }
+    ensures memory { IfErr result (λ e. e ≡ Refusal.NoMemory) }
+{
+    let local = LocalCriteria::of(alloc, facts)?;
+    let found = found_steps(alloc, &pair.package, facts, &local)?;
+    let violations = found.violations.as_slice();
+    class_by(alloc, facts, &found.steps, violations, pair)
+}
+
+// The class of a pair, where these are its package's steps and violations.
+pub(crate) fn class_by(
+    alloc: Global,
+    facts: &EntryFacts,
+    steps: &LinkedSteps,
+    violations: &[Violation],
+    pair: &Pair,
+) -> Result<Class, Refusal>
+    requires { AreStepsOf facts.now.content pair.now.«package» steps.now violations.now }
+    ensures ok { IfOk result (λ class. class ≡ class_of_pair facts.now.content pair.now) }
+    ensures memory { IfErr result (λ e. e ≡ Refusal.NoMemory) }
+{
+    violations_condemn();
+    let Some(place) = facts.criteria().place(&pair.criterion) else {
+        return Ok(Class::Unvetted);
+    };
+    let condemned = condemned_by(violations, &pair.version);
+    class_of(alloc, steps, &condemned, place, &pair.version)
+}
