@@ -26,7 +26,7 @@ use vet_entries::entry::Entry;
 use vet_entries::facts::EntryFacts;
 use vet_files::audits_file::{AuditsContent, read_audits};
 use vet_graph::class::Class;
-use vet_graph::plain::class_of_pair;
+use vet_graph::pair_class::class_of_pair;
 
 /// The class that a pair has in a register that holds this audits file and nothing else, where nothing but this
 /// pair is demanded.

@@ -69,9 +69,11 @@ use vet_entries::held_peer::HeldPeer;
 use vet_entries::publisher_records::PackagePublishers;
 use vet_graph::class::Class;
 use vet_graph::keeper::Keeper;
-use vet_graph::moves::{moves_are_differences, moves_balance, runs_of_moves_add};
-use vet_graph::plain::{each_pair_has_its_class, nothing_vets_nothing};
-use vet_graph::standing::{Counts, classes_add_up};
+use vet_graph::laws::{
+    classes_add_up, each_pair_has_its_class, moves_are_differences, moves_balance,
+    nothing_vets_nothing, runs_of_moves_add,
+};
+use vet_graph::standing::Counts;
 use vet_graph::touched::Touched;
 
 /// What an organisation holds, the class of each demanded pair, and how these came about. A keeper keeps the
