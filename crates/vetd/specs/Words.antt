@@ -40,7 +40,7 @@ read_app = with_rule (new_app (codes "read")) (word_rule (codes "KIND"))
 -- the program, whose words come without its own name, before its subcommands
 abbrev pub bare_app : App
 bare_app = record (new_app (codes "vetd")) {
-  top = record ((new_app (codes "vetd")).top) { subcommand_required = true; no_binary_name = true };
+  top = record ((new_app (codes "vetd")).top) { subcommand_required = true; no_binary_name = true; has_version = true };
 }
 
 -- with its first subcommand

@@ -20,6 +20,7 @@ mod asked;
 mod class_line;
 mod counts;
 mod file_kind;
+mod help;
 mod input;
 mod io_fault;
 mod output;

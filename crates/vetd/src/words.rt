@@ -7,6 +7,7 @@ ghost use Rattle.vetd.specs.Words.{class_given, given, kind_from, read_app, read
 ghost use Rattle.vetd.specs.Words.{word_rule, words_from};
 
 use crate::file_kind::FileKind;
+use crate::help::{CLASS_HELP, PROGRAM_HELP, READ_HELP, VERSION};
 use clap::error::ErrorKind;
 use clap::{Arg, ArgMatches, Command, Error};
 use std::alloc::{AllocError, Global};
@@ -50,12 +51,32 @@ pub fn read_words<S: AsStr>(alloc: Global, words: &[S]) -> Result<FileKind, Erro
     let matches = matches_of(alloc, words)?;
     match kind_asked(&matches) {
         Some(kind) => Ok(kind),
-        None => Err(words_error(
+        None => Err(no_kind(alloc, &matches)?),
+    }
+}
+
+/// The error of a word that is no kind of file, which it names; or of words that are another command.
+fn no_kind(alloc: Global, matches: &ArgMatches<'_>) -> Result<Error, AllocError>
+    ensures { IfOk result (λ error. kind_of error ≡ ErrorKind.InvalidValue) }
+{
+    match kind_word(matches) {
+        Some(word) => {
+            let message = format!(in alloc;
+                "'{word}' is no kind of file: audits, config or imports"
+            )?;
+            words_error(alloc, ErrorKind::InvalidValue, message.as_str())
+        }
+        None => words_error(
             alloc,
             ErrorKind::InvalidValue,
             "no audits, config or imports file was asked for",
-        )?),
+        ),
     }
+}
+
+/// The word that stands for a kind, where the words are a read command.
+fn kind_word<'a>(matches: &ArgMatches<'a>) -> Option<&'a str> {
+    value(matches_if_named(matches, "read")?, "KIND")
 }
 
 /// Whether the words begin with `read`.
@@ -86,14 +107,60 @@ fn words_error(alloc: Global, kind: ErrorKind, message: &str) -> Result<Error, A
     top_command(alloc)?.error(kind, message)
 }
 
-/// What clap gives of the words.
+/// What clap gives of the words; where a word is too many, its error tells how a file is given.
 fn matches_of<'a, S: AsStr>(alloc: Global, words: &'a [S]) -> Result<ArgMatches<'a>, Error>
     ensures found { IfOk result (λ matches. (name : Text) → given name (map S.text words.entry.now)
         ≡ rows_if_named name (subcommand_rows_of matches)) }
     ensures refused { IfErr result (λ error. kind_of error ≢ ErrorKind.OutOfMemory
         → (name : Text) → given name (map S.text words.entry.now) ≡ None) }
 {
+    match matches_by_clap(alloc, words) {
+        Ok(matches) => Ok(matches),
+        Err(error) => Err(hinted(alloc, words, error)?),
+    }
+}
+
+/// What clap gives of the words.
+fn matches_by_clap<'a, S: AsStr>(alloc: Global, words: &'a [S]) -> Result<ArgMatches<'a>, Error>
+    ensures found { IfOk result (λ matches. (name : Text) → given name (map S.text words.entry.now)
+        ≡ rows_if_named name (subcommand_rows_of matches)) }
+    ensures refused { IfErr result (λ error. kind_of error ≢ ErrorKind.OutOfMemory
+        → (name : Text) → given name (map S.text words.entry.now) ≡ None) }
+{
     top_command(alloc)?.try_get_matches_from(words)
+}
+
+/// The error, or, where a word too many is why, one of the same kind that tells how a file is given.
+fn hinted<S: AsStr>(alloc: Global, words: &[S], error: Error) -> Result<Error, AllocError>
+    ensures { IfOk result (λ e. kind_of e ≡ kind_of error) }
+{
+    if error.kind() != ErrorKind::UnknownArgument {
+        return Ok(error);
+    }
+    match surplus_word(words) {
+        Some(word) => {
+            let message = format!(in alloc;
+                "'{word}' is a word too many: the file comes on standard input, by < FILE"
+            )?;
+            words_error(alloc, ErrorKind::UnknownArgument, message.as_str())
+        }
+        None => Ok(error),
+    }
+}
+
+/// The first word that a command doesn't take, where none looks like a flag.
+fn surplus_word<S: AsStr>(words: &[S]) -> Option<&str> {
+    'words: for word in words {
+        if word.as_str().starts_with('-') {
+            return None;
+        }
+    }
+    let taken = match words.first()?.as_str() {
+        "class" => 4,
+        "read" => 2,
+        _ => return None,
+    };
+    Some(words.get(taken)?.as_str())
 }
 
 /// The program's command line.
@@ -118,6 +185,8 @@ fn bare_command<'a>(alloc: Global) -> Result<Command<'a>, AllocError>
 {
     Command::new(alloc, "vetd")
         .about("Audits of third-party packages")
+        .after_help(PROGRAM_HELP)
+        .version(VERSION)
         .no_binary_name(true)
         .subcommand_required(true)
         .bin_name("vetd")
@@ -126,9 +195,9 @@ fn bare_command<'a>(alloc: Global) -> Result<Command<'a>, AllocError>
 fn class_command<'a>(alloc: Global) -> Result<Command<'a>, AllocError>
     ensures { IfOk result (IsApp class_app) }
 {
-    let command = Command::new(alloc, "class").about(
-        "Prints the class that the audits file on standard input gives",
-    );
+    let command = Command::new(alloc, "class")
+        .about("Prints the class that the audits file on standard input gives")
+        .after_help(CLASS_HELP);
     let command = add(command, word(alloc, "PACKAGE", "The package's name"))?;
     let command = add(
         command,
@@ -143,7 +212,9 @@ fn class_command<'a>(alloc: Global) -> Result<Command<'a>, AllocError>
 fn read_command<'a>(alloc: Global) -> Result<Command<'a>, AllocError>
     ensures { IfOk result (IsApp read_app) }
 {
-    let command = Command::new(alloc, "read").about("Counts what the file on standard input holds");
+    let command = Command::new(alloc, "read")
+        .about("Counts what the file on standard input holds")
+        .after_help(READ_HELP);
     add(
         command,
         word(

@@ -5,5 +5,5 @@ use Rattle.vetd.proofs.words.class_command.Goals as goal
 
 pub returns : goal.returns
 returns c =
-    let bare : IsApp (new_app (codes "class")) c.about-command.result = record { is = search rules; own = search rules } in
+    let bare : IsApp (new_app (codes "class")) c.after_help-command.result = record { is = search rules; own = search rules } in
     c.add-3.ensures _ _ (c.in_ok-command-2.ensures _ _ (c.in_ok-command.ensures _ _ bare c.word.ensures) c.word-2.ensures) c.word-3.ensures

@@ -5,5 +5,5 @@ use Rattle.vetd.proofs.words.read_command.Goals as goal
 
 pub returns : goal.returns
 returns c =
-    let bare : IsApp (new_app (codes "read")) c.about-command.result = record { is = search rules; own = search rules } in
+    let bare : IsApp (new_app (codes "read")) c.after_help-command.result = record { is = search rules; own = search rules } in
     c.add.ensures _ _ bare c.word.ensures

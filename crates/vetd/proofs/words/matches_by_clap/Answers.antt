@@ -1,5 +1,5 @@
 use Rattle.vetd.proofs.WordsLemmas.{all_found, all_refused}
-use Rattle.vetd.proofs.words.matches_of.Goals as goal
+use Rattle.vetd.proofs.words.matches_by_clap.Goals as goal
 
 pub returns-clause-found : goal.returns-clause-found
 returns-clause-found g c =

@@ -1,0 +1,39 @@
+//! The texts of help and the version.
+
+/// The version of the program, and the kit by which it is proved.
+pub const VERSION: &str = "0.1.0 (rattle-kit-13f)";
+
+/// What stands below the help of the program.
+pub const PROGRAM_HELP: &str = "\
+Read: one file on standard input. Not read: any other file. None is written.
+
+Classes, the first that holds:
+  conflicting  the version is condemned, and yet some chain of steps leads to it
+  full         some clean chain leads to it without an exempt step
+  partial      some clean chain leads to it whose last step isn't exempt
+  exempted     some clean chain leads to it
+  unvetted     none of these
+
+Statuses:
+  0  the answer was printed: a class, whichever it is, or counts
+  1  the words or the file were refused, or a read or a write failed
+  2  the words are no command, or ask for help or the version: nothing is read
+
+Example:
+  vetd class serde 1.0.0 safe-to-deploy < supply-chain/audits.toml";
+
+/// What stands below the help of `class`.
+pub const CLASS_HELP: &str = "\
+Read: an audits file, that is its criteria, and what its audits and violations say of the package.
+Not read: config.toml and imports.lock, so no exemption, policy, import or publisher counts.
+
+Example:
+  vetd class serde 1.0.0 safe-to-deploy < supply-chain/audits.toml";
+
+/// What stands below the help of `read`.
+pub const READ_HELP: &str = "\
+Prints what the file holds: criteria, entries, publishers, policies, peers.
+Then what was passed over: unknown keys, skipped entries, doubles.
+
+Example:
+  vetd read audits < supply-chain/audits.toml";
