@@ -43,4 +43,5 @@ HasChain steps c v = (chain : List Step) × IsChain steps c v chain
 
 -- some clean chain for c with this property leads to v
 abbrev pub HasCleanChain : List Step → Condemned → ℕ → VersionValue → (List Step → Type 0) → Type 0
-HasCleanChain steps condemned c v P = (chain : List Step) × IsChain steps c v chain × IsClean condemned c chain × P chain
+HasCleanChain steps condemned c v P = (chain : List Step) × IsChain steps c v chain × IsClean condemned c chain
+    × P chain

@@ -34,11 +34,14 @@ IsClass steps condemned c v Full = ¬ IsConflicting steps condemned c v × IsFul
 IsClass steps condemned c v Partial =
     ¬ IsConflicting steps condemned c v × ¬ IsFull steps condemned c v × IsPartial steps condemned c v
 IsClass steps condemned c v Exempted =
-    ¬ IsConflicting steps condemned c v × ¬ IsFull steps condemned c v × ¬ IsPartial steps condemned c v × IsExempted steps condemned c v
+    ¬ IsConflicting steps condemned c v × ¬ IsFull steps condemned c v × ¬ IsPartial steps condemned c v
+    × IsExempted steps condemned c v
 IsClass steps condemned c v Unvetted =
-    ¬ IsConflicting steps condemned c v × ¬ IsFull steps condemned c v × ¬ IsPartial steps condemned c v × ¬ IsExempted steps condemned c v
+    ¬ IsConflicting steps condemned c v × ¬ IsFull steps condemned c v × ¬ IsPartial steps condemned c v
+    × ¬ IsExempted steps condemned c v
 
--- the class of a pair by these facts: what its package's steps and condemned versions give its version at the place of its
+-- the class of a pair by these facts: what its package's steps and condemned versions give its version at the place of
+-- its
 -- criterion; nothing vouches for a criterion that has no place in the table
 abbrev pub IsClassOfPair : Facts → Pair → Class → Type 0
 IsClassOfPair facts p class =

@@ -22,11 +22,13 @@ first_of (inr a) (inr b) (inr c) (inr d) = Unvetted
 unfoldable pub class_at : List Step → Condemned → ℕ → VersionValue → Class
 class_at steps condemned c v =
     first_of (conflicting steps condemned c v) (some_clean_chain steps condemned c v HasNoExempt no_exempt)
-    (some_clean_chain steps condemned c v EndsReviewed ends_reviewed) (some_clean_chain steps condemned c v IsAny (λ _. inl tt))
+    (some_clean_chain steps condemned c v EndsReviewed ends_reviewed)
+    (some_clean_chain steps condemned c v IsAny (λ _. inl tt))
 
 -- the class of a version holds, and those before it don't
 abbrev pub ClassHolds : Type 0
-ClassHolds = (steps : List Step) (condemned : Condemned) (c : ℕ) (v : VersionValue) → IsClass steps condemned c v (class_at steps condemned c v)
+ClassHolds = (steps : List Step) (condemned : Condemned) (c : ℕ) (v : VersionValue)
+    → IsClass steps condemned c v (class_at steps condemned c v)
 
 -- no other class does so
 abbrev pub ClassIsOnly : Type 0

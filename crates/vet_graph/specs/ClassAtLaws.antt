@@ -10,7 +10,10 @@ use Rattle.vet_graph.specs.Class.{IsClass, IsConflicting, IsExempted, IsFull, Is
 use Rattle.vet_graph.specs.ClassAt.{class_at, first_of}
 use Rattle.vet_graph.specs.Decisions.{Answer}
 
-class_answers : (steps : List Step) (condemned : Condemned) (c : ℕ) (v : VersionValue) (q : Answer (IsConflicting steps condemned c v)) (r : Answer (IsFull steps condemned c v)) (s : Answer (IsPartial steps condemned c v)) (t : Answer (IsExempted steps condemned c v)) → IsClass steps condemned c v (first_of q r s t)
+class_answers : (steps : List Step) (condemned : Condemned) (c : ℕ) (v : VersionValue)
+    (q : Answer (IsConflicting steps condemned c v)) (r : Answer (IsFull steps condemned c v))
+    (s : Answer (IsPartial steps condemned c v)) (t : Answer (IsExempted steps condemned c v))
+    → IsClass steps condemned c v (first_of q r s t)
 unfolding first_of
 class_answers steps condemned c v (inl a) q r s = a
 class_answers steps condemned c v (inr a) (inl b) r s = (a, b)
@@ -19,11 +22,15 @@ class_answers steps condemned c v (inr a) (inr b) (inr d) (inl e) = (a, b, d, e)
 class_answers steps condemned c v (inr a) (inr b) (inr d) (inr e) = (a, b, d, e)
 
 -- it is the class that the definition names, and no other is
-pub class_at-is : (steps : List Step) (condemned : Condemned) (c : ℕ) (v : VersionValue) → IsClass steps condemned c v (class_at steps condemned c v)
+pub class_at-is : (steps : List Step) (condemned : Condemned) (c : ℕ) (v : VersionValue)
+    → IsClass steps condemned c v (class_at steps condemned c v)
 unfolding class_at
 class_at-is steps condemned c v = class_answers steps condemned c v _ _ _ _
 
-first_unique : (steps : List Step) (condemned : Condemned) (c : ℕ) (v : VersionValue) (q : Answer (IsConflicting steps condemned c v)) (r : Answer (IsFull steps condemned c v)) (s : Answer (IsPartial steps condemned c v)) (t : Answer (IsExempted steps condemned c v)) (k : Class) → IsClass steps condemned c v k → k ≡ first_of q r s t
+first_unique : (steps : List Step) (condemned : Condemned) (c : ℕ) (v : VersionValue)
+    (q : Answer (IsConflicting steps condemned c v)) (r : Answer (IsFull steps condemned c v))
+    (s : Answer (IsPartial steps condemned c v)) (t : Answer (IsExempted steps condemned c v)) (k : Class)
+    → IsClass steps condemned c v k → k ≡ first_of q r s t
 unfolding first_of
 first_unique steps condemned c v (inl a) r s t Conflicting h = refl
 first_unique steps condemned c v (inl a) r s t Full h = absurd (h.0 a)
@@ -45,6 +52,7 @@ first_unique steps condemned c v (inr a) (inr b) (inr d) (inl e) Unvetted h = ab
 first_unique steps condemned c v (inr a) (inr b) (inr d) (inr e) Exempted h = absurd (e h.3)
 first_unique steps condemned c v (inr a) (inr b) (inr d) (inr e) Unvetted h = refl
 
-pub class_at-unique : (steps : List Step) (condemned : Condemned) (c : ℕ) (v : VersionValue) (k : Class) → IsClass steps condemned c v k → k ≡ class_at steps condemned c v
+pub class_at-unique : (steps : List Step) (condemned : Condemned) (c : ℕ) (v : VersionValue) (k : Class)
+    → IsClass steps condemned c v k → k ≡ class_at steps condemned c v
 unfolding class_at
 class_at-unique steps condemned c v k h = first_unique steps condemned c v _ _ _ _ k h

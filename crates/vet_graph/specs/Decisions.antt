@@ -35,20 +35,26 @@ is_true false false = inl refl
 
 pub each : {X : Type 0} (P : X → Type 0) → ((x : X) → Answer (P x)) → (xs : List X) → Answer (All P xs)
 each P a [] = inl (All-nil P)
-each P a (x ∷ xs) = same_answer (λ h. All-cons P x xs h.0 h.1) (λ h. (All-head P x xs h, All-tail P x xs h)) (both (a x) (each P a xs))
+each P a (x ∷ xs) = same_answer (λ h. All-cons P x xs h.0 h.1) (λ h. (All-head P x xs h, All-tail P x xs h))
+    (both (a x) (each P a xs))
 
-some_more : {X : Type 0} (P : X → Type 0) (x : X) (xs : List X) → Answer (P x) → Answer ((y : X) × Contains xs y × P y) → Answer ((y : X) × Contains (x ∷ xs) y × P y)
+some_more : {X : Type 0} (P : X → Type 0) (x : X) (xs : List X) → Answer (P x) → Answer ((y : X) × Contains xs y × P y)
+    → Answer ((y : X) × Contains (x ∷ xs) y × P y)
 some_more P x xs (inl p) b = inl (x, Contains-here x xs, p)
 some_more P x xs (inr n) (inl h) = inl (h.0, Contains-later x h.0 xs h.1, h.2)
-some_more P x xs (inr n) (inr m) = inr (λ h. elim (Contains-cons_cases x xs h.0 h.1) [ inl e ↦ n (rw e h.2) | inr t ↦ m (h.0, t, h.2) ])
+some_more P x xs (inr n) (inr m) = inr
+    (λ h. elim (Contains-cons_cases x xs h.0 h.1) [ inl e ↦ n (rw e h.2) | inr t ↦ m (h.0, t, h.2) ])
 
-pub some : {X : Type 0} (P : X → Type 0) → ((x : X) → Answer (P x)) → (xs : List X) → Answer ((x : X) × Contains xs x × P x)
+pub some : {X : Type 0} (P : X → Type 0) → ((x : X) → Answer (P x)) → (xs : List X)
+    → Answer ((x : X) × Contains xs x × P x)
 some P a [] = inr (λ h. absurd (omega (arith, h.1.1)))
 some P a (x ∷ xs) = some_more P x xs (a x) (some P a xs)
 
-pub each_pair : {X : Type 0} (R : X → X → Type 0) → ((x y : X) → Answer (R x y)) → (xs : List X) → Answer (AllPairs R xs)
+pub each_pair : {X : Type 0} (R : X → X → Type 0) → ((x y : X) → Answer (R x y)) → (xs : List X)
+    → Answer (AllPairs R xs)
 each_pair R a [] = inl (λ i j d l m. absurd (omega arith))
-each_pair R a (x ∷ xs) = same_answer (λ h. AllPairs-cons R x xs h.0 h.1) (λ h. (AllPairs-head R x xs h, AllPairs-tail R x xs h)) (both (each (R x) (a x) xs) (each_pair R a xs))
+each_pair R a (x ∷ xs) = same_answer (λ h. AllPairs-cons R x xs h.0 h.1)
+    (λ h. (AllPairs-head R x xs h, AllPairs-tail R x xs h)) (both (each (R x) (a x) xs) (each_pair R a xs))
 
 -- all lists of at most n of the elements
 unfoldable pub lists_up_to : {X : Type 0} → ℕ → List X → List (List X)

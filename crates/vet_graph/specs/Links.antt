@@ -17,8 +17,10 @@ origin_at guarded place = (get_or guarded place no_step).step.origin
 abbrev pub lists_in : List (Vec ℕ Global) → List (List ℕ)
 lists_in lists = map (λ l. l.items) lists
 
--- of the first n steps, each that leads to a version has the same head, which leads there too, and by which the version is known
-pub record AreHeads (guarded : List GuardedStep) (numbers : VersionValue → Option ℕ) (heads : List ℕ) (n : ℕ) : Type 0 where
+-- of the first n steps, each that leads to a version has the same head, which leads there too, and by which the version
+-- is known
+pub record AreHeads (guarded : List GuardedStep) (numbers : VersionValue → Option ℕ) (heads : List ℕ)
+    (n : ℕ) : Type 0 where
   pub count : length heads ≡ n
   pub known : (p : ℕ) → p < n → numbers (version_at guarded p) ≡ Some (get_or heads p 0)
   pub named : (v : VersionValue) (h : ℕ) → numbers v ≡ Some h → (h < n) × (version_at guarded h ≡ v)
@@ -33,15 +35,18 @@ pub record AreFrom (guarded : List GuardedStep) (from : Option VersionValue) (n 
   pub each : (p : ℕ) → p < n → origin_at guarded p ≡ from → Contains places p
 
 -- the first n steps are filed under where they start: nothing, or the head of a version
-pub record AreFiled (guarded : List GuardedStep) (heads : List ℕ) (first : List ℕ) (after : List (List ℕ)) (n : ℕ) : Type 0 where
+pub record AreFiled (guarded : List GuardedStep) (heads : List ℕ) (first : List ℕ) (after : List (List ℕ))
+    (n : ℕ) : Type 0 where
   pub count : length after ≡ length guarded
   pub from_nothing : AreFrom guarded None n first
-  pub from_heads : (h : ℕ) → h < length guarded → get_or heads h 0 ≡ h → AreFrom guarded (Some (version_at guarded h)) n (get_or after h [])
+  pub from_heads : (h : ℕ) → h < length guarded → get_or heads h 0 ≡ h → AreFrom guarded (Some (version_at guarded h)) n
+      (get_or after h [])
 
 -- the links of these steps
 pub record IsLinked (guarded : List GuardedStep) (links : Links) : Type 0 where
   pub count : length links.heads.items ≡ length guarded
   pub within : (p : ℕ) → p < length guarded → get_or links.heads.items p 0 < length guarded
   pub leads : (p : ℕ) → p < length guarded → version_at guarded (get_or links.heads.items p 0) ≡ version_at guarded p
-  pub same : (p q : ℕ) → p < length guarded → q < length guarded → version_at guarded p ≡ version_at guarded q → get_or links.heads.items p 0 ≡ get_or links.heads.items q 0
+  pub same : (p q : ℕ) → p < length guarded → q < length guarded → version_at guarded p ≡ version_at guarded q
+      → get_or links.heads.items p 0 ≡ get_or links.heads.items q 0
   pub filed : AreFiled guarded links.heads.items links.first.items (lists_in links.after.items) (length guarded)

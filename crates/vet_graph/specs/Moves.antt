@@ -21,7 +21,8 @@ comes t = record { pair = t.pair; before = None; after = Some t.class }
 
 -- a pair stands in both; it moves where the classes differ
 abbrev pub changes : Stand → Stand → List Move
-changes s t = cond (same_class s.class t.class) [] (record { pair = s.pair; before = Some s.class; after = Some t.class } ∷ [])
+changes s t = cond (same_class s.class t.class) []
+    (record { pair = s.pair; before = Some s.class; after = Some t.class } ∷ [])
 
 -- the moves from what begins with s to what begins with t, by how their pairs compare: s leaves, both stay, or t comes
 abbrev pub moves_by : Ordering → Stand → Stand → List Move → List Move → List Move → List Move
@@ -51,7 +52,8 @@ departures_of class moves = count_by (λ m. option_eq same_class m.before (Some 
 -- the moves are the pairs at which the standings differ, each once, in order, with both classes
 pub record AreMoves (before after : List Stand) (moves : List Move) : Type 0 where
   pub in_order : AllPairs (λ m n. pair_cmp m.pair n.pair ≡ Less) moves
-  pub each : All (λ m. (m.before ≡ class_in before m.pair) × (m.after ≡ class_in after m.pair) × (m.before ≢ m.after)) moves
+  pub each : All
+      (λ m. (m.before ≡ class_in before m.pair) × (m.after ≡ class_in after m.pair) × (m.before ≢ m.after)) moves
   pub all : (p : Pair) → class_in before p ≢ class_in after p → Contains (map (λ m. m.pair) moves) p
 
 -- where both standings are in order, the walk gives the moves

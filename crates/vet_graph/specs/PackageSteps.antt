@@ -8,7 +8,8 @@ use Rattle.vet_graph.specs.declared.guarded.GuardedStep.{GuardedStep}
 use Rattle.vet_graph.specs.Search.{AreGuarded, steps_in}
 
 -- these are the steps of a package, with what condemns their targets, and its violations
-pub record AreStepsOf (facts : Facts) (name : List ℕ) (guarded : List GuardedStep) (held : List Violation) : Type 0 where
+pub record AreStepsOf (facts : Facts) (name : List ℕ) (guarded : List GuardedStep)
+    (held : List Violation) : Type 0 where
   pub steps : steps_in guarded ≡ steps_of facts name
   pub guards : AreGuarded (condemned_by held) guarded
   pub violations : held ≡ violations_of facts name

@@ -10,7 +10,8 @@ use Rattle.vet_graph.specs.Links.{origin_at}
 use Rattle.vet_graph.specs.Search.{is_open, no_step, steps_in, version_at, versions_at}
 
 -- a chain of open steps
-pub record IsOpenChain (guarded : List GuardedStep) (open_step : GuardedStep → Bool) (v : VersionValue) (chain : List GuardedStep) : Type 0 where
+pub record IsOpenChain (guarded : List GuardedStep) (open_step : GuardedStep → Bool) (v : VersionValue)
+    (chain : List GuardedStep) : Type 0 where
   pub of_package : All (Contains guarded) chain
   pub each_open : All (λ g. open_step g ≡ true) chain
   pub leads : Leads None (steps_in chain) v
@@ -22,9 +23,11 @@ Stands reached None = Unit {0}
 Stands reached (Some v) = Contains reached v
 
 -- each version that was reached has a chain within what was reached, and stands there once
-pub record IsSound (guarded : List GuardedStep) (open_step : GuardedStep → Bool) (reached : List VersionValue) : Type 0 where
+pub record IsSound (guarded : List GuardedStep) (open_step : GuardedStep → Bool)
+    (reached : List VersionValue) : Type 0 where
   pub chains : (v : VersionValue) → Contains reached v
-      → (chain : List GuardedStep) × IsOpenChain guarded open_step v chain × All (λ g. Contains reached g.step.target) chain
+      → (chain : List GuardedStep) × IsOpenChain guarded open_step v chain
+      × All (λ g. Contains reached g.step.target) chain
   pub once : AllPairs (λ v w. v ≢ w) reached
   pub of_steps : All (Contains (map (λ g. g.step.target) guarded)) reached
 
@@ -33,7 +36,8 @@ abbrev pub LeadsFrom : (GuardedStep → Bool) → List VersionValue → Option V
 LeadsFrom open_step reached at g = open_step g ≡ true → g.step.origin ≡ at → Contains reached g.step.target
 
 -- the steps from nothing and from the first n versions lead into what was reached
-pub record IsDone (guarded : List GuardedStep) (open_step : GuardedStep → Bool) (reached : List VersionValue) (n : ℕ) : Type 0 where
+pub record IsDone (guarded : List GuardedStep) (open_step : GuardedStep → Bool) (reached : List VersionValue)
+    (n : ℕ) : Type 0 where
   pub start : All (LeadsFrom open_step reached None) guarded
   pub below : (k : ℕ) (d : VersionValue) → k < n → All (LeadsFrom open_step reached (Some (get_or reached k d))) guarded
 
@@ -43,10 +47,12 @@ StandsBefore guarded reached place = Stands (versions_at guarded reached) (origi
 
 -- where the step at a place is open, it leads to what was reached
 abbrev pub LeadsOn : List GuardedStep → Terms → List ℕ → ℕ → Type 0
-LeadsOn guarded terms reached place = is_open terms (get_or guarded place no_step) ≡ true → Contains (versions_at guarded reached) (version_at guarded place)
+LeadsOn guarded terms reached place = is_open terms (get_or guarded place no_step) ≡ true
+    → Contains (versions_at guarded reached) (version_at guarded place)
 
 -- what was reached are heads, marked as seen, and the versions to which they lead are soundly reached
-pub record IsReaching (guarded : List GuardedStep) (links : Links) (terms : Terms) (reached : List ℕ) (seen : List Bool) : Type 0 where
+pub record IsReaching (guarded : List GuardedStep) (links : Links) (terms : Terms) (reached : List ℕ)
+    (seen : List Bool) : Type 0 where
   pub within : All (λ p. p < length guarded) reached
   pub are_heads : All (λ p. get_or links.heads.items p 0 ≡ p) reached
   pub count : length seen ≡ length guarded

@@ -45,13 +45,20 @@ is_open terms g = has terms.place g.step.criteria && (not (is_barred terms g) &&
 -- a chain leads to v, by steps that aren't skipped and through no version that is barred
 abbrev pub IsReached : List GuardedStep → Terms → VersionValue → Type 0
 IsReached guarded terms v =
-    (chain : List GuardedStep) × All (Contains guarded) chain × IsChain (steps_in guarded) terms.place v (steps_in chain)
+    (chain : List GuardedStep) × All (Contains guarded) chain × IsChain (steps_in guarded) terms.place v
+    (steps_in chain)
     × All (λ g. is_barred terms g ≡ false) chain × All (λ g. may_take terms.skip g.step ≡ true) chain
 
 -- what a read past the end would give
 abbrev pub no_step : GuardedStep
 no_step = record {
-  step = record { origin = None; target = record { parts = (0, 0, 0, [], []); revision = None }; criteria = set.empty; exempt = false };
+  step =
+      record {
+        origin = None;
+        target = record { parts = (0, 0, 0, [], []); revision = None };
+        criteria = set.empty;
+        exempt = false;
+      };
   condemned = set.empty;
 }
 

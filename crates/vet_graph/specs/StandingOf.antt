@@ -20,9 +20,11 @@ use Rattle.vet_graph.specs.declared.standing.Stand.{Stand}
 abbrev pub condemned_of : Facts → List ℕ → Condemned
 condemned_of facts name = is_condemned facts name
 
--- the class of a pair by its package's steps and condemned versions; nothing vouches for a criterion that the table lacks
+-- the class of a pair by its package's steps and condemned versions; nothing vouches for a criterion that the table
+-- lacks
 abbrev pub class_by : Criteria → List Step → Condemned → Pair → Class
-class_by criteria steps condemned p = option_map_or (λ place. class_at steps condemned place p.version) (place_of criteria p.criterion) Unvetted
+class_by criteria steps condemned p = option_map_or (λ place. class_at steps condemned place p.version)
+    (place_of criteria p.criterion) Unvetted
 
 -- the class of a pair by these facts
 abbrev pub class_of_pair : Facts → Pair → Class
@@ -46,8 +48,10 @@ PairClassIsOnly = (facts : Facts) (p : Pair) (k : Class) → IsClassOfPair facts
 
 -- a pair is answered the class at which it stands, or none where it is not demanded
 abbrev pub StandsAt : Facts → List Pair → Pair → Option Class → Type 0
-StandsAt facts demand p answer = MatchOption answer (¬ Contains demand p) (λ class. Contains demand p × IsClassOfPair facts p class)
+StandsAt facts demand p answer = MatchOption answer (¬ Contains demand p)
+    (λ class. Contains demand p × IsClassOfPair facts p class)
 
 -- each pair is found in the standing of a demand at the class at which it stands
 abbrev pub PairsStandAtTheirClass : Type 0
-PairsStandAtTheirClass = (facts : Facts) (demand : List Pair) (p : Pair) → StandsAt facts demand p (class_in (standing_of facts demand) p)
+PairsStandAtTheirClass = (facts : Facts) (demand : List Pair) (p : Pair)
+    → StandsAt facts demand p (class_in (standing_of facts demand) p)

@@ -16,13 +16,15 @@ abbrev pub pairs_at : List ℕ → List Pair → List Pair
 pairs_at name demand = filter (λ p. bytes_eq p.«package» name) demand
 
 -- a package has the same steps, condemned versions and demanded pairs before and after
-pub record IsSameAt (name : List ℕ) (old_facts : Facts) (old_demand : List Pair) (facts : Facts) (demand : List Pair) : Type 0 where
+pub record IsSameAt (name : List ℕ) (old_facts : Facts) (old_demand : List Pair) (facts : Facts)
+    (demand : List Pair) : Type 0 where
   pub steps : steps_of old_facts name ≡ steps_of facts name
   pub condemned : (c : ℕ) (v : VersionValue) → condemned_of old_facts name c v ≡ condemned_of facts name c v
   pub pairs : pairs_at name old_demand ≡ pairs_at name demand
 
 -- the criteria are the same, and so is each package that isn't named
-pub record IsSameBeside (names : NameSet) (old_facts : Facts) (old_demand : List Pair) (facts : Facts) (demand : List Pair) : Type 0 where
+pub record IsSameBeside (names : NameSet) (old_facts : Facts) (old_demand : List Pair) (facts : Facts)
+    (demand : List Pair) : Type 0 where
   pub criteria : old_facts.criteria ≡ facts.criteria
   pub packages : (name : List ℕ) → set.contains names name ≡ false → IsSameAt name old_facts old_demand facts demand
 

@@ -3,7 +3,8 @@
 //! **The class of a version for a criterion is the first of five that chains give it, and the only one.**
 //!
 //! Scope of this crate: where steps lead, the standing of demanded pairs, the moves from one standing to
-//! another, and what keeps them. Which steps entries give stands in `vet_entries`, and what is demanded in `vet_demand`.
+//! another, and what keeps them. Which steps entries give stands in `vet_entries`, and what is demanded in
+//! `vet_demand`.
 #![tactic(auto)]
 
 pub mod class;

@@ -1,5 +1,6 @@
 //! The steps of one package, with an index by where they start.
-ghost use Rattle.std.specs.Prelude.{◌≡◌, ◌<◌, ◌++◌, ◌∷◌, ◌+◌, [], IfOk, IfErr, get_or, length, replicate, set, unwrap_or};
+ghost use Rattle.std.specs.Prelude.{◌≡◌, ◌<◌, ◌++◌, ◌∷◌, ◌+◌, [], IfOk, IfErr, get_or, length};
+ghost use Rattle.std.specs.Prelude.{replicate, set, unwrap_or};
 ghost use Rattle.std.specs.BTreeMap.{get};
 ghost use Rattle.vet_base.specs.VersionOrder.{version_cmp};
 ghost use Rattle.vet_graph.specs.Links.{AreFiled, AreHeads, IsLinked, Knows, lists_in, origin_at};
@@ -134,7 +135,8 @@ fn head_of(
     place: usize,
 ) -> Result<usize, Refusal>
     ensures head { IfOk result (λ head. head ≡ unwrap_or (get version_cmp numbers.old version.now) place) }
-    ensures knows { IfOk result (λ head. Knows version.now head (get version_cmp numbers.old) (get version_cmp numbers.new)) }
+    ensures knows { IfOk result (λ head.
+        Knows version.now head (get version_cmp numbers.old) (get version_cmp numbers.new)) }
     ensures memory { IfErr result (λ e. e ≡ Refusal.NoMemory) }
 {
     if let Some(head) = numbers.get(version).copied() {
@@ -169,7 +171,8 @@ fn file(
 ) -> Result<(), Refusal>
     requires place { place < length steps.now }
     requires heads { AreHeads steps.now (get version_cmp found.now.numbers) found.now.heads.items (length steps.now) }
-    requires filed { AreFiled steps.now found.now.heads.items filed.old.first.items (lists_in filed.old.after.items) place }
+    requires filed { AreFiled steps.now found.now.heads.items
+        filed.old.first.items (lists_in filed.old.after.items) place }
     ensures ok { IfOk result (λ _.
         AreFiled steps.now found.now.heads.items filed.new.first.items (lists_in filed.new.after.items) (place + 1)) }
     ensures memory { IfErr result (λ e. e ≡ Refusal.NoMemory) }

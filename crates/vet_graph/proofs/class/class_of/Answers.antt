@@ -5,11 +5,13 @@ use Rattle.vet_graph.specs.Search.{steps_in}
 use Rattle.vet_graph.proofs.class.class_of.Goals as goal
 
 pub returns-then-branch-clause-is : goal.returns-then-branch-clause-is
-returns-then-branch-clause-is c = λ condemned_for agrees. (c.in_ok-is_conflicting.ensures.ok condemned_for agrees.1).0 c.if-branch.true
+returns-then-branch-clause-is c = λ condemned_for agrees. (c.in_ok-is_conflicting.ensures.ok condemned_for agrees.1).0
+    c.if-branch.true
 
 pub returns-then-branch-clause-class : goal.returns-then-branch-clause-class
 returns-then-branch-clause-class c =
-    λ condemned_for agrees. class_at-unique (steps_in c.args.steps.now) condemned_for c.args.place c.args.version.now Conflicting
+    λ condemned_for agrees. class_at-unique (steps_in c.args.steps.now) condemned_for c.args.place c.args.version.now
+    Conflicting
     (returns-then-branch-clause-is c condemned_for agrees)
 
 pub returns-then-branch-2-clause-is : goal.returns-then-branch-2-clause-is
@@ -21,7 +23,8 @@ returns-then-branch-2-clause-is c =
 
 pub returns-then-branch-2-clause-class : goal.returns-then-branch-2-clause-class
 returns-then-branch-2-clause-class c =
-    λ condemned_for agrees. class_at-unique (steps_in c.args.steps.now) condemned_for c.args.place c.args.version.now Full
+    λ condemned_for agrees. class_at-unique (steps_in c.args.steps.now) condemned_for c.args.place c.args.version.now
+    Full
     (returns-then-branch-2-clause-is c condemned_for agrees)
 
 pub returns-then-branch-3-clause-is : goal.returns-then-branch-3-clause-is
@@ -34,7 +37,8 @@ returns-then-branch-3-clause-is c =
 
 pub returns-then-branch-3-clause-class : goal.returns-then-branch-3-clause-class
 returns-then-branch-3-clause-class c =
-    λ condemned_for agrees. class_at-unique (steps_in c.args.steps.now) condemned_for c.args.place c.args.version.now Partial
+    λ condemned_for agrees. class_at-unique (steps_in c.args.steps.now) condemned_for c.args.place c.args.version.now
+    Partial
     (returns-then-branch-3-clause-is c condemned_for agrees)
 
 pub returns-then-branch-4-clause-is : goal.returns-then-branch-4-clause-is
@@ -48,7 +52,8 @@ returns-then-branch-4-clause-is c =
 
 pub returns-then-branch-4-clause-class : goal.returns-then-branch-4-clause-class
 returns-then-branch-4-clause-class c =
-    λ condemned_for agrees. class_at-unique (steps_in c.args.steps.now) condemned_for c.args.place c.args.version.now Exempted
+    λ condemned_for agrees. class_at-unique (steps_in c.args.steps.now) condemned_for c.args.place c.args.version.now
+    Exempted
     (returns-then-branch-4-clause-is c condemned_for agrees)
 
 pub returns-clause-is : goal.returns-clause-is
@@ -62,5 +67,6 @@ returns-clause-is c =
 
 pub returns-clause-class : goal.returns-clause-class
 returns-clause-class c =
-    λ condemned_for agrees. class_at-unique (steps_in c.args.steps.now) condemned_for c.args.place c.args.version.now Unvetted
+    λ condemned_for agrees. class_at-unique (steps_in c.args.steps.now) condemned_for c.args.place c.args.version.now
+    Unvetted
     (returns-clause-is c condemned_for agrees)

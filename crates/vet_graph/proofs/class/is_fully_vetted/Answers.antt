@@ -3,4 +3,6 @@ use Rattle.vet_graph.proofs.class.is_fully_vetted.Goals as goal
 
 pub returns-clause-ok : goal.returns-clause-ok
 returns-clause-ok c =
-    λ condemned_for guarded. answered _ _ c.is_cleanly_reached.result (full-iff c.args.steps.now condemned_for c.args.place c.args.version.now guarded) c.is_cleanly_reached.ensures.ok
+    λ condemned_for guarded. answered _ _ c.is_cleanly_reached.result
+    (full-iff c.args.steps.now condemned_for c.args.place c.args.version.now guarded)
+    c.is_cleanly_reached.ensures.ok

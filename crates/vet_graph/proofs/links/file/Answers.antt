@@ -23,8 +23,12 @@ returns-clause-ok c =
     let place = c.args.place in
     let head = c.in-Some-copied.head in
     let found = sym c.get.ensures.value ∙ sym c.copied.ensures ∙ c.in-Some-copied.is in
-    let here = ap (λ (g : GuardedStep). g.step.origin) (sym (at_place steps place c.index-steps-place.result c.requires.place)) ∙ c.in-Some.is in
-    IfOk-weaker c.push_at.result (λ _. lists_in c.push_at.new.lists.items ≡ set after head (get_or after head [] ++ place ∷ []))
+    let here = ap (λ (g : GuardedStep). g.step.origin)
+    (sym (at_place steps place c.index-steps-place.result c.requires.place)) ∙ c.in-Some.is in
+    IfOk-weaker c.push_at.result
+    (λ _. lists_in c.push_at.new.lists.items ≡ set after head (get_or after head [] ++ place ∷ []))
     (λ _. AreFiled steps heads first (lists_in c.push_at.new.lists.items) (place + 1))
-    (λ _ e. rw e (AreFiled-after steps (get version_cmp c.args.found.now.numbers) heads first after place c.in-Some.origin head c.requires.heads c.requires.filed here found))
+    (λ _ e. rw e
+    (AreFiled-after steps (get version_cmp c.args.found.now.numbers) heads first after place c.in-Some.origin head
+    c.requires.heads c.requires.filed here found))
     c.push_at.ensures.ok

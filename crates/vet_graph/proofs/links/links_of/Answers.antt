@@ -5,4 +5,5 @@ use Rattle.vet_graph.proofs.links.links_of.Goals as goal
 
 pub returns-clause-ok : goal.returns-clause-ok
 returns-clause-ok c =
-    IsLinked-from c.args.steps.now (get version_cmp c.in_ok-found.found.numbers) _ c.in_ok-found.ensures.ok c.in_ok-filed.ensures.ok
+    IsLinked-from c.args.steps.now (get version_cmp c.in_ok-found.found.numbers) _ c.in_ok-found.ensures.ok
+    c.in_ok-filed.ensures.ok

@@ -9,4 +9,5 @@ pub returns-clause-is : goal.returns-clause-is
 returns-clause-is c =
     let facts = c.args.facts.now.content in
     let pair = c.args.pair.now in
-    IfOk-weaker c.class_by.result (λ class. class ≡ class_of_pair facts pair) (IsClassOfPair facts pair) (λ class e. rw e (pair_class_holds facts pair)) c.class_by.ensures.ok
+    IfOk-weaker c.class_by.result (λ class. class ≡ class_of_pair facts pair) (IsClassOfPair facts pair)
+    (λ class e. rw e (pair_class_holds facts pair)) c.class_by.ensures.ok

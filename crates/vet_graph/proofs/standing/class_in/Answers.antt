@@ -8,12 +8,23 @@ use Rattle.vet_graph.proofs.standing.class_in.Goals as goal
 
 pub returns-in-Ok : goal.returns-in-Ok
 returns-in-Ok c =
-    let p : Pair = record { «package» = c.args.«package».now; version = c.args.version.now; criterion = c.args.criterion.now } in
-    let found = c.in-Ok.ensures.position (λ (s : Stand). pair_cmp s.pair p) (always_returns_same _ _ _ (λ a r f' k. search rules)) in
-    sym (searched c.args.standing.now p (Ok c.in-Ok.place) c.requires c.in-Ok.ensures.bound found c.index-standing-place.result)
+    let p : Pair = record {
+      «package» = c.args.«package».now;
+      version = c.args.version.now;
+      criterion = c.args.criterion.now;
+    } in
+    let found = c.in-Ok.ensures.position (λ (s : Stand). pair_cmp s.pair p)
+    (always_returns_same _ _ _ (λ a r f' k. search rules)) in
+    sym (searched c.args.standing.now p (Ok c.in-Ok.place) c.requires c.in-Ok.ensures.bound found
+    c.index-standing-place.result)
 
 pub returns-in-Err : goal.returns-in-Err
 returns-in-Err c =
-    let p : Pair = record { «package» = c.args.«package».now; version = c.args.version.now; criterion = c.args.criterion.now } in
-    let found = c.in-Err.ensures.position (λ (s : Stand). pair_cmp s.pair p) (always_returns_same _ _ _ (λ a r f' k. search rules)) in
+    let p : Pair = record {
+      «package» = c.args.«package».now;
+      version = c.args.version.now;
+      criterion = c.args.criterion.now;
+    } in
+    let found = c.in-Err.ensures.position (λ (s : Stand). pair_cmp s.pair p)
+    (always_returns_same _ _ _ (λ a r f' k. search rules)) in
     sym (searched c.args.standing.now p (Err c.in-Err.field-0) c.requires c.in-Err.ensures.bound found)
