@@ -40,41 +40,52 @@ shadowed false x y z = refl
 apart : (q a b : List ℕ) → R a b ≡ Less → eq_by_cmp R q a ≡ true → eq_by_cmp R q b ≡ false
 apart q a b h e = ap (λ t. eq_by_cmp R t b) (equal-from_eq q a e) ∙ ap is_eq h
 
-pub find-set : (cs : List Criterion) (i : ℕ) (c : Criterion) (q : List ℕ) → IsRising (names_of cs) → i < length cs → get_or (names_of cs) i [] ≡ c.name
+pub find-set : (cs : List Criterion) (i : ℕ) (c : Criterion) (q : List ℕ) → IsRising (names_of cs) → i < length cs
+    → get_or (names_of cs) i [] ≡ c.name
     → map.find R q (by_name (setn cs i c)) ≡ cond (eq_by_cmp R q c.name) (Some c) (map.find R q (by_name cs))
 find-set [] i c q h l at = absurd (omega (arith, l))
 find-set (x ∷ xs) zero c q h l at =
     shadowed (eq_by_cmp R q c.name) (Some c) (Some x) (map.find R q (by_name xs))
-    ∙ ap (λ n. cond (eq_by_cmp R q c.name) (Some c) (cond (eq_by_cmp R q n) (Some x) (map.find R q (by_name xs)))) (sym at)
+    ∙ ap (λ n. cond (eq_by_cmp R q c.name) (Some c) (cond (eq_by_cmp R q n) (Some x) (map.find R q (by_name xs))))
+    (sym at)
 find-set (x ∷ xs) (suc i) c q h l at =
     let low : i < length xs = omega (arith, l) in
     let less : R x.name c.name ≡ Less = rw at at (IsRising-head x.name (names_of xs) h i [] (rw length-map low)) in
     ap (cond (eq_by_cmp R q x.name) (Some x)) (find-set xs i c q (IsRising-tail x.name (names_of xs) h) low at)
-    ∙ swapped (eq_by_cmp R q x.name) (eq_by_cmp R q c.name) (Some x) (Some c) (map.find R q (by_name xs)) (apart q x.name c.name less)
+    ∙ swapped (eq_by_cmp R q x.name) (eq_by_cmp R q c.name) (Some x) (Some c) (map.find R q (by_name xs))
+    (apart q x.name c.name less)
 
-pub find-insert : (cs : List Criterion) (i : ℕ) (c : Criterion) (q : List ℕ) → All (λ y. R y c.name ≡ Less) (take i (names_of cs))
+pub find-insert : (cs : List Criterion) (i : ℕ) (c : Criterion) (q : List ℕ)
+    → All (λ y. R y c.name ≡ Less) (take i (names_of cs))
     → map.find R q (by_name (insert cs i c)) ≡ cond (eq_by_cmp R q c.name) (Some c) (map.find R q (by_name cs))
 find-insert cs zero c q low = refl
 find-insert [] (suc i) c q low = refl
 find-insert (x ∷ xs) (suc i) c q low =
     let less : R x.name c.name ≡ Less = All-head (λ y. R y c.name ≡ Less) x.name (take i (names_of xs)) low in
-    ap (cond (eq_by_cmp R q x.name) (Some x)) (find-insert xs i c q (All-tail (λ y. R y c.name ≡ Less) x.name (take i (names_of xs)) low))
-    ∙ swapped (eq_by_cmp R q x.name) (eq_by_cmp R q c.name) (Some x) (Some c) (map.find R q (by_name xs)) (apart q x.name c.name less)
+    ap (cond (eq_by_cmp R q x.name) (Some x))
+    (find-insert xs i c q (All-tail (λ y. R y c.name ≡ Less) x.name (take i (names_of xs)) low))
+    ∙ swapped (eq_by_cmp R q x.name) (eq_by_cmp R q c.name) (Some x) (Some c) (map.find R q (by_name xs))
+    (apart q x.name c.name less)
 
-none_later : (x q : List ℕ) (cs : List Criterion) → All (λ y. R x y ≡ Less) (names_of cs) → eq_by_cmp R q x ≡ true → map.find R q (by_name cs) ≡ None
+none_later : (x q : List ℕ) (cs : List Criterion) → All (λ y. R x y ≡ Less) (names_of cs) → eq_by_cmp R q x ≡ true
+    → map.find R q (by_name cs) ≡ None
 none_later x q cs h e =
-    let none : list_any (eq_by_cmp R q) (names_of cs) ≡ false = list_any_none (eq_by_cmp R q) (names_of cs) (λ k d l. apart q x (get_or (names_of cs) k d) (h k d l) e) in
-    nothing (map.find R q (by_name cs)) (is_some-find R q (by_name cs) ∙ ap (list_any (eq_by_cmp R q)) (keys-by_name cs) ∙ none)
+    let none : list_any (eq_by_cmp R q) (names_of cs) ≡ false =
+    list_any_none (eq_by_cmp R q) (names_of cs) (λ k d l. apart q x (get_or (names_of cs) k d) (h k d l) e) in
+    nothing (map.find R q (by_name cs))
+    (is_some-find R q (by_name cs) ∙ ap (list_any (eq_by_cmp R q)) (keys-by_name cs) ∙ none)
 
 gone : {X : Type 0} (a : Bool) (x : Option X) (z : Option X) → (a ≡ true → z ≡ None) → z ≡ cond a None (cond a x z)
 gone true x z h = h refl
 gone false x z h = refl
 
-pub find-remove : (cs : List Criterion) (i : ℕ) (n q : List ℕ) → IsRising (names_of cs) → i < length cs → get_or (names_of cs) i [] ≡ n
+pub find-remove : (cs : List Criterion) (i : ℕ) (n q : List ℕ) → IsRising (names_of cs) → i < length cs
+    → get_or (names_of cs) i [] ≡ n
     → map.find R q (by_name (remove cs i)) ≡ cond (eq_by_cmp R q n) None (map.find R q (by_name cs))
 find-remove [] i n q h l at = absurd (omega (arith, l))
 find-remove (x ∷ xs) zero n q h l at =
-    gone (eq_by_cmp R q x.name) (Some x) (map.find R q (by_name xs)) (none_later x.name q xs (IsRising-head x.name (names_of xs) h))
+    gone (eq_by_cmp R q x.name) (Some x) (map.find R q (by_name xs))
+    (none_later x.name q xs (IsRising-head x.name (names_of xs) h))
     ∙ ap (λ m. cond (eq_by_cmp R q m) None (cond (eq_by_cmp R q x.name) (Some x) (map.find R q (by_name xs)))) at
 find-remove (x ∷ xs) (suc i) n q h l at =
     let low : i < length xs = omega (arith, l) in
@@ -82,7 +93,8 @@ find-remove (x ∷ xs) (suc i) n q h l at =
     ap (cond (eq_by_cmp R q x.name) (Some x)) (find-remove xs i n q (IsRising-tail x.name (names_of xs) h) low at)
     ∙ swapped (eq_by_cmp R q x.name) (eq_by_cmp R q n) (Some x) None (map.find R q (by_name xs)) (apart q x.name n less)
 
-pub names-insert : (cs : List Criterion) (i : ℕ) (c : Criterion) → names_of (insert cs i c) ≡ insert (names_of cs) i c.name
+pub names-insert : (cs : List Criterion) (i : ℕ) (c : Criterion) → names_of (insert cs i c)
+    ≡ insert (names_of cs) i c.name
 names-insert cs zero c = refl
 names-insert [] (suc i) c = refl
 names-insert (x ∷ xs) (suc i) c = ap (λ t. x.name ∷ t) (names-insert xs i c)
@@ -93,24 +105,35 @@ names-remove [] (suc i) = refl
 names-remove (x ∷ xs) zero = refl
 names-remove (x ∷ xs) (suc i) = ap (λ t. x.name ∷ t) (names-remove xs i)
 
-pub names-set : (cs : List Criterion) (i : ℕ) (c : Criterion) → get_or (names_of cs) i [] ≡ c.name → names_of (setn cs i c) ≡ names_of cs
-names-set cs i c at = map-set (λ (d : Criterion). d.name) cs i c ∙ ap (setn (names_of cs) i) (sym at) ∙ set-get_or (names_of cs) i []
+pub names-set : (cs : List Criterion) (i : ℕ) (c : Criterion) → get_or (names_of cs) i [] ≡ c.name
+    → names_of (setn cs i c) ≡ names_of cs
+names-set cs i c at =
+    map-set (λ (d : Criterion). d.name) cs i c ∙ ap (setn (names_of cs) i) (sym at) ∙ set-get_or (names_of cs) i []
 
 -- ---- the changed value
 
 sorted_names : (cs : List Criterion) → IsRising (names_of cs) → T (map.is_sorted R (by_name cs))
 sorted_names cs h = sorted_entries (by_name cs) (subst IsRising (sym (keys-by_name cs)) h)
 
-module _ (cs ds : List Criterion) (table : Criteria) (is : map.from_sorted {R = R} (by_name cs) ≡ table) (rising : IsRising (names_of cs)) (rises : IsRising (names_of ds)) where
+module _ (cs ds : List Criterion) (table : Criteria) (is : map.from_sorted {R = R} (by_name cs) ≡ table)
+    (rising : IsRising (names_of cs)) (rises : IsRising (names_of ds)) where
   get_in : (q : List ℕ) → map.get table q ≡ map.find R q (by_name cs)
   get_in q = ap (λ t. map.get t q) (sym is) ∙ map.get-from_sorted R (by_name cs) q (sorted_names cs rising)
 
-  pub view_insert : (c : Criterion) → ((q : List ℕ) → map.find R q (by_name ds) ≡ cond (eq_by_cmp R q c.name) (Some c) (map.find R q (by_name cs))) → map.from_sorted {R = R} (by_name ds) ≡ map.insert table c.name c
-  view_insert c found = map.same_map nat_list_cmp_total only_equal _ _ (λ q. map.get-from_sorted R (by_name ds) q (sorted_names ds rises) ∙ found q
+  pub view_insert : (c : Criterion)
+      → ((q : List ℕ) → map.find R q (by_name ds) ≡ cond (eq_by_cmp R q c.name) (Some c) (map.find R q (by_name cs)))
+      → map.from_sorted {R = R} (by_name ds) ≡ map.insert table c.name c
+  view_insert c found =
+      map.same_map nat_list_cmp_total only_equal _ _
+      (λ q. map.get-from_sorted R (by_name ds) q (sorted_names ds rises) ∙ found q
       ∙ sym (map.get-insert nat_list_cmp_total table c.name c q ∙ ap (cond (eq_by_cmp R q c.name) (Some c)) (get_in q)))
 
-  pub view_remove : (n : List ℕ) → ((q : List ℕ) → map.find R q (by_name ds) ≡ cond (eq_by_cmp R q n) None (map.find R q (by_name cs))) → map.from_sorted {R = R} (by_name ds) ≡ map.remove table n
-  view_remove n found = map.same_map nat_list_cmp_total only_equal _ _ (λ q. map.get-from_sorted R (by_name ds) q (sorted_names ds rises) ∙ found q
+  pub view_remove : (n : List ℕ)
+      → ((q : List ℕ) → map.find R q (by_name ds) ≡ cond (eq_by_cmp R q n) None (map.find R q (by_name cs)))
+      → map.from_sorted {R = R} (by_name ds) ≡ map.remove table n
+  view_remove n found =
+      map.same_map nat_list_cmp_total only_equal _ _
+      (λ q. map.get-from_sorted R (by_name ds) q (sorted_names ds rises) ∙ found q
       ∙ sym (map.get-remove nat_list_cmp_total table n q ∙ ap (cond (eq_by_cmp R q n) None) (get_in q)))
 
 -- ---- what holds of every table still holds
@@ -131,8 +154,11 @@ some_cond : {X : Type 0} (b : Bool) (x : X) (o : Option X) → is_some (cond b (
 some_cond true x o = refl
 some_cond false x o = refl
 
-pub key-insert : (table : Criteria) (c : Criterion) (n : List ℕ) → map.contains_key (map.insert table c.name c) n ≡ (eq_by_cmp R n c.name || map.contains_key table n)
-key-insert table c n = ap is_some (map.get-insert nat_list_cmp_total table c.name c n) ∙ some_cond (eq_by_cmp R n c.name) c (map.get table n)
+pub key-insert : (table : Criteria) (c : Criterion) (n : List ℕ) → map.contains_key (map.insert table c.name c) n
+    ≡ (eq_by_cmp R n c.name || map.contains_key table n)
+key-insert table c n =
+    ap is_some (map.get-insert nat_list_cmp_total table c.name c n)
+    ∙ some_cond (eq_by_cmp R n c.name) c (map.get table n)
 
 few_more : (b : Bool) (n : ℕ) → n ≤ MOST_CRITERIA → (b ≡ false → n < MOST_CRITERIA) → cond b n (n + 1) ≤ MOST_CRITERIA
 few_more true n h f = h
@@ -148,58 +174,89 @@ pub record MaySet (table : Criteria) (c : Criterion) : Type 0 where
   pub known : least_unknown (map.insert table c.name c) c.implies ≡ None
   pub own : is_built_in c.name ≡ false
 
-pub table_insert : (table : Criteria) (c : Criterion) → IsTable table → MaySet table c → IsTable (map.insert table c.name c)
+pub table_insert : (table : Criteria) (c : Criterion) → IsTable table → MaySet table c
+    → IsTable (map.insert table c.name c)
 table_insert table c h may =
     let after = map.insert table c.name c in
     let own = or_parts (pointwise nat_eq c.name safe_to_run) (pointwise nat_eq c.name safe_to_deploy) may.own in
     let get = map.get-insert nat_list_cmp_total table c.name c in
     record {
-      few = rw (map.len-insert nat_list_cmp_total table c.name c) (few_more (map.contains_key table c.name) (map.len table) h.few may.room);
+      few = rw (map.len-insert nat_list_cmp_total table c.name c)
+          (few_more (map.contains_key table c.name) (map.len table) h.few may.room);
       named = λ n d e. named_by n d (eq_by_cmp R n c.name) refl (sym (get n) ∙ e);
-      known = λ m n e. known_by m n (eq_by_cmp R m c.name) refl (ap (λ o. set.contains (option_map_or (λ (d : Criterion). d.implies) o set.empty) n) (sym (get m)) ∙ e);
-      run = get safe_to_run ∙ cond-false (eq_by_cmp R safe_to_run c.name) (Some c) (map.get table safe_to_run) (not_this c.name safe_to_run own.0) ∙ h.run;
-      deploy = get safe_to_deploy ∙ cond-false (eq_by_cmp R safe_to_deploy c.name) (Some c) (map.get table safe_to_deploy) (not_this c.name safe_to_deploy own.1) ∙ h.deploy;
+      known = λ m n e. known_by m n (eq_by_cmp R m c.name) refl
+          (ap (λ o. set.contains (option_map_or (λ (d : Criterion). d.implies) o set.empty) n) (sym (get m)) ∙ e);
+      run = get safe_to_run
+          ∙ cond-false (eq_by_cmp R safe_to_run c.name) (Some c) (map.get table safe_to_run)
+          (not_this c.name safe_to_run own.0) ∙ h.run;
+      deploy = get safe_to_deploy
+          ∙ cond-false (eq_by_cmp R safe_to_deploy c.name) (Some c) (map.get table safe_to_deploy)
+          (not_this c.name safe_to_deploy own.1) ∙ h.deploy;
     }
   where
-    named_by : (n : List ℕ) (d : Criterion) (b : Bool) → eq_by_cmp R n c.name ≡ b → cond b (Some c) (map.get table n) ≡ Some d → d.name ≡ n
+    named_by : (n : List ℕ) (d : Criterion) (b : Bool) → eq_by_cmp R n c.name ≡ b → cond b (Some c) (map.get table n)
+        ≡ Some d → d.name ≡ n
     named_by n d true e h' = ap (λ (x : Criterion). x.name) (sym (same_Some c d h')) ∙ sym (equal-from_eq n c.name e)
     named_by n d false e h' = h.named n d h'
 
-    known_by : (m n : List ℕ) (b : Bool) → eq_by_cmp R m c.name ≡ b → set.contains (option_map_or (λ (d : Criterion). d.implies) (cond b (Some c) (map.get table m)) set.empty) n ≡ true → map.contains_key (map.insert table c.name c) n ≡ true
-    known_by m n true e h' = not-false _ (none_found (λ x. not (map.contains_key (map.insert table c.name c) x)) (members c.implies) n may.known (among_members c.implies n h'))
-    known_by m n false e h' = key-insert table c n ∙ or_right (eq_by_cmp R n c.name) (map.contains_key table n) (h.known m n h')
+    known_by : (m n : List ℕ) (b : Bool) → eq_by_cmp R m c.name ≡ b
+        → set.contains (option_map_or (λ (d : Criterion). d.implies) (cond b (Some c) (map.get table m)) set.empty) n
+        ≡ true → map.contains_key (map.insert table c.name c) n ≡ true
+    known_by m n true e h' =
+        not-false _ (none_found (λ x. not (map.contains_key (map.insert table c.name c) x)) (members c.implies) n
+        may.known (among_members c.implies n h'))
+    known_by m n false e h' =
+        key-insert table c n ∙ or_right (eq_by_cmp R n c.name) (map.contains_key table n) (h.known m n h')
 
 -- a criterion may be removed where it is not built in and no other implies it
-pub table_remove : (table : Criteria) (n : List ℕ) → IsTable table → is_built_in n ≡ false → is_implied table n ≡ false → IsTable (map.remove table n)
+pub table_remove : (table : Criteria) (n : List ℕ) → IsTable table → is_built_in n ≡ false → is_implied table n ≡ false
+    → IsTable (map.remove table n)
 table_remove table n h built free =
     let own = or_parts (pointwise nat_eq n safe_to_run) (pointwise nat_eq n safe_to_deploy) built in
     let get = map.get-remove nat_list_cmp_total table n in
     record {
       few = rw (map.len-remove nat_list_cmp_total table n) (few_less (map.contains_key table n) (map.len table) h.few);
       named = λ q d e. named_by q d (eq_by_cmp R q n) refl (sym (get q) ∙ e);
-      known = λ m q e. known_by m q (eq_by_cmp R m n) refl (ap (λ o. set.contains (option_map_or (λ (d : Criterion). d.implies) o set.empty) q) (sym (get m)) ∙ e);
-      run = get safe_to_run ∙ cond-false (eq_by_cmp R safe_to_run n) None (map.get table safe_to_run) (not_this n safe_to_run own.0) ∙ h.run;
-      deploy = get safe_to_deploy ∙ cond-false (eq_by_cmp R safe_to_deploy n) None (map.get table safe_to_deploy) (not_this n safe_to_deploy own.1) ∙ h.deploy;
+      known = λ m q e. known_by m q (eq_by_cmp R m n) refl
+          (ap (λ o. set.contains (option_map_or (λ (d : Criterion). d.implies) o set.empty) q) (sym (get m)) ∙ e);
+      run = get safe_to_run
+          ∙ cond-false (eq_by_cmp R safe_to_run n) None (map.get table safe_to_run) (not_this n safe_to_run own.0)
+          ∙ h.run;
+      deploy = get safe_to_deploy
+          ∙ cond-false (eq_by_cmp R safe_to_deploy n) None (map.get table safe_to_deploy)
+          (not_this n safe_to_deploy own.1) ∙ h.deploy;
     }
   where
-    named_by : (q : List ℕ) (d : Criterion) (b : Bool) → eq_by_cmp R q n ≡ b → cond b None (map.get table q) ≡ Some d → d.name ≡ q
+    named_by : (q : List ℕ) (d : Criterion) (b : Bool) → eq_by_cmp R q n ≡ b → cond b None (map.get table q) ≡ Some d
+        → d.name ≡ q
     named_by q d true e h' = cc h'
     named_by q d false e h' = h.named q d h'
 
-    used : (m : List ℕ) (o : Option Criterion) → map.get table m ≡ o → eq_by_cmp R m n ≡ false → set.contains (option_map_or (λ (d : Criterion). d.implies) o set.empty) n ≡ true → ⊥
+    used : (m : List ℕ) (o : Option Criterion) → map.get table m ≡ o → eq_by_cmp R m n ≡ false
+        → set.contains (option_map_or (λ (d : Criterion). d.implies) o set.empty) n ≡ true → ⊥
     used m None e out h' = false≢true (sym (set.contains-empty R n) ∙ h')
     used m (Some c) e out h' =
         let at = found_entry m (map.entries table) c (sym (map.get-entries table m) ∙ e) in
         let name : c.name ≡ m = h.named m c e in
-        let here : get_or (map.values table) at.0 c ≡ c = get_or-map (λ (x : List ℕ × Criterion). x.1) (map.entries table) at.0 (m, c) c at.1 ∙ ap (λ (x : List ℕ × Criterion). x.1) at.2 in
+        let here : get_or (map.values table) at.0 c ≡ c =
+        get_or-map (λ (x : List ℕ × Criterion). x.1) (map.entries table) at.0 (m, c) c at.1
+        ∙ ap (λ (x : List ℕ × Criterion). x.1) at.2 in
         let other : pointwise nat_eq c.name n ≡ false = texts_ties c.name n ∙ ap (λ x. eq_by_cmp R x n) name ∙ out in
-        let user : is_user n c ≡ true = and_from (not (pointwise nat_eq c.name n)) (set.contains c.implies n) (ap not other) h' in
-        false≢true (sym free ∙ list_any_at (is_user n) (map.values table) at.0 c (rw length-map at.1) (ap (is_user n) here ∙ user))
+        let user : is_user n c ≡ true =
+        and_from (not (pointwise nat_eq c.name n)) (set.contains c.implies n) (ap not other) h' in
+        false≢true (sym free
+        ∙ list_any_at (is_user n) (map.values table) at.0 c (rw length-map at.1) (ap (is_user n) here ∙ user))
 
-    known_by : (m q : List ℕ) (b : Bool) → eq_by_cmp R m n ≡ b → set.contains (option_map_or (λ (d : Criterion). d.implies) (cond b None (map.get table m)) set.empty) q ≡ true → map.contains_key (map.remove table n) q ≡ true
+    known_by : (m q : List ℕ) (b : Bool) → eq_by_cmp R m n ≡ b
+        → set.contains (option_map_or (λ (d : Criterion). d.implies) (cond b None (map.get table m)) set.empty) q
+        ≡ true → map.contains_key (map.remove table n) q ≡ true
     known_by m q true e h' = absurd (false≢true (sym (set.contains-empty R q) ∙ h'))
     known_by m q false e h' = kept (eq_by_cmp R q n) refl
       where
         kept : (b : Bool) → eq_by_cmp R q n ≡ b → map.contains_key (map.remove table n) q ≡ true
-        kept true same = absurd (used m (map.get table m) refl e (ap (set.contains (implied_by table m)) (sym (equal-from_eq q n same)) ∙ h'))
-        kept false other = ap is_some (map.get-remove nat_list_cmp_total table n q ∙ cond-false (eq_by_cmp R q n) None (map.get table q) other) ∙ h.known m q h'
+        kept true same = absurd
+            (used m (map.get table m) refl e
+            (ap (set.contains (implied_by table m)) (sym (equal-from_eq q n same)) ∙ h'))
+        kept false other = ap is_some
+            (map.get-remove nat_list_cmp_total table n q ∙ cond-false (eq_by_cmp R q n) None (map.get table q) other)
+            ∙ h.known m q h'

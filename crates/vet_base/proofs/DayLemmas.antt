@@ -19,7 +19,8 @@ use Rattle.vet_base.specs.Day.{DayValue, is_day, day_number, two_digits, written
 -- ---- texts
 
 -- what two digits write
-two_digits-at : (text : List ℕ) (i n : ℕ) → slice_index text i ≡ 48 + n / 10 → slice_index text (i + 1) ≡ 48 + n % 10 → n < 100
+two_digits-at : (text : List ℕ) (i n : ℕ) → slice_index text i ≡ 48 + n / 10 → slice_index text (i + 1) ≡ 48 + n % 10
+    → n < 100
     → two_digits text i ≡ Some n
 two_digits-at text i n a b h =
     let digits : (is_ascii_digit (48 + n / 10) && is_ascii_digit (48 + n % 10)) ≡ true = grind (arith, nat_tests) in
@@ -58,7 +59,8 @@ decimal_three n low high =
     let first : n / 10 / 10 ≡ n / 100 = omega arith in
     let second : n / 10 % 10 ≡ n % 100 / 10 = omega arith in
     let third : n % 10 ≡ n % 100 % 10 = omega arith in
-    decimal_step n (omega arith) (omega arith) ∙ rw (decimal_two (n / 10) (omega arith) (omega arith), first, second, third) refl
+    decimal_step n (omega arith) (omega arith)
+    ∙ rw (decimal_two (n / 10) (omega arith) (omega arith), first, second, third) refl
 
 decimal_four : (n : ℕ) → 1000 ≤ n → n < 10000 → decimal n ≡ four_text n
 decimal_four n low high =
@@ -66,7 +68,8 @@ decimal_four n low high =
     let second : n / 10 % 100 / 10 ≡ n / 100 % 10 = omega arith in
     let third : n / 10 % 100 % 10 ≡ n % 100 / 10 = omega arith in
     let fourth : n % 10 ≡ n % 100 % 10 = omega arith in
-    decimal_step n (omega arith) (omega arith) ∙ rw (decimal_three (n / 10) (omega arith) (omega arith), first, second, third, fourth) refl
+    decimal_step n (omega arith) (omega arith)
+    ∙ rw (decimal_three (n / 10) (omega arith) (omega arith), first, second, third, fourth) refl
 
 -- what a number shows in so many places, filled with zeros
 abbrev pub in_places : ℕ → ℕ → List ℕ
@@ -75,7 +78,8 @@ in_places width n = padded_integral (format_spec 32 0 4 width (2 ^ 64 - 1)) fals
 pub two_places : (n : ℕ) → n < 100 → in_places 2 n ≡ two_text n
 unfolding padded_integral char_count
 two_places n small = elim (cases_lt n 10) [
-  | inl one ↦ let tens : n / 10 ≡ 0 = omega arith in let ones : n % 10 ≡ n = omega arith in rw (decimal_digit n one, tens, ones)
+  | inl one ↦ let tens : n / 10 ≡ 0 = omega arith in let ones : n % 10 ≡ n = omega arith in
+      rw (decimal_digit n one, tens, ones)
   | inr two ↦ rw (decimal_two n two small)
 ]
 
@@ -137,7 +141,8 @@ day_count-first = day_count-early (pos 0) 9999 1 1 refl (omega arith) (omega ari
 day_count-first-le : (y : ℕ) → day_count (pos 0) 1 1 ≤ day_count (pos y) 1 1
 day_count-first-le y = elim (cases_order 0 y) [
   | inl same ↦ rw (← same) (omega arith)
-  | inr (inl later) ↦ omega (arith, day_count-later_year (pos 0) (pos y) (omega (arith, signed_arith)) (omega (arith, signed_arith)))
+  | inr (inl later) ↦
+      omega (arith, day_count-later_year (pos 0) (pos y) (omega (arith, signed_arith)) (omega (arith, signed_arith)))
   | inr (inr none) ↦ absurd (omega arith)
 ]
 
@@ -170,7 +175,15 @@ record IsDateOf (d : DayValue) (e : Date) : Type 0 where
 date_of : (d : DayValue) → is_day d ≡ true → (e : Date) × IsDateOf d e
 date_of d h =
     let (year_in, month_in, day_in) = civil_day d h in (
-      record { year = pos d.year; month = d.month; day = d.day; year_in = year_in; month_in = month_in; day_in = day_in },
+      record {
+        year = pos d.year;
+        month = d.month;
+        day = d.day;
+        year_in = year_in;
+        month_in = month_in;
+        day_in =
+            day_in;
+      },
       record { year = refl; month = refl; day = refl },
     )
 
@@ -207,13 +220,15 @@ sum_passed z number days passed same is small =
     rw (same, is, to_z-of_z w64 (pos days) fits) refl
 
 -- where there is no date that many days later, the number is past the last
-pub past_last : (d : DayValue) (n : ℕ) → is_day d ≡ true → (IsEpochDay (day_number d +ℤ pos n) → ⊥) → LAST_DAY_NUMBER <ℤ (day_number d +ℤ pos n)
+pub past_last : (d : DayValue) (n : ℕ) → is_day d ≡ true → (IsEpochDay (day_number d +ℤ pos n) → ⊥)
+    → LAST_DAY_NUMBER <ℤ (day_number d +ℤ pos n)
 past_last d n is none =
     let range = day_number_range d is in
     by_lt_z LAST_DAY_NUMBER (day_number d +ℤ pos n) (λ lt. lt) (λ le. absurd (none (omega (arith, signed_arith), le)))
 
 -- and where there is one, it is of a year from 0 on
-pub later_year : (d : DayValue) (n : ℕ) (later : Date) → is_day d ≡ true → epoch_day later ≡ day_number d +ℤ pos n → pos 0 ≤ℤ later.year
+pub later_year : (d : DayValue) (n : ℕ) (later : Date) → is_day d ≡ true → epoch_day later ≡ day_number d +ℤ pos n
+    → pos 0 ≤ℤ later.year
 later_year d n later is e =
     let range = day_number_range d is in
     year_from_0 later (omega (arith, signed_arith))

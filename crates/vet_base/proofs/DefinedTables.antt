@@ -21,20 +21,26 @@ with_criteria table criteria = fold (λ (t : Criteria) (c : Criterion). map.inse
 abbrev pub HasNames : NameSet → Criteria → Type 0
 HasNames names table = (n : List ℕ) → set.contains names n ≡ map.contains_key table n
 
-one_name : (names : NameSet) (table : Criteria) (c : Criterion) → HasNames names table → HasNames (set.insert names c.name) (map.insert table c.name c)
+one_name : (names : NameSet) (table : Criteria) (c : Criterion) → HasNames names table
+    → HasNames (set.insert names c.name) (map.insert table c.name c)
 one_name names table c h n =
-    set.contains-insert nat_list_cmp_total names c.name n ∙ ap (λ b. eq_by_cmp R n c.name || b) (h n) ∙ sym (key-insert table c n)
+    set.contains-insert nat_list_cmp_total names c.name n ∙ ap (λ b. eq_by_cmp R n c.name || b) (h n)
+    ∙ sym (key-insert table c n)
 
-names_with : (names : NameSet) (table : Criteria) (criteria : List Criterion) → HasNames names table → HasNames (with_names names criteria) (with_criteria table criteria)
+names_with : (names : NameSet) (table : Criteria) (criteria : List Criterion) → HasNames names table
+    → HasNames (with_names names criteria) (with_criteria table criteria)
 names_with names table [] h = h
-names_with names table (c ∷ cs) h = names_with (set.insert names c.name) (map.insert table c.name c) cs (one_name names table c h)
+names_with names table (c ∷ cs) h =
+    names_with (set.insert names c.name) (map.insert table c.name c) cs (one_name names table c h)
 
-len_with : (names : NameSet) (table : Criteria) (criteria : List Criterion) → HasNames names table → set.len names ≡ map.len table
+len_with : (names : NameSet) (table : Criteria) (criteria : List Criterion) → HasNames names table → set.len names
+    ≡ map.len table
     → set.len (with_names names criteria) ≡ map.len (with_criteria table criteria)
 len_with names table [] h e = e
 len_with names table (c ∷ cs) h e =
     len_with (set.insert names c.name) (map.insert table c.name c) cs (one_name names table c h)
-    (set.len-insert nat_list_cmp_total names c.name ∙ (λ i. cond (h c.name i) (e i) (e i + 1)) ∙ sym (map.len-insert nat_list_cmp_total table c.name c))
+    (set.len-insert nat_list_cmp_total names c.name ∙ (λ i. cond (h c.name i) (e i) (e i + 1))
+    ∙ sym (map.len-insert nat_list_cmp_total table c.name c))
 
 no_names : HasNames set.empty map.empty
 no_names n = set.contains-empty R n ∙ sym (ap is_some (map.get-empty R n))
@@ -46,8 +52,11 @@ built_in_names = set.insert (set.insert set.empty safe_to_run) safe_to_deploy
 pub defined_names : (criteria : List Criterion) → HasNames (with_names built_in_names criteria) (defined criteria)
 defined_names criteria = names_with set.empty map.empty (run_criterion ∷ deploy_criterion ∷ criteria) no_names
 
-pub defined_len : (criteria : List Criterion) → set.len (with_names built_in_names criteria) ≡ map.len (defined criteria)
-defined_len criteria = len_with set.empty map.empty (run_criterion ∷ deploy_criterion ∷ criteria) no_names (set.len-empty R ∙ sym (map.len-empty R Criterion))
+pub defined_len : (criteria : List Criterion) → set.len (with_names built_in_names criteria)
+    ≡ map.len (defined criteria)
+defined_len criteria =
+    len_with set.empty map.empty (run_criterion ∷ deploy_criterion ∷ criteria) no_names
+    (set.len-empty R ∙ sym (map.len-empty R Criterion))
 
 -- ---- how many they are
 
@@ -56,7 +65,8 @@ one_counted true n = (omega arith, omega arith)
 one_counted false n = (omega arith, omega arith)
 
 -- each criterion adds one at most, and takes none away
-len_between : (table : Criteria) (criteria : List Criterion) → (map.len table ≤ map.len (with_criteria table criteria)) × (map.len (with_criteria table criteria) ≤ map.len table + length criteria)
+len_between : (table : Criteria) (criteria : List Criterion) → (map.len table ≤ map.len (with_criteria table criteria))
+    × (map.len (with_criteria table criteria) ≤ map.len table + length criteria)
 len_between table [] = (omega arith, omega arith)
 len_between table (c ∷ cs) =
     let rest = len_between (map.insert table c.name c) cs in
@@ -64,20 +74,25 @@ len_between table (c ∷ cs) =
     let is = map.len-insert nat_list_cmp_total table c.name c in
     (omega (arith, rest.0, one.0, is), omega (arith, rest.1, one.1, is))
 
-pub defined_few : (criteria : List Criterion) → length criteria ≤ MOST_PEER_CRITERIA → map.len (defined criteria) ≤ MOST_CRITERIA
+pub defined_few : (criteria : List Criterion) → length criteria ≤ MOST_PEER_CRITERIA
+    → map.len (defined criteria) ≤ MOST_CRITERIA
 defined_few criteria h =
     let most = (len_between map.empty (run_criterion ∷ deploy_criterion ∷ criteria)).1 in
     omega (arith, most, map.len-empty R Criterion, h)
 
-with_more : (table : Criteria) (first more : List Criterion) → with_criteria table (first ++ more) ≡ with_criteria (with_criteria table first) more
+with_more : (table : Criteria) (first more : List Criterion) → with_criteria table (first ++ more)
+    ≡ with_criteria (with_criteria table first) more
 with_more table [] more = refl
 with_more table (c ∷ cs) more = with_more (map.insert table c.name c) cs more
 
 -- where all find room, the next one does
-pub next_fits : (first more all : List Criterion) (c : Criterion) → first ++ c ∷ more ≡ all → map.len (defined all) ≤ MOST_CRITERIA
+pub next_fits : (first more all : List Criterion) (c : Criterion) → first ++ c ∷ more ≡ all
+    → map.len (defined all) ≤ MOST_CRITERIA
     → map.contains_key (defined first) c.name ≡ false → map.len (defined first) < MOST_CRITERIA
 next_fits first more all c is few new =
     let table = defined first in
-    let now : map.len (with_criteria (map.insert table c.name c) more) ≤ MOST_CRITERIA = rw (← with_more built_in_criteria first (c ∷ more), is) few in
-    let one : map.len (map.insert table c.name c) ≡ map.len table + 1 = map.len-insert nat_list_cmp_total table c.name c ∙ ap (λ b. cond b (map.len table) (map.len table + 1)) new in
+    let now : map.len (with_criteria (map.insert table c.name c) more) ≤ MOST_CRITERIA =
+    rw (← with_more built_in_criteria first (c ∷ more), is) few in
+    let one : map.len (map.insert table c.name c) ≡ map.len table + 1 =
+    map.len-insert nat_list_cmp_total table c.name c ∙ ap (λ b. cond b (map.len table) (map.len table + 1)) new in
     omega (arith, now, one, (len_between (map.insert table c.name c) more).0)

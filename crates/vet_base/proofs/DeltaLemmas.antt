@@ -20,10 +20,12 @@ one_more_leads r = ap (λ n. drop n (32 ∷ r)) more
     more : 1 + prefix_len is_space r ≡ suc (prefix_len is_space r)
     more = omega arith
 
-prefixes_cut : (s : List ℕ) (ns : List ℕ) (r : List ℕ) → CutsPrefixes (FindsCharPrefix 32) s ns r → without_leading s ≡ without_leading r
+prefixes_cut : (s : List ℕ) (ns : List ℕ) (r : List ℕ) → CutsPrefixes (FindsCharPrefix 32) s ns r → without_leading s
+    ≡ without_leading r
 prefixes_cut s [] r h = ap without_leading (sym h)
 prefixes_cut s (n ∷ ns) r (m, cut, found, is) =
-    prefixes_cut s ns m cut ∙ ap without_leading (drop_at_char 32 m 0 n found (omega arith) ∙ ap (λ t. 32 ∷ t) (sym is)) ∙ one_more_leads r
+    prefixes_cut s ns m cut
+    ∙ ap without_leading (drop_at_char 32 m 0 n found (omega arith) ∙ ap (λ t. 32 ∷ t) (sym is)) ∙ one_more_leads r
 
 none_leads : (r : List ℕ) → ((rest : List ℕ) → r ≢ encode_utf8 32 ++ rest) → without_leading r ≡ r
 none_leads [] h = refl
@@ -43,19 +45,25 @@ leading_trimmed s r h = sym (prefixes_cut s h.0.0 r h.0.1 ∙ trimmed_start r h.
 
 ends_in : (m : List ℕ) (n : ℕ) → FindsCharSuffix 32 m (Some n) → m ≡ take (length m - n) m ++ (32 ∷ [])
 ends_in m n (size, at, bound) =
-    sym (take-append-drop (length m - n) m) ∙ ap (λ t. take (length m - n) m ++ t) (drop_at_char 32 m (length m - n) (length m) at (omega arith) ∙ ap (λ t. 32 ∷ t) (drop-length m))
+    sym (take-append-drop (length m - n) m)
+    ∙ ap (λ t. take (length m - n) m ++ t)
+    (drop_at_char 32 m (length m - n) (length m) at (omega arith) ∙ ap (λ t. 32 ∷ t) (drop-length m))
 
 pub one_more_ends : (r : List ℕ) → without_ending (r ++ (32 ∷ [])) ≡ without_ending r
 one_more_ends r =
-    let tail : suffix_len is_space (r ++ (32 ∷ [])) ≡ 1 + suffix_len is_space r = ap (prefix_len is_space) (reverse-append r (32 ∷ [])) in
+    let tail : suffix_len is_space (r ++ (32 ∷ [])) ≡ 1 + suffix_len is_space r =
+    ap (prefix_len is_space) (reverse-append r (32 ∷ [])) in
     let size : length (r ++ (32 ∷ [])) ≡ length r + 1 = length-append r (32 ∷ []) in
-    let kept : length (r ++ (32 ∷ [])) - suffix_len is_space (r ++ (32 ∷ [])) ≡ length r - suffix_len is_space r = omega (arith, tail, size) in
+    let kept : length (r ++ (32 ∷ [])) - suffix_len is_space (r ++ (32 ∷ [])) ≡ length r - suffix_len is_space r =
+    omega (arith, tail, size) in
     ap (λ n. take n (r ++ (32 ∷ []))) kept ∙ take-append-le (length r - suffix_len is_space r) r (32 ∷ []) (omega arith)
 
-suffixes_cut : (s : List ℕ) (ns : List ℕ) (r : List ℕ) → CutsSuffixes (FindsCharSuffix 32) s ns r → without_ending s ≡ without_ending r
+suffixes_cut : (s : List ℕ) (ns : List ℕ) (r : List ℕ) → CutsSuffixes (FindsCharSuffix 32) s ns r → without_ending s
+    ≡ without_ending r
 suffixes_cut s [] r h = ap without_ending (sym h)
 suffixes_cut s (n ∷ ns) r (m, cut, found, is) =
-    suffixes_cut s ns m cut ∙ ap without_ending (ends_in m n found ∙ ap (λ t. t ++ (32 ∷ [])) (sym is)) ∙ one_more_ends r
+    suffixes_cut s ns m cut ∙ ap without_ending (ends_in m n found ∙ ap (λ t. t ++ (32 ∷ [])) (sym is))
+    ∙ one_more_ends r
 
 last_of : (r : List ℕ) → 0 < length r → r ≡ take (length r - 1) r ++ (get_or r (length r - 1) 0 ∷ [])
 last_of r some =
@@ -65,12 +73,15 @@ last_of r some =
 
 pub none_ends : (r : List ℕ) → ((front : List ℕ) → r ≢ front ++ encode_utf8 32) → without_ending r ≡ r
 none_ends r h =
-    let none : suffix_len is_space r ≡ length r - length r = suffix_len_is is_space r (length r) 0 (omega arith) (λ k low high. absurd (omega (arith, low, high))) last in
+    let none : suffix_len is_space r ≡ length r - length r =
+    suffix_len_is is_space r (length r) 0 (omega arith) (λ k low high. absurd (omega (arith, low, high))) last in
     take_all (length r - suffix_len is_space r) r (omega (arith, none))
   where
     last : 0 < length r → is_space (get_or r (length r - 1) 0) ≡ false
     last some = elim (cases_Bool (is_space (get_or r (length r - 1) 0))) [
-      | inl there ↦ absurd (strip_suffix_char 32 r None h (omega arith) (take (length r - 1) r) (last_of r some ∙ ap (λ b. take (length r - 1) r ++ (b ∷ [])) (eqb-true _ 32 there)))
+      | inl there ↦ absurd
+          (strip_suffix_char 32 r None h (omega arith) (take (length r - 1) r)
+          (last_of r some ∙ ap (λ b. take (length r - 1) r ++ (b ∷ [])) (eqb-true _ 32 there)))
       | inr other ↦ other
     ]
 
@@ -87,15 +98,19 @@ pub dash_found : (text front : List ℕ) → text ≡ front ++ (45 ∷ []) → b
 dash_found text front is =
     let size : length text ≡ length front + 1 = ap length is ∙ length-append front (45 ∷ []) in
     let at : length text - 1 ≡ length front = omega (arith, size) in
-    let last : get_or text (length text - 1) 0 ≡ 45 = ap (λ n. get_or text n 0) at ∙ ap (λ t. get_or t (length front) 0) is ∙ get_or-append_seam front 45 [] 0 in
-    let kept : take (length text - 1) text ≡ front = ap (λ n. take n text) at ∙ ap (take (length front)) is ∙ take-append_seam front (45 ∷ []) in
-    cond-true (get_or text (length text - 1) 0 == 45) (Some (take (length text - 1) text)) None (eq-eqb _ 45 last) ∙ ap Some kept
+    let last : get_or text (length text - 1) 0 ≡ 45 =
+    ap (λ n. get_or text n 0) at ∙ ap (λ t. get_or t (length front) 0) is ∙ get_or-append_seam front 45 [] 0 in
+    let kept : take (length text - 1) text ≡ front =
+    ap (λ n. take n text) at ∙ ap (take (length front)) is ∙ take-append_seam front (45 ∷ []) in
+    cond-true (get_or text (length text - 1) 0 == 45) (Some (take (length text - 1) text)) None (eq-eqb _ 45 last)
+    ∙ ap Some kept
 
 pub dash_lacks : (text : List ℕ) → ((front : List ℕ) → text ≢ front ++ (45 ∷ [])) → before_dash text ≡ None
 dash_lacks text h = elim (cases_Bool (get_or text (length text - 1) 0 == 45)) [
   | inr other ↦ cond-false (get_or text (length text - 1) 0 == 45) (Some (take (length text - 1) text)) None other
   | inl there ↦ (let last : get_or text (length text - 1) 0 ≡ 45 = eqb-true _ 45 there in
-      absurd (h (take (length text - 1) text) (last_of text (some text last) ∙ ap (λ b. take (length text - 1) text ++ (b ∷ [])) last)))
+      absurd (h (take (length text - 1) text)
+      (last_of text (some text last) ∙ ap (λ b. take (length text - 1) text ++ (b ∷ [])) last)))
 ]
   where
     some : (t : List ℕ) → get_or t (length t - 1) 0 ≡ 45 → 0 < length t
@@ -106,12 +121,15 @@ dash_lacks text h = elim (cases_Bool (get_or text (length text - 1) 0 == 45)) [
 
 -- what is cut at the only `>`
 abbrev pub cut : List ℕ → Option (List ℕ × List ℕ)
-cut text = option_map (λ before. (without_spaces before, without_spaces (after_first is_head text))) (before_dash (before_first is_head text))
+cut text = option_map (λ before. (without_spaces before, without_spaces (after_first is_head text)))
+    (before_dash (before_first is_head text))
 
-pub second_head : (text : List ℕ) (k : ℕ) → k < length (after_first is_head text) → get_or (after_first is_head text) k 0 ≡ 62 → ends_of text ≡ None
+pub second_head : (text : List ℕ) (k : ℕ) → k < length (after_first is_head text)
+    → get_or (after_first is_head text) k 0 ≡ 62 → ends_of text ≡ None
 second_head text k l at = elim (cases_Bool (position_or_len is_head text == length text)) [
   | inl lacks ↦ cond-true (position_or_len is_head text == length text) None _ lacks
-  | inr has ↦ cond-false (position_or_len is_head text == length text) None _ has ∙ cond-false (position_or_len is_head after == length after) _ None (ne_eqb _ _ more)
+  | inr has ↦ cond-false (position_or_len is_head text == length text) None _ has
+      ∙ cond-false (position_or_len is_head after == length after) _ None (ne_eqb _ _ more)
 ]
   where
     after : List ℕ
@@ -120,13 +138,19 @@ second_head text k l at = elim (cases_Bool (position_or_len is_head text == leng
     more : position_or_len is_head after ≡ length after → ⊥
     more e = false≢true (sym (fails_before_first is_head after k 0 (omega (arith, l, e))) ∙ eq-eqb _ 62 at)
 
-pub only_head : (text : List ℕ) → position_or_len is_head text < length text → ((k : ℕ) → k < length (after_first is_head text) → get_or (after_first is_head text) k 0 ≢ 62) → ends_of text ≡ cut text
+pub only_head : (text : List ℕ) → position_or_len is_head text < length text
+    → ((k : ℕ) → k < length (after_first is_head text) → get_or (after_first is_head text) k 0 ≢ 62) → ends_of text
+    ≡ cut text
 only_head text has none =
     let after = after_first is_head text in
-    let lacks : position_or_len is_head after ≡ length after = position_or_len_is is_head after (length after) 0 (omega arith) (λ k l. ne_eqb _ 62 (none k l)) (λ l. absurd (omega (arith, l))) in
-    cond-false (position_or_len is_head text == length text) None _ (ne_eqb _ _ (λ e. omega (arith, has, e))) ∙ cond-true (position_or_len is_head after == length after) (cut text) None (eq-eqb _ _ lacks)
+    let lacks : position_or_len is_head after ≡ length after =
+    position_or_len_is is_head after (length after) 0 (omega arith) (λ k l. ne_eqb _ 62 (none k l))
+    (λ l. absurd (omega (arith, l))) in
+    cond-false (position_or_len is_head text == length text) None _ (ne_eqb _ _ (λ e. omega (arith, has, e)))
+    ∙ cond-true (position_or_len is_head after == length after) (cut text) None (eq-eqb _ _ lacks)
 
-module _ (text before after : List ℕ) (has : position_or_len is_head text < length text) (first : before ≡ before_first is_head text) (rest : after ≡ after_first is_head text) where
+module _ (text before after : List ℕ) (has : position_or_len is_head text < length text)
+    (first : before ≡ before_first is_head text) (rest : after ≡ after_first is_head text) where
   pub two_heads : (k : ℕ) → k < length after → get_or after k 0 ≡ 62 → None ≡ ends_of text
   two_heads k l at = sym (second_head text k (rw (← rest) l) (ap (λ t. get_or t k 0) (sym rest) ∙ at))
 
@@ -135,12 +159,16 @@ module _ (text before after : List ℕ) (has : position_or_len is_head text < le
     only = only_head text has (λ k l e. none k (rw rest l) (ap (λ t. get_or t k 0) rest ∙ e))
 
     pub no_dash : ((front : List ℕ) → before ≢ front ++ (45 ∷ [])) → None ≡ ends_of text
-    no_dash h = sym (only ∙ ap (option_map (λ t. (without_spaces t, without_spaces (after_first is_head text)))) (ap before_dash (sym first) ∙ dash_lacks before h))
+    no_dash h = sym (only
+        ∙ ap (option_map (λ t. (without_spaces t, without_spaces (after_first is_head text))))
+        (ap before_dash (sym first) ∙ dash_lacks before h))
 
-    pub both_ends : (front : List ℕ) → before ≡ front ++ (45 ∷ []) → Some (without_spaces front, without_spaces after) ≡ ends_of text
+    pub both_ends : (front : List ℕ) → before ≡ front ++ (45 ∷ []) → Some (without_spaces front, without_spaces after)
+        ≡ ends_of text
     both_ends front is =
         ap (λ t. Some (without_spaces front, without_spaces t)) rest
-        ∙ sym (only ∙ ap (option_map (λ t. (without_spaces t, without_spaces (after_first is_head text)))) (ap before_dash (sym first) ∙ dash_found before front is))
+        ∙ sym (only ∙ ap (option_map (λ t. (without_spaces t, without_spaces (after_first is_head text))))
+        (ap before_dash (sym first) ∙ dash_found before front is))
 
 -- ---- the two versions
 
@@ -157,6 +185,7 @@ lacks_one (Some a) (Some b) h = cc h
 lacks_one (Some a) None h = inr refl
 lacks_one None b h = inl refl
 
-pub none_told : {E : Type 0} (r : Result (Option Delta) E) (a b : Option VersionValue) → IfOk r (λ d. (d ≡ None) × (b ≡ None)) → IfOk r (λ d. d ≡ delta_between a b)
+pub none_told : {E : Type 0} (r : Result (Option Delta) E) (a b : Option VersionValue)
+    → IfOk r (λ d. (d ≡ None) × (b ≡ None)) → IfOk r (λ d. d ≡ delta_between a b)
 none_told (Ok d) a b h = h.0 ∙ sym (second_none a b h.1)
 none_told (Err e) a b h = tt

@@ -28,7 +28,8 @@ find_in : (q : List ℕ) (es : Entries) (c : Criterion) → map.find R q es ≡ 
 find_in q [] c h = cc h
 find_in q (e ∷ es) c h = by (find_in q es c) (eq_by_cmp R q e.0) refl h
   where
-    by : (map.find R q es ≡ Some c → IsIn (q, c) es) → (b : Bool) → eq_by_cmp R q e.0 ≡ b → cond b (Some e.1) (map.find R q es) ≡ Some c → IsIn (q, c) (e ∷ es)
+    by : (map.find R q es ≡ Some c → IsIn (q, c) es) → (b : Bool) → eq_by_cmp R q e.0 ≡ b
+        → cond b (Some e.1) (map.find R q es) ≡ Some c → IsIn (q, c) (e ∷ es)
     by rest true t s = inl (λ i. (equal-from_eq q e.0 t i, sym (same_Some e.1 c s) i))
     by rest false t s = inr (rest s)
 
@@ -50,21 +51,25 @@ all_below k [] t e i = absurd i
 all_below k (d ∷ es) t e (inl s) = subst (λ x. R k x.0 ≡ Less) (sym s) (less_is (R k d.0) (first_T _ _ t))
 all_below k (d ∷ es) t e (inr i) = all_below k es (second_T (is_lt (R k d.0)) _ t) e i
 
-in_find : (q : List ℕ) (es : Entries) (c : Criterion) → T (map.is_sorted R es) → IsIn (q, c) es → map.find R q es ≡ Some c
+in_find : (q : List ℕ) (es : Entries) (c : Criterion) → T (map.is_sorted R es) → IsIn (q, c) es → map.find R q es
+    ≡ Some c
 in_find q [] c t i = absurd i
 in_find q (e ∷ es) c t (inl s) =
-    ap (λ b. cond b (Some e.1) (map.find R q es)) (ap (λ (x : List ℕ × Criterion). eq_by_cmp R q x.0) (sym s) ∙ eq-itself q)
+    ap (λ b. cond b (Some e.1) (map.find R q es))
+    (ap (λ (x : List ℕ × Criterion). eq_by_cmp R q x.0) (sym s) ∙ eq-itself q)
     ∙ ap (λ (x : List ℕ × Criterion). Some x.1) (sym s)
 in_find q (e ∷ es) c t (inr i) =
     let low : R e.0 q ≡ Less = all_below e.0 es (first_T _ _ t) (q, c) i in
-    ap (λ b. cond b (Some e.1) (map.find R q es)) (ap is_eq (above e.0 q low)) ∙ in_find q es c (second_T (below_all R e.0 es) _ t) i
+    ap (λ b. cond b (Some e.1) (map.find R q es)) (ap is_eq (above e.0 q low))
+    ∙ in_find q es c (second_T (below_all R e.0 es) _ t) i
 
 -- ---- keys and names
 
 abbrev IsNamed : List ℕ × Criterion → Type 0
 IsNamed e = e.1.name ≡ e.0
 
-values_once : (es : Entries) → T (map.is_sorted R es) → ((e : List ℕ × Criterion) → IsIn e es → IsNamed e) → NamedOnce (λ c. c.name) (mapped (λ e. e.1) es)
+values_once : (es : Entries) → T (map.is_sorted R es) → ((e : List ℕ × Criterion) → IsIn e es → IsNamed e)
+    → NamedOnce (λ c. c.name) (mapped (λ e. e.1) es)
 values_once [] t named i j d l m = absurd (omega (arith, l))
 values_once (e ∷ es) t named i j d l m =
     AllPairs-cons (λ (a b : Criterion). a.name ≡ b.name → ⊥) e.1 (mapped (λ x. x.1) es)
@@ -76,9 +81,11 @@ values_once (e ∷ es) t named i j d l m =
         let key : e.0 ≡ d.0 = sym (named e (inl refl)) ∙ same ∙ name in
         false≢true (sym (ap is_eq low) ∙ ap (eq_by_cmp R e.0) (sym key) ∙ eq-itself e.0)
 
-    apart : (ds : Entries) → ((d : List ℕ × Criterion) → IsIn d ds → e.1.name ≡ d.1.name → ⊥) → All (λ (b : Criterion). e.1.name ≡ b.name → ⊥) (mapped (λ x. x.1) ds)
+    apart : (ds : Entries) → ((d : List ℕ × Criterion) → IsIn d ds → e.1.name ≡ d.1.name → ⊥)
+        → All (λ (b : Criterion). e.1.name ≡ b.name → ⊥) (mapped (λ x. x.1) ds)
     apart [] h = All-nil (λ (b : Criterion). e.1.name ≡ b.name → ⊥)
-    apart (d ∷ ds) h = All-cons (λ (b : Criterion). e.1.name ≡ b.name → ⊥) d.1 (mapped (λ x. x.1) ds) (h d (inl refl)) (apart ds (λ x i. h x (inr i)))
+    apart (d ∷ ds) h = All-cons (λ (b : Criterion). e.1.name ≡ b.name → ⊥) d.1 (mapped (λ x. x.1) ds) (h d (inl refl))
+        (apart ds (λ x i. h x (inr i)))
 
 value_in : (c : Criterion) (es : Entries) → IsIn c (mapped (λ e. e.1) es) → (q : List ℕ) × IsIn (q, c) es
 value_in c [] i = absurd i
@@ -98,12 +105,16 @@ not_true false h = refl
 
 -- each built-in criterion stands at its name
 built_named : (q : List ℕ) (c : Criterion) → map.get built_in_criteria q ≡ Some c → c.name ≡ q
-built_named q c h = by (eq_by_cmp R q safe_to_deploy) refl (eq_by_cmp R q safe_to_run) refl (sym (built.get_built_in q) ∙ ap (λ t. map.get t q) built.is_built_in ∙ h)
+built_named q c h =
+    by (eq_by_cmp R q safe_to_deploy) refl (eq_by_cmp R q safe_to_run) refl
+    (sym (built.get_built_in q) ∙ ap (λ t. map.get t q) built.is_built_in ∙ h)
   where
     by : (a : Bool) → eq_by_cmp R q safe_to_deploy ≡ a → (b : Bool) → eq_by_cmp R q safe_to_run ≡ b
         → cond a (Some deploy_criterion) (cond b (Some run_criterion) None) ≡ Some c → c.name ≡ q
-    by true e b f s = ap (λ (x : Criterion). x.name) (sym (same_Some deploy_criterion c s)) ∙ sym (equal-from_eq q safe_to_deploy e)
-    by false e true f s = ap (λ (x : Criterion). x.name) (sym (same_Some run_criterion c s)) ∙ sym (equal-from_eq q safe_to_run f)
+    by true e b f s = ap (λ (x : Criterion). x.name) (sym (same_Some deploy_criterion c s))
+        ∙ sym (equal-from_eq q safe_to_deploy e)
+    by false e true f s =
+        ap (λ (x : Criterion). x.name) (sym (same_Some run_criterion c s)) ∙ sym (equal-from_eq q safe_to_run f)
     by false e false f s = cc s
 
 module _ (cs : List Criterion) (once : NamedOnce (λ c. c.name) cs) (free : NoneBuilt cs) where
@@ -125,18 +136,22 @@ module _ (cs : List Criterion) (once : NamedOnce (λ c. c.name) cs) (free : None
       let at = value_in c (map.entries table) parts.0 in
       elim (one_of built_in_criteria cs at.0 c (got at.0 c at.1)) [
         | inl (among, name) ↦ among
-        | inr first ↦ absurd (no_such c (map.get built_in_criteria c.name) (not_built c.name (not_true (is_built_in c.name) parts.1)) (ap (map.get built_in_criteria) (built_named at.0 c first) ∙ first))
+        | inr first ↦ absurd
+            (no_such c (map.get built_in_criteria c.name) (not_built c.name (not_true (is_built_in c.name) parts.1))
+            (ap (map.get built_in_criteria) (built_named at.0 c first) ∙ first))
       ]
 
   back : (c : Criterion) → IsIn c cs → IsIn c (further table)
   back c i =
       let at : map.get table c.name ≡ Some c = found built_in_criteria cs once c i in
       filter_in is_further (map.values table) c
-      (in_values c.name c (map.entries table) (find_in c.name (map.entries table) c (sym (map.get-entries table c.name) ∙ at)))
+      (in_values c.name c (map.entries table)
+      (find_in c.name (map.entries table) c (sym (map.get-entries table c.name) ∙ at)))
       (ap not (in_all (λ d. is_built_in d.name ≡ false) cs free c i))
 
   each_once : NamedOnce (λ c. c.name) (further table)
-  each_once = AllPairs-filter (λ (a b : Criterion). a.name ≡ b.name → ⊥) is_further (map.values table) (values_once (map.entries table) (map.entries_sorted table) named)
+  each_once = AllPairs-filter (λ (a b : Criterion). a.name ≡ b.name → ⊥) is_further (map.values table)
+      (values_once (map.entries table) (map.entries_sorted table) named)
 
 pub further_are_defined : FurtherAreDefined
 further_are_defined cs once free = ((forth cs once free, back cs once free), each_once cs once free)

@@ -36,7 +36,8 @@ module _ {X : Type 0} where
   in_filter p [] x i = absurd i
   in_filter p (y ∷ xs) x i = by (in_filter p xs x) (p y) refl i
     where
-      by : (IsIn x (filter p xs) → IsIn x xs × (p x ≡ true)) → (b : Bool) → p y ≡ b → IsIn x (cond b (y ∷ filter p xs) (filter p xs)) → IsIn x (y ∷ xs) × (p x ≡ true)
+      by : (IsIn x (filter p xs) → IsIn x xs × (p x ≡ true)) → (b : Bool) → p y ≡ b
+          → IsIn x (cond b (y ∷ filter p xs) (filter p xs)) → IsIn x (y ∷ xs) × (p x ≡ true)
       by rest true t (inl e) = (inl e, ap p e ∙ t)
       by rest true t (inr j) = (inr (rest j).0, (rest j).1)
       by rest false t j = (inr (rest j).0, (rest j).1)
@@ -45,7 +46,8 @@ module _ {X : Type 0} where
   filter_in p [] x i t = absurd i
   filter_in p (y ∷ xs) x i t = by (λ j. filter_in p xs x j t) (p y) refl i
     where
-      by : (IsIn x xs → IsIn x (filter p xs)) → (b : Bool) → p y ≡ b → IsIn x (y ∷ xs) → IsIn x (cond b (y ∷ filter p xs) (filter p xs))
+      by : (IsIn x xs → IsIn x (filter p xs)) → (b : Bool) → p y ≡ b → IsIn x (y ∷ xs)
+          → IsIn x (cond b (y ∷ filter p xs) (filter p xs))
       by rest true s (inl e) = inl e
       by rest true s (inr j) = inr (rest j)
       by rest false s (inl e) = absurd (false≢true (sym s ∙ ap p (sym e) ∙ t))
@@ -64,7 +66,8 @@ module _ {X : Type 0} where
   any_in p [] t = absurd (false≢true t)
   any_in p (y ∷ xs) t = by (any_in p xs) (p y) refl t
     where
-      by : (list_any p xs ≡ true → (x : X) × (IsIn x xs × (p x ≡ true))) → (b : Bool) → p y ≡ b → (b || list_any p xs) ≡ true → (x : X) × (IsIn x (y ∷ xs) × (p x ≡ true))
+      by : (list_any p xs ≡ true → (x : X) × (IsIn x xs × (p x ≡ true))) → (b : Bool) → p y ≡ b → (b || list_any p xs)
+          ≡ true → (x : X) × (IsIn x (y ∷ xs) × (p x ≡ true))
       by rest true s u = (y, (inl refl, s))
       by rest false s u = (let h = rest u in (h.0, (inr h.1.0, h.1.1)))
 
@@ -89,24 +92,35 @@ module _ {X : Type 0} where
   pub pairs_none : (R : X → X → Type 0) → AllPairs R []
   pairs_none R i j d b l = absurd (omega (arith, l))
 
-  pub pairs_append : (R : X → X → Type 0) (xs ys : List X) → AllPairs R xs → AllPairs R ys → ((x y : X) → IsIn x xs → IsIn y ys → R x y) → AllPairs R (xs ++ ys)
+  pub pairs_append : (R : X → X → Type 0) (xs ys : List X) → AllPairs R xs → AllPairs R ys
+      → ((x y : X) → IsIn x xs → IsIn y ys → R x y) → AllPairs R (xs ++ ys)
   pairs_append R [] ys h k c = k
   pairs_append R (x ∷ xs) ys h k c =
       AllPairs-cons R x (xs ++ ys)
-      (all_in (R x) (xs ++ ys) (λ y i. elim (in_append xs ys y i) [ inl l ↦ in_all (R x) xs (pairs_head R x xs h) y l | inr r ↦ c x y (inl refl) r ]))
+      (all_in (R x) (xs ++ ys)
+      (λ y i. elim (in_append xs ys y i) [
+        | inl l ↦ in_all (R x) xs (pairs_head R x xs h) y l
+        | inr r ↦
+            c x y (inl refl) r
+      ]))
       (pairs_append R xs ys (pairs_tail R x xs h) k (λ z y i j. c z y (inr i) j))
 
   -- ---- lists without doubles are no longer than what holds their items
 
-  taken_out : (x : X) (ys : List X) → IsIn x ys → (zs : List X) × ((length ys ≡ suc (length zs)) × ((y : X) → IsIn y ys → y ≢ x → IsIn y zs))
+  taken_out : (x : X) (ys : List X) → IsIn x ys → (zs : List X)
+      × ((length ys ≡ suc (length zs)) × ((y : X) → IsIn y ys → y ≢ x → IsIn y zs))
   taken_out x [] i = absurd i
   taken_out x (z ∷ ys) (inl e) = (ys, (refl, λ y j n. elim j [ inl f ↦ absurd (n (f ∙ sym e)) | inr k ↦ k ]))
   taken_out x (z ∷ ys) (inr i) = (let h = taken_out x ys i in
       (z ∷ h.0, (ap suc h.1.0, λ y j n. elim j [ inl f ↦ inl f | inr k ↦ inr (h.1.1 y k n) ])))
 
-  pub no_longer : (xs ys : List X) → AllPairs (λ x y. x ≢ y) xs → ((x : X) → IsIn x xs → IsIn x ys) → length xs ≤ length ys
+  pub no_longer : (xs ys : List X) → AllPairs (λ x y. x ≢ y) xs → ((x : X) → IsIn x xs → IsIn x ys)
+      → length xs ≤ length ys
   no_longer [] ys h s = omega arith
   no_longer (x ∷ xs) ys h s =
       let out = taken_out x ys (s x (inl refl)) in
-      let rest : length xs ≤ length out.0 = no_longer xs out.0 (pairs_tail (λ y z. y ≢ z) x xs h) (λ y i. out.1.1 y (s y (inr i)) (λ e. in_all (λ z. x ≢ z) xs (pairs_head (λ z w. z ≢ w) x xs h) y i (sym e))) in
+      let rest : length xs ≤ length out.0 =
+      no_longer xs out.0 (pairs_tail (λ y z. y ≢ z) x xs h)
+      (λ y i. out.1.1 y (s y (inr i)) (λ e. in_all (λ z. x ≢ z) xs (pairs_head (λ z w. z ≢ w) x xs h) y i (sym e)))
+      in
       omega (arith, rest, out.1.0)

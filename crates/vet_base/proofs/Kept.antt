@@ -24,7 +24,8 @@ longer xs zero x = omega arith
 longer [] (suc i) x = refl
 longer (y ∷ ys) (suc i) x = omega (arith, longer ys i x)
 
-module _ (names : List (List ℕ)) (cs : List Criterion) (kept : IsKept names cs) (table : Criteria) (is : map.from_sorted {R = R} (by_name cs) ≡ table) where
+module _ (names : List (List ℕ)) (cs : List Criterion) (kept : IsKept names cs) (table : Criteria)
+    (is : map.from_sorted {R = R} (by_name cs) ≡ table) where
   rising : IsRising (names_of cs)
   rising = rw kept.named kept.rising
 
@@ -36,7 +37,8 @@ module _ (names : List (List ℕ)) (cs : List Criterion) (kept : IsKept names cs
     same_names = names-set cs i c at_names ∙ kept.named
 
     pub view_after_set : map.from_sorted {R = R} (by_name (setn cs i c)) ≡ map.insert table c.name c
-    view_after_set = view_insert cs (setn cs i c) table is rising (rw same_names kept.rising) c (λ q. find-set cs i c q rising (omega (arith, l, length_kept names cs kept)) at_names)
+    view_after_set = view_insert cs (setn cs i c) table is rising (rw same_names kept.rising) c
+        (λ q. find-set cs i c q rising (omega (arith, l, length_kept names cs kept)) at_names)
 
     pub kept_after_set : IsKept names (setn cs i c)
     kept_after_set = record { named = same_names; rising = kept.rising; few = kept.few }
@@ -49,9 +51,12 @@ module _ (names : List (List ℕ)) (cs : List Criterion) (kept : IsKept names cs
     more_rising = IsRising-insert names i c.name lacks.low lacks.high kept.rising
 
     pub view_after_insert : map.from_sorted {R = R} (by_name (insert cs i c)) ≡ map.insert table c.name c
-    view_after_insert = view_insert cs (insert cs i c) table is rising (rw more_names more_rising) c (λ q. find-insert cs i c q (rw kept.named lacks.low))
+    view_after_insert =
+        view_insert cs (insert cs i c) table is rising (rw more_names more_rising) c
+        (λ q. find-insert cs i c q (rw kept.named lacks.low))
 
-    pub kept_after_insert : (map.contains_key table c.name ≡ false → map.len table < MOST_CRITERIA) → IsKept (insert names i c.name) (insert cs i c)
+    pub kept_after_insert : (map.contains_key table c.name ≡ false → map.len table < MOST_CRITERIA)
+        → IsKept (insert names i c.name) (insert cs i c)
     kept_after_insert room =
         let free : map.len table < MOST_CRITERIA = room (not_held names cs kept table c.name i is lacks) in
         let many : map.len table ≡ length names = len-keys table ∙ ap length (keys_is names cs kept table is) in
@@ -65,10 +70,14 @@ module _ (names : List (List ℕ)) (cs : List Criterion) (kept : IsKept names cs
     fewer_rising = all_pairs_remove (λ a b. R a b ≡ Less) names i l kept.rising
 
     pub view_after_remove : map.from_sorted {R = R} (by_name (remove cs i)) ≡ map.remove table n
-    view_after_remove = view_remove cs (remove cs i) table is rising (rw fewer_names fewer_rising) n (λ q. find-remove cs i n q rising (omega (arith, l, length_kept names cs kept)) (ap (λ ns. get_or ns i []) kept.named ∙ at))
+    view_after_remove =
+        view_remove cs (remove cs i) table is rising (rw fewer_names fewer_rising) n
+        (λ q. find-remove cs i n q rising (omega (arith, l, length_kept names cs kept))
+        (ap (λ ns. get_or ns i []) kept.named ∙ at))
 
     pub kept_after_remove : IsKept (remove names i) (remove cs i)
-    kept_after_remove = record { named = fewer_names; rising = fewer_rising; few = omega (arith, kept.few, length-remove names i l) }
+    kept_after_remove =
+        record { named = fewer_names; rising = fewer_rising; few = omega (arith, kept.few, length-remove names i l) }
 
 -- ---- verdicts
 
@@ -98,7 +107,8 @@ may_set table c h =
     let referred = then_told (set_references table c) (λ _. set_rules c.name) tt limited.1 in
     let free = not_refused (is_full_for table c.name) TooManyCriteria limited.0 in
     record {
-      room = λ new. leb-false MOST_CRITERIA (map.len table) (room_for (map.contains_key table c.name) (nat_le MOST_CRITERIA (map.len table)) free new);
+      room = λ new. leb-false MOST_CRITERIA (map.len table)
+          (room_for (map.contains_key table c.name) (nat_le MOST_CRITERIA (map.len table)) free new);
       known = all_known (unknown_beside table c) referred.0;
       own = not_refused (is_built_in c.name) BuiltInCriterion referred.1;
     }
@@ -108,20 +118,27 @@ module _ (table : Criteria) (n : List ℕ) where
   pub verdict_unknown : map.contains_key table n ≡ false → remove_verdict table n ≡ Err (UnknownCriterion n)
   verdict_unknown lacks = rw lacks refl
 
-  pub verdict_used : map.contains_key table n ≡ true → is_built_in n ≡ false → is_implied table n ≡ true → remove_verdict table n ≡ Err CriterionInUse
+  pub verdict_used : map.contains_key table n ≡ true → is_built_in n ≡ false → is_implied table n ≡ true
+      → remove_verdict table n ≡ Err CriterionInUse
   verdict_used held own used = rw (held, own, used) refl
 
-  pub verdict_free : map.contains_key table n ≡ true → is_built_in n ≡ false → is_implied table n ≡ false → remove_verdict table n ≡ Ok tt
+  pub verdict_free : map.contains_key table n ≡ true → is_built_in n ≡ false → is_implied table n ≡ false
+      → remove_verdict table n ≡ Ok tt
   verdict_free held own free = rw (held, own, free) refl
 
 -- the verdict where there is room, and where there is none
-pub verdict_full : (table : Criteria) (c : Criterion) → is_full_for table c.name ≡ true → set_verdict table c ≡ Err TooManyCriteria
-verdict_full table c h = ap (λ b. refuse_if b TooManyCriteria >>= λ _. set_references table c >>= λ _. set_rules c.name) h
+pub verdict_full : (table : Criteria) (c : Criterion) → is_full_for table c.name ≡ true → set_verdict table c
+    ≡ Err TooManyCriteria
+verdict_full table c h =
+    ap (λ b. refuse_if b TooManyCriteria >>= λ _. set_references table c >>= λ _. set_rules c.name) h
 
-pub verdict_room : (table : Criteria) (c : Criterion) → is_full_for table c.name ≡ false → set_verdict table c ≡ (set_references table c >>= λ _. set_rules c.name)
-verdict_room table c h = ap (λ b. refuse_if b TooManyCriteria >>= λ _. set_references table c >>= λ _. set_rules c.name) h
+pub verdict_room : (table : Criteria) (c : Criterion) → is_full_for table c.name ≡ false → set_verdict table c
+    ≡ (set_references table c >>= λ _. set_rules c.name)
+verdict_room table c h =
+    ap (λ b. refuse_if b TooManyCriteria >>= λ _. set_references table c >>= λ _. set_rules c.name) h
 
 -- what follows from either end of a call
-pub either_end : (r : Result (Unit {0}) Refusal) {A B C D P : Type 0} → OnOk r A → OnOk r B → OnErr r C → OnErr r D → (A → B → P) → (C → D → P) → P
+pub either_end : (r : Result (Unit {0}) Refusal) {A B C D P : Type 0} → OnOk r A → OnOk r B → OnErr r C → OnErr r D
+    → (A → B → P) → (C → D → P) → P
 either_end (Ok u) a b c d f g = f a b
 either_end (Err e) a b c d f g = g c d

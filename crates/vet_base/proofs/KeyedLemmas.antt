@@ -1,8 +1,6 @@
 -- Items in the order of their keys: what a search among them tells, and what an item put in leaves.
-use Rattle.std.proofs.Common.{◌≡◌, ℕ, zero, suc, ◌+◌, ◌<◌, ◌≤◌, Bool, true, false, List, [], ◌∷◌, ◌++◌, Option, Some, None, cond, ◌&&◌, option_map, is_none, is_some, length, get_or, not, set, take, drop, Result, Ok, Err, is_ok, refl, sym, ap, subst, ◌∙◌, arith, inl, inr}
-use Rattle.std.specs.Bool.{Decides}
-use Rattle.std.specs.Cmp.Lexicographic.{pointwise, pointwise_decides}
-use Rattle.std.specs.List.{All, AllPairs, filter, find, insert, remove}
+use Rattle.std.proofs.Common.{◌≡◌, ℕ, suc, ◌+◌, ◌<◌, ◌≤◌, Bool, true, false, List, [], ◌∷◌, ◌++◌, Option, Some, None, cond, ◌&&◌, is_some, length, get_or, not, set, Result, Ok, Err, is_ok, refl, sym, ap, subst, ◌∙◌, arith, inl, inr}
+use Rattle.std.specs.List.{All, filter, find, insert, remove}
 use Rattle.std.specs.List.Sorted.{IsBinarySearchResult, IsPartitionPoint, IsSearchInRange, IsSortedBy, IsStableBy, ties}
 use Rattle.std.specs.Ordering.{is_eq, is_gt, is_lt, ordering_reverse}
 use Rattle.std.specs.Cmp.{IsTotalOrder, tied_itself}
@@ -11,183 +9,19 @@ use Rattle.std.specs.declared.cmp.Ordering.TheVariants.{Less, Equal, Greater}
 use Rattle.std.specs.Option.{option_or}
 use Rattle.std.proofs.lemmas.Bool.{cases_lt, false≢true}
 use Rattle.std.proofs.lemmas.List.Folds.{find-append}
-use Rattle.std.proofs.lemmas.List.{append-nil, get_or_default, get_or-set_same, get_or-take, get_or-drop, length-set, length-take, length-drop, take-append-drop}
+use Rattle.std.proofs.lemmas.List.{get_or_default, get_or-set_same, length-set}
 use Rattle.std.proofs.lemmas.List.Edits.{get_or-remove_above, get_or-remove_below, length-remove}
-use Rattle.std.proofs.lemmas.List.Elements.{All-cons, All-head, All-tail, All-append, filter-append, filter_passes}
+use Rattle.std.proofs.lemmas.List.Elements.{All-cons, All-head, filter_passes}
 use Rattle.std.proofs.lemmas.List.Kept.{AllPairs-cons, AllPairs-filter}
 use Rattle.std.proofs.lemmas.List.Sorted.{searchable_from_sorted}
 use Rattle.vet_base.specs.Keyed.{IsByKey, IsPlace, all_set, item_of, is_before, is_behind, is_of, with_item, without_item}
-
--- ---- what a filter keeps that turns at a place
-
-pub filter_keeps : {X : Type 0} (p : X → Bool) (xs : List X) → All (λ x. p x ≡ true) xs → filter p xs ≡ xs
-filter_keeps p [] h = refl
-filter_keeps {X} p (x ∷ xs) h =
-    ap (λ b. cond b (x ∷ filter p xs) (filter p xs)) (All-head (λ x. p x ≡ true) x xs h)
-    ∙ ap (λ (ys : List X). x ∷ ys) (filter_keeps p xs (All-tail (λ x. p x ≡ true) x xs h))
-
-pub filter_drops : {X : Type 0} (p : X → Bool) (xs : List X) → All (λ x. p x ≡ false) xs → filter p xs ≡ []
-filter_drops p [] h = refl
-filter_drops p (x ∷ xs) h =
-    ap (λ b. cond b (x ∷ filter p xs) (filter p xs)) (All-head (λ x. p x ≡ false) x xs h)
-    ∙ filter_drops p xs (All-tail (λ x. p x ≡ false) x xs h)
-
-kept_front : {X : Type 0} (p : X → Bool) (xs : List X) (i : ℕ) → i ≤ length xs → IsPartitionPoint (λ x. p x ≡ true) (λ x. p x ≡ false) xs i → filter p xs ≡ take i xs
-kept_front {X} p xs i within parts =
-    let front : All (λ x. p x ≡ true) (take i xs) =
-    λ k d l. (let in_front : k < i = omega (arith, l, length-take i xs) in rw (get_or-take i xs k d in_front) (parts.0 k d (omega arith) in_front)) in
-    let back : All (λ x. p x ≡ false) (drop i xs) =
-    λ k d l. (let inside : i + k < length xs = omega (arith, l, length-drop i xs) in rw (get_or-drop i xs k d) (parts.1 (i + k) d (omega arith) inside)) in
-    ap (filter p) (sym (take-append-drop i xs))
-    ∙ filter-append p (take i xs) (drop i xs) ∙ ap (λ zs. zs ++ filter p (drop i xs)) (filter_keeps p (take i xs) front)
-    ∙ ap (λ zs. take i xs ++ zs) (filter_drops p (drop i xs) back) ∙ append-nil (take i xs)
-
-kept_back : {X : Type 0} (p : X → Bool) (xs : List X) (i : ℕ) → i ≤ length xs → IsPartitionPoint (λ x. p x ≡ false) (λ x. p x ≡ true) xs i → filter p xs ≡ drop i xs
-kept_back {X} p xs i within parts =
-    let front : All (λ x. p x ≡ false) (take i xs) =
-    λ k d l. (let in_front : k < i = omega (arith, l, length-take i xs) in rw (get_or-take i xs k d in_front) (parts.0 k d (omega arith) in_front)) in
-    let back : All (λ x. p x ≡ true) (drop i xs) =
-    λ k d l. (let inside : i + k < length xs = omega (arith, l, length-drop i xs) in rw (get_or-drop i xs k d) (parts.1 (i + k) d (omega arith) inside)) in
-    ap (filter p) (sym (take-append-drop i xs))
-    ∙ filter-append p (take i xs) (drop i xs) ∙ ap (λ zs. zs ++ filter p (drop i xs)) (filter_drops p (take i xs) front) ∙ filter_keeps p (drop i xs) back
-
--- what a filter keeps that leaves out what stands at one place
-filter_but_one : {X : Type 0} (p : X → Bool) (xs : List X) (i : ℕ) → i < length xs → ((k : ℕ) (d : X) → k < i → p (get_or xs k d) ≡ true)
-    → ((d : X) → p (get_or xs i d) ≡ false) → ((k : ℕ) (d : X) → i < k → k < length xs → p (get_or xs k d) ≡ true) → filter p xs ≡ remove xs i
-filter_but_one p [] i within front at back = absurd (omega arith)
-filter_but_one {X} p (x ∷ xs) zero within front at back =
-    ap (λ b. cond b (x ∷ filter p xs) (filter p xs)) (at x) ∙ filter_keeps p xs (λ k d l. back (suc k) d (omega arith) (omega (arith, l)))
-filter_but_one {X} p (x ∷ xs) (suc i) within front at back =
-    ap (λ b. cond b (x ∷ filter p xs) (filter p xs)) (front 0 x (omega arith))
-    ∙ ap (λ (ys : List X). x ∷ ys) (filter_but_one p xs i (omega (arith, within)) (λ k d l. front (suc k) d (omega (arith, l))) at (λ k d l m. back (suc k) d (omega (arith, l)) (omega (arith, m))))
-
--- ---- what an edit of a list leaves, and what undoes it
-
--- an element put in and taken out again leaves the list
-pub remove-insert : {X : Type 0} (xs : List X) (i : ℕ) (x : X) → i ≤ length xs → remove (insert xs i x) i ≡ xs
-remove-insert xs zero x within = refl
-remove-insert [] (suc i) x within = absurd (omega arith)
-remove-insert (y ∷ ys) (suc i) x within = ap (λ rest. y ∷ rest) (remove-insert ys i x (omega arith))
-
--- an element set in place of another, and that one set back, leaves the list
-pub set_back : {X : Type 0} (xs : List X) (i : ℕ) (x held : X) → held ≡ get_or xs i held → set (set xs i x) i held ≡ xs
-set_back [] i x held at = refl
-set_back (y ∷ ys) zero x held at = ap (λ z. z ∷ ys) at
-set_back (y ∷ ys) (suc i) x held at = ap (λ rest. y ∷ rest) (set_back ys i x held at)
-
-pub none_of_some : {X : Type 0} (o : Option X) → is_some o ≡ true → is_none o ≡ false
-none_of_some None h = sym h
-none_of_some (Some x) h = refl
-
-pub is_some-option_map : {A B : Type 0} (f : A → B) (o : Option A) → is_some (option_map f o) ≡ is_some o
-is_some-option_map f None = refl
-is_some-option_map f (Some x) = refl
-
--- ---- words of comparisons
-
-not_behind : (r : Ordering) → is_lt r ≡ true → is_gt r ≡ false
-not_behind Less e = refl
-not_behind Equal e = refl
-not_behind Greater e = cc e
-
-not_before : (r : Ordering) → is_gt r ≡ true → is_lt r ≡ false
-not_before Less e = cc e
-not_before Equal e = refl
-not_before Greater e = refl
-
-neither_lt : (r : Ordering) → is_lt r ≡ true → is_eq r ≡ false
-neither_lt Less e = refl
-neither_lt Equal e = cc e
-neither_lt Greater e = refl
-
-neither_gt : (r : Ordering) → is_gt r ≡ true → is_eq r ≡ false
-neither_gt Less e = refl
-neither_gt Equal e = cc e
-neither_gt Greater e = refl
-
-lesser : (r : Ordering) → is_lt r ≡ true → r ≡ Less
-lesser Less e = refl
-lesser Equal e = cc e
-lesser Greater e = cc e
-
-greater : (r : Ordering) → is_gt r ≡ true → r ≡ Greater
-greater Less e = cc e
-greater Equal e = cc e
-greater Greater e = refl
-
--- ---- lists
-
-find_absent : {X : Type 0} (p : X → Bool) (xs : List X) → All (λ x. p x ≡ false) xs → find p xs ≡ None
-find_absent p [] h = refl
-find_absent p (x ∷ xs) h =
-    ap (λ t. cond t (Some x) (find p xs)) (All-head (λ x. p x ≡ false) x xs h) ∙ find_absent p xs (All-tail (λ x. p x ≡ false) x xs h)
-
-find_at : {X : Type 0} (p : X → Bool) (xs : List X) (i : ℕ) (x : X) → ((k : ℕ) (d : X) → k < i → p (get_or xs k d) ≡ false) → i < length xs → get_or xs i x ≡ x → p x ≡ true → find p xs ≡ Some x
-find_at p [] i x none l at h = absurd (omega arith)
-find_at {X} p (y ∷ ys) zero x none l at h = ap (λ (z : X). cond (p z) (Some z) (find p ys)) at ∙ ap (λ t. cond t (Some x) (find p ys)) h
-find_at p (y ∷ ys) (suc i) x none l at h =
-    ap (λ t. cond t (Some y) (find p ys)) (none 0 y (omega arith)) ∙ find_at p ys i x (λ k d m. none (suc k) d (omega (arith, m))) (omega arith) at h
-
-first_or_later : {X : Type 0} (b : Bool) (x : X) (later : Option X) → is_some later ≡ true → is_some (let o : Option X = cond b (Some x) later in o) ≡ true
-first_or_later true x later h = refl
-first_or_later false x later h = h
-
-any_found : {X : Type 0} (p : X → Bool) (xs : List X) (i : ℕ) (d : X) → i < length xs → p (get_or xs i d) ≡ true → is_some (find p xs) ≡ true
-any_found p [] i d l h = absurd (omega arith)
-any_found {X} p (x ∷ xs) zero d l h = ap (λ t. is_some (let o : Option X = cond t (Some x) (find p xs) in o)) h
-any_found p (x ∷ xs) (suc i) d l h = first_or_later (p x) x (find p xs) (any_found p xs i d (omega (arith, l)) h)
-
-pub is_false : (b : Bool) → (b ≡ true → ⊥) → b ≡ false
-is_false true h = absurd (h refl)
-is_false false h = refl
-
-pub equal : (r : Ordering) → is_eq r ≡ true → r ≡ Equal
-equal Less e = cc e
-equal Equal e = refl
-equal Greater e = cc e
-
--- what passes a test is found also among what a filter leaves that keeps all that pass
-pub find_kept : {X : Type 0} (p q : X → Bool) → ((x : X) → p x ≡ true → q x ≡ true) → (xs : List X) → find p (filter q xs) ≡ find p xs
-find_kept p q h [] = refl
-find_kept {X} p q h (x ∷ xs) = step (find_kept p q h xs) (p x) (q x) refl refl
-  where
-    step : find p (filter q xs) ≡ find p xs → (a b : Bool) → p x ≡ a → q x ≡ b → find p (cond b (x ∷ filter q xs) (filter q xs)) ≡ cond a (Some x) (find p xs)
-    step more true true e f = ap (λ t. cond t (Some x) (find p (filter q xs))) e
-    step more true false e f = absurd (false≢true (sym f ∙ h x e))
-    step more false true e f = ap (λ t. cond t (Some x) (find p (filter q xs))) e ∙ more
-    step more false false e f = more
-
--- and is not found among what one leaves that drops them
-pub find_dropped : {X : Type 0} (p q : X → Bool) → ((x : X) → p x ≡ true → q x ≡ false) → (xs : List X) → find p (filter q xs) ≡ None
-find_dropped {X} p q h xs = find_absent p (filter q xs) (λ k d l. is_false _ (λ e. false≢true (sym (h _ e) ∙ filter_passes q xs k d l)))
-
-or_none : {X : Type 0} (o : Option X) → option_or o None ≡ o
-or_none None = refl
-or_none (Some x) = refl
-
-set_is : {X : Type 0} (xs : List X) (i : ℕ) (x : X) → i < length xs → set xs i x ≡ take i xs ++ (x ∷ drop (suc i) xs)
-set_is [] i x l = absurd (omega arith)
-set_is (y ∷ ys) zero x l = refl
-set_is {X} (y ∷ ys) (suc i) x l = ap (λ (t : List X). y ∷ t) (set_is ys i x (omega (arith, l)))
-
-pairs_appended : {X : Type 0} (P : X → X → Type 0) (xs ys : List X) → AllPairs P xs → AllPairs P ys → All (λ x. All (P x) ys) xs → AllPairs P (xs ++ ys)
-pairs_appended P [] ys first second across = second
-pairs_appended P (x ∷ xs) ys first second across =
-    AllPairs-cons P x (xs ++ ys)
-    (All-append (P x) xs ys (λ k d l. first 0 (suc k) d (omega arith) (omega arith)) (All-head (λ x. All (P x) ys) x xs across))
-    (pairs_appended P xs ys (λ i j d l m. first (suc i) (suc j) d (omega arith) (omega arith)) second (All-tail (λ x. All (P x) ys) x xs across))
-
--- a test of two lists tells whether what these are seen as is the same
-pub told : {X : Type 0} {E : X → X → Bool} → ((x y : X) → Decides (E x y) (x ≡ y)) → (r : Bool) (a b seen_a seen_b : List X) → r ≡ pointwise E a b
-    → a ≡ seen_a → b ≡ seen_b → Decides r (seen_a ≡ seen_b)
-told same r a b seen_a seen_b test view_a view_b = (
-  λ tied. sym view_a ∙ (pointwise_decides same a b).0 (sym test ∙ tied) ∙ view_b,
-  λ e. test ∙ (pointwise_decides same a b).1 (view_a ∙ e ∙ sym view_b),
-)
+use Rattle.vet_base.proofs.Comparisons.{not_behind, not_before, neither_lt, neither_gt, lesser, greater, is_false, equal}
+use Rattle.vet_base.proofs.ListLemmas.{kept_front, kept_back, filter_but_one, find_absent, find_at, any_found, find_kept, find_dropped, or_none, set_is, pairs_appended}
 
 -- ---- items by keys in a total order, in which only equals tie
 
-module _ {K E : Type 0} (cmp : K → K → Ordering) (total : IsTotalOrder cmp) (only : (a b : K) → cmp a b ≡ Equal → a ≡ b) (key : E → K) where
+module _ {K E : Type 0} (cmp : K → K → Ordering) (total : IsTotalOrder cmp)
+    (only : (a b : K) → cmp a b ≡ Equal → a ≡ b) (key : E → K) where
   pub above : (a b : K) → cmp a b ≡ Less → cmp b a ≡ Greater
   above a b h = total.antisymm b a ∙ ap ordering_reverse h
 
@@ -200,7 +34,8 @@ module _ {K E : Type 0} (cmp : K → K → Ordering) (total : IsTotalOrder cmp) 
   place_found items k (Ok i) up within at = (within, λ d. only _ _ (at d))
   place_found items k (Err i) up within at =
       let sorted : IsSortedBy (λ a b. is_lt (cmp (key a) (key b))) items =
-      λ j d _ m. ap is_lt (above (key (get_or items j d)) (key (get_or items (j + 1) d)) (up j (j + 1) d (omega arith) m)) in
+      λ j d _ m. ap is_lt
+      (above (key (get_or items j d)) (key (get_or items (j + 1) d)) (up j (j + 1) d (omega arith) m)) in
       let parts : IsPartitionPoint (λ e. cmp (key e) k ≡ Less) (λ e. cmp (key e) k ≡ Greater) items i =
       at (searchable_from_sorted total key items k sorted) in
       (within, ((λ j d l m. ap is_lt (parts.0 j d l m)), (λ j d l m. ap is_gt (parts.1 j d l m))))
@@ -212,9 +47,11 @@ module _ {K E : Type 0} (cmp : K → K → Ordering) (total : IsTotalOrder cmp) 
 
   behind : (items : List E) (k : K) (i : ℕ) → IsByKey cmp key items → IsPlace cmp key items k (Ok i)
       → (j : ℕ) (d : E) → i < j → j < length items → cmp (key (get_or items j d)) k ≡ Greater
-  behind items k i up place j d l m = above k (key (get_or items j d)) (ap (λ n. cmp n (key (get_or items j d))) (sym (place.1 d)) ∙ up i j d l m)
+  behind items k i up place j d l m =
+      above k (key (get_or items j d)) (ap (λ n. cmp n (key (get_or items j d))) (sym (place.1 d)) ∙ up i j d l m)
 
-  tied : (items : List E) (k : K) (i : ℕ) → IsPlace cmp key items k (Ok i) → (d : E) → cmp (key (get_or items i d)) k ≡ Equal
+  tied : (items : List E) (k : K) (i : ℕ) → IsPlace cmp key items k (Ok i) → (d : E) → cmp (key (get_or items i d)) k
+      ≡ Equal
   tied items k i place d = ap (λ n. cmp n k) (place.1 d) ∙ tied_itself total k
 
   at_least : (items : List E) (k : K) (i : ℕ) → IsByKey cmp key items → IsPlace cmp key items k (Ok i)
@@ -232,17 +69,27 @@ module _ {K E : Type 0} (cmp : K → K → Ordering) (total : IsTotalOrder cmp) 
   ]
 
   -- an item put in where its key belongs
-  pub put_at : (items : List E) (e : E) (i : ℕ) → IsPlace cmp key items (key e) (Err i) → insert items i e ≡ with_item cmp key items e
+  pub put_at : (items : List E) (e : E) (i : ℕ) → IsPlace cmp key items (key e) (Err i) → insert items i e
+      ≡ with_item cmp key items e
   put_at items e i place =
-      let front = kept_front (is_before cmp key (key e)) items i place.0 (place.1.0, λ j d l m. not_before _ (place.1.1 j d l m)) in
-      let back = kept_back (is_behind cmp key (key e)) items i place.0 ((λ j d l m. not_behind _ (place.1.0 j d l m)), place.1.1) in
+      let front = kept_front (is_before cmp key (key e)) items i place.0
+      (place.1.0, λ j d l m. not_before _ (place.1.1 j d l m)) in
+      let back = kept_back (is_behind cmp key (key e)) items i place.0
+      ((λ j d l m. not_behind _ (place.1.0 j d l m)), place.1.1) in
       sym (λ j. front j ++ (e ∷ back j))
 
   -- an item set where its key stands
-  pub set_at : (items : List E) (e : E) (i : ℕ) → IsByKey cmp key items → IsPlace cmp key items (key e) (Ok i) → set items i e ≡ with_item cmp key items e
+  pub set_at : (items : List E) (e : E) (i : ℕ) → IsByKey cmp key items → IsPlace cmp key items (key e) (Ok i)
+      → set items i e ≡ with_item cmp key items e
   set_at items e i up place =
-      let front = kept_front (is_before cmp key (key e)) items i (omega (arith, place.0)) ((λ j d l m. ap is_lt (in_front items (key e) i up place j d m)), (λ j d l m. at_least items (key e) i up place j d l m)) in
-      let back = kept_back (is_behind cmp key (key e)) items (suc i) (omega (arith, place.0)) ((λ j d l m. at_most items (key e) i up place j d m), (λ j d l m. ap is_gt (behind items (key e) i up place j d (omega (arith, l)) m))) in
+      let front = kept_front (is_before cmp key (key e)) items i (omega (arith, place.0)) (
+        (λ j d l m. ap is_lt (in_front items (key e) i up place j d m)),
+        (λ j d l m. at_least items (key e) i up place j d l m),
+      ) in
+      let back = kept_back (is_behind cmp key (key e)) items (suc i) (omega (arith, place.0)) (
+        (λ j d l m. at_most items (key e) i up place j d m),
+        (λ j d l m. ap is_gt (behind items (key e) i up place j d (omega (arith, l)) m)),
+      ) in
       set_is items i e place.0 ∙ sym (λ j. front j ++ (e ∷ back j))
 
   -- items stay in order
@@ -251,7 +98,8 @@ module _ {K E : Type 0} (cmp : K → K → Ordering) (total : IsTotalOrder cmp) 
       let Rises : E → E → Type 0 = λ a b. cmp (key a) (key b) ≡ Less in
       let front = filter (is_before cmp key (key e)) items in
       let back = filter (is_behind cmp key (key e)) items in
-      let after : All (Rises e) back = λ j d l. below _ (key e) (greater _ (filter_passes (is_behind cmp key (key e)) items j d l)) in
+      let after : All (Rises e) back =
+      λ j d l. below _ (key e) (greater _ (filter_passes (is_behind cmp key (key e)) items j d l)) in
       let across : (a : E) → cmp (key a) (key e) ≡ Less → All (Rises a) (e ∷ back) =
       λ a h. All-cons (Rises a) e back h (λ j d l. total.trans (key a) (key e) _ h (after j d l)) in
       pairs_appended Rises front (e ∷ back) (AllPairs-filter Rises (is_before cmp key (key e)) items up)
@@ -273,9 +121,11 @@ module _ {K E : Type 0} (cmp : K → K → Ordering) (total : IsTotalOrder cmp) 
         | inr h ↦ neither_gt _ (place.1.1 j d h l)
       ])
 
-  pub found_or_not : (items : List E) (k : K) (r : Result ℕ ℕ) → IsPlace cmp key items k r → is_ok r ≡ is_some (item_of cmp key items k)
+  pub found_or_not : (items : List E) (k : K) (r : Result ℕ ℕ) → IsPlace cmp key items k r → is_ok r
+      ≡ is_some (item_of cmp key items k)
   found_or_not [] k (Ok i) place = absurd (omega (arith, place.0))
-  found_or_not (e ∷ items) k (Ok i) place = sym (any_found (is_of cmp key k) (e ∷ items) i e place.0 (ap is_eq (tied (e ∷ items) k i place e)))
+  found_or_not (e ∷ items) k (Ok i) place =
+      sym (any_found (is_of cmp key k) (e ∷ items) i e place.0 (ap is_eq (tied (e ∷ items) k i place e)))
   found_or_not items k (Err i) place = sym (ap is_some (no_item items k i place))
 
   -- ---- what is found after an item was put in
@@ -290,11 +140,14 @@ module _ {K E : Type 0} (cmp : K → K → Ordering) (total : IsTotalOrder cmp) 
       let front = filter (is_before cmp key (key e)) items in
       let back = filter (is_behind cmp key (key e)) items in
       find-append p front (e ∷ back)
-      ∙ ap (λ o. option_or o (find p (e ∷ back))) (find_dropped p (is_before cmp key (key e)) (λ a h. ap is_lt (stands (key e) (key e) a h ∙ tied_itself total (key e))) items)
+      ∙ ap (λ o. option_or o (find p (e ∷ back)))
+      (find_dropped p (is_before cmp key (key e))
+      (λ a h. ap is_lt (stands (key e) (key e) a h ∙ tied_itself total (key e))) items)
       ∙ ap (λ t. cond t (Some e) (find p back)) (ap is_eq (tied_itself total (key e)))
 
   -- and what is found at another key stays
-  pub item_of-other : (items : List E) (e : E) (k : K) → (k ≡ key e → ⊥) → item_of cmp key (with_item cmp key items e) k ≡ item_of cmp key items k
+  pub item_of-other : (items : List E) (e : E) (k : K) → (k ≡ key e → ⊥)
+      → item_of cmp key (with_item cmp key items e) k ≡ item_of cmp key items k
   item_of-other items e k differs = found (cmp k (key e)) refl
     where
       p : E → Bool
@@ -307,46 +160,60 @@ module _ {K E : Type 0} (cmp : K → K → Ordering) (total : IsTotalOrder cmp) 
       back = filter (is_behind cmp key (key e)) items
 
       passes_over : find p (e ∷ back) ≡ find p back
-      passes_over = ap (λ t. cond t (Some e) (find p back)) (is_false (p e) (λ h. differs (sym (only (key e) k (equal (cmp (key e) k) h)))))
+      passes_over = ap (λ t. cond t (Some e) (find p back))
+          (is_false (p e) (λ h. differs (sym (only (key e) k (equal (cmp (key e) k) h)))))
 
       found : (r : Ordering) → cmp k (key e) ≡ r → find p (front ++ (e ∷ back)) ≡ find p items
       found Less h =
           find-append p front (e ∷ back)
-          ∙ ap (λ o. option_or o (find p (e ∷ back))) (find_kept p (is_before cmp key (key e)) (λ a t. ap is_lt (stands k (key e) a t ∙ h)) items)
-          ∙ ap (option_or (find p items)) (passes_over ∙ find_dropped p (is_behind cmp key (key e)) (λ a t. ap is_gt (stands k (key e) a t ∙ h)) items)
+          ∙ ap (λ o. option_or o (find p (e ∷ back)))
+          (find_kept p (is_before cmp key (key e)) (λ a t. ap is_lt (stands k (key e) a t ∙ h)) items)
+          ∙ ap (option_or (find p items))
+          (passes_over ∙ find_dropped p (is_behind cmp key (key e)) (λ a t. ap is_gt (stands k (key e) a t ∙ h))
+          items)
           ∙ or_none (find p items)
       found Equal h = absurd (differs (only k (key e) h))
       found Greater h =
           find-append p front (e ∷ back)
-          ∙ ap (λ o. option_or o (find p (e ∷ back))) (find_dropped p (is_before cmp key (key e)) (λ a t. ap is_lt (stands k (key e) a t ∙ h)) items)
+          ∙ ap (λ o. option_or o (find p (e ∷ back)))
+          (find_dropped p (is_before cmp key (key e)) (λ a t. ap is_lt (stands k (key e) a t ∙ h)) items)
           ∙ passes_over
           ∙ find_kept p (is_behind cmp key (key e)) (λ a t. ap is_gt (stands k (key e) a t ∙ h)) items
 
   -- the same of items that are seen so
-  pub put_seen : (items seen after : List E) (e : E) (i : ℕ) → items ≡ seen → IsPlace cmp key seen (key e) (Err i) → after ≡ insert items i e
+  pub put_seen : (items seen after : List E) (e : E) (i : ℕ) → items ≡ seen → IsPlace cmp key seen (key e) (Err i)
+      → after ≡ insert items i e
       → after ≡ with_item cmp key seen e
   put_seen items seen after e i view place is =
-      is ∙ put_at items e i (subst (λ s. IsPlace cmp key s (key e) (Err i)) (sym view) place) ∙ ap (λ s. with_item cmp key s e) view
+      is ∙ put_at items e i (subst (λ s. IsPlace cmp key s (key e) (Err i)) (sym view) place)
+      ∙ ap (λ s. with_item cmp key s e) view
 
-  pub put_keeps : (items seen after : List E) (e : E) (i : ℕ) → items ≡ seen → IsByKey cmp key items → IsPlace cmp key seen (key e) (Err i)
+  pub put_keeps : (items seen after : List E) (e : E) (i : ℕ) → items ≡ seen → IsByKey cmp key items
+      → IsPlace cmp key seen (key e) (Err i)
       → after ≡ insert items i e → IsByKey cmp key after
   put_keeps items seen after e i view up place is =
-      subst (IsByKey cmp key) (sym (put_seen items seen after e i view place is)) (IsByKey-with_item seen e (subst (IsByKey cmp key) view up))
+      subst (IsByKey cmp key) (sym (put_seen items seen after e i view place is))
+      (IsByKey-with_item seen e (subst (IsByKey cmp key) view up))
 
-  pub set_seen : (items seen : List E) (e : E) (i : ℕ) → items ≡ seen → IsByKey cmp key items → IsPlace cmp key seen (key e) (Ok i)
+  pub set_seen : (items seen : List E) (e : E) (i : ℕ) → items ≡ seen → IsByKey cmp key items
+      → IsPlace cmp key seen (key e) (Ok i)
       → set items i e ≡ with_item cmp key seen e
   set_seen items seen e i view up place =
-      set_at items e i up (subst (λ s. IsPlace cmp key s (key e) (Ok i)) (sym view) place) ∙ ap (λ s. with_item cmp key s e) view
+      set_at items e i up (subst (λ s. IsPlace cmp key s (key e) (Ok i)) (sym view) place)
+      ∙ ap (λ s. with_item cmp key s e) view
 
-  pub set_keeps : (items seen : List E) (e : E) (i : ℕ) → items ≡ seen → IsByKey cmp key items → IsPlace cmp key seen (key e) (Ok i)
+  pub set_keeps : (items seen : List E) (e : E) (i : ℕ) → items ≡ seen → IsByKey cmp key items
+      → IsPlace cmp key seen (key e) (Ok i)
       → IsByKey cmp key (set items i e)
   set_keeps items seen e i view up place =
-      subst (IsByKey cmp key) (sym (set_seen items seen e i view up place)) (IsByKey-with_item seen e (subst (IsByKey cmp key) view up))
+      subst (IsByKey cmp key) (sym (set_seen items seen e i view up place))
+      (IsByKey-with_item seen e (subst (IsByKey cmp key) view up))
 
   -- ---- edits
 
   -- the items without one, at whose place it stood
-  pub taken_at : (items : List E) (k : K) (i : ℕ) → IsByKey cmp key items → IsPlace cmp key items k (Ok i) → remove items i ≡ without_item cmp key items k
+  pub taken_at : (items : List E) (k : K) (i : ℕ) → IsByKey cmp key items → IsPlace cmp key items k (Ok i)
+      → remove items i ≡ without_item cmp key items k
   taken_at items k i up place =
       sym (filter_but_one (λ e. not (is_of cmp key k e)) items i place.0
       (λ j d l. ap not (neither_lt _ (ap is_lt (in_front items k i up place j d l))))
@@ -354,7 +221,8 @@ module _ {K E : Type 0} (cmp : K → K → Ordering) (total : IsTotalOrder cmp) 
       (λ j d l m. ap not (neither_gt _ (ap is_gt (behind items k i up place j d l m)))))
 
   -- an item that was taken out belongs where it stood
-  pub taken_place : (items : List E) (i : ℕ) (x : E) → IsByKey cmp key items → i < length items → x ≡ get_or items i x → IsPlace cmp key (remove items i) (key x) (Err i)
+  pub taken_place : (items : List E) (i : ℕ) (x : E) → IsByKey cmp key items → i < length items → x ≡ get_or items i x
+      → IsPlace cmp key (remove items i) (key x) (Err i)
   taken_place items i x up within at =
       let shorter = length-remove items i within in
       let is_x : (d : E) → get_or items i d ≡ x = λ d. get_or_default items i d x within ∙ sym at in (
@@ -364,19 +232,25 @@ module _ {K E : Type 0} (cmp : K → K → Ordering) (total : IsTotalOrder cmp) 
               ∙ ap is_lt (ap (λ y. cmp (key (get_or items j d)) (key y)) (sym (is_x d)) ∙ up j i d l within)),
           (λ j d l m. (let in_list : j + 1 < length items = omega (arith, m, shorter) in
               ap (is_behind cmp key (key x)) (get_or-remove_above items i d j l within)
-              ∙ ap is_gt (ap (λ y. cmp (key (get_or items (j + 1) d)) (key y)) (sym (is_x d)) ∙ above _ _ (up i (j + 1) d (omega (arith, l)) in_list)))),
+              ∙ ap is_gt (ap (λ y. cmp (key (get_or items (j + 1) d)) (key y)) (sym (is_x d))
+              ∙ above _ _ (up i (j + 1) d (omega (arith, l)) in_list)))),
         ),
       )
 
   -- what was put in is at its place, and what was there is in place of what is put in its stead
-  pub swapped_place : (items : List E) (i : ℕ) (e held : E) → IsPlace cmp key items (key e) (Ok i) → held ≡ get_or items i held → IsPlace cmp key (set items i e) (key held) (Ok i)
+  pub swapped_place : (items : List E) (i : ℕ) (e held : E) → IsPlace cmp key items (key e) (Ok i) → held
+      ≡ get_or items i held → IsPlace cmp key (set items i e) (key held) (Ok i)
   swapped_place items i e held place at =
-      let long = length-set items i e in
-      (omega (arith, place.0, long), λ d. ap key (get_or-set_same items i e d place.0) ∙ sym (place.1 held) ∙ ap key (sym at))
+      let long = length-set items i e in (
+        omega (arith, place.0, long),
+        λ d. ap key (get_or-set_same items i e d place.0) ∙ sym (place.1 held)
+            ∙ ap key (sym at),
+      )
 
   -- ---- items set one after another
 
-  pub all_set-push : (held more : List E) (e : E) → all_set cmp key held (more ++ e ∷ []) ≡ with_item cmp key (all_set cmp key held more) e
+  pub all_set-push : (held more : List E) (e : E) → all_set cmp key held (more ++ e ∷ [])
+      ≡ with_item cmp key (all_set cmp key held more) e
   all_set-push held [] e = refl
   all_set-push held (first ∷ more) e = all_set-push (with_item cmp key held first) more e
 
@@ -390,19 +264,24 @@ module _ {K E : Type 0} (cmp : K → K → Ordering) (total : IsTotalOrder cmp) 
   last_or found (e ∷ more) = last_or (Some e) more
 
   -- what is found after one more was set is that one at its key, and else what was found
-  pub item_of-after : (held : List E) (e : E) (k : K) (b : Bool) → is_of cmp key k e ≡ b → item_of cmp key (with_item cmp key held e) k ≡ cond b (Some e) (item_of cmp key held k)
+  pub item_of-after : (held : List E) (e : E) (k : K) (b : Bool) → is_of cmp key k e ≡ b
+      → item_of cmp key (with_item cmp key held e) k ≡ cond b (Some e) (item_of cmp key held k)
   item_of-after held e k true h =
-      ap (item_of cmp key (with_item cmp key held e)) (sym (only (key e) k (equal (cmp (key e) k) h))) ∙ item_of-own held e
+      ap (item_of cmp key (with_item cmp key held e)) (sym (only (key e) k (equal (cmp (key e) k) h)))
+      ∙ item_of-own held e
   item_of-after held e k false h =
-      item_of-other held e k (λ same. false≢true (sym h ∙ ap (λ n. is_eq (cmp (key e) n)) same ∙ ap is_eq (tied_itself total (key e))))
+      item_of-other held e k
+      (λ same. false≢true (sym h ∙ ap (λ n. is_eq (cmp (key e) n)) same ∙ ap is_eq (tied_itself total (key e))))
 
-  item_of-all_set : (held more : List E) (k : K) → item_of cmp key (all_set cmp key held more) k ≡ last_or (item_of cmp key held k) (filter (is_of cmp key k) more)
+  item_of-all_set : (held more : List E) (k : K) → item_of cmp key (all_set cmp key held more) k
+      ≡ last_or (item_of cmp key held k) (filter (is_of cmp key k) more)
   item_of-all_set held [] k = refl
   item_of-all_set held (e ∷ more) k = item_of-all_set (with_item cmp key held e) more k ∙ at (is_of cmp key k e) refl
     where
       at : (b : Bool) → is_of cmp key k e ≡ b
           → last_or (item_of cmp key (with_item cmp key held e) k) (filter (is_of cmp key k) more)
-          ≡ last_or (item_of cmp key held k) (cond b (e ∷ filter (is_of cmp key k) more) (filter (is_of cmp key k) more))
+          ≡ last_or (item_of cmp key held k)
+          (cond b (e ∷ filter (is_of cmp key k) more) (filter (is_of cmp key k) more))
       at true h = ap (λ o. last_or o (filter (is_of cmp key k) more)) (item_of-after held e k true h)
       at false h = ap (λ o. last_or o (filter (is_of cmp key k) more)) (item_of-after held e k false h)
 
@@ -414,55 +293,67 @@ module _ {K E : Type 0} (cmp : K → K → Ordering) (total : IsTotalOrder cmp) 
   at_head : (x : E) (xs : List E) → item_of cmp key (x ∷ xs) (key x) ≡ Some x
   at_head x xs = ap (λ t. cond t (Some x) (item_of cmp key xs (key x))) (ap is_eq (tied_itself total (key x)))
 
-  after_head : (x : E) (xs : List E) (k : K) → is_of cmp key k x ≡ false → item_of cmp key (x ∷ xs) k ≡ item_of cmp key xs k
+  after_head : (x : E) (xs : List E) (k : K) → is_of cmp key k x ≡ false → item_of cmp key (x ∷ xs) k
+      ≡ item_of cmp key xs k
   after_head x xs k h = ap (λ t. cond t (Some x) (item_of cmp key xs k)) h
 
   -- the keys behind the first are greater than it, and than each lesser one
   pub greater_behind : (x : E) (xs : List E) → IsByKey cmp key (x ∷ xs) → All (λ y. cmp (key x) (key y) ≡ Less) xs
   greater_behind x xs up i d l = up 0 (suc i) d (omega arith) (omega (arith, l))
 
-  behind_lesser : (k : K) (x : E) (xs : List E) → IsByKey cmp key (x ∷ xs) → cmp k (key x) ≡ Less → All (λ y. cmp k (key y) ≡ Less) (x ∷ xs)
-  behind_lesser k x xs up h = All-cons (λ y. cmp k (key y) ≡ Less) x xs h (λ i d l. total.trans k (key x) _ h (greater_behind x xs up i d l))
+  behind_lesser : (k : K) (x : E) (xs : List E) → IsByKey cmp key (x ∷ xs) → cmp k (key x) ≡ Less
+      → All (λ y. cmp k (key y) ≡ Less) (x ∷ xs)
+  behind_lesser k x xs up h =
+      All-cons (λ y. cmp k (key y) ≡ Less) x xs h (λ i d l. total.trans k (key x) _ h (greater_behind x xs up i d l))
 
   pub rest_by_key : (x : E) (xs : List E) → IsByKey cmp key (x ∷ xs) → IsByKey cmp key xs
   rest_by_key x xs up i j d l m = up (suc i) (suc j) d (omega (arith, l)) (omega (arith, m))
 
   -- the first of one has no lesser key than the first of the other
-  no_lesser_first : (x y : E) (xs ys : List E) → IsByKey cmp key (y ∷ ys) → item_of cmp key (x ∷ xs) (key x) ≡ item_of cmp key (y ∷ ys) (key x) → cmp (key x) (key y) ≡ Less → ⊥
+  no_lesser_first : (x y : E) (xs ys : List E) → IsByKey cmp key (y ∷ ys) → item_of cmp key (x ∷ xs) (key x)
+      ≡ item_of cmp key (y ∷ ys) (key x) → cmp (key x) (key y) ≡ Less → ⊥
   no_lesser_first x y xs ys up same h =
-      false≢true (sym (ap is_some (sym (at_head x xs) ∙ same ∙ not_among (key x) (y ∷ ys) (behind_lesser (key x) y ys up h))))
+      false≢true (sym (ap is_some
+      (sym (at_head x xs) ∙ same ∙ not_among (key x) (y ∷ ys) (behind_lesser (key x) y ys up h))))
 
   abbrev or_else : E → Option E → E
   or_else d None = d
   or_else d (Some x) = x
 
   same_rest : (x : E) (xs ys : List E) → IsByKey cmp key (x ∷ xs) → IsByKey cmp key (x ∷ ys)
-      → ((k : K) → item_of cmp key (x ∷ xs) k ≡ item_of cmp key (x ∷ ys) k) → (k : K) (b : Bool) → is_of cmp key k x ≡ b → item_of cmp key xs k ≡ item_of cmp key ys k
+      → ((k : K) → item_of cmp key (x ∷ xs) k ≡ item_of cmp key (x ∷ ys) k) → (k : K) (b : Bool) → is_of cmp key k x
+      ≡ b → item_of cmp key xs k ≡ item_of cmp key ys k
   same_rest x xs ys up_x up_y same k true h =
       let at : key x ≡ k = only (key x) k (equal (cmp (key x) k) h) in
       subst (λ n. item_of cmp key xs n ≡ item_of cmp key ys n) at
       (not_among (key x) xs (greater_behind x xs up_x) ∙ sym (not_among (key x) ys (greater_behind x ys up_y)))
   same_rest x xs ys up_x up_y same k false h = sym (after_head x xs k h) ∙ same k ∙ after_head x ys k h
 
-  pub same_items : (xs ys : List E) → IsByKey cmp key xs → IsByKey cmp key ys → ((k : K) → item_of cmp key xs k ≡ item_of cmp key ys k) → xs ≡ ys
+  pub same_items : (xs ys : List E) → IsByKey cmp key xs → IsByKey cmp key ys
+      → ((k : K) → item_of cmp key xs k ≡ item_of cmp key ys k) → xs ≡ ys
   same_items [] [] up_x up_y same = refl
   same_items [] (y ∷ ys) up_x up_y same = absurd (false≢true (ap is_some (same (key y) ∙ at_head y ys)))
   same_items (x ∷ xs) [] up_x up_y same = absurd (false≢true (ap is_some (sym (same (key x)) ∙ at_head x xs)))
-  same_items (x ∷ xs) (y ∷ ys) up_x up_y same = firsts (same_items xs ys (rest_by_key x xs up_x) (rest_by_key y ys up_y)) (cmp (key x) (key y)) refl
+  same_items (x ∷ xs) (y ∷ ys) up_x up_y same =
+      firsts (same_items xs ys (rest_by_key x xs up_x) (rest_by_key y ys up_y)) (cmp (key x) (key y)) refl
     where
       one : (((k : K) → item_of cmp key xs k ≡ item_of cmp key ys k) → xs ≡ ys) → x ≡ y → x ∷ xs ≡ y ∷ ys
       one same_after e =
           let up : IsByKey cmp key (x ∷ ys) = subst (λ z. IsByKey cmp key (z ∷ ys)) (sym e) up_y in
-          let alike : (k : K) → item_of cmp key (x ∷ xs) k ≡ item_of cmp key (x ∷ ys) k = λ k. same k ∙ ap (λ z. item_of cmp key (z ∷ ys) k) (sym e) in
+          let alike : (k : K) → item_of cmp key (x ∷ xs) k ≡ item_of cmp key (x ∷ ys) k =
+          λ k. same k ∙ ap (λ z. item_of cmp key (z ∷ ys) k) (sym e) in
           let rest = same_after (λ k. same_rest x xs ys up_x up alike k (is_of cmp key k x) refl) in
           λ i. e i ∷ rest i
 
-      firsts : (((k : K) → item_of cmp key xs k ≡ item_of cmp key ys k) → xs ≡ ys) → (r : Ordering) → cmp (key x) (key y) ≡ r → x ∷ xs ≡ y ∷ ys
+      firsts : (((k : K) → item_of cmp key xs k ≡ item_of cmp key ys k) → xs ≡ ys) → (r : Ordering)
+          → cmp (key x) (key y) ≡ r → x ∷ xs ≡ y ∷ ys
       firsts same_after Less h = absurd (no_lesser_first x y xs ys up_y (same (key x)) h)
-      firsts same_after Greater h = absurd (no_lesser_first y x ys xs up_x (sym (same (key y))) (below (key x) (key y) h))
+      firsts same_after Greater h =
+          absurd (no_lesser_first y x ys xs up_x (sym (same (key y))) (below (key x) (key y) h))
       firsts same_after Equal h =
           let tie = only (key x) (key y) h in
-          one same_after (ap (or_else x) (sym (at_head x xs) ∙ same (key x) ∙ ap (item_of cmp key (y ∷ ys)) tie ∙ at_head y ys))
+          one same_after (ap (or_else x)
+          (sym (at_head x xs) ∙ same (key x) ∙ ap (item_of cmp key (y ∷ ys)) tie ∙ at_head y ys))
 
   -- ---- what a stable sort leaves
 
@@ -488,7 +379,8 @@ module _ {K E : Type 0} (cmp : K → K → Ordering) (total : IsTotalOrder cmp) 
       subst (λ p. filter p sorted ≡ filter p items) alike (stable x)
 
   -- a stable sort keeps the items of each key, in their order
-  pub kept : (items sorted : List E) → IsStableBy less_key items sorted → (k : K) → filter (is_of cmp key k) sorted ≡ filter (is_of cmp key k) items
+  pub kept : (items sorted : List E) → IsStableBy less_key items sorted → (k : K) → filter (is_of cmp key k) sorted
+      ≡ filter (is_of cmp key k) items
   kept items sorted stable k = among (filter (is_of cmp key k) sorted) (filter (is_of cmp key k) items) refl refl
     where
       Passes : List E → Type 0
@@ -498,13 +390,18 @@ module _ {K E : Type 0} (cmp : K → K → Ordering) (total : IsTotalOrder cmp) 
           → filter (is_of cmp key k) sorted ≡ filter (is_of cmp key k) items
       among [] [] e f = e ∙ sym f
       among (z ∷ zs) ws e f =
-          kept_by_one items sorted stable k z (All-head (λ x. is_of cmp key k x ≡ true) z zs (subst Passes e (filter_passes (is_of cmp key k) sorted)))
+          kept_by_one items sorted stable k z
+          (All-head (λ x. is_of cmp key k x ≡ true) z zs (subst Passes e (filter_passes (is_of cmp key k) sorted)))
       among [] (w ∷ ws) e f =
-          kept_by_one items sorted stable k w (All-head (λ x. is_of cmp key k x ≡ true) w ws (subst Passes f (filter_passes (is_of cmp key k) items)))
+          kept_by_one items sorted stable k w
+          (All-head (λ x. is_of cmp key k x ≡ true) w ws (subst Passes f (filter_passes (is_of cmp key k) items)))
 
   -- so it does not matter whether items are set one after another as they come or sorted
-  pub all_set-sorted : (items sorted : List E) → IsStableBy less_key items sorted → all_set cmp key [] sorted ≡ all_set cmp key [] items
+  pub all_set-sorted : (items sorted : List E) → IsStableBy less_key items sorted → all_set cmp key [] sorted
+      ≡ all_set cmp key [] items
   all_set-sorted items sorted stable =
       let none : IsByKey cmp key [] = λ i j d l m. absurd (omega (arith, m)) in
-      same_items (all_set cmp key [] sorted) (all_set cmp key [] items) (IsByKey-all_set [] sorted none) (IsByKey-all_set [] items none)
-      (λ k. item_of-all_set [] sorted k ∙ ap (last_or None) (kept items sorted stable k) ∙ sym (item_of-all_set [] items k))
+      same_items (all_set cmp key [] sorted) (all_set cmp key [] items) (IsByKey-all_set [] sorted none)
+      (IsByKey-all_set [] items none)
+      (λ k. item_of-all_set [] sorted k ∙ ap (last_or None) (kept items sorted stable k)
+      ∙ sym (item_of-all_set [] items k))

@@ -10,14 +10,15 @@ use Rattle.std.proofs.lemmas.List.Folds.{list_any_at}
 use Rattle.std.proofs.lemmas.Option.{same_Some}
 use Rattle.vet_base.specs.Criteria.{Criteria, least_unknown}
 use Rattle.vet_base.specs.Defined.{lesser}
-use Rattle.vet_base.specs.NameLaws.{any-members}
+use Rattle.vet_base.specs.NamesLaws.{any-members}
 use Rattle.vet_base.specs.Names.{IsRising, NameSet, bare, members}
 use Rattle.vet_base.proofs.Changes.{none_found}
 use Rattle.vet_base.proofs.Rising.{R, IsRising-head, IsRising-tail, above, below, eq-itself, only_equal, rising_entries}
 use Rattle.vet_base.proofs.Walks.{among_members, find_none}
 
 -- a member of a set is in it
-pub member_in : (s : NameSet) (i : ℕ) (d : List ℕ) → i < length (members s) → set.contains s (get_or (members s) i d) ≡ true
+pub member_in : (s : NameSet) (i : ℕ) (d : List ℕ) → i < length (members s) → set.contains s (get_or (members s) i d)
+    ≡ true
 member_in s i d l =
     let n = get_or (members s) i d in
     sym (any-members s n) ∙ list_any_at (eq_by_cmp R n) (members s) i d l (eq-itself n)
@@ -25,7 +26,8 @@ member_in s i d l =
 module _ (p : List ℕ → Bool) where
   -- it passes, and no other that does is lesser
   abbrev IsLeast : NameSet → List ℕ → Type 0
-  IsLeast s x = (set.contains s x ≡ true) × (p x ≡ true) × ((n : List ℕ) → set.contains s n ≡ true → p n ≡ true → (n ≡ x) ⊎ (R x n ≡ Less))
+  IsLeast s x = (set.contains s x ≡ true) × (p x ≡ true)
+      × ((n : List ℕ) → set.contains s n ≡ true → p n ≡ true → (n ≡ x) ⊎ (R x n ≡ Less))
 
   first_found : (xs : List (List ℕ)) (x : List ℕ) → IsRising xs → find p xs ≡ Some x
       → Contains xs x × (p x ≡ true) × ((n : List ℕ) → Contains xs n → p n ≡ true → (n ≡ x) ⊎ (R x n ≡ Less))
@@ -33,15 +35,18 @@ module _ (p : List ℕ → Bool) where
   first_found (y ∷ ys) x up e = elim (cases_Bool (p y)) [
     | inl here ↦ (let same : y ≡ x = same_Some y x (sym (cond-true (p y) (Some y) (find p ys) here) ∙ e) in
         ((0, omega arith, same), ap p (sym same) ∙ here, λ n at _. after same n at))
-    | inr none ↦ (let rest = first_found ys x (IsRising-tail y ys up) (sym (cond-false (p y) (Some y) (find p ys) none) ∙ e) in
+    | inr none ↦ (let rest =
+        first_found ys x (IsRising-tail y ys up) (sym (cond-false (p y) (Some y) (find p ys) none) ∙ e) in
         ((suc rest.0.0, omega (arith, rest.0.1), rest.0.2), rest.1, λ n at h. later none rest.2 n at h))
   ]
     where
       after : y ≡ x → (n : List ℕ) → Contains (y ∷ ys) n → (n ≡ x) ⊎ (R x n ≡ Less)
       after same n (zero, l, at) = inl (sym at ∙ same)
-      after same n (suc k, l, at) = inr (ap (λ z. R z n) (sym same) ∙ ap (R y) (sym at) ∙ IsRising-head y ys up k n (omega (arith, l)))
+      after same n (suc k, l, at) =
+          inr (ap (λ z. R z n) (sym same) ∙ ap (R y) (sym at) ∙ IsRising-head y ys up k n (omega (arith, l)))
 
-      later : p y ≡ false → ((n : List ℕ) → Contains ys n → p n ≡ true → (n ≡ x) ⊎ (R x n ≡ Less)) → (n : List ℕ) → Contains (y ∷ ys) n → p n ≡ true → (n ≡ x) ⊎ (R x n ≡ Less)
+      later : p y ≡ false → ((n : List ℕ) → Contains ys n → p n ≡ true → (n ≡ x) ⊎ (R x n ≡ Less)) → (n : List ℕ)
+          → Contains (y ∷ ys) n → p n ≡ true → (n ≡ x) ⊎ (R x n ≡ Less)
       later none f n (zero, l, at) h = absurd (false≢true (sym none ∙ ap p at ∙ h))
       later none f n (suc k, l, at) h = f n (k, omega (arith, l), at) h
 
@@ -76,7 +81,8 @@ module _ (p : List ℕ → Bool) where
 
   -- the least of two sets is the lesser of their least ones
   module _ (a b : NameSet) where
-    either : (n : List ℕ) → set.contains (set.union a b) n ≡ true → (set.contains a n ≡ true) ⊎ (set.contains b n ≡ true)
+    either : (n : List ℕ) → set.contains (set.union a b) n ≡ true
+        → (set.contains a n ≡ true) ⊎ (set.contains b n ≡ true)
     either n h = or_cases _ _ (sym (set.contains-union nat_list_cmp_total a b n) ∙ h)
 
     in_first : (n : List ℕ) → set.contains a n ≡ true → set.contains (set.union a b) n ≡ true
@@ -105,7 +111,9 @@ module _ (p : List ℕ → Bool) where
     pub find-union : find p (members (set.union a b)) ≡ lesser (find p (members a)) (find p (members b))
     find-union = by (find p (members a)) refl (find p (members b)) refl
       where
-        first : (x : List ℕ) → find p (members a) ≡ Some x → ((n : List ℕ) → set.contains b n ≡ true → p n ≡ true → (n ≡ x) ⊎ (R x n ≡ Less)) → find p (members (set.union a b)) ≡ Some x
+        first : (x : List ℕ) → find p (members a) ≡ Some x
+            → ((n : List ℕ) → set.contains b n ≡ true → p n ≡ true → (n ≡ x) ⊎ (R x n ≡ Less))
+            → find p (members (set.union a b)) ≡ Some x
         first x e f =
             let g = found_least a x e in
             least_found (set.union a b) x (
@@ -117,7 +125,9 @@ module _ (p : List ℕ → Bool) where
               ],
             )
 
-        second : (y : List ℕ) → find p (members b) ≡ Some y → ((n : List ℕ) → set.contains a n ≡ true → p n ≡ true → (n ≡ y) ⊎ (R y n ≡ Less)) → find p (members (set.union a b)) ≡ Some y
+        second : (y : List ℕ) → find p (members b) ≡ Some y
+            → ((n : List ℕ) → set.contains a n ≡ true → p n ≡ true → (n ≡ y) ⊎ (R y n ≡ Less))
+            → find p (members (set.union a b)) ≡ Some y
         second y e f =
             let g = found_least b y e in
             least_found (set.union a b) y (
@@ -129,25 +139,32 @@ module _ (p : List ℕ → Bool) where
               ],
             )
 
-        by : (o : Option (List ℕ)) → find p (members a) ≡ o → (u : Option (List ℕ)) → find p (members b) ≡ u → find p (members (set.union a b)) ≡ lesser o u
-        by None d None e = find_none p (members (set.union a b)) (λ k l. elim (either (get_or (members (set.union a b)) k []) (member_in (set.union a b) k [] l)) [
-          | inl one ↦ none_in a d _ one
-          | inr other ↦ none_in b e _ other
-        ])
+        by : (o : Option (List ℕ)) → find p (members a) ≡ o → (u : Option (List ℕ)) → find p (members b) ≡ u
+            → find p (members (set.union a b)) ≡ lesser o u
+        by None d None e = find_none p (members (set.union a b))
+            (λ k l. elim (either (get_or (members (set.union a b)) k []) (member_in (set.union a b) k [] l)) [
+              | inl one ↦ none_in a d _ one
+              | inr other ↦ none_in b e _ other
+            ])
         by None d (Some y) e = second y e (λ n held t. absurd (false≢true (sym (none_in a d n held) ∙ t)))
         by (Some x) d None e = first x d (λ n held t. absurd (false≢true (sym (none_in b e n held) ∙ t)))
         by (Some x) d (Some y) e = elim (cases_Bool (is_lt (R y x))) [
           | inl low ↦ second y e (λ n held t. not_above y x n (inr (less (R y x) low)) ((found_least a x d).2 n held t))
               ∙ sym (cond-true (is_lt (R y x)) (Some y) (Some x) low)
-          | inr high ↦ first x d (λ n held t. not_above x y n (order x y (R y x) refl high) ((found_least b y e).2 n held t))
+          | inr high ↦ first x d
+              (λ n held t. not_above x y n (order x y (R y x) refl high) ((found_least b y e).2 n held t))
               ∙ sym (cond-false (is_lt (R y x)) (Some y) (Some x) high)
         ]
 
 -- none is found that a table lacks just where it has each
-pub least_none : (table : Criteria) (names : NameSet) → ((n : List ℕ) → set.contains names n ≡ true → map.contains_key table n ≡ true) → least_unknown table names ≡ None
-least_none table names f = find_none (λ n. not (map.contains_key table n)) (members names) (λ k l. ap not (f (get_or (members names) k []) (member_in names k [] l)))
+pub least_none : (table : Criteria) (names : NameSet)
+    → ((n : List ℕ) → set.contains names n ≡ true → map.contains_key table n ≡ true) → least_unknown table names ≡ None
+least_none table names f =
+    find_none (λ n. not (map.contains_key table n)) (members names)
+    (λ k l. ap not (f (get_or (members names) k []) (member_in names k [] l)))
 
-pub none_unknown : (table : Criteria) (names : NameSet) → least_unknown table names ≡ None → (n : List ℕ) → set.contains names n ≡ true → map.contains_key table n ≡ true
+pub none_unknown : (table : Criteria) (names : NameSet) → least_unknown table names ≡ None → (n : List ℕ)
+    → set.contains names n ≡ true → map.contains_key table n ≡ true
 none_unknown table names e n held = not-false _ (none_in (λ n. not (map.contains_key table n)) names e n held)
 
 pub least_of_none : (table : Criteria) → least_unknown table set.empty ≡ None

@@ -10,7 +10,8 @@ not_refused true e h = cc h
 not_refused false e h = refl
 
 -- where something is told in the end, so it was at first
-pub then_told : {A : Type 0} (t : Told (Unit {0})) (f : Unit {0} → Told A) (x : A) → (t >>= f) ≡ Ok x → (t ≡ Ok tt) × (f tt ≡ Ok x)
+pub then_told : {A : Type 0} (t : Told (Unit {0})) (f : Unit {0} → Told A) (x : A) → (t >>= f) ≡ Ok x → (t ≡ Ok tt)
+    × (f tt ≡ Ok x)
 then_told (Ok u) f x h = (refl, h)
 then_told (Err e) f x h = cc h
 

@@ -22,7 +22,8 @@ use Rattle.vet_base.specs.Version.{VersionValue, is_at, mark, is_revision, read_
 lower_hex : (b : ℕ) → is_ascii_hexdigit b ≡ true → is_ascii_hexdigit (to_ascii_lowercase b) ≡ true
 lower_hex b h = grind (arith, nat_tests)
 
-pub lower_hexes : (xs : List ℕ) → list_all is_ascii_hexdigit xs ≡ true → list_all is_ascii_hexdigit (map to_ascii_lowercase xs) ≡ true
+pub lower_hexes : (xs : List ℕ) → list_all is_ascii_hexdigit xs ≡ true
+    → list_all is_ascii_hexdigit (map to_ascii_lowercase xs) ≡ true
 lower_hexes [] h = refl
 lower_hexes (b ∷ xs) h =
     let (here, more) = and_parts (is_ascii_hexdigit b) (list_all is_ascii_hexdigit xs) h in
@@ -56,7 +57,8 @@ before_none (b ∷ rest) = elim (cases_Bool (is_at b)) [
 ]
 
 -- V is read back
-plain_back : (text : List ℕ) (p : Parts) (v : VersionValue) → nat_lt 256 (length text) ≡ false → (position_or_len is_at text == length text) ≡ true
+plain_back : (text : List ℕ) (p : Parts) (v : VersionValue) → nat_lt 256 (length text) ≡ false
+    → (position_or_len is_at text == length text) ≡ true
     → version_parts text ≡ Ok p → v ≡ record { parts = p; revision = None } → IsVersion v
 plain_back text p v short none read same =
     let sound = version_parts-sound text p read in
@@ -64,14 +66,18 @@ plain_back text p v short none read same =
     rw (same, back, short, none, read)
 
 -- V with a revision is read back
-revised_back : (w rev : List ℕ) (p : Parts) (v : VersionValue) → length w + 45 ≤ 256 → position_or_len is_at w ≡ length w
-    → version_parts w ≡ Ok p → is_revision rev ≡ true → v ≡ record { parts = p; revision = Some (map to_ascii_lowercase rev) } → IsVersion v
+revised_back : (w rev : List ℕ) (p : Parts) (v : VersionValue) → length w + 45 ≤ 256 → position_or_len is_at w
+    ≡ length w
+    → version_parts w ≡ Ok p → is_revision rev ≡ true → v
+    ≡ record { parts = p; revision = Some (map to_ascii_lowercase rev) } → IsVersion v
 revised_back w rev p v short none read revision same =
     let sound : parts_text p ≡ w = (version_parts-sound w p read).0 in
     let small = map to_ascii_lowercase rev in
     let text : List ℕ = w ++ 64 ∷ (mark ++ small) in
-    let size : length rev ≡ 40 = eqb-true _ _ (and_parts (length rev == 40) (list_all is_ascii_hexdigit rev) revision).0 in
-    let len : length text ≡ length w + 45 = grind (arith, length-append w (64 ∷ (mark ++ small)), length-map rev to_ascii_lowercase) in
+    let size : length rev ≡ 40 =
+    eqb-true _ _ (and_parts (length rev == 40) (list_all is_ascii_hexdigit rev) revision).0 in
+    let len : length text ≡ length w + 45 =
+    grind (arith, length-append w (64 ∷ (mark ++ small)), length-map rev to_ascii_lowercase) in
     let place : position_or_len is_at text ≡ length w = at_place w (mark ++ small) none in
     let within : nat_lt 256 (length text) ≡ false = rw len (grind (arith, nat_tests)) in
     let found : (position_or_len is_at text == length text) ≡ false = rw (place, len) (grind (arith, nat_tests)) in
@@ -87,16 +93,19 @@ revised_size : (text : List ℕ) → nat_lt 256 (length text) ≡ false → (pos
     → is_revision (drop 4 (after_first is_at text)) ≡ true → length (before_first is_at text) + 45 ≤ 256
 revised_size text short found revision =
     let rev = drop 4 (after_first is_at text) in
-    let size : length rev ≡ 40 = eqb-true _ _ (and_parts (length rev == 40) (list_all is_ascii_hexdigit rev) revision).0 in
+    let size : length rev ≡ 40 =
+    eqb-true _ _ (and_parts (length rev == 40) (list_all is_ascii_hexdigit rev) revision).0 in
     let le : position_or_len is_at text ≤ length text = prefix_len-le-length _ text in
     let lt : position_or_len is_at text < length text = grind (arith, nat_tests) in
     let whole = ap length (split_at_first is_at text 0 lt) in
-    let parts = length-append (before_first is_at text) (get_or text (position_or_len is_at text) 0 ∷ after_first is_at text) in
+    let parts = length-append (before_first is_at text)
+    (get_or text (position_or_len is_at text) 0 ∷ after_first is_at text) in
     let four = length-drop 4 (after_first is_at text) in
     grind (arith, nat_tests)
 
 -- what an answer that was found came from
-pub found_from : (r : Result Parts Error) (f : Parts → VersionValue) (v : VersionValue) → option_map f (result_ok r) ≡ Some v
+pub found_from : (r : Result Parts Error) (f : Parts → VersionValue) (v : VersionValue) → option_map f (result_ok r)
+    ≡ Some v
     → (p : Parts) × (r ≡ Ok p) × (v ≡ f p)
 found_from (Ok p) f v e = (p, refl, sym (same_Some _ _ e))
 found_from (Err x) f v e = cc e
@@ -115,7 +124,8 @@ read_version-IsVersion text v e = elim (cases_Bool (nat_lt 256 (length text))) [
         elim (cases_Bool (starts_with nat_eq (after_first is_at text) mark && is_revision rev)) [
           | inr other ↦ cc (rw (short, found, other) at e)
           | inl tests ↦
-              let revision : is_revision rev ≡ true = (and_parts (starts_with nat_eq (after_first is_at text) mark) (is_revision rev) tests).1 in
+              let revision : is_revision rev ≡ true =
+              (and_parts (starts_with nat_eq (after_first is_at text) mark) (is_revision rev) tests).1 in
               let (p, read, same) = found_from (version_parts w) _ v (rw (short, found, tests) at e) in
               revised_back w rev p v (revised_size text short found revision) (before_none text) read revision same
         ]

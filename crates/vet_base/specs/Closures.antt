@@ -1,4 +1,4 @@
--- The closures of all criteria of a table.
+-- The closures of all criteria of a table (ours).
 use Rattle.std.specs.Prelude.{ℕ, ◌≡◌, nat_lt, if◌then◌else◌, slice_index_or}
 use Rattle.std.specs.FinSet as set
 use Rattle.vet_base.specs.declared.closures.Closures.{Closures}

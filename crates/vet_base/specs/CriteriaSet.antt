@@ -1,4 +1,4 @@
--- Sets of places.
+-- Sets of places in a table of criteria (ours).
 use Rattle.std.specs.Prelude.{ℕ, zero, suc, ◌≡◌, ◌||◌, Bool, false, List, [], ◌++◌, ◌∷◌, length, slice_index_or}
 use Rattle.std.specs.List.{list_any}
 use Rattle.std.specs.Ordering.{nat_cmp}

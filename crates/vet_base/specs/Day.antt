@@ -1,14 +1,11 @@
--- Which texts are days (`YYYY-MM-DD`, of the proleptic Gregorian calendar), and how days are numbered.
-use Rattle.std.specs.Prelude.{ℕ, ◌≡◌, ◌+◌, ◌-◌, ◌*◌, ◌/◌, ◌%◌, ◌==◌, ◌&&◌, nat_le, Bool, List, [], ◌∷◌, ◌++◌, Option, Some, None, length, slice_index, if◌then◌else◌, option_and_then, option_map, ℤ, pos}
+-- Which texts are days, and how days are numbered (ours: `YYYY-MM-DD`, of the proleptic Gregorian calendar).
+use Rattle.std.specs.Prelude.{ℕ, ◌+◌, ◌-◌, ◌*◌, ◌/◌, ◌%◌, ◌==◌, ◌&&◌, nat_le, Bool, [], ◌∷◌, ◌++◌, Option, Some, None, length, slice_index, if◌then◌else◌, option_and_then, option_map, ℤ, pos}
 use Rattle.std.specs.Char.{is_ascii_digit}
-use Rattle.std.specs.Bool.{Decides}
-use Rattle.std.proofs.Common.{ap}
-use Rattle.std.proofs.lemmas.Bool.Decides.{Decides-and, Decides-eqb, Decides-like}
-use Rattle.std.specs.Cmp.{IsTotalOrder, int_cmp_total, on_total}
 use Rattle.std.specs.Ordering.{on, int_eq, int_cmp}
 use Rattle.std.specs.declared.cmp.Ordering.{Ordering}
 use Rattle.jiff_core.specs.Calendar.{days_from_civil, days_in_month}
 use Rattle.vet_base.specs.declared.limits.TheConstants.{LAST_YEAR}
+use Rattle.vet_base.specs.Words.{Text}
 
 -- a year, a month and a day
 pub record DayValue : Type 0 where
@@ -37,32 +34,23 @@ day_cmp = on day_number int_cmp
 abbrev pub same_day : DayValue → DayValue → Bool
 same_day a b = (a.year == b.year) && ((a.month == b.month) && (a.day == b.day))
 
-pub same_day-Decides : (a b : DayValue) → Decides (same_day a b) (a ≡ b)
-same_day-Decides a b =
-    Decides-like _ (λ h. λ i. record { year = h.0 i; month = h.1.0 i; day = h.1.1 i }) (λ e. (ap (λ d. d.year) e, (ap (λ d. d.month) e, ap (λ d. d.day) e)))
-    (Decides-and _ _ (Decides-eqb a.year b.year) (Decides-and _ _ (Decides-eqb a.month b.month) (Decides-eqb a.day b.day)))
-
--- their order is total
-pub day_total : IsTotalOrder day_cmp
-day_total = on_total day_number int_cmp_total
-
 -- what the two digits at a place are worth, if they are digits
-abbrev pub two_digits : List ℕ → ℕ → Option ℕ
+abbrev pub two_digits : Text → ℕ → Option ℕ
 two_digits text i =
     if is_ascii_digit (slice_index text i) && is_ascii_digit (slice_index text (i + 1))
     then Some (10 * (slice_index text i - 48) + (slice_index text (i + 1) - 48)) else None
 
 -- ten bytes, the fifth and the eighth of them `-`
-abbrev pub has_dashes : List ℕ → Bool
+abbrev pub has_dashes : Text → Bool
 has_dashes text = (length text == 10) && (slice_index text 4 == 45) && (slice_index text 7 == 45)
 
 -- what the two digits at a place are worth, and the two after them
-abbrev pub four_digits : List ℕ → ℕ → Option ℕ
+abbrev pub four_digits : Text → ℕ → Option ℕ
 four_digits text i =
     option_and_then (λ high. option_map (λ low. 100 * high + low) (two_digits text (i + 2))) (two_digits text i)
 
 -- the year, the month and the day that `YYYY-MM-DD` writes
-abbrev pub written_day : List ℕ → Option DayValue
+abbrev pub written_day : Text → Option DayValue
 written_day text =
     if has_dashes text
     then option_and_then (λ y. option_and_then (λ m. option_map (λ d. record { year = y; month = m; day = d })
@@ -74,16 +62,16 @@ abbrev pub checked_day : DayValue → Option DayValue
 checked_day d = if is_day d then Some d else None
 
 -- the day that a text is, if it is one
-abbrev pub read_day : List ℕ → Option DayValue
+abbrev pub read_day : Text → Option DayValue
 read_day text = option_and_then checked_day (written_day text)
 
 -- two digits, and four
-abbrev pub two_text : ℕ → List ℕ
+abbrev pub two_text : ℕ → Text
 two_text n = (48 + n / 10) ∷ (48 + n % 10) ∷ []
 
-abbrev pub four_text : ℕ → List ℕ
+abbrev pub four_text : ℕ → Text
 four_text n = two_text (n / 100) ++ two_text (n % 100)
 
 -- the text of a day
-abbrev pub day_text : DayValue → List ℕ
+abbrev pub day_text : DayValue → Text
 day_text d = four_text d.year ++ (45 ∷ (two_text d.month ++ (45 ∷ two_text d.day)))

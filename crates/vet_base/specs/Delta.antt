@@ -1,14 +1,11 @@
--- Which texts are deltas, from one version to another, and how they are printed.
-use Rattle.std.specs.Prelude.{ℕ, ◌≡◌, ◌==◌, ◌-◌, ◌&&◌, Bool, List, ◌++◌, length, slice_index, codes, Option, Some, None, if◌then◌else◌, option_map, take, drop}
-use Rattle.std.specs.Bool.{Decides}
-use Rattle.std.specs.Cmp.{IsEquivalence, and_equiv, on_equiv, eq_by_cmp_equiv}
+-- Which texts are deltas, from one version to another (The Cargo Vet Book: audit entries), and how they are printed.
+use Rattle.std.specs.Prelude.{ℕ, ◌==◌, ◌-◌, ◌&&◌, Bool, ◌++◌, length, slice_index, codes, Option, Some, None, if◌then◌else◌, option_map, take, drop}
 use Rattle.std.specs.List.{prefix_len, suffix_len, position_or_len, before_first, after_first}
 use Rattle.std.specs.Option.{option_and_then}
-use Rattle.std.proofs.Common.{ap}
-use Rattle.std.proofs.lemmas.Bool.Decides.{Decides-and, Decides-like}
 use Rattle.vet_base.specs.Version.{VersionValue, read_version, version_text}
-use Rattle.vet_base.specs.VersionOrder.{version_eq, version_eq-Decides, version_total}
+use Rattle.vet_base.specs.VersionOrder.{version_eq}
 use Rattle.vet_base.specs.declared.delta.Delta.{Delta}
+use Rattle.vet_base.specs.Words.{Text}
 
 -- a byte is a space
 abbrev pub is_space : ℕ → Bool
@@ -19,22 +16,22 @@ abbrev pub is_head : ℕ → Bool
 is_head b = b == 62
 
 -- a text without the spaces that lead it, and without those that end it
-abbrev pub without_leading : List ℕ → List ℕ
+abbrev pub without_leading : Text → Text
 without_leading text = drop (prefix_len is_space text) text
 
-abbrev pub without_ending : List ℕ → List ℕ
+abbrev pub without_ending : Text → Text
 without_ending text = take (length text - suffix_len is_space text) text
 
 -- a text without the spaces around it
-abbrev pub without_spaces : List ℕ → List ℕ
+abbrev pub without_spaces : Text → Text
 without_spaces text = without_ending (without_leading text)
 
 -- what stands before the `-` that ends a text
-abbrev pub before_dash : List ℕ → Option (List ℕ)
+abbrev pub before_dash : Text → Option Text
 before_dash text = if slice_index text (length text - 1) == 45 then Some (take (length text - 1) text) else None
 
 -- the texts on both sides of the arrow: of the only `>`, directly after a `-`
-abbrev pub ends_of : List ℕ → Option (List ℕ × List ℕ)
+abbrev pub ends_of : Text → Option (Text × Text)
 ends_of text =
     let after = after_first is_head text in
     if position_or_len is_head text == length text then None
@@ -49,30 +46,13 @@ delta_between (Some a) None = None
 delta_between None b = None
 
 -- the delta that a text is, if it is one
-abbrev pub read_delta : List ℕ → Option Delta
+abbrev pub read_delta : Text → Option Delta
 read_delta text = option_and_then (λ ends. delta_between (read_version ends.0) (read_version ends.1)) (ends_of text)
 
 -- the text of a delta
-abbrev pub delta_text : Delta → List ℕ
+abbrev pub delta_text : Delta → Text
 delta_text d = version_text d.from ++ (codes " -> " ++ version_text d.to)
 
 -- both versions are the same
 abbrev pub delta_eq : Delta → Delta → Bool
 delta_eq a b = version_eq a.from b.from && version_eq a.to b.to
-
--- this is an equivalence
-pub delta_eq_equiv : IsEquivalence delta_eq
-delta_eq_equiv =
-    and_equiv
-    (on_equiv (λ (d : Delta). d.from) (eq_by_cmp_equiv version_total))
-    (on_equiv (λ (d : Delta). d.to) (eq_by_cmp_equiv version_total))
-
--- only a delta itself is equal to it
-pub delta_eq-Decides : (a b : Delta) → Decides (delta_eq a b) (a ≡ b)
-delta_eq-Decides a b =
-    Decides-like (delta_eq a b)
-    (λ h. (let f : a.from ≡ b.from = h.0 in
-    let t : a.to ≡ b.to = h.1 in
-    λ i. record { from = f i; to = t i }))
-    (λ e. (ap (λ (d : Delta). d.from) e, ap (λ (d : Delta). d.to) e))
-    (Decides-and _ _ (version_eq-Decides a.from b.from) (version_eq-Decides a.to b.to))

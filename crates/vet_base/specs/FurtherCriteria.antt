@@ -1,4 +1,4 @@
--- The criteria beside the built-in ones.
+-- The criteria beside the built-in ones (ours).
 use Rattle.std.specs.Prelude.{◌≡◌, not, Bool, false, List, filter}
 use Rattle.std.specs.List.{All}
 use Rattle.std.specs.FinMap as map

@@ -1,6 +1,7 @@
 -- Lists of items taken as sets (ours).
-use Rattle.std.specs.Prelude.{ℕ, ◌≡◌, ◌⊎◌, List, [], ◌∷◌}
+use Rattle.std.specs.Prelude.{◌≡◌, ◌⊎◌, List, [], ◌∷◌}
 use Rattle.std.specs.List.{AllPairs}
+use Rattle.vet_base.specs.Words.{Name}
 
 -- an item is one of a list
 abbrev pub IsIn : {X : Type 0} → X → List X → Type 0
@@ -12,5 +13,5 @@ abbrev pub SameItems : {X : Type 0} → List X → List X → Type 0
 SameItems {X} xs ys = ((x : X) → IsIn x xs → IsIn x ys) × ((x : X) → IsIn x ys → IsIn x xs)
 
 -- no two items of a list have the same name
-abbrev pub NamedOnce : {X : Type 0} → (X → List ℕ) → List X → Type 0
+abbrev pub NamedOnce : {X : Type 0} → (X → Name) → List X → Type 0
 NamedOnce name xs = AllPairs (λ a b. name a ≡ name b → ⊥) xs

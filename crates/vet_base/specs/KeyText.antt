@@ -1,13 +1,14 @@
--- How a refusal tells a path or a key.
-use Rattle.std.specs.Prelude.{ℕ, Bool, List, codes, if◌then◌else◌}
+-- How a refusal tells a path or a key (ours).
+use Rattle.std.specs.Prelude.{Bool, codes, if◌then◌else◌}
 use Rattle.std.specs.Char.{is_ascii_graphic}
 use Rattle.vet_base.specs.declared.limits.TheConstants.{MOST_KEY_BYTES}
 use Rattle.vet_base.specs.Name.{is_short}
+use Rattle.vet_base.specs.Words.{Text}
 
 -- 1 to 200 ASCII characters from `!` to `~`
-abbrev pub is_visible : List ℕ → Bool
+abbrev pub is_visible : Text → Bool
 is_visible = is_short MOST_KEY_BYTES is_ascii_graphic
 
 -- the path or the key, or `?` where it can't be shown
-abbrev pub told_key : List ℕ → List ℕ
+abbrev pub told_key : Text → Text
 told_key text = if is_visible text then text else codes "?"

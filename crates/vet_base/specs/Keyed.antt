@@ -1,6 +1,5 @@
 -- Lists of items in the order of their keys, no key twice (ours), and edits of them.
 use Rattle.std.specs.Prelude.{ℕ, ◌≡◌, ◌<◌, ◌≤◌, ◌+◌, ◌-◌, not, true, Bool, List, [], ◌∷◌, ◌++◌, Option, length, filter, find, insert, remove, slice_index_or, slice_set}
-use Rattle.std.specs.Coded.{Coded, code_by, coded×, coded_list, coded_ℕ}
 use Rattle.std.specs.List.{AllPairs}
 use Rattle.std.specs.List.Sorted.{IsPartitionPoint}
 use Rattle.std.specs.Ordering.{is_eq, is_gt, is_lt}
@@ -8,7 +7,6 @@ use Rattle.std.specs.declared.cmp.Ordering.{Ordering}
 use Rattle.std.specs.declared.cmp.Ordering.TheVariants.{Less}
 use Rattle.std.specs.declared.result.Result.{Result}
 use Rattle.std.specs.declared.result.Result.TheVariants.{Ok, Err}
-use Rattle.std.proofs.Common.{refl}
 use Rattle.vet_base.specs.declared.keyed.KeyedEdit.{KeyedEdit}
 use Rattle.vet_base.specs.declared.keyed.KeyedEdit.TheVariants as edit
 
@@ -16,10 +14,6 @@ use Rattle.vet_base.specs.declared.keyed.KeyedEdit.TheVariants as edit
 pub record KeyedRoom (E : Type 0) : Type 0 where
   pub items : List E
   pub room : ℕ
-
--- items and their room are stored as a pair
-abbrev pub keyed_code : {E : Type 0} → Coded E → Coded (KeyedRoom E)
-keyed_code {E} item_code = code_by (List E × ℕ) (coded× (coded_list item_code) coded_ℕ) (λ k. (k.items, k.room)) (λ p. record { items = p.0; room = p.1 }) (λ _. refl)
 
 -- an item's key is this one, is a lesser one, is a greater one
 abbrev pub is_of : {K E : Type 0} → (K → K → Ordering) → (E → K) → K → E → Bool

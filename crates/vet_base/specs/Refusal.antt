@@ -1,89 +1,68 @@
--- The table of refusals: the number and the name of each, and the words of the limits.
-use Rattle.std.specs.Prelude.{ℕ, List, codes}
+-- The table of refusals: the number and the name of each, and the words of the limits (ours).
+use Rattle.std.specs.Prelude.{ℕ, codes}
 use Rattle.vet_base.specs.declared.refusal.Refusal.{Refusal}
 use Rattle.vet_base.specs.declared.refusal.Refusal.TheVariants.{BadName, BadVersion, BadRequirement, BadDay, BadDelta, UnknownCriterion, BuiltInCriterion, CriterionInUse, TooManyCriteria, UnknownEntry, EmptyWindow, WindowTooLong, UnknownPeer, UnknownPolicy, UnknownProject, UnknownNode, TwoParties, TooLarge, UnknownMember, UnknownReview, ReviewClosed, NotYours, WrongTarget, NotDemanded, MovesFull, TomlRefused, CsvRefused, FieldRefused, NoMemory, StoreRefused, NotARegister}
 use Rattle.vet_base.specs.declared.refusal.Limit.{Limit}
-use Rattle.vet_base.specs.declared.refusal.Limit.TheVariants.{Text, PeerCriteria, Nodes, Edges, Peers, Entries, Publishers, Policies, Projects, Members, Reviews, Input, Step, Number}
+use Rattle.vet_base.specs.declared.refusal.Limit.TheVariants as limit
+use Rattle.vet_base.specs.Words.{Text}
+
+-- a row of the table
+pub record RefusalRow : Type 0 where
+  pub number : ℕ
+  pub name : Text
+
+abbrev pub refusal_row : Refusal → RefusalRow
+refusal_row BadName = record { number = 1; name = codes "BadName" }
+refusal_row BadVersion = record { number = 2; name = codes "BadVersion" }
+refusal_row BadRequirement = record { number = 3; name = codes "BadRequirement" }
+refusal_row BadDay = record { number = 4; name = codes "BadDay" }
+refusal_row BadDelta = record { number = 5; name = codes "BadDelta" }
+refusal_row (UnknownCriterion _) = record { number = 6; name = codes "UnknownCriterion" }
+refusal_row BuiltInCriterion = record { number = 7; name = codes "BuiltInCriterion" }
+refusal_row CriterionInUse = record { number = 8; name = codes "CriterionInUse" }
+refusal_row TooManyCriteria = record { number = 9; name = codes "TooManyCriteria" }
+refusal_row UnknownEntry = record { number = 10; name = codes "UnknownEntry" }
+refusal_row EmptyWindow = record { number = 11; name = codes "EmptyWindow" }
+refusal_row WindowTooLong = record { number = 12; name = codes "WindowTooLong" }
+refusal_row UnknownPeer = record { number = 13; name = codes "UnknownPeer" }
+refusal_row UnknownPolicy = record { number = 14; name = codes "UnknownPolicy" }
+refusal_row UnknownProject = record { number = 15; name = codes "UnknownProject" }
+refusal_row (UnknownNode _) = record { number = 16; name = codes "UnknownNode" }
+refusal_row (TwoParties _) = record { number = 17; name = codes "TwoParties" }
+refusal_row (TooLarge _) = record { number = 18; name = codes "TooLarge" }
+refusal_row UnknownMember = record { number = 19; name = codes "UnknownMember" }
+refusal_row UnknownReview = record { number = 20; name = codes "UnknownReview" }
+refusal_row ReviewClosed = record { number = 21; name = codes "ReviewClosed" }
+refusal_row NotYours = record { number = 22; name = codes "NotYours" }
+refusal_row WrongTarget = record { number = 23; name = codes "WrongTarget" }
+refusal_row NotDemanded = record { number = 24; name = codes "NotDemanded" }
+refusal_row MovesFull = record { number = 25; name = codes "MovesFull" }
+refusal_row TomlRefused = record { number = 26; name = codes "TomlRefused" }
+refusal_row (CsvRefused _) = record { number = 27; name = codes "CsvRefused" }
+refusal_row (FieldRefused _ _) = record { number = 28; name = codes "FieldRefused" }
+refusal_row NoMemory = record { number = 29; name = codes "NoMemory" }
+refusal_row StoreRefused = record { number = 30; name = codes "StoreRefused" }
+refusal_row NotARegister = record { number = 31; name = codes "NotARegister" }
 
 abbrev pub refusal_number : Refusal → ℕ
-refusal_number BadName = 1
-refusal_number BadVersion = 2
-refusal_number BadRequirement = 3
-refusal_number BadDay = 4
-refusal_number BadDelta = 5
-refusal_number (UnknownCriterion _) = 6
-refusal_number BuiltInCriterion = 7
-refusal_number CriterionInUse = 8
-refusal_number TooManyCriteria = 9
-refusal_number UnknownEntry = 10
-refusal_number EmptyWindow = 11
-refusal_number WindowTooLong = 12
-refusal_number UnknownPeer = 13
-refusal_number UnknownPolicy = 14
-refusal_number UnknownProject = 15
-refusal_number (UnknownNode _) = 16
-refusal_number (TwoParties _) = 17
-refusal_number (TooLarge _) = 18
-refusal_number UnknownMember = 19
-refusal_number UnknownReview = 20
-refusal_number ReviewClosed = 21
-refusal_number NotYours = 22
-refusal_number WrongTarget = 23
-refusal_number NotDemanded = 24
-refusal_number MovesFull = 25
-refusal_number TomlRefused = 26
-refusal_number (CsvRefused _) = 27
-refusal_number (FieldRefused _ _) = 28
-refusal_number NoMemory = 29
-refusal_number StoreRefused = 30
-refusal_number NotARegister = 31
+refusal_number refusal = (refusal_row refusal).number
 
-abbrev pub refusal_name : Refusal → List ℕ
-refusal_name BadName = codes "BadName"
-refusal_name BadVersion = codes "BadVersion"
-refusal_name BadRequirement = codes "BadRequirement"
-refusal_name BadDay = codes "BadDay"
-refusal_name BadDelta = codes "BadDelta"
-refusal_name (UnknownCriterion _) = codes "UnknownCriterion"
-refusal_name BuiltInCriterion = codes "BuiltInCriterion"
-refusal_name CriterionInUse = codes "CriterionInUse"
-refusal_name TooManyCriteria = codes "TooManyCriteria"
-refusal_name UnknownEntry = codes "UnknownEntry"
-refusal_name EmptyWindow = codes "EmptyWindow"
-refusal_name WindowTooLong = codes "WindowTooLong"
-refusal_name UnknownPeer = codes "UnknownPeer"
-refusal_name UnknownPolicy = codes "UnknownPolicy"
-refusal_name UnknownProject = codes "UnknownProject"
-refusal_name (UnknownNode _) = codes "UnknownNode"
-refusal_name (TwoParties _) = codes "TwoParties"
-refusal_name (TooLarge _) = codes "TooLarge"
-refusal_name UnknownMember = codes "UnknownMember"
-refusal_name UnknownReview = codes "UnknownReview"
-refusal_name ReviewClosed = codes "ReviewClosed"
-refusal_name NotYours = codes "NotYours"
-refusal_name WrongTarget = codes "WrongTarget"
-refusal_name NotDemanded = codes "NotDemanded"
-refusal_name MovesFull = codes "MovesFull"
-refusal_name TomlRefused = codes "TomlRefused"
-refusal_name (CsvRefused _) = codes "CsvRefused"
-refusal_name (FieldRefused _ _) = codes "FieldRefused"
-refusal_name NoMemory = codes "NoMemory"
-refusal_name StoreRefused = codes "StoreRefused"
-refusal_name NotARegister = codes "NotARegister"
+abbrev pub refusal_name : Refusal → Text
+refusal_name refusal = (refusal_row refusal).name
 
 -- the word of a limit: the noun of what there is too much of
-abbrev pub limit_word : Limit → List ℕ
-limit_word Text = codes "text"
-limit_word PeerCriteria = codes "peer-criteria"
-limit_word Nodes = codes "nodes"
-limit_word Edges = codes "edges"
-limit_word Peers = codes "peers"
-limit_word Entries = codes "entries"
-limit_word Publishers = codes "publishers"
-limit_word Policies = codes "policies"
-limit_word Projects = codes "projects"
-limit_word Members = codes "members"
-limit_word Reviews = codes "reviews"
-limit_word Input = codes "input"
-limit_word Step = codes "step"
-limit_word Number = codes "number"
+abbrev pub limit_word : Limit → Text
+limit_word limit.Text = codes "text"
+limit_word limit.PeerCriteria = codes "peer-criteria"
+limit_word limit.Nodes = codes "nodes"
+limit_word limit.Edges = codes "edges"
+limit_word limit.Peers = codes "peers"
+limit_word limit.Entries = codes "entries"
+limit_word limit.Publishers = codes "publishers"
+limit_word limit.Policies = codes "policies"
+limit_word limit.Projects = codes "projects"
+limit_word limit.Members = codes "members"
+limit_word limit.Reviews = codes "reviews"
+limit_word limit.Input = codes "input"
+limit_word limit.Step = codes "step"
+limit_word limit.Number = codes "number"

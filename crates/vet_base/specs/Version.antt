@@ -1,5 +1,5 @@
 -- Which texts are versions (Semantic Versioning 2.0.0, 2, 9 and 10), and how they are printed.
-use Rattle.std.specs.Prelude.{ℕ, ◌≡◌, ◌==◌, ◌&&◌, nat_lt, Bool, List, [], ◌∷◌, ◌++◌, length, map, codes, Option, Some, None, if◌then◌else◌, option_map, drop, nat_eq}
+use Rattle.std.specs.Prelude.{ℕ, ◌≡◌, ◌==◌, ◌&&◌, nat_lt, Bool, [], ◌∷◌, ◌++◌, length, map, codes, Option, Some, None, if◌then◌else◌, option_map, drop, nat_eq}
 use Rattle.std.specs.List.{list_all, starts_with, position_or_len, before_first, after_first}
 use Rattle.std.specs.Result.{result_ok}
 use Rattle.std.specs.Char.{is_ascii_hexdigit, to_ascii_lowercase}
@@ -9,14 +9,15 @@ use Rattle.vet_base.specs.declared.limits.TheConstants.{MOST_VERSION_BYTES, REVI
 use Rattle.semver.specs.declared.Version.{Version}
 use Rattle.semver.specs.Parse.{Parts, version_parts}
 use Rattle.semver.specs.Identifiers.{parts_text, parts_of}
+use Rattle.vet_base.specs.Words.{Text}
 
 -- a version: the parts of V, and the revision where there is one
 pub record VersionValue : Type 0 where
   pub parts : Parts
-  pub revision : Option (List ℕ)
+  pub revision : Option Text
 
 -- a revision: 40 hexadecimal digits
-abbrev pub is_revision : List ℕ → Bool
+abbrev pub is_revision : Text → Bool
 is_revision text = (length text == REVISION_DIGITS) && list_all is_ascii_hexdigit text
 
 -- a byte is `@`
@@ -24,35 +25,36 @@ abbrev pub is_at : ℕ → Bool
 is_at b = b == 64
 
 -- the mark of a revision
-abbrev pub mark : List ℕ
+abbrev pub mark : Text
 mark = codes "git:"
 
 -- V alone
-abbrev pub plain_version : List ℕ → Option VersionValue
+abbrev pub plain_version : Text → Option VersionValue
 plain_version v = option_map (λ p. record { parts = p; revision = None }) (result_ok (version_parts v))
 
 -- V with a revision, which is held as small letters
-abbrev pub version_at : List ℕ → List ℕ → Option VersionValue
-version_at v rev = option_map (λ p. record { parts = p; revision = Some (map to_ascii_lowercase rev) }) (result_ok (version_parts v))
+abbrev pub version_at : Text → Text → Option VersionValue
+version_at v rev = option_map (λ p. record { parts = p; revision = Some (map to_ascii_lowercase rev) })
+    (result_ok (version_parts v))
 
 -- V and what stands after the first `@`
-abbrev pub revised_version : List ℕ → List ℕ → Option VersionValue
+abbrev pub revised_version : Text → Text → Option VersionValue
 revised_version v rest =
     if starts_with nat_eq rest mark && is_revision (drop 4 rest) then version_at v (drop 4 rest) else None
 
 -- the version that a text is, if it is one
-abbrev pub read_version : List ℕ → Option VersionValue
+abbrev pub read_version : Text → Option VersionValue
 read_version text =
     if nat_lt MOST_VERSION_BYTES (length text) then None
     else if position_or_len is_at text == length text then plain_version text
     else revised_version (before_first is_at text) (after_first is_at text)
 
 -- the text of a version
-abbrev pub revision_text : Option (List ℕ) → List ℕ
+abbrev pub revision_text : Option Text → Text
 revision_text None = []
 revision_text (Some rev) = 64 ∷ (mark ++ rev)
 
-abbrev pub version_text : VersionValue → List ℕ
+abbrev pub version_text : VersionValue → Text
 version_text v = parts_text v.parts ++ revision_text v.revision
 
 -- the value is what its own text is read as

@@ -31,7 +31,7 @@ impl Model for CriteriaSet {
 
     ghost inverse = { λ places. record { held = truth_below MOST_CRITERIA places } };
 
-    ghost use Rattle.vet_base.specs.PlaceLaws.{same_truth};
+    ghost use Rattle.vet_base.specs.CriteriaSetLaws.{same_truth};
 
     ghost inverse_ok = { λ s h. λ i. record { held = same_truth MOST_CRITERIA s.held h i } };
 }
@@ -77,7 +77,8 @@ impl CriteriaSet {
     /// Whether some criterion is in both sets.
     pub fn meets(&self, other: &CriteriaSet) -> bool
         ensures value { result ≡ meet self.now other.now }
-        ensures both { IsTrue result ↔ ((p : ℕ) × (set.contains self.now p ≡ true) × (set.contains other.now p ≡ true)) }
+        ensures both { IsTrue result ↔ ((p : ℕ)
+            × (set.contains self.now p ≡ true) × (set.contains other.now p ≡ true)) }
     {
         let mut met = false;
         for place in 0..MOST_CRITERIA {

@@ -56,7 +56,8 @@ impl Drop for CriteriaTable {
 impl Model for CriteriaTable {
     ghost use Rattle.std.specs.Coded.{coded_list, coded_ℕ};
     ghost use Rattle.std.specs.FinMap as map;
-    ghost use Rattle.vet_base.specs.Criteria.{Criteria, IsTable, criterion_code};
+    ghost use Rattle.vet_base.specs.Criteria.{Criteria, IsTable};
+    ghost use Rattle.vet_base.specs.Encodings.{criterion_code};
 
     ghost Value = { Criteria };
 

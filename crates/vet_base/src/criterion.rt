@@ -1,7 +1,8 @@
 //! What is held of a criterion.
 ghost use Rattle.std.specs.Prelude.{◌≡◌, ◌↔◌, IsTrue};
 ghost use Rattle.std.specs.Cmp.{partial_equiv_from_equiv};
-ghost use Rattle.vet_base.specs.Criterion.{criterion_eq, criterion_eq_equiv};
+ghost use Rattle.vet_base.specs.Criterion.{criterion_eq};
+ghost use Rattle.vet_base.specs.CriterionLaws.{criterion_eq_equiv};
 
 use crate::name::Name;
 use crate::names::Names;

@@ -5,7 +5,8 @@ ghost use Rattle.std.specs.Ordering.{as_partial_cmp};
 ghost use Rattle.jiff_core.specs.Calendar.{IsBetween};
 ghost use Rattle.jiff_core.specs.Date.{epoch_day};
 ghost use Rattle.vet_base.specs.Gives.{found_or};
-ghost use Rattle.vet_base.specs.Day.{checked_day, day_cmp, day_eq, day_number, day_text, day_total, four_digits, is_day, read_day, two_digits, written_day};
+ghost use Rattle.vet_base.specs.Day.{checked_day, day_cmp, day_eq, day_number, day_text, four_digits, is_day, read_day, two_digits, written_day};
+ghost use Rattle.vet_base.specs.DayLaws.{day_total};
 
 use crate::limits::{FIRST_DAY_NUMBER, LAST_DAY_NUMBER, LAST_YEAR};
 use crate::refusal::Refusal;

@@ -44,7 +44,8 @@ impl Drop for Definitions {
 impl Model for Definitions {
     ghost use Rattle.std.specs.Coded.{coded_list, coded_ℕ};
     ghost use Rattle.std.specs.FinMap as map;
-    ghost use Rattle.vet_base.specs.Criteria.{Criteria, criterion_code};
+    ghost use Rattle.vet_base.specs.Criteria.{Criteria};
+    ghost use Rattle.vet_base.specs.Encodings.{criterion_code};
     ghost use Rattle.vet_base.specs.Definitions.{by_name, IsKept};
 
     ghost Value = { Criteria };
@@ -221,7 +222,8 @@ impl Clone for Definitions {
 impl PartialEq for Definitions {
     ghost use Rattle.std.specs.Cmp.{decided, partial_equiv_from_equiv};
     ghost use Rattle.std.specs.Prelude.{IsTrue, ◌↔◌, ◌≡◌};
-    ghost use Rattle.vet_base.specs.Definitions.{criteria_eq, criteria_eq-Decides};
+    ghost use Rattle.vet_base.specs.Definitions.{criteria_eq};
+    ghost use Rattle.vet_base.specs.DefinitionsLaws.{criteria_eq-Decides};
 
     ghost eq = { criteria_eq };
 
@@ -237,7 +239,8 @@ impl PartialEq for Definitions {
 
 impl Eq for Definitions {
     ghost use Rattle.std.specs.Cmp.{decided};
-    ghost use Rattle.vet_base.specs.Definitions.{criteria_eq, criteria_eq-Decides};
+    ghost use Rattle.vet_base.specs.Definitions.{criteria_eq};
+    ghost use Rattle.vet_base.specs.DefinitionsLaws.{criteria_eq-Decides};
 
     ghost laws = { decided criteria_eq criteria_eq-Decides };
 }

@@ -3,7 +3,8 @@ ghost use Rattle.std.specs.Prelude.{◌≡◌, ◌↔◌, IsTrue, Some, None, Ok
 ghost use Rattle.std.specs.Cmp.{partial_equiv_from_equiv};
 ghost use Rattle.vet_base.specs.Gives.{Gives, found_or};
 ghost use Rattle.vet_base.specs.Version.{read_version};
-ghost use Rattle.vet_base.specs.Delta.{delta_eq, delta_eq_equiv, delta_text, ends_of, read_delta, without_ending, without_leading, without_spaces};
+ghost use Rattle.vet_base.specs.Delta.{delta_eq, delta_text, ends_of, read_delta, without_ending, without_leading, without_spaces};
+ghost use Rattle.vet_base.specs.DeltaLaws.{delta_eq_equiv};
 
 use crate::refusal::Refusal;
 use crate::version::{VetVersion, version_text_reads_back};
@@ -103,7 +104,7 @@ impl Eq for Delta {
 
 impl Hash for Delta {
     ghost use Rattle.std.specs.Hash as fed;
-    ghost use Rattle.vet_base.specs.Delta.{delta_eq-Decides};
+    ghost use Rattle.vet_base.specs.DeltaLaws.{delta_eq-Decides};
     ghost use Rattle.vet_base.specs.Fed.{delta_fed};
 
     ghost hash_input = { delta_fed };

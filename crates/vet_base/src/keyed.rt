@@ -49,7 +49,8 @@ pub enum KeyedEdit<T: Drop> {
 
 impl<T: HasKey> Model for Keyed<T> {
     ghost use Rattle.std.specs.Prelude.{◌-◌, vec_capacity, vec_len};
-    ghost use Rattle.vet_base.specs.Keyed.{IsByKey, KeyedRoom, keyed_code};
+    ghost use Rattle.vet_base.specs.Keyed.{IsByKey, KeyedRoom};
+    ghost use Rattle.vet_base.specs.Encodings.{keyed_code};
 
     ghost Value = { KeyedRoom T };
 

@@ -16,6 +16,7 @@ pub mod day;
 pub mod defined;
 pub mod definitions;
 pub mod delta;
+pub mod document;
 pub mod exact;
 pub mod further_criteria;
 pub mod key_text;

@@ -117,7 +117,8 @@ impl Clone for Names {
 impl PartialEq for Names {
     ghost use Rattle.std.specs.Cmp.{partial_equiv_from_equiv};
     ghost use Rattle.std.specs.Prelude.{IsTrue, ◌↔◌, ◌≡◌};
-    ghost use Rattle.vet_base.specs.Names.{same_names, same_names_equiv};
+    ghost use Rattle.vet_base.specs.Names.{same_names};
+    ghost use Rattle.vet_base.specs.NamesLaws.{same_names_equiv};
 
     ghost eq = { same_names };
 
@@ -132,7 +133,7 @@ impl PartialEq for Names {
 }
 
 impl Eq for Names {
-    ghost use Rattle.vet_base.specs.Names.{same_names_equiv};
+    ghost use Rattle.vet_base.specs.NamesLaws.{same_names_equiv};
 
     ghost laws = { same_names_equiv };
 }
@@ -140,7 +141,7 @@ impl Eq for Names {
 impl Hash for Names {
     ghost use Rattle.std.specs.Hash as fed;
     ghost use Rattle.vet_base.specs.Fed.{names_fed};
-    ghost use Rattle.vet_base.specs.NameLaws.{same_names-Decides};
+    ghost use Rattle.vet_base.specs.NamesLaws.{same_names-Decides};
 
     ghost hash_input = { names_fed };
 

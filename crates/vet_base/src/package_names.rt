@@ -103,7 +103,8 @@ impl Clone for PackageNames {
 impl PartialEq for PackageNames {
     ghost use Rattle.std.specs.Cmp.{partial_equiv_from_equiv};
     ghost use Rattle.std.specs.Prelude.{IsTrue, ◌↔◌, ◌≡◌};
-    ghost use Rattle.vet_base.specs.Names.{same_names, same_names_equiv};
+    ghost use Rattle.vet_base.specs.Names.{same_names};
+    ghost use Rattle.vet_base.specs.NamesLaws.{same_names_equiv};
 
     ghost eq = { same_names };
 
@@ -118,7 +119,7 @@ impl PartialEq for PackageNames {
 }
 
 impl Eq for PackageNames {
-    ghost use Rattle.vet_base.specs.Names.{same_names_equiv};
+    ghost use Rattle.vet_base.specs.NamesLaws.{same_names_equiv};
 
     ghost laws = { same_names_equiv };
 }

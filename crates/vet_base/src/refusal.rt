@@ -138,80 +138,60 @@ impl Refusal {
     pub fn number(&self) -> u8
         ensures { result ≡ refusal_number self.now }
     {
-        match self {
-            Refusal::BadName => 1,
-            Refusal::BadVersion => 2,
-            Refusal::BadRequirement => 3,
-            Refusal::BadDay => 4,
-            Refusal::BadDelta => 5,
-            Refusal::UnknownCriterion(_) => 6,
-            Refusal::BuiltInCriterion => 7,
-            Refusal::CriterionInUse => 8,
-            Refusal::TooManyCriteria => 9,
-            Refusal::UnknownEntry => 10,
-            Refusal::EmptyWindow => 11,
-            Refusal::WindowTooLong => 12,
-            Refusal::UnknownPeer => 13,
-            Refusal::UnknownPolicy => 14,
-            Refusal::UnknownProject => 15,
-            Refusal::UnknownNode(_) => 16,
-            Refusal::TwoParties(_) => 17,
-            Refusal::TooLarge(_) => 18,
-            Refusal::UnknownMember => 19,
-            Refusal::UnknownReview => 20,
-            Refusal::ReviewClosed => 21,
-            Refusal::NotYours => 22,
-            Refusal::WrongTarget => 23,
-            Refusal::NotDemanded => 24,
-            Refusal::MovesFull => 25,
-            Refusal::TomlRefused => 26,
-            Refusal::CsvRefused(_) => 27,
-            Refusal::FieldRefused(_, _) => 28,
-            Refusal::NoMemory => 29,
-            Refusal::StoreRefused => 30,
-            Refusal::NotARegister => 31,
-        }
+        let RefusalRow(number, _) = self.row();
+        number
     }
 
     /// The refusal's name.
     pub fn name(&self) -> &'static str
         ensures { result.now ≡ refusal_name self.now }
     {
+        let RefusalRow(_, name) = self.row();
+        name
+    }
+
+    fn row(&self) -> RefusalRow
+        ensures number { result.0 ≡ refusal_number self.now }
+        ensures name { result.1.now ≡ refusal_name self.now }
+    {
         match self {
-            Refusal::BadName => "BadName",
-            Refusal::BadVersion => "BadVersion",
-            Refusal::BadRequirement => "BadRequirement",
-            Refusal::BadDay => "BadDay",
-            Refusal::BadDelta => "BadDelta",
-            Refusal::UnknownCriterion(_) => "UnknownCriterion",
-            Refusal::BuiltInCriterion => "BuiltInCriterion",
-            Refusal::CriterionInUse => "CriterionInUse",
-            Refusal::TooManyCriteria => "TooManyCriteria",
-            Refusal::UnknownEntry => "UnknownEntry",
-            Refusal::EmptyWindow => "EmptyWindow",
-            Refusal::WindowTooLong => "WindowTooLong",
-            Refusal::UnknownPeer => "UnknownPeer",
-            Refusal::UnknownPolicy => "UnknownPolicy",
-            Refusal::UnknownProject => "UnknownProject",
-            Refusal::UnknownNode(_) => "UnknownNode",
-            Refusal::TwoParties(_) => "TwoParties",
-            Refusal::TooLarge(_) => "TooLarge",
-            Refusal::UnknownMember => "UnknownMember",
-            Refusal::UnknownReview => "UnknownReview",
-            Refusal::ReviewClosed => "ReviewClosed",
-            Refusal::NotYours => "NotYours",
-            Refusal::WrongTarget => "WrongTarget",
-            Refusal::NotDemanded => "NotDemanded",
-            Refusal::MovesFull => "MovesFull",
-            Refusal::TomlRefused => "TomlRefused",
-            Refusal::CsvRefused(_) => "CsvRefused",
-            Refusal::FieldRefused(_, _) => "FieldRefused",
-            Refusal::NoMemory => "NoMemory",
-            Refusal::StoreRefused => "StoreRefused",
-            Refusal::NotARegister => "NotARegister",
+            Refusal::BadName => RefusalRow(1, "BadName"),
+            Refusal::BadVersion => RefusalRow(2, "BadVersion"),
+            Refusal::BadRequirement => RefusalRow(3, "BadRequirement"),
+            Refusal::BadDay => RefusalRow(4, "BadDay"),
+            Refusal::BadDelta => RefusalRow(5, "BadDelta"),
+            Refusal::UnknownCriterion(_) => RefusalRow(6, "UnknownCriterion"),
+            Refusal::BuiltInCriterion => RefusalRow(7, "BuiltInCriterion"),
+            Refusal::CriterionInUse => RefusalRow(8, "CriterionInUse"),
+            Refusal::TooManyCriteria => RefusalRow(9, "TooManyCriteria"),
+            Refusal::UnknownEntry => RefusalRow(10, "UnknownEntry"),
+            Refusal::EmptyWindow => RefusalRow(11, "EmptyWindow"),
+            Refusal::WindowTooLong => RefusalRow(12, "WindowTooLong"),
+            Refusal::UnknownPeer => RefusalRow(13, "UnknownPeer"),
+            Refusal::UnknownPolicy => RefusalRow(14, "UnknownPolicy"),
+            Refusal::UnknownProject => RefusalRow(15, "UnknownProject"),
+            Refusal::UnknownNode(_) => RefusalRow(16, "UnknownNode"),
+            Refusal::TwoParties(_) => RefusalRow(17, "TwoParties"),
+            Refusal::TooLarge(_) => RefusalRow(18, "TooLarge"),
+            Refusal::UnknownMember => RefusalRow(19, "UnknownMember"),
+            Refusal::UnknownReview => RefusalRow(20, "UnknownReview"),
+            Refusal::ReviewClosed => RefusalRow(21, "ReviewClosed"),
+            Refusal::NotYours => RefusalRow(22, "NotYours"),
+            Refusal::WrongTarget => RefusalRow(23, "WrongTarget"),
+            Refusal::NotDemanded => RefusalRow(24, "NotDemanded"),
+            Refusal::MovesFull => RefusalRow(25, "MovesFull"),
+            Refusal::TomlRefused => RefusalRow(26, "TomlRefused"),
+            Refusal::CsvRefused(_) => RefusalRow(27, "CsvRefused"),
+            Refusal::FieldRefused(_, _) => RefusalRow(28, "FieldRefused"),
+            Refusal::NoMemory => RefusalRow(29, "NoMemory"),
+            Refusal::StoreRefused => RefusalRow(30, "StoreRefused"),
+            Refusal::NotARegister => RefusalRow(31, "NotARegister"),
         }
     }
 }
+
+// A row of the table of refusals: the number, and the name.
+struct RefusalRow(u8, &'static str);
 
 impl From<AllocError> for Refusal {
     ghost use Rattle.vet_base.specs.declared.refusal.Refusal.TheVariants.{NoMemory};

@@ -97,7 +97,8 @@ impl Clone for Texts {
 impl PartialEq for Texts {
     ghost use Rattle.std.specs.Cmp.{partial_equiv_from_equiv};
     ghost use Rattle.std.specs.Prelude.{IsTrue, ◌↔◌, ◌≡◌};
-    ghost use Rattle.vet_base.specs.Names.{same_names, same_names_equiv};
+    ghost use Rattle.vet_base.specs.Names.{same_names};
+    ghost use Rattle.vet_base.specs.NamesLaws.{same_names_equiv};
 
     ghost eq = { same_names };
 
@@ -112,7 +113,7 @@ impl PartialEq for Texts {
 }
 
 impl Eq for Texts {
-    ghost use Rattle.vet_base.specs.Names.{same_names_equiv};
+    ghost use Rattle.vet_base.specs.NamesLaws.{same_names_equiv};
 
     ghost laws = { same_names_equiv };
 }
@@ -120,7 +121,7 @@ impl Eq for Texts {
 impl Hash for Texts {
     ghost use Rattle.std.specs.Hash as fed;
     ghost use Rattle.vet_base.specs.Fed.{names_fed};
-    ghost use Rattle.vet_base.specs.NameLaws.{same_names-Decides};
+    ghost use Rattle.vet_base.specs.NamesLaws.{same_names-Decides};
 
     ghost hash_input = { names_fed };
 

@@ -9,7 +9,8 @@ ghost use Rattle.std.specs.Cmp.{partial_equiv_from_equiv, eq_by_cmp_equiv, parti
 ghost use Rattle.std.specs.Cmp.Lexicographic.{slice_cmp};
 ghost use Rattle.semver.specs.Parse.{version_parts, memory_error};
 ghost use Rattle.semver.specs.Identifiers.{parts_of};
-ghost use Rattle.vet_base.specs.VersionOrder.{version_cmp, version_eq, version_total};
+ghost use Rattle.vet_base.specs.VersionOrder.{version_cmp, version_eq};
+ghost use Rattle.vet_base.specs.VersionOrderLaws.{version_total};
 ghost use Rattle.vet_base.specs.Gives.{Gives, found_or};
 ghost use Rattle.vet_base.specs.Version.{is_revision, plain_version, read_version, revised_version, value_of, version_at, version_text};
 
@@ -171,7 +172,7 @@ impl Ord for VetVersion {
 impl Hash for VetVersion {
     ghost use Rattle.std.specs.Hash as fed;
     ghost use Rattle.vet_base.specs.Fed.{version_fed};
-    ghost use Rattle.vet_base.specs.VersionOrder.{version_eq-Decides};
+    ghost use Rattle.vet_base.specs.VersionOrderLaws.{version_eq-Decides};
 
     ghost hash_input = { version_fed };
 

@@ -15,11 +15,15 @@ loop-place-preserved c table are =
     let n = c.loop-place.place in
     let long : length c.args.self.now.closed ≡ 64 = search in
     let closed = c.args.self.now.closed in
-    let here : get_or closed n c.index-self-place.result ≡ get_or closed n set.empty = get_or_default closed n c.index-self-place.result set.empty (omega (arith, c.loop-place-test.true, long)) in
+    let here : get_or closed n c.index-self-place.result ≡ get_or closed n set.empty =
+    get_or_default closed n c.index-self-place.result set.empty (omega (arith, c.loop-place-test.true, long)) in
     let tells = c.meets.ensures.value ∙ ap (λ s. meet s places) (here ∙ are n) in
     elim c.if-meets.branch [
-      | then-meets w ↦ w.leading-is ∙ w.with-leading.ensures ∙ ap (λ s. set.insert s n) (c.loop-place.invariant table are) ∙ leading_more table places n (sym tells ∙ w.if-meets.true)
-      | else-meets w ↦ w.leading-is ∙ c.loop-place.invariant table are ∙ leading_same table places n (sym tells ∙ w.if-meets.false)
+      | then-meets w ↦ w.leading-is ∙ w.with-leading.ensures
+          ∙ ap (λ s. set.insert s n) (c.loop-place.invariant table are)
+          ∙ leading_more table places n (sym tells ∙ w.if-meets.true)
+      | else-meets w ↦ w.leading-is ∙ c.loop-place.invariant table are
+          ∙ leading_same table places n (sym tells ∙ w.if-meets.false)
     ]
 
 pub returns : goal.returns
@@ -27,4 +31,5 @@ returns c table are =
     let long : length c.args.self.now.closed ≡ 64 = search in
     c.loop-place.invariant table are
     ∙ leading_all table c.args.set.now c.loop-place.place
-    (λ p high. sym (are p) ∙ get_or_past c.args.self.now.closed p set.empty (omega (arith, high, long, c.loop-place-test.false)))
+    (λ p high. sym (are p)
+    ∙ get_or_past c.args.self.now.closed p set.empty (omega (arith, high, long, c.loop-place-test.false)))

@@ -12,7 +12,8 @@ loop-place-preserved c =
     let a = c.self.inside.held in
     let b = c.other.inside.held in
     let n = c.loop-place.place in
-    one_more_found (λ p. (get_or a p false ≡ true) × (get_or b p false ≡ true)) c.loop-place.met n c.loop-place.invariant _
+    one_more_found (λ p. (get_or a p false ≡ true) × (get_or b p false ≡ true)) c.loop-place.met n
+    c.loop-place.invariant _
     (and_parts (get_or a n false) (get_or b n false), λ h. and_from (get_or a n false) (get_or b n false) h.0 h.1)
 
 pub returns-clause-both : goal.returns-clause-both
@@ -30,7 +31,8 @@ returns-clause-both c = (
     low : (q : ℕ) → get_or c.self.inside.held q false ≡ true → q < c.loop-place.place
     low q h = elim (cases_lt q 64) [
       | inl less ↦ omega (arith, less, c.loop-place-test.false)
-      | inr high ↦ absurd (false≢true (sym (get_or_past c.self.inside.held q false (omega (arith, high, c.self.invariant))) ∙ h))
+      | inr high ↦ absurd
+          (false≢true (sym (get_or_past c.self.inside.held q false (omega (arith, high, c.self.invariant))) ∙ h))
     ]
 
 pub returns-clause-value : goal.returns-clause-value

@@ -4,4 +4,5 @@ use Rattle.vet_base.proofs.criteria_set.CriteriaSet.meets.Given as goal
 
 abbrev pub invariant-loop-place : goal.invariant-loop-place
 invariant-loop-place l =
-    (l.met ≡ true) ↔ ((p : ℕ) × (p < l.place) × ((get_or l.self-inside.held p false ≡ true) × (get_or l.other-inside.held p false ≡ true)))
+    (l.met ≡ true) ↔ ((p : ℕ) × (p < l.place)
+    × ((get_or l.self-inside.held p false ≡ true) × (get_or l.other-inside.held p false ≡ true)))

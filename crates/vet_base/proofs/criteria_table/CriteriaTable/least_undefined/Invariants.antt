@@ -5,4 +5,5 @@ use Rattle.vet_base.specs.Defined.{least_undefined}
 use Rattle.vet_base.proofs.criteria_table.CriteriaTable.least_undefined.Given as goal
 
 abbrev pub invariant-loop-criterion : goal.invariant-loop-criterion
-invariant-loop-criterion l = option_copied l.least ≡ least_undefined (set.contains l.known) (take l.criterion-index l.fn.criteria)
+invariant-loop-criterion l =
+    option_copied l.least ≡ least_undefined (set.contains l.known) (take l.criterion-index l.fn.criteria)

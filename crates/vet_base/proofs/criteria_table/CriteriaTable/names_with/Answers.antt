@@ -5,7 +5,9 @@ use Rattle.vet_base.proofs.DefinedTables.{built_in_names, defined_len, defined_n
 use Rattle.vet_base.proofs.criteria_table.CriteriaTable.names_with.Goals as goal
 
 all_known : (c : goal.After-loop-criterion) → c.loop-criterion.known ≡ with_names built_in_names c.args.criteria.now
-all_known c = c.loop-criterion.invariant ∙ ap (with_names built_in_names) (take_all c.loop-criterion.criterion-index c.args.criteria.now (omega (arith, c.loop-criterion-test.false)))
+all_known c = c.loop-criterion.invariant
+    ∙ ap (with_names built_in_names)
+    (take_all c.loop-criterion.criterion-index c.args.criteria.now (omega (arith, c.loop-criterion-test.false)))
 
 pub returns-clause-names : goal.returns-clause-names
 returns-clause-names c n = ap (λ s. set.contains s n) (all_known c) ∙ defined_names c.args.criteria.now n

@@ -9,7 +9,8 @@ returns-in_err-check_defined-clause-told c =
 
 pub invariant_of-result : goal.invariant_of-result
 invariant_of-result c =
-    rw c.in_ok-with_built_in.ensures.ok (told_is_table c.args.criteria.items (rw c.as_slice.ensures.value at c.in_ok-check_defined.ensures))
+    rw c.in_ok-with_built_in.ensures.ok
+    (told_is_table c.args.criteria.items (rw c.as_slice.ensures.value at c.in_ok-check_defined.ensures))
 
 pub returns-clause-table : goal.returns-clause-table
 returns-clause-table c = invariant_of-result c

@@ -12,7 +12,8 @@ returns-in_err-check_set-clause-refused c =
 
 pub invariant_of-self : goal.invariant_of-self
 invariant_of-self c =
-    let may = subst (λ t. MaySet t c.args.criterion) (sym c.self.view_is) (may_set c.args.self.now c.args.criterion (no_verdict _ c.in_ok-check_set.ensures)) in
+    let may = subst (λ t. MaySet t c.args.criterion) (sym c.self.view_is)
+    (may_set c.args.self.now c.args.criterion (no_verdict _ c.in_ok-check_set.ensures)) in
     either_end c.set.result c.set.ensures.ok c.set.ensures.ok c.set.ensures.err c.set.ensures.err
     (λ a _. subst IsTable (sym a) (table_insert _ c.args.criterion c.self.invariant may))
     (λ a _. subst IsTable (sym a) c.self.invariant)

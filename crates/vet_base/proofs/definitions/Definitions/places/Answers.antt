@@ -19,9 +19,12 @@ loop-name-preserved c =
     let before = set.from_list {R = R} (take i c.args.names.now) in
     let more = take_more c.args.names.now i x c.loop-name-test.true in
     let after : set.from_list {R = R} (take (i + 1) c.args.names.now) ≡ set.insert before x =
-    ap set.from_list (more ∙ ap (λ y. take i c.args.names.now ++ y ∷ []) (sym c.name-item.is)) ∙ set.from_list_push nat_list_cmp_total only_equal (take i c.args.names.now) x in
+    ap set.from_list (more ∙ ap (λ y. take i c.args.names.now ++ y ∷ []) (sym c.name-item.is))
+    ∙ set.from_list_push nat_list_cmp_total only_equal (take i c.args.names.now) x in
     let here : c.match-place.places ≡ placed table (set.insert before x) = elim c.match-place.branch [
-      | in-Some w ↦ w.places-is ∙ w.with-places.ensures ∙ ap (λ s. set.insert s w.in-Some.place) c.loop-name.invariant ∙ sym (placed-insert_held table before x w.in-Some.place (sym c.place.ensures.value ∙ w.in-Some.is))
-      | in_default w ↦ w.places-is ∙ c.loop-name.invariant ∙ sym (placed-insert_missing table before x (sym c.place.ensures.value ∙ w.in_default.is))
+      | in-Some w ↦ w.places-is ∙ w.with-places.ensures ∙ ap (λ s. set.insert s w.in-Some.place) c.loop-name.invariant
+          ∙ sym (placed-insert_held table before x w.in-Some.place (sym c.place.ensures.value ∙ w.in-Some.is))
+      | in_default w ↦ w.places-is ∙ c.loop-name.invariant
+          ∙ sym (placed-insert_missing table before x (sym c.place.ensures.value ∙ w.in_default.is))
     ] in
     rw after here

@@ -7,6 +7,10 @@ pub set-requires : goal.set-requires
 set-requires c =
     let at = c.criteria in
     let x = c.in-Some.criterion in
-    let steps : into_iter_items at.criterion-iterator ≡ x ∷ into_iter_items c.next.new.self = c.in-Some.ensures.steps.0 in
+    let steps : into_iter_items at.criterion-iterator ≡ x ∷ into_iter_items c.next.new.self =
+    c.in-Some.ensures.steps.0 in
     let all = ap (λ xs. at.yielded ++ xs) (sym steps) ∙ at.invariant.3 in
-    record { room = rw at.invariant.2 (next_fits at.yielded (into_iter_items c.next.new.self) c.args.criteria.items x all c.requires.few) }
+    record {
+      room = rw at.invariant.2
+          (next_fits at.yielded (into_iter_items c.next.new.self) c.args.criteria.items x all c.requires.few);
+    }

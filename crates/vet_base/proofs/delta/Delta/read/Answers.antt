@@ -6,7 +6,8 @@ use Rattle.vet_base.proofs.delta.Delta.read.Goals as goal
 pub returns-in_default-read-clause-ok : goal.returns-in_default-read-clause-ok
 returns-in_default-read-clause-ok c =
     let ends = rw c.in-Some.is at c.ends_of.ensures in
-    rw (← ends) (none_told c.without_memory.result (read_version c.in-Some.from.now) (read_version c.in-Some.to.now) c.without_memory.ensures.ok)
+    rw (← ends) (none_told c.without_memory.result (read_version c.in-Some.from.now) (read_version c.in-Some.to.now)
+    c.without_memory.ensures.ok)
 
 pub returns-in_default-read-clause-no_delta : goal.returns-in_default-read-clause-no_delta
 returns-in_default-read-clause-no_delta c none =

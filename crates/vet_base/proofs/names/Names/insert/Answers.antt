@@ -8,12 +8,16 @@ use Rattle.vet_base.proofs.SetsByKey.{contains_is, from_list-with_item, own}
 use Rattle.vet_base.proofs.names.Names.insert.Goals as goal
 
 pub returns-in_err-insert-clause-held : goal.returns-in_err-insert-clause-held
-returns-in_err-insert-clause-held c held = cc (c.in_err-insert.ensures.held (contains_is c.self.inside.names.items c.args.self.now c.args.name c.self.view_is ∙ held))
+returns-in_err-insert-clause-held c held =
+    cc (c.in_err-insert.ensures.held
+    (contains_is c.self.inside.names.items c.args.self.now c.args.name c.self.view_is ∙ held))
 
 pub invariant_of-self-2 : goal.invariant_of-self-2
 invariant_of-self-2 c =
-    subst IsRising (sym c.in_ok-insert.ensures.ok) (IsByKey-with_item R nat_list_cmp_total only_equal own c.self.inside.names.items c.args.name c.self.invariant)
+    subst IsRising (sym c.in_ok-insert.ensures.ok)
+    (IsByKey-with_item R nat_list_cmp_total only_equal own c.self.inside.names.items c.args.name c.self.invariant)
 
 pub returns-clause-ok : goal.returns-clause-ok
 returns-clause-ok c =
-    ap set.from_list c.in_ok-insert.ensures.ok ∙ from_list-with_item c.self.inside.names.items c.args.name ∙ ap (λ s. set.insert s c.args.name) c.self.view_is
+    ap set.from_list c.in_ok-insert.ensures.ok ∙ from_list-with_item c.self.inside.names.items c.args.name
+    ∙ ap (λ s. set.insert s c.args.name) c.self.view_is

@@ -13,10 +13,12 @@ returns-then-not-contains c =
     let is = c.as_slice-name-items.ensures.members in
     let l : i < length xs = rw is at c.loop-name-test.true in
     let at : get_or xs i [] ≡ x = get_or_default xs i [] x l ∙ sym (c.name-item.is ∙ ap (λ ys. get_or ys i x) is) in
-    sym (find_first (λ n. not (set.contains c.args.known.now n)) xs i x l (λ k m. ap not (c.loop-name.invariant k m)) at (ap not (sym c.contains.ensures ∙ c.if-not-contains.true)))
+    sym (find_first (λ n. not (set.contains c.args.known.now n)) xs i x l (λ k m. ap not (c.loop-name.invariant k m))
+    at (ap not (sym c.contains.ensures ∙ c.if-not-contains.true)))
 
 pub returns : goal.returns
 returns c =
     let xs = members c.args.self.now in
     let is = c.as_slice-name-items.ensures.members in
-    sym (find_none (λ n. not (set.contains c.args.known.now n)) xs (λ k m. ap not (c.loop-name.invariant k (omega (arith, m, ap length is, c.loop-name-test.false)))))
+    sym (find_none (λ n. not (set.contains c.args.known.now n)) xs
+    (λ k m. ap not (c.loop-name.invariant k (omega (arith, m, ap length is, c.loop-name-test.false)))))

@@ -3,7 +3,8 @@ use Rattle.vet_base.proofs.Rising.{same_names-tells, same_names-iff}
 use Rattle.vet_base.proofs.names.NamesPartialEq.eq.Goals as goal
 
 pub returns-clause-value : goal.returns-clause-value
-returns-clause-value c = c.eq.ensures.value ∙ same_names-tells _ _ _ _ c.self.invariant c.other.invariant c.self.view_is c.other.view_is
+returns-clause-value c =
+    c.eq.ensures.value ∙ same_names-tells _ _ _ _ c.self.invariant c.other.invariant c.self.view_is c.other.view_is
 
 pub returns-clause-same : goal.returns-clause-same
 returns-clause-same c =

@@ -1,10 +1,12 @@
 use Rattle.std.proofs.Common.{◌≡◌, ◌∙◌, sym, ap}
 use Rattle.std.specs.Ordering.{is_eq}
-use Rattle.vet_base.specs.VersionOrder.{version_eq, version_eq-Decides}
+use Rattle.vet_base.specs.VersionOrder.{version_eq}
+use Rattle.vet_base.specs.VersionOrderLaws.{version_eq-Decides}
 use Rattle.vet_base.proofs.version.VetVersionPartialEq.eq.Goals as goal
 
 pub returns-clause-same : goal.returns-clause-same
 returns-clause-same c =
-    let value : c.is_eq.result ≡ version_eq c.args.self.now c.args.other.now = c.is_eq.ensures ∙ ap is_eq c.cmp.ensures in
+    let value : c.is_eq.result ≡ version_eq c.args.self.now c.args.other.now =
+    c.is_eq.ensures ∙ ap is_eq c.cmp.ensures in
     let decides = version_eq-Decides c.args.self.now c.args.other.now in
     (λ yes. decides.0 (sym value ∙ yes), λ same. value ∙ decides.1 same)

@@ -1,4 +1,4 @@
--- Sets of names, and the lists of their members.
+-- Sets of names, and the lists of their members (ours).
 use Rattle.std.specs.Prelude.{ℕ, ◌≡◌, ◌||◌, Bool, true, false, List, [], ◌∷◌, Option, Some, None}
 use Rattle.std.specs.Bool.{Decides}
 use Rattle.std.specs.List.{list_any}
@@ -8,15 +8,21 @@ use Rattle.std.specs.FinSet as set
 use Rattle.std.specs.FinMap as map
 use Rattle.std.specs.FinMap.{nat_cmp-IsAntisymmetric, slice_cmp-IsAntisymmetric}
 use Rattle.std.proofs.Common.{cond, is_some, refl, sym, ap, ◌∙◌}
+use Rattle.std.specs.Cmp.{IsEquivalence, on_equiv}
+use Rattle.std.specs.Cmp.Lexicographic.{lists_equiv, nat_list_eq_equiv}
 use Rattle.vet_base.specs.Names.{NameSet, bare, members, same_names}
 
 -- a name of the list is found with nothing beside it
-pub find-bare : (q : List ℕ) (xs : List (List ℕ)) → map.find (slice_cmp nat_cmp) q (bare xs) ≡ cond (list_any (eq_by_cmp (slice_cmp nat_cmp) q) xs) (Some tt) None
+pub find-bare : (q : List ℕ) (xs : List (List ℕ))
+    → map.find (slice_cmp nat_cmp) q (bare xs) ≡ cond (list_any (eq_by_cmp (slice_cmp nat_cmp) q) xs) (Some tt) None
 find-bare q [] = refl
-find-bare q (x ∷ xs) = elim (eq_by_cmp (slice_cmp nat_cmp) q x) as (λ b. cond b (Some tt) (map.find (slice_cmp nat_cmp) q (bare xs)) ≡ cond (b || list_any (eq_by_cmp (slice_cmp nat_cmp) q) xs) (Some tt) None) [
-  | true ↦ refl
-  | false ↦ find-bare q xs
-]
+find-bare q (x ∷ xs) =
+    elim (eq_by_cmp (slice_cmp nat_cmp) q x) as
+    (λ b. cond b (Some tt) (map.find (slice_cmp nat_cmp) q (bare xs)) ≡ cond
+    (b || list_any (eq_by_cmp (slice_cmp nat_cmp) q) xs) (Some tt) None) [
+      | true ↦ refl
+      | false ↦ find-bare q xs
+    ]
 
 -- what is there where a truth value says so
 some_marked : (b : Bool) → is_some (let o : Option (Unit {0}) = cond b (Some tt) None in o) ≡ b
@@ -27,7 +33,8 @@ some_marked false = refl
 pub any-members : (s : NameSet) (n : List ℕ) → list_any (eq_by_cmp (slice_cmp nat_cmp) n) (members s) ≡ set.contains s n
 any-members s n =
     let m = map.from_entries {R = slice_cmp nat_cmp} (bare (set.items s)) in
-    sym (map.contains_key-keys m n) ∙ ap is_some (map.get-from_entries nat_list_cmp_total (bare (set.items s)) n ∙ find-bare n (set.items s))
+    sym (map.contains_key-keys m n)
+    ∙ ap is_some (map.get-from_entries nat_list_cmp_total (bare (set.items s)) n ∙ find-bare n (set.items s))
     ∙ some_marked (list_any (eq_by_cmp (slice_cmp nat_cmp) n) (set.items s)) ∙ sym (set.contains-items s n)
 
 -- sets of the same members are the same
@@ -41,3 +48,7 @@ pub same_names-Decides : (s t : NameSet) → Decides (same_names s t) (s ≡ t)
 same_names-Decides s t =
     let h = pointwise_decides bytes_decides (members s) (members t) in
     (λ same. same_members s t (h.0 same), λ e. h.1 (ap members e))
+
+-- this is an equivalence
+pub same_names_equiv : IsEquivalence same_names
+same_names_equiv = on_equiv members (lists_equiv nat_list_eq_equiv)
