@@ -5,7 +5,8 @@ use Rattle.std.specs.Cmp.{decided}
 use Rattle.std.proofs.lemmas.Bool.{false≢true}
 use Rattle.std.proofs.lemmas.List.Folds.{list_any-append}
 use Rattle.vet_entries.specs.declared.entry.Entry.{Entry}
-use Rattle.vet_entries.specs.Entry.{entry_eq, entry_eq-Decides}
+use Rattle.vet_entries.specs.Entry.{entry_eq}
+use Rattle.vet_entries.specs.EntryLaws.{entry_eq-Decides}
 use Rattle.vet_entries.specs.Distinct.{firsts, distinct}
 
 abbrev pub has : Entry → List Entry → Bool
@@ -30,7 +31,8 @@ or_later false seen rest = refl
 pub has-same : (e x : Entry) (es : List Entry) → has x es ≡ true → entry_eq e x ≡ true → has e es ≡ true
 has-same e x es h same = ap (λ y. has y es) ((entry_eq-Decides e x).0 same) ∙ h
 
-firsts-push : (seen es : List Entry) (e : Entry) → firsts seen (es ++ e ∷ []) ≡ firsts seen es ++ one_unless (has e seen || has e es) e
+firsts-push : (seen es : List Entry) (e : Entry)
+    → firsts seen (es ++ e ∷ []) ≡ firsts seen es ++ one_unless (has e seen || has e es) e
 firsts-push seen [] e = last (has e seen)
   where
     last : (b : Bool) → cond b [] (e ∷ []) ≡ one_unless (b || false) e
@@ -40,9 +42,13 @@ firsts-push seen (x ∷ es) e = step (firsts-push seen es e) (firsts-push (x ∷
   where
     step : firsts seen (es ++ e ∷ []) ≡ firsts seen es ++ one_unless (has e seen || has e es) e
         → firsts (x ∷ seen) (es ++ e ∷ []) ≡ firsts (x ∷ seen) es ++ one_unless (has e (x ∷ seen) || has e es) e
-        → (b : Bool) → has x seen ≡ b → cond b (firsts seen (es ++ e ∷ [])) (x ∷ firsts (x ∷ seen) (es ++ e ∷ [])) ≡ cond b (firsts seen es) (x ∷ firsts (x ∷ seen) es) ++ one_unless (has e seen || (entry_eq e x || has e es)) e
-    step old new true h = old ∙ ap (λ b. firsts seen es ++ one_unless b e) (or_seen (entry_eq e x) (has e seen) (has e es) (has-same e x seen h))
-    step old new false h = ap (λ (t : List Entry). x ∷ t) (new ∙ ap (λ b. firsts (x ∷ seen) es ++ one_unless b e) (or_later (entry_eq e x) (has e seen) (has e es)))
+        → (b : Bool) → has x seen ≡ b → cond b (firsts seen (es ++ e ∷ [])) (x ∷ firsts (x ∷ seen) (es ++ e ∷ []))
+        ≡ cond b (firsts seen es) (x ∷ firsts (x ∷ seen) es) ++ one_unless
+        (has e seen || (entry_eq e x || has e es)) e
+    step old new true h = old ∙ ap (λ b. firsts seen es ++ one_unless b e)
+        (or_seen (entry_eq e x) (has e seen) (has e es) (has-same e x seen h))
+    step old new false h = ap (λ (t : List Entry). x ∷ t)
+        (new ∙ ap (λ b. firsts (x ∷ seen) es ++ one_unless b e) (or_later (entry_eq e x) (has e seen) (has e es)))
 
 -- one that is new stands at the end
 pub distinct-new : (es : List Entry) (e : Entry) → has e es ≡ false → distinct (es ++ e ∷ []) ≡ distinct es ++ e ∷ []
@@ -63,7 +69,9 @@ cond_or false true = refl
 cond_or false false = refl
 
 -- what is among the entries with one more
-pub has-new : (es : List Entry) (e q : Entry) (old : Bool) → old ≡ has q es → cond (entry_eq e q) true old ≡ has q (es ++ e ∷ [])
+pub has-new : (es : List Entry) (e q : Entry) (old : Bool) → old ≡ has q es
+    → cond (entry_eq e q) true old ≡ has q (es ++ e ∷ [])
 has-new es e q old is =
     ap (λ b. cond b true old) ((decided entry_eq entry_eq-Decides).symm e q)
-    ∙ ap (cond (entry_eq q e) true) is ∙ cond_or (entry_eq q e) (has q es) ∙ sym (list_any-append (entry_eq q) es (e ∷ []))
+    ∙ ap (cond (entry_eq q e) true) is ∙ cond_or (entry_eq q e) (has q es)
+    ∙ sym (list_any-append (entry_eq q) es (e ∷ []))

@@ -7,26 +7,32 @@ use Rattle.std.proofs.lemmas.List.Folds.{list_any-append}
 
 module _ {X : Type 0} where
   -- one more item of a list
-  pub one_more : (xs : List X) (i : ℕ) (x : X) → i < length xs → x ≡ get_or xs i x → take (i + 1) xs ≡ take i xs ++ x ∷ []
+  pub one_more : (xs : List X) (i : ℕ) (x : X) → i < length xs → x ≡ get_or xs i x
+      → take (i + 1) xs ≡ take i xs ++ x ∷ []
   one_more xs i x l e = take_more xs i x l ∙ ap (λ y. take i xs ++ y ∷ []) (sym e)
 
-  pub any_more : (p : X → Bool) (xs : List X) (i : ℕ) (x : X) → i < length xs → x ≡ get_or xs i x → list_any p (take (i + 1) xs) ≡ (list_any p (take i xs) || (p x || false))
+  pub any_more : (p : X → Bool) (xs : List X) (i : ℕ) (x : X) → i < length xs → x ≡ get_or xs i x
+      → list_any p (take (i + 1) xs) ≡ (list_any p (take i xs) || (p x || false))
   any_more p xs i x l e = ap (list_any p) (one_more xs i x l e) ∙ list_any-append p (take i xs) (x ∷ [])
 
-  pub map_more : {Y : Type 0} (f : X → Y) (xs : List X) (i : ℕ) (x : X) → i < length xs → x ≡ get_or xs i x → map f (take (i + 1) xs) ≡ map f (take i xs) ++ f x ∷ []
+  pub map_more : {Y : Type 0} (f : X → Y) (xs : List X) (i : ℕ) (x : X) → i < length xs → x ≡ get_or xs i x
+      → map f (take (i + 1) xs) ≡ map f (take i xs) ++ f x ∷ []
   map_more f xs i x l e = ap (map f) (one_more xs i x l e) ∙ map-append f (take i xs) (x ∷ [])
 
   -- one more item that is marked or not
-  pub filter_one : (p : X → Bool) (xs : List X) (x : X) (b : Bool) → p x ≡ b → filter p (xs ++ x ∷ []) ≡ filter p xs ++ cond b (x ∷ []) []
+  pub filter_one : (p : X → Bool) (xs : List X) (x : X) (b : Bool) → p x ≡ b
+      → filter p (xs ++ x ∷ []) ≡ filter p xs ++ cond b (x ∷ []) []
   filter_one p xs x b e = filter-append p xs (x ∷ []) ∙ ap (λ c. filter p xs ++ cond c (x ∷ []) []) e
 
   -- the mark at a place is that of the item there
-  pub mark_at : (p : X → Bool) (xs : List X) (i : ℕ) (x : X) (b : Bool) → i < length xs → x ≡ get_or xs i x → get_or (map p xs) i false ≡ b → p x ≡ b
+  pub mark_at : (p : X → Bool) (xs : List X) (i : ℕ) (x : X) (b : Bool) → i < length xs → x ≡ get_or xs i x
+      → get_or (map p xs) i false ≡ b → p x ≡ b
   mark_at p [] i x b l e m = absurd (omega (arith, l))
   mark_at p (y ∷ ys) zero x b l e m = ap p e ∙ m
   mark_at p (y ∷ ys) (suc i) x b l e m = mark_at p ys i x b (omega (arith, l)) e m
 
-  pub mark_of : {Y : Type 0} (p : Y → Bool) (f : X → Y) (xs : List X) (i : ℕ) (x : X) (b : Bool) → i < length xs → x ≡ get_or xs i x → get_or (map p (map f xs)) i false ≡ b → p (f x) ≡ b
+  pub mark_of : {Y : Type 0} (p : Y → Bool) (f : X → Y) (xs : List X) (i : ℕ) (x : X) (b : Bool) → i < length xs
+      → x ≡ get_or xs i x → get_or (map p (map f xs)) i false ≡ b → p (f x) ≡ b
   mark_of p f [] i x b l e m = absurd (omega (arith, l))
   mark_of p f (y ∷ ys) zero x b l e m = ap (λ z. p (f z)) e ∙ m
   mark_of p f (y ∷ ys) (suc i) x b l e m = mark_of p f ys i x b (omega (arith, l)) e m
@@ -42,7 +48,9 @@ module _ {X : Type 0} where
   marks_count p [] = refl
   marks_count p (x ∷ xs) = by (p x) (marks_count p xs)
     where
-      by : (b : Bool) → length (filter (λ c. c) (map p xs)) ≡ length (filter p xs) → length (cond b (b ∷ filter (λ c. c) (map p xs)) (filter (λ c. c) (map p xs))) ≡ length (cond b (x ∷ filter p xs) (filter p xs))
+      by : (b : Bool) → length (filter (λ c. c) (map p xs)) ≡ length (filter p xs)
+          → length (cond b (b ∷ filter (λ c. c) (map p xs)) (filter (λ c. c) (map p xs)))
+          ≡ length (cond b (x ∷ filter p xs) (filter p xs))
       by true h = omega (arith, h)
       by false h = h
 
@@ -50,7 +58,8 @@ module _ {X : Type 0} where
 abbrev pub count : List Bool → ℕ
 count marks = length (filter (λ b. b) marks)
 
-pub count_more : (marks : List Bool) (i : ℕ) (b : Bool) → i < length marks → get_or marks i false ≡ b → count (take (i + 1) marks) ≡ count (take i marks) + cond b 1 0
+pub count_more : (marks : List Bool) (i : ℕ) (b : Bool) → i < length marks → get_or marks i false ≡ b
+    → count (take (i + 1) marks) ≡ count (take i marks) + cond b 1 0
 count_more marks i b l e =
     ap count (take_more marks i false l ∙ ap (λ c. take i marks ++ c ∷ []) e)
     ∙ ap length (filter-append (λ c. c) (take i marks) (b ∷ []))
@@ -63,11 +72,14 @@ count_more marks i b l e =
 
 pub count_within : (marks : List Bool) (i : ℕ) → count (take i marks) ≤ count marks
 count_within marks i =
-    let parts : count marks ≡ count (take i marks) + count (drop i marks) = ap count (sym (take-append-drop i marks)) ∙ ap length (filter-append (λ c. c) (take i marks) (drop i marks)) ∙ length-append (filter (λ c. c) (take i marks)) (filter (λ c. c) (drop i marks)) in
+    let parts : count marks ≡ count (take i marks) + count (drop i marks) = ap count (sym (take-append-drop i marks))
+    ∙ ap length (filter-append (λ c. c) (take i marks) (drop i marks))
+    ∙ length-append (filter (λ c. c) (take i marks)) (filter (λ c. c) (drop i marks)) in
     omega (arith, parts)
 
 -- what is put in a map under one more key
-pub put_more : {X : Type 0} (same before : Bool) (x : X) → cond same (Some x) (cond before (Some x) None) ≡ cond (before || (same || false)) (Some x) None
+pub put_more : {X : Type 0} (same before : Bool) (x : X) → cond same (Some x) (cond before (Some x) None)
+    ≡ cond (before || (same || false)) (Some x) None
 put_more true true x = refl
 put_more true false x = refl
 put_more false true x = refl
@@ -83,7 +95,9 @@ found_alike f None = refl
 found_alike f (Some x) = refl
 
 -- a mark that is set by one more entry
-pub mark_more : (some same : Bool) (o : Option Bool) → option_map (λ before. before || same) (option_map (λ before. before || some) o) ≡ option_map (λ before. before || (some || (same || false))) o
+pub mark_more : (some same : Bool) (o : Option Bool)
+    → option_map (λ before. before || same) (option_map (λ before. before || some) o)
+    ≡ option_map (λ before. before || (some || (same || false))) o
 mark_more some same None = refl
 mark_more some same (Some true) = refl
 mark_more true same (Some false) = refl
@@ -91,7 +105,8 @@ mark_more false true (Some false) = refl
 mark_more false false (Some false) = refl
 
 -- a mark that is put where the entry is there, or stays
-pub mark_put : (same : Bool) (o : Option Bool) → (same ≡ true → is_some o ≡ true) → cond same (Some true) o ≡ option_map (λ before. before || same) o
+pub mark_put : (same : Bool) (o : Option Bool) → (same ≡ true → is_some o ≡ true)
+    → cond same (Some true) o ≡ option_map (λ before. before || same) o
 mark_put true (Some true) h = refl
 mark_put true (Some false) h = refl
 mark_put true None h = cc (h refl)

@@ -35,41 +35,51 @@ at_greater a n Equal h e = cc e
 at_greater a n Greater h e = ranked a n Greater h
 
 -- numbers that rise are searched in order
-index_rises : (a b n : ℕ) (r s : Ordering) → r ≡ nat_cmp a n → s ≡ nat_cmp b n → a ≤ b → ordering_index r ≤ ordering_index s
+index_rises : (a b n : ℕ) (r s : Ordering) → r ≡ nat_cmp a n → s ≡ nat_cmp b n → a ≤ b
+    → ordering_index r ≤ ordering_index s
 index_rises a b n Less s h g le = omega arith
-index_rises a b n Equal Less h g le = (let x = ranked a n Equal h in let y = ranked b n Less g in absurd (omega (arith, x, y, le)))
+index_rises a b n Equal Less h g le =
+    (let x = ranked a n Equal h in let y = ranked b n Less g in absurd (omega (arith, x, y, le)))
 index_rises a b n Equal Equal h g le = omega arith
 index_rises a b n Equal Greater h g le = omega arith
-index_rises a b n Greater Less h g le = (let x = ranked a n Greater h in let y = ranked b n Less g in absurd (omega (arith, x, y, le)))
-index_rises a b n Greater Equal h g le = (let x = ranked a n Greater h in let y = ranked b n Equal g in absurd (omega (arith, x, y, le)))
+index_rises a b n Greater Less h g le =
+    (let x = ranked a n Greater h in let y = ranked b n Less g in absurd (omega (arith, x, y, le)))
+index_rises a b n Greater Equal h g le =
+    (let x = ranked a n Greater h in let y = ranked b n Equal g in absurd (omega (arith, x, y, le)))
 index_rises a b n Greater Greater h g le = omega arith
 
-rises : (entries : List HeldEntry) (n : ℕ) → AreByNumber entries → IsNonDecreasingBy (λ (h : HeldEntry). ordering_index (nat_cmp h.number n)) entries
+rises : (entries : List HeldEntry) (n : ℕ) → AreByNumber entries
+    → IsNonDecreasingBy (λ (h : HeldEntry). ordering_index (nat_cmp h.number n)) entries
 rises entries n up i j d le l = elim (cases_lt i j) [
   | inl before ↦ (let lower = up i j d before l in index_rises _ _ n _ _ refl refl (omega (arith, lower)))
   | inr not_before ↦ (let at : i ≡ j = omega (arith, le, not_before) in rw at (omega arith))
 ]
 
 -- the place that a search finds is that of the number, and where it finds none, none is
-pub found_place : (entries : List HeldEntry) (n i : ℕ) → AreByNumber entries → i < length entries → ((d : HeldEntry) → nat_cmp (get_or entries i d).number n ≡ Equal)
+pub found_place : (entries : List HeldEntry) (n i : ℕ) → AreByNumber entries → i < length entries
+    → ((d : HeldEntry) → nat_cmp (get_or entries i d).number n ≡ Equal)
     → place_of entries n ≡ Some i
 found_place [] n i up within at = absurd (omega (arith, within))
 found_place (x ∷ rest) n i up within at =
     let entries : List HeldEntry = x ∷ rest in
     let here : (d : HeldEntry) → (get_or entries i d).number ≡ n = λ d. at_equal _ n _ refl (at d) in
-    let first : position_or_len (has_number n) entries ≡ i = position_or_len_is (has_number n) entries i x (omega (arith, within))
+    let first : position_or_len (has_number n) entries ≡ i = position_or_len_is (has_number n) entries i x
+    (omega (arith, within))
     (λ k l. differs _ n (λ e. (let lower = up k i x l within in absurd (omega (arith, lower, here x, e)))))
     (λ l. same _ n (here x)) in
     rw (first, lt-ltb i (length entries) within) refl
 
 pub no_place : (entries : List HeldEntry) (n i : ℕ) → AreByNumber entries
-    → (IsNonDecreasingBy (λ (h : HeldEntry). ordering_index (nat_cmp h.number n)) entries → IsPartitionPoint (λ (h : HeldEntry). nat_cmp h.number n ≡ Less) (λ (h : HeldEntry). nat_cmp h.number n ≡ Greater) entries i)
+    → (IsNonDecreasingBy (λ (h : HeldEntry). ordering_index (nat_cmp h.number n)) entries
+    → IsPartitionPoint (λ (h : HeldEntry). nat_cmp h.number n ≡ Less)
+    (λ (h : HeldEntry). nat_cmp h.number n ≡ Greater) entries i)
     → place_of entries n ≡ None
 no_place [] n i up parts = refl
 no_place (x ∷ rest) n i up parts =
     let entries : List HeldEntry = x ∷ rest in
     let p = parts (rises entries n up) in
-    let none : position_or_len (has_number n) entries ≡ length entries = position_or_len_is (has_number n) entries (length entries) x (omega arith)
+    let none : position_or_len (has_number n) entries ≡ length entries = position_or_len_is (has_number n) entries
+    (length entries) x (omega arith)
     (λ k l. differs _ n (λ e. elim (cases_lt k i) [
       | inl front ↦ (let lower = at_less _ n _ refl (p.0 k x (omega arith) front) in omega (arith, lower, e))
       | inr back ↦ (let higher = at_greater _ n _ refl (p.1 k x back l) in omega (arith, higher, e))

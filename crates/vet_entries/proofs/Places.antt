@@ -4,19 +4,21 @@ use Rattle.std.specs.List.{All, filter, range_with_len}
 use Rattle.std.proofs.lemmas.List.{append-nil}
 use Rattle.std.proofs.lemmas.List.Elements.{All-head, All-tail, filter-append}
 use Rattle.std.proofs.lemmas.List.FromFn.{length-range_with_len, get_or-range_with_len}
-use Rattle.vet_base.proofs.KeyedLemmas.{filter_drops, filter_keeps}
+use Rattle.vet_base.proofs.ListLemmas.{filter_drops, filter_keeps}
 use Rattle.vet_entries.specs.ByPackage.{up, down}
 
 -- ---- filters
 
-pub filter-map : {X Y : Type 0} (p : Y → Bool) (q : X → Bool) (f : X → Y) (xs : List X) → All (λ x. p (f x) ≡ q x) xs → filter p (map f xs) ≡ map f (filter q xs)
+pub filter-map : {X Y : Type 0} (p : Y → Bool) (q : X → Bool) (f : X → Y) (xs : List X) → All (λ x. p (f x) ≡ q x) xs
+    → filter p (map f xs) ≡ map f (filter q xs)
 filter-map p q f [] h = refl
 filter-map {X} {Y} p q f (x ∷ xs) h =
     ap (λ b. cond b (f x ∷ filter p (map f xs)) (filter p (map f xs))) (All-head (λ x. p (f x) ≡ q x) x xs h)
     ∙ ap (λ (ys : List Y). cond (q x) (f x ∷ ys) ys) (filter-map p q f xs (All-tail (λ x. p (f x) ≡ q x) x xs h))
     ∙ out (q x)
   where
-    out : (b : Bool) → cond b (f x ∷ map f (filter q xs)) (map f (filter q xs)) ≡ map f (cond b (x ∷ filter q xs) (filter q xs))
+    out : (b : Bool) → cond b (f x ∷ map f (filter q xs)) (map f (filter q xs))
+        ≡ map f (cond b (x ∷ filter q xs) (filter q xs))
     out true = refl
     out false = refl
 
@@ -30,7 +32,9 @@ pub filter-filter : {X : Type 0} (p q : X → Bool) (xs : List X) → filter p (
 filter-filter p q [] = refl
 filter-filter {X} p q (x ∷ xs) = step (filter-filter p q xs) (q x)
   where
-    step : filter p (filter q xs) ≡ filter (λ x. q x && p x) xs → (b : Bool) → filter p (cond b (x ∷ filter q xs) (filter q xs)) ≡ cond (b && p x) (x ∷ filter (λ x. q x && p x) xs) (filter (λ x. q x && p x) xs)
+    step : filter p (filter q xs) ≡ filter (λ x. q x && p x) xs → (b : Bool)
+        → filter p (cond b (x ∷ filter q xs) (filter q xs)) ≡ cond (b && p x) (x ∷ filter (λ x. q x && p x) xs)
+        (filter (λ x. q x && p x) xs)
     step rest true = ap (λ (ys : List X). cond (p x) (x ∷ ys) ys) rest
     step rest false = rest
 
@@ -42,34 +46,44 @@ and_swap false false = refl
 
 pub filter_swap : {X : Type 0} (p q : X → Bool) (xs : List X) → filter p (filter q xs) ≡ filter q (filter p xs)
 filter_swap p q xs =
-    filter-filter p q xs ∙ filter_same (λ x. q x && p x) (λ x. p x && q x) xs (λ k d l. and_swap (q (get_or xs k d)) (p (get_or xs k d))) ∙ sym (filter-filter q p xs)
+    filter-filter p q xs ∙ filter_same (λ x. q x && p x) (λ x. p x && q x) xs
+    (λ k d l. and_swap (q (get_or xs k d)) (p (get_or xs k d))) ∙ sym (filter-filter q p xs)
 
 -- what a test keeps of a list cut where the test turns
-pub filter_front : {X : Type 0} (p : X → Bool) (xs ys : List X) → All (λ x. p x ≡ true) xs → All (λ x. p x ≡ false) ys → filter p (xs ++ ys) ≡ xs
+pub filter_front : {X : Type 0} (p : X → Bool) (xs ys : List X) → All (λ x. p x ≡ true) xs → All (λ x. p x ≡ false) ys
+    → filter p (xs ++ ys) ≡ xs
 filter_front p xs ys h g =
-    filter-append p xs ys ∙ ap (λ zs. zs ++ filter p ys) (filter_keeps p xs h) ∙ ap (λ zs. xs ++ zs) (filter_drops p ys g) ∙ append-nil xs
+    filter-append p xs ys ∙ ap (λ zs. zs ++ filter p ys) (filter_keeps p xs h)
+    ∙ ap (λ zs. xs ++ zs) (filter_drops p ys g) ∙ append-nil xs
 
-pub filter_back : {X : Type 0} (p : X → Bool) (xs ys : List X) → All (λ x. p x ≡ false) xs → All (λ x. p x ≡ true) ys → filter p (xs ++ ys) ≡ ys
+pub filter_back : {X : Type 0} (p : X → Bool) (xs ys : List X) → All (λ x. p x ≡ false) xs → All (λ x. p x ≡ true) ys
+    → filter p (xs ++ ys) ≡ ys
 filter_back p xs ys h g =
     filter-append p xs ys ∙ ap (λ zs. zs ++ filter p ys) (filter_drops p xs h) ∙ filter_keeps p ys g
 
 -- ---- ranges
 
-pub map_range : (f : ℕ → ℕ) (a b n : ℕ) → ((k : ℕ) → k < n → f (a + k) ≡ b + k) → map f (range_with_len a n) ≡ range_with_len b n
+pub map_range : (f : ℕ → ℕ) (a b n : ℕ) → ((k : ℕ) → k < n → f (a + k) ≡ b + k)
+    → map f (range_with_len a n) ≡ range_with_len b n
 map_range f a b zero h = refl
 map_range f a b (suc n) h =
-    let first : f a ≡ b = ap f (let e : a ≡ a + 0 = omega arith in e) ∙ h 0 (omega arith) ∙ (let e : b + 0 ≡ b = omega arith in e) in
-    let rest = map_range f (a + 1) (b + 1) n (λ k l. ap f (let e : a + 1 + k ≡ a + (k + 1) = omega arith in e) ∙ h (k + 1) (omega arith) ∙ (let e : b + (k + 1) ≡ b + 1 + k = omega arith in e)) in
+    let first : f a ≡ b = ap f (let e : a ≡ a + 0 = omega arith in e) ∙ h 0 (omega arith)
+    ∙ (let e : b + 0 ≡ b = omega arith in e) in
+    let rest = map_range f (a + 1) (b + 1) n (λ k l. ap f (let e : a + 1 + k ≡ a + (k + 1) = omega arith in e)
+    ∙ h (k + 1) (omega arith) ∙ (let e : b + (k + 1) ≡ b + 1 + k = omega arith in e)) in
     λ i. first i ∷ rest i
 
 pub range-append : (a n m : ℕ) → range_with_len a (n + m) ≡ range_with_len a n ++ range_with_len (a + n) m
-range-append a zero m = ap (range_with_len a) (let e : 0 + m ≡ m = omega arith in e) ∙ ap (λ b. range_with_len b m) (let e : a ≡ a + 0 = omega arith in e)
+range-append a zero m = ap (range_with_len a) (let e : 0 + m ≡ m = omega arith in e)
+    ∙ ap (λ b. range_with_len b m) (let e : a ≡ a + 0 = omega arith in e)
 range-append a (suc n) m =
     ap (range_with_len a) (let e : suc n + m ≡ suc (n + m) = omega arith in e)
-    ∙ ap (λ zs. a ∷ zs) (range-append (a + 1) n m ∙ ap (λ b. range_with_len (a + 1) n ++ range_with_len b m) (let e : a + 1 + n ≡ a + suc n = omega arith in e))
+    ∙ ap (λ zs. a ∷ zs) (range-append (a + 1) n m ∙ ap (λ b. range_with_len (a + 1) n ++ range_with_len b m)
+    (let e : a + 1 + n ≡ a + suc n = omega arith in e))
 
 -- the places up to a length, around one of them
-pub range_around : (at behind n : ℕ) → n ≡ at + suc behind → range_with_len 0 n ≡ range_with_len 0 at ++ at ∷ range_with_len (at + 1) behind
+pub range_around : (at behind n : ℕ) → n ≡ at + suc behind
+    → range_with_len 0 n ≡ range_with_len 0 at ++ at ∷ range_with_len (at + 1) behind
 range_around at behind n e =
     ap (range_with_len 0) e ∙ range-append 0 at (suc behind)
     ∙ ap (λ b. range_with_len 0 at ++ range_with_len b (suc behind)) (let z : 0 + at ≡ at = omega arith in z)
@@ -115,10 +129,13 @@ down_above (suc at) zero l = absurd (omega arith)
 down_above (suc at) (suc place) l = (let lower = down_above at place (omega arith) in omega arith)
 
 -- lists cut where a test turns are cut alike
-pub cut_alike : {X : Type 0} (p : X → Bool) (xs ys us vs : List X) → All (λ x. p x ≡ true) xs → All (λ x. p x ≡ false) ys → All (λ x. p x ≡ true) us → All (λ x. p x ≡ false) vs → xs ++ ys ≡ us ++ vs → (xs ≡ us) × (ys ≡ vs)
+pub cut_alike : {X : Type 0} (p : X → Bool) (xs ys us vs : List X) → All (λ x. p x ≡ true) xs
+    → All (λ x. p x ≡ false) ys → All (λ x. p x ≡ true) us → All (λ x. p x ≡ false) vs → xs ++ ys ≡ us ++ vs
+    → (xs ≡ us) × (ys ≡ vs)
 cut_alike {X} p xs ys us vs h g k j e = (
   sym (filter_front p xs ys h g) ∙ ap (filter p) e ∙ filter_front p us vs k j,
-  sym (filter_back (λ x. not (p x)) xs ys (turned xs true h) (turned ys false g)) ∙ ap (filter (λ x. not (p x))) e ∙ filter_back (λ x. not (p x)) us vs (turned us true k) (turned vs false j),
+  sym (filter_back (λ x. not (p x)) xs ys (turned xs true h) (turned ys false g)) ∙ ap (filter (λ x. not (p x))) e
+      ∙ filter_back (λ x. not (p x)) us vs (turned us true k) (turned vs false j),
 )
   where
     turned : (zs : List X) (b : Bool) → All (λ x. p x ≡ b) zs → All (λ x. not (p x) ≡ not b) zs

@@ -13,7 +13,8 @@ use Rattle.vet_base.specs.declared.criterion.Criterion.{Criterion}
 use Rattle.vet_base.specs.Criteria.{Criteria, built_in_criteria, run_criterion, deploy_criterion, safe_to_run, safe_to_deploy}
 use Rattle.vet_base.specs.CriteriaChanges.{is_built_in}
 use Rattle.vet_base.specs.Defined.{defined}
-use Rattle.vet_base.specs.Definitions.{criteria_eq, criteria_eq-Decides}
+use Rattle.vet_base.specs.Definitions.{criteria_eq}
+use Rattle.vet_base.specs.DefinitionsLaws.{criteria_eq-Decides}
 use Rattle.vet_base.specs.Items.{IsIn, NamedOnce, SameItems}
 use Rattle.vet_base.proofs.Changes.{not_this}
 use Rattle.vet_base.proofs.DefinedLaws.{get_with}
@@ -21,7 +22,8 @@ use Rattle.vet_base.proofs.DefinedTables.{with_criteria}
 use Rattle.vet_base.proofs.Rising.{R, eq-itself, equal-from_eq, only_equal}
 use Rattle.vet_entries.specs.declared.entry.Entry.{Entry}
 use Rattle.vet_entries.specs.declared.facts.HeldEntry.{HeldEntry}
-use Rattle.vet_entries.specs.Entry.{entry_eq, entry_eq-Decides}
+use Rattle.vet_entries.specs.Entry.{entry_eq}
+use Rattle.vet_entries.specs.EntryLaws.{entry_eq-Decides}
 use Rattle.vet_entries.specs.HeldPeer.{as_peers}
 use Rattle.vet_entries.specs.ImportLaws.{SameItemsAreSame}
 use Rattle.vet_entries.specs.Replaced.{comes_again, is_held}
@@ -41,37 +43,53 @@ other_name a b h = by (eq_by_cmp R a b) refl
     by false e = refl
 
 -- each is found under its name
-get_named : (table : Criteria) (cs : List Criterion) (c : Criterion) → NamedOnce name_of cs → IsIn c cs → map.get (with_criteria table cs) c.name ≡ Some c
+get_named : (table : Criteria) (cs : List Criterion) (c : Criterion) → NamedOnce name_of cs → IsIn c cs
+    → map.get (with_criteria table cs) c.name ≡ Some c
 get_named table [] c once i = absurd i
-get_named table (d ∷ cs) c once (inl e) = subst (λ (x : Criterion). map.get (with_criteria table (d ∷ cs)) x.name ≡ Some x) (sym e) (
-    get_with (map.insert table d.name d) cs d.name (all_in (λ x. eq_by_cmp R d.name x.name ≡ false) cs (λ x i. other_name d.name x.name (in_all (λ y. d.name ≡ y.name → ⊥) cs (pairs_head (λ a b. name_of a ≡ name_of b → ⊥) d cs once) x i)))
+get_named table (d ∷ cs) c once (inl e) =
+    subst (λ (x : Criterion). map.get (with_criteria table (d ∷ cs)) x.name ≡ Some x) (sym e) (
+    get_with (map.insert table d.name d) cs d.name
+    (all_in (λ x. eq_by_cmp R d.name x.name ≡ false) cs
+    (λ x i. other_name d.name x.name
+    (in_all (λ y. d.name ≡ y.name → ⊥) cs (pairs_head (λ a b. name_of a ≡ name_of b → ⊥) d cs once) x i)))
     ∙ map.get-insert nat_list_cmp_total table d.name d d.name
     ∙ ap (λ b. cond b (Some d) (map.get table d.name)) (eq-itself d.name))
-get_named table (d ∷ cs) c once (inr i) = get_named (map.insert table d.name d) cs c (pairs_tail (λ a b. name_of a ≡ name_of b → ⊥) d cs once) i
+get_named table (d ∷ cs) c once (inr i) = get_named (map.insert table d.name d) cs c
+    (pairs_tail (λ a b. name_of a ≡ name_of b → ⊥) d cs once) i
 
 abbrev has_name : List ℕ → Criterion → Bool
 has_name q c = eq_by_cmp R q c.name
 
-none_has : (q : List ℕ) (cs : List Criterion) → list_any (has_name q) cs ≡ false → All (λ c. eq_by_cmp R q c.name ≡ false) cs
+none_has : (q : List ℕ) (cs : List Criterion) → list_any (has_name q) cs ≡ false
+    → All (λ c. eq_by_cmp R q c.name ≡ false) cs
 none_has q [] h = All-nil (λ (c : Criterion). eq_by_cmp R q c.name ≡ false)
-none_has q (c ∷ cs) h = (let parts = or_parts (has_name q c) (list_any (has_name q) cs) h in All-cons (λ d. eq_by_cmp R q d.name ≡ false) c cs parts.0 (none_has q cs parts.1))
+none_has q (c ∷ cs) h =
+    (let parts = or_parts (has_name q c) (list_any (has_name q) cs) h in All-cons (λ d. eq_by_cmp R q d.name ≡ false) c
+    cs parts.0 (none_has q cs parts.1))
 
 -- what has a name among some is found under it
-get_of : (table : Criteria) (cs : List Criterion) (q : List ℕ) (c : Criterion) → NamedOnce name_of cs → IsIn c cs → has_name q c ≡ true → map.get (with_criteria table cs) q ≡ Some c
-get_of table cs q c once i t = ap (map.get (with_criteria table cs)) (equal-from_eq q c.name t) ∙ get_named table cs c once i
+get_of : (table : Criteria) (cs : List Criterion) (q : List ℕ) (c : Criterion) → NamedOnce name_of cs → IsIn c cs
+    → has_name q c ≡ true → map.get (with_criteria table cs) q ≡ Some c
+get_of table cs q c once i t = ap (map.get (with_criteria table cs)) (equal-from_eq q c.name t)
+    ∙ get_named table cs c once i
 
 -- the same criteria define the same, in whatever order
-same_defined : (xs ys : List Criterion) → NamedOnce name_of xs → NamedOnce name_of ys → SameItems xs ys → defined xs ≡ defined ys
-same_defined xs ys once once' same = map.same_map nat_list_cmp_total only_equal (defined xs) (defined ys) (λ q. by q (list_any (has_name q) xs) refl)
+same_defined : (xs ys : List Criterion) → NamedOnce name_of xs → NamedOnce name_of ys → SameItems xs ys
+    → defined xs ≡ defined ys
+same_defined xs ys once once' same = map.same_map nat_list_cmp_total only_equal (defined xs) (defined ys)
+    (λ q. by q (list_any (has_name q) xs) refl)
   where
     absent : (q : List ℕ) → list_any (has_name q) xs ≡ false → (b : Bool) → list_any (has_name q) ys ≡ b → b ≡ false
-    absent q none true t = (let c = any_in (has_name q) ys t in absurd (false≢true (sym none ∙ in_any (has_name q) xs c.0 (same.1 c.0 c.1.0) c.1.1)))
+    absent q none true t =
+        (let c = any_in (has_name q) ys t
+        in absurd (false≢true (sym none ∙ in_any (has_name q) xs c.0 (same.1 c.0 c.1.0) c.1.1)))
     absent q none false t = refl
 
     by : (q : List ℕ) (b : Bool) → list_any (has_name q) xs ≡ b → map.get (defined xs) q ≡ map.get (defined ys) q
     by q true t =
         let c = any_in (has_name q) xs t in
-        get_of built_in_criteria xs q c.0 once c.1.0 c.1.1 ∙ sym (get_of built_in_criteria ys q c.0 once' (same.0 c.0 c.1.0) c.1.1)
+        get_of built_in_criteria xs q c.0 once c.1.0 c.1.1
+        ∙ sym (get_of built_in_criteria ys q c.0 once' (same.0 c.0 c.1.0) c.1.1)
     by q false t =
         get_with built_in_criteria xs q (none_has q xs t)
         ∙ sym (get_with built_in_criteria ys q (none_has q ys (absent q t (list_any (has_name q) ys) refl ∙ refl)))
@@ -82,12 +100,16 @@ none_built_in q h =
     let parts = or_parts (pointwise nat_eq q safe_to_run) (pointwise nat_eq q safe_to_deploy) h in
     let turned = (eq_by_cmp_equiv nat_list_cmp_total).symm in
     get_with map.empty (run_criterion ∷ deploy_criterion ∷ []) q
-    (All-cons (λ (c : Criterion). eq_by_cmp R q c.name ≡ false) run_criterion (deploy_criterion ∷ []) (turned q safe_to_run ∙ not_this q safe_to_run parts.0)
-    (All-cons (λ (c : Criterion). eq_by_cmp R q c.name ≡ false) deploy_criterion [] (turned q safe_to_deploy ∙ not_this q safe_to_deploy parts.1) (All-nil (λ (c : Criterion). eq_by_cmp R q c.name ≡ false))))
+    (All-cons (λ (c : Criterion). eq_by_cmp R q c.name ≡ false) run_criterion (deploy_criterion ∷ [])
+    (turned q safe_to_run ∙ not_this q safe_to_run parts.0)
+    (All-cons (λ (c : Criterion). eq_by_cmp R q c.name ≡ false) deploy_criterion []
+    (turned q safe_to_deploy ∙ not_this q safe_to_deploy parts.1)
+    (All-nil (λ (c : Criterion). eq_by_cmp R q c.name ≡ false))))
     ∙ map.get-empty R q
 
 -- what further criteria define tells them
-defined_items : (xs ys : List Criterion) → NamedOnce name_of xs → NamedOnce name_of ys → All (λ c. is_built_in c.name ≡ false) xs → defined xs ≡ defined ys → (c : Criterion) → IsIn c xs → IsIn c ys
+defined_items : (xs ys : List Criterion) → NamedOnce name_of xs → NamedOnce name_of ys
+    → All (λ c. is_built_in c.name ≡ false) xs → defined xs ≡ defined ys → (c : Criterion) → IsIn c xs → IsIn c ys
 defined_items xs ys once once' further same c i = by (list_any (has_name c.name) ys) refl
   where
     there : map.get (defined ys) c.name ≡ Some c
@@ -99,7 +121,8 @@ defined_items xs ys once once' further same c i = by (list_any (has_name c.name)
         let it : d.0 ≡ c = same_Some d.0 c (sym (get_of built_in_criteria ys c.name d.0 once' d.1.0 d.1.1) ∙ there) in
         subst (λ x. IsIn x ys) it d.1.0
     by false t =
-        let none : map.get (defined ys) c.name ≡ None = get_with built_in_criteria ys c.name (none_has c.name ys t) ∙ none_built_in c.name (in_all (λ x. is_built_in x.name ≡ false) xs further c i) in
+        let none : map.get (defined ys) c.name ≡ None = get_with built_in_criteria ys c.name (none_has c.name ys t)
+        ∙ none_built_in c.name (in_all (λ x. is_built_in x.name ≡ false) xs further c i) in
         cc (sym none ∙ there)
 
 -- ---- tests of all items
@@ -122,17 +145,21 @@ module _ {X : Type 0} (p : X → Bool) where
 
 module _ (held : List HeldEntry) (theirs : List Entry) where
   again_of : SameItems theirs (entries_of held) → list_all (comes_again theirs) held ≡ true
-  again_of same = all_pass (comes_again theirs) held (λ h i. in_any (entry_eq h.entry) theirs h.entry (same.1 h.entry (map_in (λ (g : HeldEntry). g.entry) held h i)) ((entry_eq-Decides h.entry h.entry).1 refl))
+  again_of same = all_pass (comes_again theirs) held
+      (λ h i. in_any (entry_eq h.entry) theirs h.entry (same.1 h.entry (map_in (λ (g : HeldEntry). g.entry) held h i))
+      ((entry_eq-Decides h.entry h.entry).1 refl))
 
   held_of : SameItems theirs (entries_of held) → list_all (is_held held) theirs ≡ true
   held_of same = all_pass (is_held held) theirs (λ e i.
       (let h = in_map (λ (g : HeldEntry). g.entry) held e (same.0 e i) in
       in_any (λ (g : HeldEntry). entry_eq g.entry e) held h.0 h.1.0 ((entry_eq-Decides h.0.entry e).1 (sym h.1.1))))
 
-  items_of : list_all (comes_again theirs) held ≡ true → list_all (is_held held) theirs ≡ true → SameItems theirs (entries_of held)
+  items_of : list_all (comes_again theirs) held ≡ true → list_all (is_held held) theirs ≡ true
+      → SameItems theirs (entries_of held)
   items_of again here = (
     λ e i. (let h = any_in (λ (g : HeldEntry). entry_eq g.entry e) held (passes (is_held held) theirs here e i) in
-        subst (λ x. IsIn x (entries_of held)) ((entry_eq-Decides h.0.entry e).0 h.1.1) (map_in (λ (g : HeldEntry). g.entry) held h.0 h.1.0)),
+        subst (λ x. IsIn x (entries_of held)) ((entry_eq-Decides h.0.entry e).0 h.1.1)
+        (map_in (λ (g : HeldEntry). g.entry) held h.0 h.1.0)),
     λ e i. (let h = in_map (λ (g : HeldEntry). g.entry) held e i in
         let x = any_in (entry_eq h.0.entry) theirs (passes (comes_again theirs) held again h.0 h.1.0) in
         subst (λ y. IsIn y theirs) (sym (h.1.1 ∙ (entry_eq-Decides h.0.entry x.0).0 x.1.1)) x.1.0),
@@ -147,9 +174,18 @@ same_items_are_same name held content criteria is table once further =
       λ t.
           (let first = and_both again (here && alike) t in
           let second = and_both here alike first.1 in
-          let tables : defined content.criteria ≡ defined criteria = (criteria_eq-Decides (defined content.criteria) held.table).0 second.1 ∙ table in
-          ((defined_items content.criteria criteria is.named_once once is.further tables, defined_items criteria content.criteria once is.named_once further (sym tables)), items_of held.entries theirs first.0 second.0)),
+          let tables : defined content.criteria ≡ defined criteria =
+          (criteria_eq-Decides (defined content.criteria) held.table).0 second.1 ∙ table in (
+            (
+              defined_items content.criteria criteria is.named_once once is.further tables,
+              defined_items criteria content.criteria once is.named_once further (sym tables),
+            ),
+            items_of held.entries theirs first.0 second.0,
+          )),
       λ h.
-          (let tables : defined content.criteria ≡ held.table = same_defined content.criteria criteria is.named_once once h.0 ∙ sym table in
-          ap (λ b. b && (here && alike)) (again_of held.entries theirs h.1) ∙ ap (λ b. b && alike) (held_of held.entries theirs h.1) ∙ (criteria_eq-Decides (defined content.criteria) held.table).1 tables),
+          (let tables : defined content.criteria ≡ held.table = same_defined content.criteria criteria is.named_once
+          once h.0 ∙ sym table in
+          ap (λ b. b && (here && alike)) (again_of held.entries theirs h.1)
+          ∙ ap (λ b. b && alike) (held_of held.entries theirs h.1)
+          ∙ (criteria_eq-Decides (defined content.criteria) held.table).1 tables),
     )

@@ -7,7 +7,7 @@ use Rattle.std.specs.declared.cmp.Ordering.TheVariants.{Less}
 use Rattle.std.proofs.lemmas.List.{append-nil, append_assoc}
 use Rattle.std.proofs.lemmas.List.Elements.{All-append, All-cons, All-head, All-nil, All-tail}
 use Rattle.vet_base.specs.Keyed.{IsByKey, all_set, is_before, is_behind, with_item}
-use Rattle.vet_base.proofs.KeyedLemmas.{filter_drops, filter_keeps}
+use Rattle.vet_base.proofs.ListLemmas.{filter_drops, filter_keeps}
 
 module _ {K E : Type 0} (cmp : K → K → Ordering) (key : E → K) where
   abbrev IsBefore : E → E → Type 0
@@ -20,7 +20,8 @@ module _ {K E : Type 0} (cmp : K → K → Ordering) (key : E → K) where
       let back = filter_drops (is_behind cmp key (key e)) held (λ k d l. ap is_gt (below k d l)) in
       λ i. front i ++ e ∷ back i
 
-  set_behind : (held more : List E) → All (λ x. All (IsBefore x) more) held → IsByKey cmp key more → all_set cmp key held more ≡ held ++ more
+  set_behind : (held more : List E) → All (λ x. All (IsBefore x) more) held → IsByKey cmp key more
+      → all_set cmp key held more ≡ held ++ more
   set_behind held [] below up = sym (append-nil held)
   set_behind held (e ∷ more) below up =
       let first : All (λ x. IsBefore x e) held = λ k d l. All-head (IsBefore (get_or held k d)) e more (below k d l) in
@@ -28,7 +29,8 @@ module _ {K E : Type 0} (cmp : K → K → Ordering) (key : E → K) where
       ∙ set_behind (held ++ e ∷ []) more
       (All-append (λ x. All (IsBefore x) more) held (e ∷ [])
       (λ k d l. All-tail (IsBefore (get_or held k d)) e more (below k d l))
-      (All-cons (λ x. All (IsBefore x) more) e [] (λ k d l. up 0 (suc k) d (omega arith) (omega (arith, l))) (All-nil (λ x. All (IsBefore x) more))))
+      (All-cons (λ x. All (IsBefore x) more) e [] (λ k d l. up 0 (suc k) d (omega arith) (omega (arith, l)))
+      (All-nil (λ x. All (IsBefore x) more))))
       (λ i j d l m. up (suc i) (suc j) d (omega (arith, l)) (omega (arith, m)))
       ∙ append_assoc held (e ∷ []) more
 

@@ -13,9 +13,11 @@ use Rattle.vet_entries.specs.declared.criteria_map.MappedCriterion.{MappedCriter
 use Rattle.vet_entries.specs.CriteriaMap.{by_name}
 use Rattle.vet_entries.specs.Mapped.{all_targets}
 
-pub contains-targets : (items : List MappedCriterion) (x : List ℕ) → list_any (λ (m : MappedCriterion). set.contains m.criteria x) items ≡ set.contains (all_targets (by_name items)) x
+pub contains-targets : (items : List MappedCriterion) (x : List ℕ)
+    → list_any (λ (m : MappedCriterion). set.contains m.criteria x) items ≡ set.contains (all_targets (by_name items)) x
 contains-targets [] x = sym (set.contains-empty R x)
-contains-targets (m ∷ rest) x = ap (λ b. set.contains m.criteria x || b) (contains-targets rest x) ∙ sym (set.contains-union nat_list_cmp_total m.criteria (all_targets (by_name rest)) x)
+contains-targets (m ∷ rest) x = ap (λ b. set.contains m.criteria x || b) (contains-targets rest x)
+    ∙ sym (set.contains-union nat_list_cmp_total m.criteria (all_targets (by_name rest)) x)
 
 more_targets : (items : List MappedCriterion) (i : ℕ) (m : MappedCriterion) → i < length items → m ≡ get_or items i m
     → all_targets (by_name (take (i + 1) items)) ≡ set.union (all_targets (by_name (take i items))) m.criteria
@@ -26,8 +28,10 @@ more_targets items i m l is = set.same_set nat_list_cmp_total only_equal _ _ (λ
     ∙ sym (set.contains-union nat_list_cmp_total (all_targets (by_name (take i items))) m.criteria x))
 
 -- one more item, as at a step of a loop
-pub least_target_more : (table : Criteria) (items : List MappedCriterion) (i : ℕ) (m : MappedCriterion) → i < length items → m ≡ get_or items i m
-    → lesser (least_unknown table (all_targets (by_name (take i items)))) (least_unknown table m.criteria) ≡ least_unknown table (all_targets (by_name (take (i + 1) items)))
+pub least_target_more : (table : Criteria) (items : List MappedCriterion) (i : ℕ) (m : MappedCriterion)
+    → i < length items → m ≡ get_or items i m
+    → lesser (least_unknown table (all_targets (by_name (take i items)))) (least_unknown table m.criteria)
+    ≡ least_unknown table (all_targets (by_name (take (i + 1) items)))
 least_target_more table items i m l is =
     sym (ap (least_unknown table) (more_targets items i m l is)
     ∙ find-union (λ n. not (map.contains_key table n)) (all_targets (by_name (take i items))) m.criteria)

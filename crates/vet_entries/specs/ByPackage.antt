@@ -2,13 +2,11 @@
 use Rattle.std.specs.Prelude.{ℕ, zero, suc, ◌≡◌, ◌<◌, ◌≤◌, ◌-◌, Bool, List, [], ◌∷◌, length, filter, take, drop}
 use Rattle.std.specs.List.{All, between, filter_map, range_with_len, slice_get}
 use Rattle.std.specs.List.Sorted.{IsNonDecreasingBy}
-use Rattle.std.specs.Coded.{Coded, code_by, coded×, coded_list, coded_ℕ}
 use Rattle.std.specs.Ordering.{is_eq, nat_cmp, ordering_index}
 use Rattle.std.specs.Cmp.Lexicographic.{slice_cmp}
 use Rattle.std.specs.Str.{bytes_eq}
 use Rattle.std.specs.declared.cmp.Ordering.{Ordering}
 use Rattle.std.specs.declared.cmp.Ordering.TheVariants.{Less, Equal, Greater}
-use Rattle.std.proofs.Common.{refl}
 use Rattle.vet_entries.specs.declared.facts.HeldEntry.{HeldEntry}
 
 -- an entry is of a package
@@ -19,15 +17,6 @@ is_of name held = bytes_eq held.entry.«package» name
 pub record EntriesRoom : Type 0 where
   pub entries : List HeldEntry
   pub room : ℕ
-
--- entries and their room are stored as a pair
-abbrev pub entries_room_code : Coded HeldEntry → Coded EntriesRoom
-entries_room_code held_code =
-    code_by (List HeldEntry × ℕ)
-    (coded× (coded_list held_code) coded_ℕ)
-    (λ f. (f.entries, f.room))
-    (λ p. record { entries = p.0; room = p.1 })
-    (λ _. refl)
 
 -- the lesser of two numbers
 abbrev pub lesser : ℕ → ℕ → ℕ

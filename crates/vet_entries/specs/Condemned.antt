@@ -19,7 +19,8 @@ violates v _ = false
 
 -- what a kind says against versions, where these are the criteria that it would violate
 abbrev pub violation_of : Criteria → Places → Kind → List Violation
-violation_of table places (Violated requirement audit) = (record { requirement = requirement; criteria = leading_to table places }) ∷ []
+violation_of table places (Violated requirement audit) =
+    (record { requirement = requirement; criteria = leading_to table places }) ∷ []
 violation_of table places _ = []
 
 -- the criteria that an entry would violate, as places in the table: those that it names, and a peer's as its map says
@@ -49,4 +50,5 @@ is_condemned facts name c v = list_any (condemns facts.criteria v c) (entries_of
 
 -- a package's violations condemn just what its entries do
 abbrev pub ViolationsCondemn : Type 0
-ViolationsCondemn = (facts : Facts) (name : List ℕ) (c : ℕ) (v : VersionValue) → condemned_by (violations_of facts name) c v ≡ is_condemned facts name c v
+ViolationsCondemn = (facts : Facts) (name : List ℕ) (c : ℕ) (v : VersionValue)
+    → condemned_by (violations_of facts name) c v ≡ is_condemned facts name c v

@@ -1,13 +1,10 @@
 -- What is held of packages (ours): a table of criteria, one's own entries, peers with theirs, and publisher records.
 use Rattle.std.specs.Prelude.{ℕ, ◌≡◌, ◌<◌, ◌≤◌, ◌+◌, ◌-◌, ◌||◌, Bool, false, true, List, [], length, insert, is_some, remove}
 use Rattle.std.specs.List.{list_any, sum_by}
-use Rattle.std.specs.Coded.{Coded, code_by, coded×, coded_list, coded_ℕ}
-use Rattle.std.specs.FinMap as map
 use Rattle.std.specs.FinSet as set
 use Rattle.std.specs.Ordering.{nat_cmp}
 use Rattle.std.specs.Cmp.Lexicographic.{slice_cmp}
-use Rattle.std.proofs.Common.{refl}
-use Rattle.vet_base.specs.Criteria.{Criteria, built_in_criteria, criterion_code}
+use Rattle.vet_base.specs.Criteria.{Criteria, built_in_criteria}
 use Rattle.vet_entries.specs.declared.facts.Edit.{Edit}
 use Rattle.vet_entries.specs.declared.facts.Edit.TheVariants as edit
 use Rattle.vet_entries.specs.declared.facts.HeldEntry.{HeldEntry}
@@ -20,7 +17,8 @@ use Rattle.vet_base.specs.Keyed as keyed
 use Rattle.vet_base.specs.Keyed.{KeyedRoom}
 use Rattle.vet_entries.specs.PublisherRecords.{FitsPublishers}
 
--- the criteria, one's own entries in the order of their numbers, the peers in the order of their names, and the publisher
+-- the criteria, one's own entries in the order of their numbers, the peers in the order of their names, and the
+-- publisher
 -- records of packages in the order of their names
 pub record Facts : Type 0 where
   pub criteria : Criteria
@@ -38,19 +36,6 @@ pub record Room : Type 0 where
 pub record FactsRoom : Type 0 where
   pub content : Facts
   pub room : Room
-
--- facts are stored as the tuple of the table, the entries, the peers, the records and the room for each
-abbrev pub facts_room_code : Coded HeldEntry → Coded HeldPeer → Coded PackagePublishers → Coded FactsRoom
-facts_room_code held_code peer_code publishers_code =
-    code_by (Criteria × (List HeldEntry × (List HeldPeer × (List PackagePublishers × (ℕ × (ℕ × ℕ))))))
-    (coded× (map.code (coded_list coded_ℕ) criterion_code) (coded× (coded_list held_code) (coded× (coded_list peer_code)
-    (coded× (coded_list publishers_code) (coded× coded_ℕ (coded× coded_ℕ coded_ℕ))))))
-    (λ f. (f.content.criteria, (f.content.entries, (f.content.peers, (f.content.publishers, (f.room.entries, (f.room.peers, f.room.packages)))))))
-    (λ p. record {
-      content = record { criteria = p.0; entries = p.1.0; peers = p.1.1.0; publishers = p.1.1.1.0 };
-      room = record { entries = p.1.1.1.1.0; peers = p.1.1.1.1.1.0; packages = p.1.1.1.1.1.1 };
-    })
-    (λ _. refl)
 
 -- the publisher records, and for how many more packages there is room
 abbrev pub publishers_room : FactsRoom → KeyedRoom PackagePublishers
@@ -113,7 +98,8 @@ IsHeld name facts = is_some (peer_of facts.peers name) ≡ true
 abbrev pub Fits : Edit → FactsRoom → Type 0
 Fits (edit.Criteria table) facts = Unit {0}
 Fits (edit.Insert place held) facts =
-    (place ≤ length facts.content.entries) × ((0 < facts.room.entries) × AreByNumber (insert facts.content.entries place held))
+    (place ≤ length facts.content.entries)
+    × ((0 < facts.room.entries) × AreByNumber (insert facts.content.entries place held))
 Fits (edit.Remove place) facts = place < length facts.content.entries
 Fits (edit.Peer change) facts = keyed.Fits (slice_cmp nat_cmp) peer_name change (peers_room facts)
 Fits (edit.Settings settings) facts = IsHeld settings.name facts.content
@@ -136,7 +122,8 @@ HoldsRoomOf old new = (old.entries ≤ new.entries) × ((old.peers ≤ new.peers
 
 -- an edit that fits still does where the facts are the same, and no room is lost
 abbrev pub FitsWithMoreRoom : Type 0
-FitsWithMoreRoom = (e : Edit) (facts : Facts) (old new : Room) → HoldsRoomOf old new → Fits e (record { content = facts; room = old }) → Fits e (record { content = facts; room = new })
+FitsWithMoreRoom = (e : Edit) (facts : Facts) (old new : Room) → HoldsRoomOf old new
+    → Fits e (record { content = facts; room = old }) → Fits e (record { content = facts; room = new })
 
 -- no room is lost where nothing happens
 abbrev pub RoomHoldsItself : Type 0

@@ -1,4 +1,4 @@
--- What entries feed a hasher: all that tells them apart.
+-- What entries feed a hasher (ours): all that tells them apart.
 use Rattle.std.specs.Prelude.{◌++◌}
 use Rattle.std.specs.Hash as fed
 use Rattle.vet_base.specs.Day.{day_number}
@@ -35,4 +35,5 @@ source_fed Own = fed.u8 0
 source_fed (Peer name) = fed.u8 1 ++ fed.str name
 
 abbrev pub entry_fed : Entry → fed.HashWrites
-entry_fed e = source_fed e.source ++ fed.str e.«package» ++ kind_fed e.kind ++ names_fed e.criteria ++ fed.option fed.str e.notes
+entry_fed e = source_fed e.source ++ fed.str e.«package» ++ kind_fed e.kind ++ names_fed e.criteria ++ fed.option
+    fed.str e.notes

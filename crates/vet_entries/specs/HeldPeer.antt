@@ -37,7 +37,8 @@ holding_or_none (Some peer) = peer.content
 
 -- a peer set: with these settings, and what is held of it
 abbrev pub with_settings : PeerSettings → List HeldPeer → List HeldPeer
-with_settings settings peers = with_peer (record { settings = settings; content = holding_or_none (peer_of peers settings.name) }) peers
+with_settings settings peers =
+    with_peer (record { settings = settings; content = holding_or_none (peer_of peers settings.name) }) peers
 
 -- the same peer with another content; none where none is held
 abbrev pub with_content_of : Option HeldPeer → HoldingValue → List HeldPeer → List HeldPeer

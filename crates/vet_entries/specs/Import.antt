@@ -1,8 +1,6 @@
 -- How the content of a peer stands to what is held of it, and some entries to one's own (ours).
 use Rattle.std.specs.Prelude.{ℕ, ◌&&◌, Bool, List, length, map}
 use Rattle.std.specs.List.{list_all}
-use Rattle.std.specs.Coded.{Coded, code_by, coded×, coded_bool, coded_list, coded_ℕ}
-use Rattle.std.proofs.Common.{refl}
 use Rattle.vet_base.specs.Defined.{defined}
 use Rattle.vet_base.specs.Definitions.{criteria_eq}
 use Rattle.vet_entries.specs.declared.entry.Entry.{Entry}
@@ -18,7 +16,8 @@ use Rattle.vet_entries.specs.Replaced.{as_of, comes_again, is_held, is_new, new_
 abbrev pub same_content : List ℕ → HoldingValue → PeerContentValue → Bool
 same_content name held content =
     list_all (comes_again (as_peers name content.entries)) held.entries
-    && (list_all (is_held held.entries) (as_peers name content.entries) && criteria_eq (defined content.criteria) held.table)
+    && (list_all (is_held held.entries) (as_peers name content.entries) && criteria_eq (defined content.criteria)
+    held.table)
 
 -- which held entries come again, which entries are new and how many, and whether nothing changes
 pub record ComparisonValue : Type 0 where
@@ -26,15 +25,6 @@ pub record ComparisonValue : Type 0 where
   pub fresh : List Bool
   pub new_count : ℕ
   pub is_same : Bool
-
--- it is stored as the tuple of its parts
-abbrev pub comparison_code : Coded ComparisonValue
-comparison_code =
-    code_by (List Bool × (List Bool × (ℕ × Bool)))
-    (coded× (coded_list coded_bool) (coded× (coded_list coded_bool) (coded× coded_ℕ coded_bool)))
-    (λ c. (c.again, (c.fresh, (c.new_count, c.is_same))))
-    (λ p. record { again = p.0; fresh = p.1.0; new_count = p.1.1.0; is_same = p.1.1.1 })
-    (λ _. refl)
 
 -- how a content stands to what is held of a peer
 abbrev pub compared : List ℕ → HoldingValue → PeerContentValue → ComparisonValue

@@ -34,7 +34,8 @@ ImportKeepsNumbers =
 abbrev pub ImportTakesEntries : Type 0
 ImportTakesEntries =
     (name : List ℕ) (next : ℕ) (held : List HeldEntry) (entries : List Entry)
-    → All (λ h. IsIn h.entry (as_peers name entries) × (h.entry.source ≡ Peer name)) (entries_after_import name next held entries)
+    → All (λ h. IsIn h.entry (as_peers name entries) × (h.entry.source ≡ Peer name))
+    (entries_after_import name next held entries)
 
 -- after an import each entry of the content is held, nothing else, and each once: so there are as many
 abbrev pub ImportHoldsEachOnce : Type 0

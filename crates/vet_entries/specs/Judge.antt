@@ -7,8 +7,10 @@ use Rattle.vet_entries.specs.declared.condemned.Violation.{Violation}
 
 -- of each version that is known, what some violations condemn it for
 abbrev pub AreJudged : List Violation → (VersionValue → Option Places) → Type 0
-AreJudged violations judged = (v : VersionValue) (condemned : Places) → judged v ≡ Some condemned → (c : ℕ) → has c condemned ≡ condemned_by violations c v
+AreJudged violations judged = (v : VersionValue) (condemned : Places) → judged v ≡ Some condemned → (c : ℕ)
+    → has c condemned ≡ condemned_by violations c v
 
 -- of each requirement that is known, the place of a violation that has it
 abbrev pub ArePlaced : List Violation → (List ℕ → Option ℕ) → Type 0
-ArePlaced violations places = (r : List ℕ) (p : ℕ) → places r ≡ Some p → (p < length violations) × ((d : Violation) → (get_or violations p d).requirement ≡ r)
+ArePlaced violations places = (r : List ℕ) (p : ℕ) → places r ≡ Some p
+    → (p < length violations) × ((d : Violation) → (get_or violations p d).requirement ≡ r)

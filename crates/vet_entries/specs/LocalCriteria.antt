@@ -27,7 +27,8 @@ direct defined m name = set.union (mapped_name m name) (all_beyond defined m (me
 
 -- what a name of a peer stands for with all that it implies there, not yet closed in one's own table
 abbrev pub stands_for : Criteria → HeldPeer → List ℕ → Places
-stands_for table peer name = placed table (mapped peer.settings.map (closure_of peer.content.table (set.insert set.empty name)))
+stands_for table peer name =
+    placed table (mapped peer.settings.map (closure_of peer.content.table (set.insert set.empty name)))
 
 -- at the place of each criterion of a peer is what it stands for
 abbrev pub AreWords : Criteria → HeldPeer → PeerWords → Type 0

@@ -1,7 +1,6 @@
--- What the audits file of a peer gives.
-use Rattle.std.specs.Prelude.{◌≡◌, ◌≤◌, ◌&&◌, Bool, true, false, List, Option, Some, None, length, refl}
+-- What the audits file of a peer gives (The Cargo Vet Book, Audit Entries).
+use Rattle.std.specs.Prelude.{◌≡◌, ◌≤◌, ◌&&◌, Bool, true, false, List, Option, Some, None, length}
 use Rattle.std.specs.List.{All}
-use Rattle.std.specs.Coded.{Coded, code_by, coded×, coded_list}
 use Rattle.vet_base.specs.declared.criterion.Criterion.{Criterion}
 use Rattle.vet_base.specs.declared.limits.TheConstants.{MOST_PEER_CRITERIA}
 use Rattle.vet_base.specs.CriteriaChanges.{is_built_in}
@@ -17,15 +16,6 @@ use Rattle.vet_entries.specs.declared.kind.Kind.TheVariants.{Full, Delta, Violat
 pub record PeerContentValue : Type 0 where
   pub criteria : List Criterion
   pub entries : List Entry
-
--- content is stored as the pair of its lists
-abbrev pub peer_content_code : Coded Criterion → Coded Entry → Coded PeerContentValue
-peer_content_code of_criteria of_entries =
-    code_by (List Criterion × List Entry)
-    (coded× (coded_list of_criteria) (coded_list of_entries))
-    (λ c. (c.criteria, c.entries))
-    (λ p. record { criteria = p.0; entries = p.1 })
-    (λ _. refl)
 
 -- whether others may import, where nothing says that they may not
 abbrev pub may_import : Option Bool → Bool
@@ -50,7 +40,8 @@ is_peer_kind (Exemption v s) = false
 abbrev pub is_peer_entry : Entry → Bool
 is_peer_entry e = is_own e.source && is_peer_kind e.kind
 
--- no criterion is named as a built-in one or as another, there are not too many, and each entry is one that a peer's file
+-- no criterion is named as a built-in one or as another, there are not too many, and each entry is one that a peer's
+-- file
 -- gives, and stands once
 pub record IsPeerContent (criteria : List Criterion) (entries : List Entry) : Type 0 where
   pub further : All (λ c. is_built_in c.name ≡ false) criteria

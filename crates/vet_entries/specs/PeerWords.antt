@@ -1,4 +1,5 @@
--- What the words of a peer are in one's own (The Cargo Vet Book, importing audits, `criteria-map`; the exact form is ours).
+-- What the words of a peer are in one's own (The Cargo Vet Book, importing audits, `criteria-map`; the exact form is
+-- ours).
 use Rattle.std.specs.Prelude.{Option, Some, None}
 use Rattle.vet_base.specs.CriteriaSet.{Places}
 use Rattle.vet_base.specs.Criteria.{Criteria, closure_of, placed}
@@ -6,7 +7,8 @@ use Rattle.vet_base.specs.Names.{NameSet}
 use Rattle.vet_entries.specs.declared.held_peer.HeldPeer.{HeldPeer}
 pub use Rattle.vet_entries.specs.Mapped.{mapped, targets}
 
--- the local criteria of some names: one's own closed; a peer's closed by the peer's table, then mapped, and closed again
+-- the local criteria of some names: one's own closed; a peer's closed by the peer's table, then mapped, and closed
+-- again
 abbrev pub local_names : Criteria → Option HeldPeer → NameSet → NameSet
 local_names table None names = closure_of table names
 local_names table (Some peer) names = closure_of table (mapped peer.settings.map (closure_of peer.content.table names))

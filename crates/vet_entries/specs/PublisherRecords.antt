@@ -1,17 +1,14 @@
 -- The publisher records of all packages (ours): those with records, in the order of their names.
-use Rattle.std.specs.Prelude.{ℕ, ◌≡◌, ◌<◌, ◌^◌, ◌&&◌, Bool, List, [], ◌∷◌, Option, Some, None, IsTrue, is_some, length}
+use Rattle.std.specs.Prelude.{ℕ, ◌<◌, ◌^◌, ◌&&◌, Bool, List, [], ◌∷◌, Option, Some, None, IsTrue, is_some, length}
 use Rattle.std.specs.List.{All, sum_by}
-use Rattle.std.specs.Bool.{Decides}
 use Rattle.std.specs.Ordering.{nat_cmp}
-use Rattle.std.specs.Cmp.Lexicographic.{bytes_decides, slice_cmp}
+use Rattle.std.specs.Cmp.Lexicographic.{slice_cmp}
 use Rattle.std.specs.Str.{bytes_eq}
-use Rattle.std.proofs.Common.{ap}
-use Rattle.std.proofs.lemmas.Bool.Decides.{Decides-and, Decides-like}
 use Rattle.vet_base.specs.Keyed.{Fits, IsByKey, KeyedRoom, edited, item_of, with_item, without_item}
 use Rattle.vet_base.specs.declared.keyed.KeyedEdit.{KeyedEdit}
 use Rattle.vet_entries.specs.declared.publisher.Publisher.{Publisher}
 use Rattle.vet_entries.specs.declared.publisher_records.PackagePublishers.{PackagePublishers}
-use Rattle.vet_entries.specs.Publishers.{publishers_eq, publishers_eq-Decides}
+use Rattle.vet_entries.specs.Publishers.{publishers_eq}
 
 -- the name at which a package's records stand
 abbrev pub package_of : PackagePublishers → List ℕ
@@ -47,19 +44,12 @@ with_any name (first ∷ rest) = (record { «package» = name; publishers = firs
 -- the packages with these records of this one, which is not among them where there are none
 abbrev pub with_records : List ℕ → List Publisher → List PackagePublishers → List PackagePublishers
 with_records name [] packages = without_item (slice_cmp nat_cmp) package_of packages name
-with_records name (first ∷ rest) packages = with_item (slice_cmp nat_cmp) package_of packages (record { «package» = name; publishers = first ∷ rest })
+with_records name (first ∷ rest) packages = with_item (slice_cmp nat_cmp) package_of packages
+    (record { «package» = name; publishers = first ∷ rest })
 
 -- whether two packages are the same, with the same records
 abbrev pub package_eq : PackagePublishers → PackagePublishers → Bool
 package_eq a b = bytes_eq a.«package» b.«package» && publishers_eq a.publishers b.publishers
-
-same_package : (a b : PackagePublishers) → (a.«package» ≡ b.«package») × (a.publishers ≡ b.publishers) → a ≡ b
-same_package a b h = λ i. record { «package» = h.0 i; publishers = h.1 i }
-
-pub package_eq-Decides : (a b : PackagePublishers) → Decides (package_eq a b) (a ≡ b)
-package_eq-Decides a b =
-    Decides-like _ (same_package a b) (λ e. (ap (λ h. h.«package») e, ap (λ h. h.publishers) e))
-    (Decides-and _ _ (bytes_decides a.«package» b.«package») (publishers_eq-Decides a.publishers b.publishers))
 
 -- how many records there are in all
 abbrev pub records_total : List PackagePublishers → ℕ

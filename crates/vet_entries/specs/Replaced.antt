@@ -30,8 +30,10 @@ new_of source held entries = filter (is_new held) (as_of source entries)
 -- the entries after, where this is the next number: those held that come again keep their numbers, and the new ones get
 -- the next numbers in their order
 abbrev pub entries_after : Source → ℕ → List HeldEntry → List Entry → List HeldEntry
-entries_after source next held entries = filter (comes_again (as_of source entries)) held ++ numbered next (new_of source held entries)
+entries_after source next held entries = filter (comes_again (as_of source entries)) held ++ numbered next
+    (new_of source held entries)
 
 -- some entries, as of a source, are those held: each held one is among them, and each of them is held
 abbrev pub same_entries : Source → List HeldEntry → List Entry → Bool
-same_entries source held entries = list_all (comes_again (as_of source entries)) held && list_all (is_held held) (as_of source entries)
+same_entries source held entries = list_all (comes_again (as_of source entries)) held && list_all (is_held held)
+    (as_of source entries)

@@ -37,7 +37,8 @@ EntriesKeepNumbers =
 abbrev pub EntriesAreTaken : Type 0
 EntriesAreTaken =
     (source : Source) (next : ℕ) (held : List HeldEntry) (entries : List Entry)
-    → All (λ h. IsIn h.entry (as_of source entries) × (h.entry.source ≡ source)) (entries_after source next held entries)
+    → All (λ h. IsIn h.entry (as_of source entries) × (h.entry.source ≡ source))
+    (entries_after source next held entries)
 
 -- after, the entries given are held, as of the source, and nothing else
 abbrev pub EntriesAreHeld : Type 0
@@ -45,7 +46,8 @@ EntriesAreHeld =
     (source : Source) (next : ℕ) (held : List HeldEntry) (entries : List Entry)
     → SameItems (as_of source entries) (entries_of (entries_after source next held entries))
 
--- where each entry given is written as one's own and stands once, and no two held ones are the same, no two are after, and
+-- where each entry given is written as one's own and stands once, and no two held ones are the same, no two are after,
+-- and
 -- there are as many as were given
 abbrev pub EntriesStandOnce : Type 0
 EntriesStandOnce =

@@ -37,7 +37,8 @@ window_steps criteria records w = map (λ p. first_step criteria false p.version
 abbrev pub delta_step : Places → Delta → Step
 delta_step criteria delta = record { origin = Some delta.from; target = delta.to; criteria = criteria; exempt = false }
 
--- the steps of a kind: a full entry gives one, from nothing to its version, and an exemption the same, exempt; a delta gives
+-- the steps of a kind: a full entry gives one, from nothing to its version, and an exemption the same, exempt; a delta
+-- gives
 -- one between its versions; a wildcard entry and a trusted one give those of their windows, and a violation none
 abbrev pub kind_steps : Places → List Publisher → Kind → List Step
 kind_steps criteria records (Full version audit) = first_step criteria false version ∷ []
@@ -58,7 +59,8 @@ sourced peer name entries = map (λ h. record { peer = peer; held = h }) (filter
 
 -- the entries of a package that are taken from a peer: of an excluded package none
 abbrev pub taken_from : List ℕ → HeldPeer → List SourcedEntry
-taken_from name peer = if set.contains peer.settings.exclude name then [] else sourced (Some peer) name peer.content.entries
+taken_from name peer = if set.contains peer.settings.exclude name then [] else sourced (Some peer) name
+    peer.content.entries
 
 -- the entries of a package: one's own, then those of each peer
 abbrev pub entries_of : Facts → List ℕ → List SourcedEntry
@@ -81,7 +83,8 @@ entry_steps table records e = kind_steps (local_criteria table e.peer e.held.ent
 -- the steps of a package, by the numbers of the entries
 abbrev pub steps_of : Facts → List ℕ → List Step
 steps_of facts name =
-    flat_map (entry_steps facts.criteria (records_of facts.publishers name)) (by_number (λ (e : SourcedEntry). e.held.number) (entries_of facts name))
+    flat_map (entry_steps facts.criteria (records_of facts.publishers name))
+    (by_number (λ (e : SourcedEntry). e.held.number) (entries_of facts name))
 
 -- the table has each criterion that an own entry names
 abbrev pub HasKnownCriteria : Criteria → HeldEntry → Type 0

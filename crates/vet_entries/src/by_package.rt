@@ -45,7 +45,8 @@ pub(crate) struct ByPackage {
 
 impl Model for ByPackage {
     ghost use Rattle.std.specs.Prelude.{◌-◌, vec_len, vec_capacity};
-    ghost use Rattle.vet_entries.specs.ByPackage.{EntriesRoom, IsByPackage, entries_room_code, lesser};
+    ghost use Rattle.vet_entries.specs.ByPackage.{EntriesRoom, IsByPackage, lesser};
+    ghost use Rattle.vet_entries.specs.Encodings.{entries_room_code};
     ghost use Rattle.vet_entries.specs.Numbered.{AreByNumber};
     ghost use Rattle.vet_entries.specs.contracts.facts.HeldEntry as held;
 

@@ -49,7 +49,8 @@ impl Clone for MappedCriterion {
 
 impl PartialEq for MappedCriterion {
     ghost use Rattle.std.specs.Cmp.{decided, partial_equiv_from_equiv};
-    ghost use Rattle.vet_entries.specs.CriteriaMap.{mapped_eq, mapped_eq-Decides};
+    ghost use Rattle.vet_entries.specs.CriteriaMap.{mapped_eq};
+    ghost use Rattle.vet_entries.specs.CriteriaMapLaws.{mapped_eq-Decides};
 
     ghost eq = { mapped_eq };
 
@@ -62,7 +63,8 @@ impl PartialEq for MappedCriterion {
 
 impl Eq for MappedCriterion {
     ghost use Rattle.std.specs.Cmp.{decided};
-    ghost use Rattle.vet_entries.specs.CriteriaMap.{mapped_eq, mapped_eq-Decides};
+    ghost use Rattle.vet_entries.specs.CriteriaMap.{mapped_eq};
+    ghost use Rattle.vet_entries.specs.CriteriaMapLaws.{mapped_eq-Decides};
 
     ghost laws = { decided mapped_eq mapped_eq-Decides };
 }
@@ -80,7 +82,7 @@ impl HasKey for MappedCriterion {
 }
 
 impl ExactItem for MappedCriterion {
-    ghost use Rattle.vet_entries.specs.CriteriaMap.{mapped_eq-Decides};
+    ghost use Rattle.vet_entries.specs.CriteriaMapLaws.{mapped_eq-Decides};
 
     ghost only_copies = { λ a b h. h };
 
@@ -208,7 +210,8 @@ impl Clone for CriteriaMap {
 impl PartialEq for CriteriaMap {
     ghost use Rattle.std.specs.Cmp.{decided, partial_equiv_from_equiv};
     ghost use Rattle.std.specs.Prelude.{IsTrue, ◌↔◌, ◌≡◌};
-    ghost use Rattle.vet_entries.specs.CriteriaMap.{map_eq, map_eq-Decides};
+    ghost use Rattle.vet_entries.specs.CriteriaMap.{map_eq};
+    ghost use Rattle.vet_entries.specs.CriteriaMapLaws.{map_eq-Decides};
 
     ghost eq = { map_eq };
 
@@ -224,7 +227,8 @@ impl PartialEq for CriteriaMap {
 
 impl Eq for CriteriaMap {
     ghost use Rattle.std.specs.Cmp.{decided};
-    ghost use Rattle.vet_entries.specs.CriteriaMap.{map_eq, map_eq-Decides};
+    ghost use Rattle.vet_entries.specs.CriteriaMap.{map_eq};
+    ghost use Rattle.vet_entries.specs.CriteriaMapLaws.{map_eq-Decides};
 
     ghost laws = { decided map_eq map_eq-Decides };
 }

@@ -29,7 +29,8 @@ impl Drop for Source {
 
 impl PartialEq for Source {
     ghost use Rattle.std.specs.Cmp.{decided, partial_equiv_from_equiv};
-    ghost use Rattle.vet_entries.specs.Entry.{source_eq, source_eq-Decides};
+    ghost use Rattle.vet_entries.specs.Entry.{source_eq};
+    ghost use Rattle.vet_entries.specs.EntryLaws.{source_eq-Decides};
 
     ghost eq = { source_eq };
 
@@ -46,14 +47,15 @@ impl PartialEq for Source {
 
 impl Eq for Source {
     ghost use Rattle.std.specs.Cmp.{decided};
-    ghost use Rattle.vet_entries.specs.Entry.{source_eq, source_eq-Decides};
+    ghost use Rattle.vet_entries.specs.Entry.{source_eq};
+    ghost use Rattle.vet_entries.specs.EntryLaws.{source_eq-Decides};
 
     ghost laws = { decided source_eq source_eq-Decides };
 }
 
 impl Hash for Source {
     ghost use Rattle.std.specs.Hash as fed;
-    ghost use Rattle.vet_entries.specs.Entry.{source_eq-Decides};
+    ghost use Rattle.vet_entries.specs.EntryLaws.{source_eq-Decides};
     ghost use Rattle.vet_entries.specs.Fed.{source_fed};
 
     ghost hash_input = { source_fed };
@@ -144,7 +146,8 @@ impl Clone for Entry {
 impl PartialEq for Entry {
     ghost use Rattle.std.specs.Cmp.{decided, partial_equiv_from_equiv};
     ghost use Rattle.std.specs.Prelude.{IsTrue, ◌↔◌, ◌≡◌};
-    ghost use Rattle.vet_entries.specs.Entry.{entry_eq, entry_eq-Decides};
+    ghost use Rattle.vet_entries.specs.Entry.{entry_eq};
+    ghost use Rattle.vet_entries.specs.EntryLaws.{entry_eq-Decides};
 
     ghost eq = { entry_eq };
 
@@ -160,14 +163,15 @@ impl PartialEq for Entry {
 
 impl Eq for Entry {
     ghost use Rattle.std.specs.Cmp.{decided};
-    ghost use Rattle.vet_entries.specs.Entry.{entry_eq, entry_eq-Decides};
+    ghost use Rattle.vet_entries.specs.Entry.{entry_eq};
+    ghost use Rattle.vet_entries.specs.EntryLaws.{entry_eq-Decides};
 
     ghost laws = { decided entry_eq entry_eq-Decides };
 }
 
 impl Hash for Entry {
     ghost use Rattle.std.specs.Hash as fed;
-    ghost use Rattle.vet_entries.specs.Entry.{entry_eq-Decides};
+    ghost use Rattle.vet_entries.specs.EntryLaws.{entry_eq-Decides};
     ghost use Rattle.vet_entries.specs.Fed.{entry_fed};
 
     ghost hash_input = { entry_fed };

@@ -85,7 +85,8 @@ pub enum Edit {
 }
 
 impl Model for EntryFacts {
-    ghost use Rattle.vet_entries.specs.Facts.{FactsRoom, facts_room_code};
+    ghost use Rattle.vet_entries.specs.Facts.{FactsRoom};
+    ghost use Rattle.vet_entries.specs.FactsEncodings.{facts_room_code};
     ghost use Rattle.vet_entries.specs.contracts.facts.HeldEntry as held;
     ghost use Rattle.vet_entries.specs.contracts.held_peer.HeldPeer as peer;
     ghost use Rattle.vet_entries.specs.contracts.publisher_records.PackagePublishers as listed;

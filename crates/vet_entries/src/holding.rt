@@ -21,10 +21,11 @@ pub struct Holding {
 }
 
 impl Model for Holding {
-    ghost use Rattle.vet_base.specs.Criteria.{criterion_code};
+    ghost use Rattle.vet_base.specs.Encodings.{criterion_code};
     ghost use Rattle.std.specs.Coded.{coded_list, coded_ℕ};
     ghost use Rattle.std.specs.FinMap as map;
-    ghost use Rattle.vet_entries.specs.Holding.{HoldingValue, holding_code};
+    ghost use Rattle.vet_entries.specs.Holding.{HoldingValue};
+    ghost use Rattle.vet_entries.specs.Encodings.{holding_code};
     ghost use Rattle.vet_entries.specs.contracts.facts.HeldEntry as held;
 
     ghost Value = { HoldingValue };

@@ -40,7 +40,8 @@ pub struct Comparison {
 }
 
 impl Model for Comparison {
-    ghost use Rattle.vet_entries.specs.Import.{ComparisonValue, comparison_code};
+    ghost use Rattle.vet_entries.specs.Import.{ComparisonValue};
+    ghost use Rattle.vet_entries.specs.FactsEncodings.{comparison_code};
 
     ghost Value = { ComparisonValue };
 

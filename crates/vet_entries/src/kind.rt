@@ -55,7 +55,8 @@ impl Clone for Audit {
 
 impl PartialEq for Audit {
     ghost use Rattle.std.specs.Cmp.{decided, partial_equiv_from_equiv};
-    ghost use Rattle.vet_entries.specs.Kind.{audit_eq, audit_eq-Decides};
+    ghost use Rattle.vet_entries.specs.Kind.{audit_eq};
+    ghost use Rattle.vet_entries.specs.KindLaws.{audit_eq-Decides};
 
     ghost eq = { audit_eq };
 
@@ -68,14 +69,15 @@ impl PartialEq for Audit {
 
 impl Eq for Audit {
     ghost use Rattle.std.specs.Cmp.{decided};
-    ghost use Rattle.vet_entries.specs.Kind.{audit_eq, audit_eq-Decides};
+    ghost use Rattle.vet_entries.specs.Kind.{audit_eq};
+    ghost use Rattle.vet_entries.specs.KindLaws.{audit_eq-Decides};
 
     ghost laws = { decided audit_eq audit_eq-Decides };
 }
 
 impl Hash for Audit {
     ghost use Rattle.std.specs.Hash as fed;
-    ghost use Rattle.vet_entries.specs.Kind.{audit_eq-Decides};
+    ghost use Rattle.vet_entries.specs.KindLaws.{audit_eq-Decides};
     ghost use Rattle.vet_entries.specs.Fed.{audit_fed};
 
     ghost hash_input = { audit_fed };
@@ -118,7 +120,8 @@ impl Clone for Grant {
 
 impl PartialEq for Grant {
     ghost use Rattle.std.specs.Cmp.{decided, partial_equiv_from_equiv};
-    ghost use Rattle.vet_entries.specs.Kind.{grant_eq, grant_eq-Decides};
+    ghost use Rattle.vet_entries.specs.Kind.{grant_eq};
+    ghost use Rattle.vet_entries.specs.KindLaws.{grant_eq-Decides};
 
     ghost eq = { grant_eq };
 
@@ -131,14 +134,15 @@ impl PartialEq for Grant {
 
 impl Eq for Grant {
     ghost use Rattle.std.specs.Cmp.{decided};
-    ghost use Rattle.vet_entries.specs.Kind.{grant_eq, grant_eq-Decides};
+    ghost use Rattle.vet_entries.specs.Kind.{grant_eq};
+    ghost use Rattle.vet_entries.specs.KindLaws.{grant_eq-Decides};
 
     ghost laws = { decided grant_eq grant_eq-Decides };
 }
 
 impl Hash for Grant {
     ghost use Rattle.std.specs.Hash as fed;
-    ghost use Rattle.vet_entries.specs.Kind.{grant_eq-Decides};
+    ghost use Rattle.vet_entries.specs.KindLaws.{grant_eq-Decides};
     ghost use Rattle.vet_entries.specs.Fed.{grant_fed};
 
     ghost hash_input = { grant_fed };
@@ -162,7 +166,8 @@ pub struct Window {
 
 impl PartialEq for Window {
     ghost use Rattle.std.specs.Cmp.{decided, partial_equiv_from_equiv};
-    ghost use Rattle.vet_entries.specs.Kind.{window_eq, window_eq-Decides};
+    ghost use Rattle.vet_entries.specs.Kind.{window_eq};
+    ghost use Rattle.vet_entries.specs.KindLaws.{window_eq-Decides};
 
     ghost eq = { window_eq };
 
@@ -175,14 +180,15 @@ impl PartialEq for Window {
 
 impl Eq for Window {
     ghost use Rattle.std.specs.Cmp.{decided};
-    ghost use Rattle.vet_entries.specs.Kind.{window_eq, window_eq-Decides};
+    ghost use Rattle.vet_entries.specs.Kind.{window_eq};
+    ghost use Rattle.vet_entries.specs.KindLaws.{window_eq-Decides};
 
     ghost laws = { decided window_eq window_eq-Decides };
 }
 
 impl Hash for Window {
     ghost use Rattle.std.specs.Hash as fed;
-    ghost use Rattle.vet_entries.specs.Kind.{window_eq-Decides};
+    ghost use Rattle.vet_entries.specs.KindLaws.{window_eq-Decides};
     ghost use Rattle.vet_entries.specs.Fed.{window_fed};
 
     ghost hash_input = { window_fed };
@@ -279,7 +285,8 @@ impl Clone for Kind {
 
 impl PartialEq for Kind {
     ghost use Rattle.std.specs.Cmp.{decided, partial_equiv_from_equiv};
-    ghost use Rattle.vet_entries.specs.Kind.{kind_eq, kind_eq-Decides};
+    ghost use Rattle.vet_entries.specs.Kind.{kind_eq};
+    ghost use Rattle.vet_entries.specs.KindLaws.{kind_eq-Decides};
 
     ghost eq = { kind_eq };
 
@@ -297,14 +304,15 @@ impl PartialEq for Kind {
 
 impl Eq for Kind {
     ghost use Rattle.std.specs.Cmp.{decided};
-    ghost use Rattle.vet_entries.specs.Kind.{kind_eq, kind_eq-Decides};
+    ghost use Rattle.vet_entries.specs.Kind.{kind_eq};
+    ghost use Rattle.vet_entries.specs.KindLaws.{kind_eq-Decides};
 
     ghost laws = { decided kind_eq kind_eq-Decides };
 }
 
 impl Hash for Kind {
     ghost use Rattle.std.specs.Hash as fed;
-    ghost use Rattle.vet_entries.specs.Kind.{kind_eq-Decides};
+    ghost use Rattle.vet_entries.specs.KindLaws.{kind_eq-Decides};
     ghost use Rattle.vet_entries.specs.Fed.{kind_fed};
 
     ghost hash_input = { kind_fed };

@@ -16,9 +16,10 @@ pub struct PeerContent {
 }
 
 impl Model for PeerContent {
-    ghost use Rattle.vet_base.specs.Criteria.{criterion_code};
+    ghost use Rattle.vet_base.specs.Encodings.{criterion_code};
     ghost use Rattle.vet_entries.specs.contracts.entry.Entry as entry;
-    ghost use Rattle.vet_entries.specs.PeerContent.{IsPeerContent, PeerContentValue, peer_content_code};
+    ghost use Rattle.vet_entries.specs.PeerContent.{IsPeerContent, PeerContentValue};
+    ghost use Rattle.vet_entries.specs.Encodings.{peer_content_code};
 
     ghost Value = { PeerContentValue };
 

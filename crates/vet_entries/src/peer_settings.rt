@@ -51,7 +51,8 @@ impl Clone for PeerSettings {
 impl PartialEq for PeerSettings {
     ghost use Rattle.std.specs.Cmp.{decided, partial_equiv_from_equiv};
     ghost use Rattle.std.specs.Prelude.{IsTrue, ◌↔◌, ◌≡◌};
-    ghost use Rattle.vet_entries.specs.PeerSettings.{settings_eq, settings_eq-Decides};
+    ghost use Rattle.vet_entries.specs.PeerSettings.{settings_eq};
+    ghost use Rattle.vet_entries.specs.PeerSettingsLaws.{settings_eq-Decides};
 
     ghost eq = { settings_eq };
 
@@ -70,7 +71,8 @@ impl PartialEq for PeerSettings {
 
 impl Eq for PeerSettings {
     ghost use Rattle.std.specs.Cmp.{decided};
-    ghost use Rattle.vet_entries.specs.PeerSettings.{settings_eq, settings_eq-Decides};
+    ghost use Rattle.vet_entries.specs.PeerSettings.{settings_eq};
+    ghost use Rattle.vet_entries.specs.PeerSettingsLaws.{settings_eq-Decides};
 
     ghost laws = { decided settings_eq settings_eq-Decides };
 }

@@ -4,7 +4,8 @@ ghost use Rattle.std.specs.Cmp.{eq_by_cmp_equiv, partial_equiv_from_equiv, parti
 ghost use Rattle.std.specs.Option.{option_cmp};
 ghost use Rattle.std.specs.Ordering.{as_partial_cmp, nat_cmp};
 ghost use Rattle.std.specs.Cmp.Lexicographic.{slice_cmp};
-ghost use Rattle.vet_entries.specs.Publisher.{calendar_cmp, publisher_cmp, publisher_eq, publisher_total};
+ghost use Rattle.vet_entries.specs.Publisher.{calendar_cmp, publisher_cmp, publisher_eq};
+ghost use Rattle.vet_entries.specs.PublisherLaws.{publisher_total};
 
 use crate::user::User;
 use std::alloc::AllocError;

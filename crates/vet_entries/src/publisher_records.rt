@@ -44,7 +44,8 @@ impl Clone for PackagePublishers {
 impl PartialEq for PackagePublishers {
     ghost use Rattle.std.specs.Cmp.{decided, partial_equiv_from_equiv};
     ghost use Rattle.std.specs.Prelude.{IsTrue, ◌↔◌, ◌≡◌};
-    ghost use Rattle.vet_entries.specs.PublisherRecords.{package_eq, package_eq-Decides};
+    ghost use Rattle.vet_entries.specs.PublisherRecords.{package_eq};
+    ghost use Rattle.vet_entries.specs.PublisherRecordsLaws.{package_eq-Decides};
 
     ghost eq = { package_eq };
 
@@ -60,7 +61,8 @@ impl PartialEq for PackagePublishers {
 
 impl Eq for PackagePublishers {
     ghost use Rattle.std.specs.Cmp.{decided};
-    ghost use Rattle.vet_entries.specs.PublisherRecords.{package_eq, package_eq-Decides};
+    ghost use Rattle.vet_entries.specs.PublisherRecords.{package_eq};
+    ghost use Rattle.vet_entries.specs.PublisherRecordsLaws.{package_eq-Decides};
 
     ghost laws = { decided package_eq package_eq-Decides };
 }
@@ -78,7 +80,7 @@ impl HasKey for PackagePublishers {
 }
 
 impl ExactItem for PackagePublishers {
-    ghost use Rattle.vet_entries.specs.PublisherRecords.{package_eq-Decides};
+    ghost use Rattle.vet_entries.specs.PublisherRecordsLaws.{package_eq-Decides};
 
     ghost only_copies = { λ a b h. h };
 
@@ -103,7 +105,8 @@ impl Drop for PublisherRecords {
 impl Model for PublisherRecords {
     ghost use Rattle.std.specs.List.{All};
     ghost use Rattle.std.specs.Prelude.{◌≡◌};
-    ghost use Rattle.vet_base.specs.Keyed.{KeyedRoom, keyed_code};
+    ghost use Rattle.vet_base.specs.Keyed.{KeyedRoom};
+    ghost use Rattle.vet_base.specs.Encodings.{keyed_code};
     ghost use Rattle.vet_entries.specs.PublisherRecords.{HasAny, records_total};
     ghost use Rattle.vet_entries.specs.contracts.publisher_records.PackagePublishers as held;
     ghost use Rattle.vet_entries.specs.declared.publisher_records.PackagePublishers.{PackagePublishers};

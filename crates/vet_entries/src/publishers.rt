@@ -3,7 +3,8 @@ ghost use Rattle.std.specs.Prelude.{◌≡◌, ◌↔◌, [], IfOk, IfErr, IsTru
 ghost use Rattle.std.specs.Cmp.{partial_equiv_from_equiv};
 ghost use Rattle.std.specs.List.{Contains};
 ghost use Rattle.vet_entries.specs.declared.publisher.Publisher.{Publisher};
-ghost use Rattle.vet_entries.specs.Publishers.{AreTheRecords, IsInOrder, publishers_eq, publishers_eq_equiv};
+ghost use Rattle.vet_entries.specs.Publishers.{AreTheRecords, IsInOrder, publishers_eq};
+ghost use Rattle.vet_entries.specs.PublishersLaws.{publishers_eq_equiv};
 
 use crate::publisher::Publisher;
 use std::alloc::{AllocError, Global};

@@ -35,7 +35,8 @@ impl<'a> Said<'a> {
 
 impl<'a> PartialEq for Said<'a> {
     ghost use Rattle.std.specs.Cmp.{decided, partial_equiv_from_equiv};
-    ghost use Rattle.vet_entries.specs.Entry.{entry_eq, entry_eq-Decides};
+    ghost use Rattle.vet_entries.specs.Entry.{entry_eq};
+    ghost use Rattle.vet_entries.specs.EntryLaws.{entry_eq-Decides};
 
     ghost eq = { entry_eq };
 
@@ -48,14 +49,15 @@ impl<'a> PartialEq for Said<'a> {
 
 impl<'a> Eq for Said<'a> {
     ghost use Rattle.std.specs.Cmp.{decided};
-    ghost use Rattle.vet_entries.specs.Entry.{entry_eq, entry_eq-Decides};
+    ghost use Rattle.vet_entries.specs.Entry.{entry_eq};
+    ghost use Rattle.vet_entries.specs.EntryLaws.{entry_eq-Decides};
 
     ghost laws = { decided entry_eq entry_eq-Decides };
 }
 
 impl<'a> Hash for Said<'a> {
     ghost use Rattle.std.specs.Hash as fed;
-    ghost use Rattle.vet_entries.specs.Entry.{entry_eq-Decides};
+    ghost use Rattle.vet_entries.specs.EntryLaws.{entry_eq-Decides};
     ghost use Rattle.vet_entries.specs.Fed.{entry_fed};
 
     ghost hash_input = { entry_fed };

@@ -8,4 +8,5 @@ use Rattle.vet_entries.proofs.by_package.lower.Goals as goal
 pub returns-clause-point : goal.returns-clause-point
 returns-clause-point c =
     let parted = parted_lt (stand c.args.entries.now c.args.name.now) c.args.order.now c.requires in
-    IsPartitionPoint-from_clause (λ place. is_lt (stand c.args.entries.now c.args.name.now place)) _ _ c.partition_point.ensures.partitioned parted (λ a r q k. search rules)
+    IsPartitionPoint-from_clause (λ place. is_lt (stand c.args.entries.now c.args.name.now place)) _ _
+    c.partition_point.ensures.partitioned parted (λ a r q k. search rules)

@@ -15,4 +15,5 @@ returns c =
     let same = always_returns_same _ _ _ (λ a r f k. search rules) in
     let sorted = c.in_ok-sort_by.ensures.sorted less (ranks_by nat_list_cmp_total (package_at entries)) same in
     let stable = c.sort_by.ensures.stable less (ranks_by nat_list_cmp_total (package_at entries)) same in
-    by_package entries c.sort_by.new.self.items (rw c.in_ok-order.ensures at c.sort_by.ensures.permutation) sorted (rw c.in_ok-order.ensures at stable)
+    by_package entries c.sort_by.new.self.items (rw c.in_ok-order.ensures at c.sort_by.ensures.permutation) sorted
+    (rw c.in_ok-order.ensures at stable)

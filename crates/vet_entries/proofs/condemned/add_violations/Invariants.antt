@@ -9,4 +9,5 @@ use Rattle.vet_entries.proofs.condemned.add_violations.Given as goal
 abbrev pub invariant-loop-place : goal.invariant-loop-place
 invariant-loop-place l =
     l.violations.items ≡ l.fn.violations.items
-    ++ flat_map (violation_in l.criteria) (sourced_at (option_copied l.source.peer) l.source.entries.now (take l.place-index l.source.places.now))
+    ++ flat_map (violation_in l.criteria)
+    (sourced_at (option_copied l.source.peer) l.source.entries.now (take l.place-index l.source.places.now))

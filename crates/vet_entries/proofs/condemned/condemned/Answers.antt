@@ -15,8 +15,10 @@ loop-peer-init c k =
     let table = c.criteria-criteria.result.now in
     let test = condemns table c.args.version.now k in
     c.with_all_violated-violated.ensures k
-    ∙ ap (λ b. b || list_any test (entries_from c.own_entries-own.result)) (ap (λ places. leads_to table places k) c.empty.ensures ∙ c.meet_of_nothing.ensures (closure_at table k))
-    ∙ ap (list_any test) (c.own_entries-own.ensures.entries ∙ sym (append-nil (sourced None c.args.«package».now c.args.facts.now.content.entries)))
+    ∙ ap (λ b. b || list_any test (entries_from c.own_entries-own.result))
+    (ap (λ places. leads_to table places k) c.empty.ensures ∙ c.meet_of_nothing.ensures (closure_at table k))
+    ∙ ap (list_any test) (c.own_entries-own.ensures.entries
+    ∙ sym (append-nil (sourced None c.args.«package».now c.args.facts.now.content.entries)))
 
 pub loop-peer-preserved : goal.loop-peer-preserved
 loop-peer-preserved c k =
@@ -37,8 +39,10 @@ pub returns : goal.returns
 returns c k =
     let name = c.args.«package».now in
     let own = sourced None name c.args.facts.now.content.entries in
-    let peers = take_all c.loop-peer.peer-index c.peers-peer-items.result.now c.loop-peer-test.false ∙ c.peers-peer-items.ensures.value in
+    let peers = take_all c.loop-peer.peer-index c.peers-peer-items.result.now c.loop-peer-test.false
+    ∙ c.peers-peer-items.ensures.value in
     ap (has k) c.leading_to.ensures
     ∙ c.led_to.ensures c.criteria-criteria.result.now c.loop-peer.violated k
     ∙ c.loop-peer.invariant k
-    ∙ (λ i. list_any (condemns (c.criteria-criteria.ensures.value i) c.args.version.now k) (own ++ flat_map (taken_from name) (peers i)))
+    ∙ (λ i. list_any (condemns (c.criteria-criteria.ensures.value i) c.args.version.now k)
+    (own ++ flat_map (taken_from name) (peers i)))

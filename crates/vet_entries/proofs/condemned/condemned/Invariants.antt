@@ -9,4 +9,6 @@ use Rattle.vet_entries.proofs.condemned.condemned.Given as goal
 abbrev pub invariant-loop-peer : goal.invariant-loop-peer
 invariant-loop-peer l =
     (c : ℕ) → leads_to l.criteria l.violated c
-    ≡ list_any (condemns l.criteria l.version c) (sourced None l.«package» l.facts.content.entries ++ flat_map (taken_from l.«package») (take l.peer-index l.peer-items))
+    ≡ list_any (condemns l.criteria l.version c)
+    (sourced None l.«package» l.facts.content.entries ++ flat_map (taken_from l.«package»)
+    (take l.peer-index l.peer-items))

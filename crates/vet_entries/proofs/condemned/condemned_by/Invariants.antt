@@ -5,4 +5,5 @@ use Rattle.vet_entries.specs.Condemned.{condemned_by}
 use Rattle.vet_entries.proofs.condemned.condemned_by.Given as goal
 
 abbrev pub invariant-loop-violation : goal.invariant-loop-violation
-invariant-loop-violation l = (c : ℕ) → has c l.condemned ≡ condemned_by (take l.violation-index l.violations) c l.version
+invariant-loop-violation l = (c : ℕ) → has c l.condemned ≡ condemned_by (take l.violation-index l.violations) c
+    l.version

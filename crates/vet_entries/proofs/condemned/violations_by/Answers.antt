@@ -13,7 +13,8 @@ loop-peer-init c =
     let give = violation_in c.criteria-criteria.result.now in
     c.in_ok-add_violations.ensures
     ∙ ap (λ vs. vs ++ flat_map give (entries_from c.own_entries-own.result)) c.new-violations.ensures.items
-    ∙ ap (flat_map give) (c.own_entries-own.ensures.entries ∙ sym (append-nil (sourced None c.args.«package».now c.args.facts.now.content.entries)))
+    ∙ ap (flat_map give) (c.own_entries-own.ensures.entries
+    ∙ sym (append-nil (sourced None c.args.«package».now c.args.facts.now.content.entries)))
 
 pub loop-peer-preserved : goal.loop-peer-preserved
 loop-peer-preserved c =
@@ -34,6 +35,7 @@ pub returns-clause-ok : goal.returns-clause-ok
 returns-clause-ok c =
     let name = c.args.«package».now in
     let own = sourced None name c.args.facts.now.content.entries in
-    let peers = take_all c.loop-peer.peer-index c.peers-peer-items.result.now c.loop-peer-test.false ∙ c.peers-peer-items.ensures.value in
+    let peers = take_all c.loop-peer.peer-index c.peers-peer-items.result.now c.loop-peer-test.false
+    ∙ c.peers-peer-items.ensures.value in
     c.loop-peer.invariant
     ∙ (λ i. flat_map (violation_in (c.criteria-criteria.ensures.value i)) (own ++ flat_map (taken_from name) (peers i)))

@@ -7,4 +7,6 @@ use Rattle.vet_entries.proofs.condemned.violations_by.Given as goal
 
 abbrev pub invariant-loop-peer : goal.invariant-loop-peer
 invariant-loop-peer l =
-    l.violations.items ≡ flat_map (violation_in l.criteria) (sourced None l.«package» l.facts.content.entries ++ flat_map (taken_from l.«package») (take l.peer-index l.peer-items))
+    l.violations.items ≡ flat_map (violation_in l.criteria)
+    (sourced None l.«package» l.facts.content.entries ++ flat_map (taken_from l.«package»)
+    (take l.peer-index l.peer-items))

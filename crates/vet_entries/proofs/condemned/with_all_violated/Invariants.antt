@@ -10,4 +10,5 @@ use Rattle.vet_entries.proofs.condemned.with_all_violated.Given as goal
 abbrev pub invariant-loop-place : goal.invariant-loop-place
 invariant-loop-place l =
     (c : ℕ) → leads_to l.criteria l.violated c ≡ (leads_to l.criteria l.fn.violated c
-    || list_any (condemns l.criteria l.version c) (sourced_at (option_copied l.source.peer) l.source.entries.now (take l.place-index l.source.places.now)))
+    || list_any (condemns l.criteria l.version c)
+    (sourced_at (option_copied l.source.peer) l.source.entries.now (take l.place-index l.source.places.now)))

@@ -10,7 +10,8 @@ use Rattle.vet_entries.proofs.condemned.with_violated.Goals as goal
 pub returns-then-not-violates : goal.returns-then-not-violates
 returns-then-not-violates c k =
     let table = c.args.criteria.now in
-    let named = leads_to table (placed table (violated_names (option_copied c.args.peer) c.args.held.now.entry.criteria)) k in
+    let named = leads_to table
+    (placed table (violated_names (option_copied c.args.peer) c.args.held.now.entry.criteria)) k in
     or_nothing (leads_to table c.args.violated k) named
     ∙ ap (λ t. leads_to table c.args.violated k || (t && named)) (sym c.if-not-violates.true ∙ c.violates.ensures)
 
@@ -20,4 +21,5 @@ returns c k =
     let names = placed table (violated_names (option_copied c.args.peer) c.args.held.now.entry.criteria) in
     ap (λ places. leads_to table places k) (c.union.ensures ∙ ap (set.union c.args.violated) c.violated_set.ensures)
     ∙ c.meet_of_unions.ensures (closure_at table k) c.args.violated names
-    ∙ ap (λ t. leads_to table c.args.violated k || (t && leads_to table names k)) (sym c.if-not-violates.false ∙ c.violates.ensures)
+    ∙ ap (λ t. leads_to table c.args.violated k || (t && leads_to table names k))
+    (sym c.if-not-violates.false ∙ c.violates.ensures)

@@ -19,5 +19,10 @@ entries-preserved c =
     let so_far = c.entries.yielded in
     let entry = c.in-Some.entry in
     let h = c.entries.invariant in
-    let held : has entry so_far ≡ true = sym (h.3 entry) ∙ c.in_ok-is_new.ensures.new ∙ ap not c.if-is_new.false in
-    (tt, tt, h.2 ∙ sym (distinct-held so_far entry held), λ q. c.in_ok-is_new.ensures.seen.0 q ∙ has-new so_far entry q _ (h.3 q))
+    let held : has entry so_far ≡ true = sym (h.3 entry) ∙ c.in_ok-is_new.ensures.new ∙ ap not c.if-is_new.false in (
+      tt,
+      tt,
+      h.2 ∙ sym (distinct-held so_far entry held),
+      λ q. c.in_ok-is_new.ensures.seen.0 q
+          ∙ has-new so_far entry q _ (h.3 q),
+    )

@@ -10,6 +10,8 @@ loop-entry-preserved c =
     let pushed = numbered_push 1 (c.loop-entry.number + 1) so_far entry (omega arith) in (
       tt,
       tt,
-      c.in_ok-push.ensures.items ∙ ap (λ held. held ++ (record { number = c.loop-entry.number + 1; entry = entry }) ∷ []) c.loop-entry.invariant.2 ∙ sym pushed,
+      c.in_ok-push.ensures.items
+          ∙ ap (λ held. held ++ (record { number = c.loop-entry.number + 1; entry = entry }) ∷ [])
+          c.loop-entry.invariant.2 ∙ sym pushed,
       omega (arith, length_push so_far entry),
     )

@@ -18,9 +18,16 @@ returns-clause-ok c =
     let before = get entry_eq c.in_ok-seen.seen in
     let after = get entry_eq c.see.new.seen in
     let fresh : c.in_ok-fresh.fresh.items ≡ map (is_new held.entries) (as_peers name content.entries) =
-    c.in_ok-fresh.ensures.fresh ∙ pass_fresh (Peer name) held.entries content.entries c.requires _ _ before c.entries.ensures.value c.entries-2.ensures.value c.in_ok-seen.ensures in
+    c.in_ok-fresh.ensures.fresh ∙ pass_fresh (Peer name) held.entries content.entries c.requires _ _ before
+    c.entries.ensures.value c.entries-2.ensures.value c.in_ok-seen.ensures in
     let again : c.in_ok-again.again.items ≡ map (comes_again (as_peers name content.entries)) held.entries =
-    c.in_ok-again.ensures ∙ pass_again (Peer name) held.entries content.entries c.requires _ _ _ before after c.entries.ensures.value c.entries-3.ensures.value c.entries-2.ensures.value c.in_ok-seen.ensures c.in_ok-fresh.ensures.seen in
-    marks_compared name held content c.in_ok-again.again.items c.in_ok-fresh.fresh.items c.count-new_count.result c.in_ok-is_same.is_same again fresh
+    c.in_ok-again.ensures ∙ pass_again (Peer name) held.entries content.entries c.requires _ _ _ before after
+    c.entries.ensures.value c.entries-3.ensures.value c.entries-2.ensures.value c.in_ok-seen.ensures
+    c.in_ok-fresh.ensures.seen in
+    marks_compared name held content c.in_ok-again.again.items c.in_ok-fresh.fresh.items c.count-new_count.result
+    c.in_ok-is_same.is_same again fresh
     (c.count-new_count.ensures ∙ ap (λ marks. length (filter (λ b. b) marks)) c.as_slice.ensures.value)
-    (c.in_ok-is_same.ensures.ok ∙ ap (λ marks. list_all (λ b. b) marks && ((c.count-new_count.result == 0) && criteria_eq (defined content.criteria) held.table)) c.as_slice-2.ensures.value)
+    (c.in_ok-is_same.ensures.ok
+    ∙ ap (λ marks. list_all (λ b. b) marks &&
+    ((c.count-new_count.result == 0) && criteria_eq (defined content.criteria) held.table))
+    c.as_slice-2.ensures.value)

@@ -16,14 +16,17 @@ returns-clause-ok c =
     let after = get entry_eq c.see.new.seen in
     let none = c.count-new_count.result == 0 in
     let fresh : c.in_ok-fresh.fresh.items ≡ map (is_new held) (as_of Own entries) =
-    c.in_ok-fresh.ensures.fresh ∙ pass_fresh Own held entries c.requires held entries before refl refl c.in_ok-seen.ensures in
+    c.in_ok-fresh.ensures.fresh ∙ pass_fresh Own held entries c.requires held entries before refl refl
+    c.in_ok-seen.ensures in
     let again : c.in_ok-again.again.items ≡ map (comes_again (as_of Own entries)) held =
-    c.in_ok-again.ensures ∙ pass_again Own held entries c.requires held held entries before after refl refl refl c.in_ok-seen.ensures c.in_ok-fresh.ensures.seen in
+    c.in_ok-again.ensures ∙ pass_again Own held entries c.requires held held entries before after refl refl refl
+    c.in_ok-seen.ensures c.in_ok-fresh.ensures.seen in
     let same : c.if-are_all.is_same ≡ (c.are_all.result && none) =
     elim c.if-are_all.branch [
       | then-are_all w ↦ w.is_same-is ∙ sym (ap (λ b. b && none) w.if-are_all.true)
       | else-are_all w ↦ w.is_same-is ∙ w.if-are_all.false ∙ sym (ap (λ b. b && none) w.if-are_all.false)
     ] in
-    marks_compared_own held entries c.in_ok-again.again.items c.in_ok-fresh.fresh.items c.count-new_count.result c.if-are_all.is_same again fresh
+    marks_compared_own held entries c.in_ok-again.again.items c.in_ok-fresh.fresh.items c.count-new_count.result
+    c.if-are_all.is_same again fresh
     (c.count-new_count.ensures ∙ ap (λ marks. length (filter (λ b. b) marks)) c.as_slice.ensures.value)
     (same ∙ ap (λ b. b && none) (c.are_all.ensures ∙ ap all_of c.as_slice-2.ensures.value))

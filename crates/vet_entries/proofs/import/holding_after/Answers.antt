@@ -28,8 +28,12 @@ of-requires c =
     let entries = c.args.content.now.entries in
     let told = c.comparison.view_is ∙ c.requires.compared in
     subst AreByNumber
-    (sym (entries_made (Peer name) _ c.args.next held c.entries.result.now entries c.entries-coming.result.now c.as_slice.result.now c.as_slice-fresh.result.now c.in_ok-entries.entries.items c.keep.new.entries.items c.add.new.held.items
-    c.in_ok-source.ensures c.entries.ensures.value c.entries-coming.ensures.value (c.as_slice.ensures.value ∙ ap (λ v. v.again) told) (c.as_slice-fresh.ensures.value ∙ ap (λ v. v.fresh) told) c.in_ok-entries.ensures.items
+    (sym (entries_made (Peer name) _ c.args.next held c.entries.result.now entries c.entries-coming.result.now
+    c.as_slice.result.now c.as_slice-fresh.result.now c.in_ok-entries.entries.items c.keep.new.entries.items
+    c.add.new.held.items
+    c.in_ok-source.ensures c.entries.ensures.value c.entries-coming.ensures.value
+    (c.as_slice.ensures.value ∙ ap (λ v. v.again) told) (c.as_slice-fresh.ensures.value ∙ ap (λ v. v.fresh) told)
+    c.in_ok-entries.ensures.items
     c.in_ok-keep.ensures c.in_ok-add.ensures))
     (numbers_rise (Peer name) c.args.next held entries c.entries.ensures.by_number c.requires.below)
 
@@ -40,9 +44,15 @@ returns-clause-ok c =
     let entries = c.args.content.now.entries in
     let told = c.comparison.view_is ∙ c.requires.compared in
     let made =
-    entries_made (Peer name) _ c.args.next held c.entries.result.now entries c.entries-coming.result.now c.as_slice.result.now c.as_slice-fresh.result.now c.in_ok-entries.entries.items c.keep.new.entries.items c.add.new.held.items
-    c.in_ok-source.ensures c.entries.ensures.value c.entries-coming.ensures.value (c.as_slice.ensures.value ∙ ap (λ v. v.again) told) (c.as_slice-fresh.ensures.value ∙ ap (λ v. v.fresh) told) c.in_ok-entries.ensures.items
+    entries_made (Peer name) _ c.args.next held c.entries.result.now entries c.entries-coming.result.now
+    c.as_slice.result.now c.as_slice-fresh.result.now c.in_ok-entries.entries.items c.keep.new.entries.items
+    c.add.new.held.items
+    c.in_ok-source.ensures c.entries.ensures.value c.entries-coming.ensures.value
+    (c.as_slice.ensures.value ∙ ap (λ v. v.again) told) (c.as_slice-fresh.ensures.value ∙ ap (λ v. v.fresh) told)
+    c.in_ok-entries.ensures.items
     c.in_ok-keep.ensures c.in_ok-add.ensures in
-    let whole : ◌≡◌ {A = HoldingValue} (record { table = c.in_ok-definitions_of.field-0; entries = c.add.new.held.items }) (imported name c.args.next c.args.content.now c.args.held.now) =
+    let whole : ◌≡◌ {A = HoldingValue}
+    (record { table = c.in_ok-definitions_of.field-0; entries = c.add.new.held.items })
+    (imported name c.args.next c.args.content.now c.args.held.now) =
     λ i. record { table = c.in_ok-definitions_of.ensures.ok i; entries = made i } in
     IfOk-weaker c.of.result _ _ (λ h e. e ∙ whole) c.of.ensures.ok

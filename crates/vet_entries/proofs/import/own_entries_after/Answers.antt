@@ -11,7 +11,8 @@ add-requires-clause-numbers c =
     let told = c.comparison.view_is ∙ c.requires.compared in
     let count : length (filter (λ b. b) c.as_slice-fresh.result.now) ≡ c.args.comparison.now.new_count =
     ap (λ marks. length (filter (λ b. b) marks)) (c.as_slice-fresh.ensures.value ∙ ap (λ v. v.fresh) told)
-    ∙ marks_count (is_new c.args.held.now) (as_of Own c.args.entries.now) ∙ sym (ap (λ v. v.new_count) c.requires.compared) in
+    ∙ marks_count (is_new c.args.held.now) (as_of Own c.args.entries.now)
+    ∙ sym (ap (λ v. v.new_count) c.requires.compared) in
     omega (arith, count, c.requires.numbers)
 
 pub returns-clause-ok : goal.returns-clause-ok
@@ -19,6 +20,8 @@ returns-clause-ok c =
     let held = c.args.held.now in
     let entries = c.args.entries.now in
     let told = c.comparison.view_is ∙ c.requires.compared in
-    entries_made Own Own c.args.next held held entries entries c.as_slice.result.now c.as_slice-fresh.result.now c.in_ok-after.after.items c.keep.new.entries.items c.add.new.held.items
-    refl refl refl (c.as_slice.ensures.value ∙ ap (λ v. v.again) told) (c.as_slice-fresh.ensures.value ∙ ap (λ v. v.fresh) told) c.in_ok-after.ensures.items
+    entries_made Own Own c.args.next held held entries entries c.as_slice.result.now c.as_slice-fresh.result.now
+    c.in_ok-after.after.items c.keep.new.entries.items c.add.new.held.items
+    refl refl refl (c.as_slice.ensures.value ∙ ap (λ v. v.again) told)
+    (c.as_slice-fresh.ensures.value ∙ ap (λ v. v.fresh) told) c.in_ok-after.ensures.items
     c.in_ok-keep.ensures c.in_ok-add.ensures

@@ -14,12 +14,15 @@ entries-preserved c =
     let old = get entry_eq c.args.seen.now in
     let so_far = (λ (q : Entry). list_any (λ e. entry_eq (own e) q) (take i entries)) in (
       c.in_ok-push.ensures.items
-          ∙ ap (λ b. c.entries.fresh.items ++ not b ∷ []) (c.see_one-is_held.ensures.held ∙ ap is_some (c.entries.invariant.1 (own x)) ∙ found_alike (λ before. before || so_far (own x)) (old (own x)))
+          ∙ ap (λ b. c.entries.fresh.items ++ not b ∷ [])
+          (c.see_one-is_held.ensures.held ∙ ap is_some (c.entries.invariant.1 (own x))
+          ∙ found_alike (λ before. before || so_far (own x)) (old (own x)))
           ∙ ap (λ b. c.entries.fresh.items ++ b ∷ []) (not_found (old (own x)))
           ∙ ap (λ fresh. fresh ++ is_none (old (own x)) ∷ []) c.entries.invariant.0
           ∙ sym (map_more (λ e. is_none (old (own e))) entries i x c.entries-test.true c.entry-item.is),
       λ q. c.see_one-is_held.ensures.seen q
           ∙ ap (option_map (λ before. before || entry_eq (own x) q)) (c.entries.invariant.1 q)
           ∙ mark_more (so_far q) (entry_eq (own x) q) (old q)
-          ∙ ap (λ b. option_map (λ before. before || b) (old q)) (sym (any_more (λ e. entry_eq (own e) q) entries i x c.entries-test.true c.entry-item.is)),
+          ∙ ap (λ b. option_map (λ before. before || b) (old q))
+          (sym (any_more (λ e. entry_eq (own e) q) entries i x c.entries-test.true c.entry-item.is)),
     )

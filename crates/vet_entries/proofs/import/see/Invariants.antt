@@ -9,4 +9,6 @@ use Rattle.vet_entries.proofs.import.see.Given as goal
 abbrev pub invariant-entries : goal.invariant-entries
 invariant-entries l =
     (l.fresh.items ≡ map (λ e. is_none (get entry_eq l.fn.seen (own e))) (take l.entry-index l.fn.entries))
-    × ((q : Entry) → get entry_eq l.seen q ≡ option_map (λ before. before || list_any (λ e. entry_eq (own e) q) (take l.entry-index l.fn.entries)) (get entry_eq l.fn.seen q))
+    × ((q : Entry) → get entry_eq l.seen q
+    ≡ option_map (λ before. before || list_any (λ e. entry_eq (own e) q) (take l.entry-index l.fn.entries))
+    (get entry_eq l.fn.seen q))

@@ -1,6 +1,7 @@
 use Rattle.std.proofs.Common.{rules, ◌≡◌, ◌||◌, true, is_some, option_map, sym, ap, ◌∙◌}
 use Rattle.std.specs.HashMap.{get}
-use Rattle.vet_entries.specs.Entry.{entry_eq, entry_eq-Decides}
+use Rattle.vet_entries.specs.Entry.{entry_eq}
+use Rattle.vet_entries.specs.EntryLaws.{entry_eq-Decides}
 use Rattle.vet_entries.proofs.ImportMarks.{mark_put, mark_none}
 use Rattle.vet_entries.proofs.import.see_one.Goals as goal
 
@@ -18,5 +19,6 @@ returns-in-None-clause-seen c q =
     let said = c.of.result in
     ap (λ m. get entry_eq m q) c.get_mut.follows.holds-at-none
     ∙ mark_none (entry_eq said q) (get entry_eq c.args.seen.now q)
-    (λ same. ap (λ e. get entry_eq c.args.seen.now e) (sym ((entry_eq-Decides said q).0 same)) ∙ sym c.in-None.ensures.value)
+    (λ same. ap (λ e. get entry_eq c.args.seen.now e) (sym ((entry_eq-Decides said q).0 same))
+    ∙ sym c.in-None.ensures.value)
     ∙ ap (λ e. option_map (λ before. before || entry_eq e q) (get entry_eq c.args.seen.now q)) c.of.ensures

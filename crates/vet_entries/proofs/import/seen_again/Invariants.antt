@@ -6,4 +6,5 @@ use Rattle.vet_entries.specs.Entry.{entry_eq, own}
 use Rattle.vet_entries.proofs.import.seen_again.Given as goal
 
 abbrev pub invariant-entries : goal.invariant-entries
-invariant-entries l = l.again.items ≡ map (λ h. unwrap_or (get entry_eq l.seen (own h.entry)) false) (take l.entry-index l.fn.held)
+invariant-entries l = l.again.items ≡ map (λ h. unwrap_or (get entry_eq l.seen (own h.entry)) false)
+    (take l.entry-index l.fn.held)

@@ -7,4 +7,6 @@ use Rattle.vet_entries.specs.Entry.{entry_eq, own}
 use Rattle.vet_entries.proofs.import.unseen.Given as goal
 
 abbrev pub invariant-entries : goal.invariant-entries
-invariant-entries l = (q : Entry) → get entry_eq l.seen q ≡ cond (list_any (λ h. entry_eq (own h.entry) q) (take l.entry-index l.fn.held)) (Some false) None
+invariant-entries l = (q : Entry)
+    → get entry_eq l.seen q ≡ cond (list_any (λ h. entry_eq (own h.entry) q) (take l.entry-index l.fn.held))
+    (Some false) None

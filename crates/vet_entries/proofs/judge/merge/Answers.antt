@@ -22,7 +22,8 @@ returns-in-Some-clause-condemns c =
     set_condemns xs p y r more placed.0 (placed.1 y)
     (ap (λ (w : Violation). w.requirement) c.index_mut.ensures.value ∙ placed.1 c.index_mut.result.now)
     (λ k. ap (has k) c.union.ensures ∙ set.contains-union nat_cmp_total c.index.result.now.criteria more k
-    ∙ ap (λ (w : Violation). has k w.criteria || has k more) (c.index.ensures ∙ get_or_default xs p c.index.result.now y placed.0))
+    ∙ ap (λ (w : Violation). has k w.criteria || has k more)
+    (c.index.ensures ∙ get_or_default xs p c.index.result.now y placed.0))
 
 pub returns-clause-placed : goal.returns-clause-placed
 returns-clause-placed c =
@@ -31,6 +32,8 @@ returns-clause-placed c =
     let count : c.len.result ≡ length c.args.merged.now.items = search rules in
     let updates = c.in_ok-insert.ensures.updates.0 in
     rw c.in_ok-push.ensures.items
-    (placed_more c.args.merged.now.items (get (slice_cmp nat_cmp) c.args.places.now) (get (slice_cmp nat_cmp) c.insert.new.self) c.in_ok-clone.field-0 _ c.requires
-    (λ q. updates q ∙ ap (λ (n : ℕ). cond (eq_by_cmp (slice_cmp nat_cmp) c.in_ok-clone.field-0 q) (Some n) (get (slice_cmp nat_cmp) c.args.places.now q)) count)
+    (placed_more c.args.merged.now.items (get (slice_cmp nat_cmp) c.args.places.now)
+    (get (slice_cmp nat_cmp) c.insert.new.self) c.in_ok-clone.field-0 _ c.requires
+    (λ q. updates q ∙ ap (λ (n : ℕ). cond (eq_by_cmp (slice_cmp nat_cmp) c.in_ok-clone.field-0 q) (Some n)
+    (get (slice_cmp nat_cmp) c.args.places.now q)) count)
     (second ∙ sym first))

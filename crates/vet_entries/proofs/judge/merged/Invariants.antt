@@ -11,5 +11,6 @@ use Rattle.vet_entries.proofs.judge.merged.Given as goal
 abbrev pub invariant-loop-violation : goal.invariant-loop-violation
 invariant-loop-violation l = record {
   placed : ArePlaced l.merged.items (get (slice_cmp nat_cmp) l.places);
-  same : (c : ℕ) (v : VersionValue) → condemned_by l.merged.items c v ≡ condemned_by (take l.violation-index l.violations) c v;
+  same : (c : ℕ) (v : VersionValue)
+      → condemned_by l.merged.items c v ≡ condemned_by (take l.violation-index l.violations) c v;
 }

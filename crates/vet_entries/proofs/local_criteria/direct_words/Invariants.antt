@@ -8,5 +8,6 @@ use Rattle.vet_entries.proofs.local_criteria.direct_words.Given as goal
 abbrev pub invariant-loop-place : goal.invariant-loop-place
 invariant-loop-place l = record {
   long : length l.words ≡ 64;
-  below : (p : ℕ) → p < l.place → get_or l.words p set.empty ≡ placed l.criteria (direct l.definitions l.map (get_or l.names p []));
+  below : (p : ℕ) → p < l.place
+      → get_or l.words p set.empty ≡ placed l.criteria (direct l.definitions l.map (get_or l.names p []));
 }

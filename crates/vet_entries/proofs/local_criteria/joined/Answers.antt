@@ -24,10 +24,17 @@ loop-place-preserved c q =
     elim c.if-has.branch [
       | then-has w ↦ (let long : length closed ≡ 64 = search in
           let found = get_or closed n set.empty in
-          let here : get_or closed n w.index-words-place.result ≡ found = get_or_default closed n w.index-words-place.result set.empty (omega (arith, c.loop-place-test.true, long)) in
-          let is : has q c.if-has.joined ≡ (has q c.loop-place.joined || has q found) = ap (has q) (w.joined-is ∙ w.union-joined.ensures ∙ ap (set.union c.loop-place.joined) here) ∙ set.contains-union nat_cmp_total c.loop-place.joined found q in
-          rw is (one_more_found held (has q c.loop-place.joined) n old (has q found) (λ h. (sym c.has.ensures.value ∙ w.if-has.true, h), λ h. h.1)))
-      | else-has w ↦ rw w.joined-is (none_more_found held (has q c.loop-place.joined) n old (λ h. false≢true (sym w.if-has.false ∙ c.has.ensures.value ∙ h.0)))
+          let here : get_or closed n w.index-words-place.result ≡ found =
+          get_or_default closed n w.index-words-place.result set.empty (omega (arith, c.loop-place-test.true, long))
+          in
+          let is : has q c.if-has.joined ≡ (has q c.loop-place.joined || has q found) =
+          ap (has q) (w.joined-is ∙ w.union-joined.ensures ∙ ap (set.union c.loop-place.joined) here)
+          ∙ set.contains-union nat_cmp_total c.loop-place.joined found q in
+          rw is (one_more_found held (has q c.loop-place.joined) n old (has q found)
+          (λ h. (sym c.has.ensures.value ∙ w.if-has.true, h), λ h. h.1)))
+      | else-has w ↦ rw w.joined-is
+          (none_more_found held (has q c.loop-place.joined) n old
+          (λ h. false≢true (sym w.if-has.false ∙ c.has.ensures.value ∙ h.0)))
     ]
 
 pub returns : goal.returns
@@ -41,5 +48,7 @@ returns c q = (
         let long : length c.args.words.now ≡ 64 = search in
         elim (cases_lt p 64) [
           | inl less ↦ omega (arith, less, c.loop-place-test.false)
-          | inr high ↦ absurd (false≢true (sym (set.contains-empty nat_cmp q) ∙ ap (has q) (sym (get_or_past c.args.words.now p set.empty (omega (arith, high, long)))) ∙ h))
+          | inr high ↦ absurd (false≢true
+              (sym (set.contains-empty nat_cmp q)
+              ∙ ap (has q) (sym (get_or_past c.args.words.now p set.empty (omega (arith, high, long)))) ∙ h))
         ]

@@ -6,4 +6,5 @@ use Rattle.vet_entries.proofs.local_criteria.joined.Given as goal
 
 abbrev pub invariant-loop-place : goal.invariant-loop-place
 invariant-loop-place l =
-    (q : ℕ) → (has q l.joined ≡ true) ↔ ((p : ℕ) × (p < l.place) × ((has p l.places ≡ true) × (has q (get_or l.words p set.empty) ≡ true)))
+    (q : ℕ) → (has q l.joined ≡ true) ↔
+    ((p : ℕ) × (p < l.place) × ((has p l.places ≡ true) × (has q (get_or l.words p set.empty) ≡ true)))

@@ -2,7 +2,7 @@ use Rattle.std.proofs.Common.{ap, sym, ◌∙◌}
 use Rattle.std.specs.FinSet as set
 use Rattle.vet_base.specs.Criteria.{placed}
 use Rattle.vet_base.specs.Names.{members}
-use Rattle.vet_base.specs.PlaceLaws.{same_places}
+use Rattle.vet_base.specs.CriteriaSetLaws.{same_places}
 use Rattle.vet_entries.specs.Mapped.{mapped_name}
 use Rattle.vet_entries.proofs.JoinedWords.{of_all, of_more, of_none}
 use Rattle.vet_entries.proofs.MappedNames.{has-all_mapped}
@@ -13,7 +13,8 @@ loop-name-init c = of_none c.empty-set.result c.empty-set.ensures
 
 pub loop-name-preserved : goal.loop-name-preserved
 loop-name-preserved c =
-    of_more (λ n. placed c.args.criteria.now (mapped_name c.args.map.now n)) c.as_slice-name-items.result.now c.loop-name.name-index c.name-item.result c.loop-name.set c.union-set.result
+    of_more (λ n. placed c.args.criteria.now (mapped_name c.args.map.now n)) c.as_slice-name-items.result.now
+    c.loop-name.name-index c.name-item.result c.loop-name.set c.union-set.result
     c.loop-name-test.true c.name-item.is c.loop-name.invariant
     (c.union-set.ensures ∙ ap (set.union c.loop-name.set) c.word.ensures)
 
@@ -22,6 +23,7 @@ returns c =
     let table = c.args.criteria.now in
     let m = c.args.map.now in
     let names = members c.args.names.now in
-    same_places _ _ (λ q. of_all (λ n. placed table (mapped_name m n)) c.as_slice-name-items.result.now names c.loop-name.name-index c.loop-name.set
+    same_places _ _ (λ q. of_all (λ n. placed table (mapped_name m n)) c.as_slice-name-items.result.now names
+    c.loop-name.name-index c.loop-name.set
     c.loop-name-test.false c.as_slice-name-items.ensures.members c.loop-name.invariant q
     ∙ sym (has-all_mapped table m names q))

@@ -7,4 +7,5 @@ use Rattle.vet_entries.specs.Mapped.{mapped_name}
 use Rattle.vet_entries.proofs.local_criteria.mapped_set.Given as goal
 
 abbrev pub invariant-loop-name : goal.invariant-loop-name
-invariant-loop-name l = (q : ℕ) → has q l.set ≡ list_any (λ n. has q (placed l.criteria (mapped_name l.map n))) (take l.name-index l.name-items)
+invariant-loop-name l = (q : ℕ) → has q l.set ≡ list_any (λ n. has q (placed l.criteria (mapped_name l.map n)))
+    (take l.name-index l.name-items)

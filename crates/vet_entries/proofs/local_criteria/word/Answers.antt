@@ -10,4 +10,6 @@ returns-then-not-is_built_in c =
     let table = c.args.criteria.now in
     let none = sym c.get.ensures ∙ ap option_copied c.in_default.is in
     c.empty.ensures
-    ∙ sym (ap (placed table) (unlisted_nothing c.args.map.now c.args.name.now none (sym c.is_built_in.ensures ∙ c.if-not-is_built_in.true)) ∙ placed-empty table)
+    ∙ sym (ap (placed table)
+    (unlisted_nothing c.args.map.now c.args.name.now none (sym c.is_built_in.ensures ∙ c.if-not-is_built_in.true))
+    ∙ placed-empty table)

@@ -7,4 +7,6 @@ use Rattle.vet_entries.specs.LocalCriteria.{mapped_beyond}
 use Rattle.vet_entries.proofs.local_criteria.words_beyond.Given as goal
 
 abbrev pub invariant-loop-name : goal.invariant-loop-name
-invariant-loop-name l = (q : ℕ) → has q l.set ≡ list_any (λ n. has q (placed l.criteria (mapped_beyond l.definitions l.map n))) (take l.name-index l.name-items)
+invariant-loop-name l = (q : ℕ)
+    → has q l.set ≡ list_any (λ n. has q (placed l.criteria (mapped_beyond l.definitions l.map n)))
+    (take l.name-index l.name-items)

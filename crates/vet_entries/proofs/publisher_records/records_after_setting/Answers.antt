@@ -8,7 +8,8 @@ returns c =
     let name = c.args.«package».now in
     let new = c.args.publishers.now in
     let packages = c.args.records.now.items in
-    let by_name : IsByName packages = subst IsByName (ap (λ k. k.items) c.records.view_is) (record { rising = c.items.ensures.by_key; filled = c.records.invariant.0 }) in
+    let by_name : IsByName packages = subst IsByName (ap (λ k. k.items) c.records.view_is)
+    (record { rising = c.items.ensures.by_key; filled = c.records.invariant.0 }) in
     record {
       own = records_of-own name new packages;
       others = λ other differs. records_of-other name other new packages differs;

@@ -11,6 +11,7 @@ abbrev pub invariant-loop-place : goal.invariant-loop-place
 invariant-loop-place l =
     let peers = l.facts.content.peers in
     record {
-      entries : (d : HeldPeer) → all_sourced peers l.taken.items ≡ all_sourced peers l.fn.taken.items ++ sourced_at (Some (get_or peers l.at d)) l.entries (take l.place-index l.place-items);
+      entries : (d : HeldPeer) → all_sourced peers l.taken.items ≡ all_sourced peers l.fn.taken.items ++ sourced_at
+          (Some (get_or peers l.at d)) l.entries (take l.place-index l.place-items);
       there : All (HasPeer peers) l.taken.items;
     }

@@ -10,9 +10,17 @@ loop-place-preserved c =
     let places = c.places_of-place-items.result.now in
     let i = c.loop-place.place-index in
     let x = c.index-entries-place.result in
-    let within : get_or places i 0 < length entries = omega (arith, c.places_of-place-items.ensures.within i 0 c.loop-place-test.true, ap length c.entries-entries.ensures.value) in
+    let within : get_or places i 0 < length entries =
+    omega (
+      arith,
+      c.places_of-place-items.ensures.within i 0 c.loop-place-test.true,
+      ap length c.entries-entries.ensures.value,
+    ) in
     record {
-      entries = one_more_sourced content.peers None entries places i x (all_sourced content.peers c.args.taken.now.items) c.loop-place.taken.items c.push.new.self.items _
-          c.loop-place-test.true within c.index-entries-place.is c.in_ok-push.ensures.items refl refl c.loop-place.invariant.entries;
-      there = All-push (HasPeer content.peers) c.loop-place.taken.items c.push.new.self.items _ c.in_ok-push.ensures.items c.loop-place.invariant.there tt;
+      entries = one_more_sourced content.peers None entries places i x
+          (all_sourced content.peers c.args.taken.now.items) c.loop-place.taken.items c.push.new.self.items _
+          c.loop-place-test.true within c.index-entries-place.is c.in_ok-push.ensures.items refl refl
+          c.loop-place.invariant.entries;
+      there = All-push (HasPeer content.peers) c.loop-place.taken.items c.push.new.self.items _
+          c.in_ok-push.ensures.items c.loop-place.invariant.there tt;
     }

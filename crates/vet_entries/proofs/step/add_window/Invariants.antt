@@ -4,4 +4,5 @@ use Rattle.vet_entries.specs.Step.{window_steps}
 use Rattle.vet_entries.proofs.step.add_window.Given as goal
 
 abbrev pub invariant-loop-published : goal.invariant-loop-published
-invariant-loop-published l = l.steps.items ≡ l.fn.steps.items ++ window_steps l.criteria (take l.published-index l.records) l.window
+invariant-loop-published l = l.steps.items ≡ l.fn.steps.items ++ window_steps l.criteria
+    (take l.published-index l.records) l.window

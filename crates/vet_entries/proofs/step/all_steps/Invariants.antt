@@ -6,4 +6,5 @@ use Rattle.vet_entries.specs.Taken.{all_sourced}
 use Rattle.vet_entries.proofs.step.all_steps.Given as goal
 
 abbrev pub invariant-loop-entry : goal.invariant-loop-entry
-invariant-loop-entry l = l.steps.items ≡ flat_map (entry_steps l.facts.content.criteria l.records) (all_sourced l.facts.content.peers (take l.entry-index l.taken))
+invariant-loop-entry l = l.steps.items ≡ flat_map (entry_steps l.facts.content.criteria l.records)
+    (all_sourced l.facts.content.peers (take l.entry-index l.taken))

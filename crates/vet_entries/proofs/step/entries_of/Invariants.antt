@@ -9,6 +9,7 @@ abbrev pub invariant-loop-place : goal.invariant-loop-place
 invariant-loop-place l =
     let content = l.facts.content in
     record {
-      entries : all_sourced content.peers l.taken.items ≡ sourced None l.«package» content.entries ++ flat_map (taken_from l.«package») (take l.place content.peers);
+      entries : all_sourced content.peers l.taken.items ≡ sourced None l.«package» content.entries ++ flat_map
+          (taken_from l.«package») (take l.place content.peers);
       there : All (HasPeer content.peers) l.taken.items;
     }

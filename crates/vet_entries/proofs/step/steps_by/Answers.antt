@@ -11,7 +11,8 @@ use Rattle.vet_entries.proofs.step.steps_by.Goals as goal
 pub all_steps-requires-clause-peers : goal.all_steps-requires-clause-peers
 all_steps-requires-clause-peers c =
     let P = HasPeer c.args.facts.now.content.peers in
-    subst (All P) (sym c.as_slice.ensures.value) (All-permutation P _ _ c.sort_by_key.ensures.permutation c.in_ok-entries.ensures.peers)
+    subst (All P) (sym c.as_slice.ensures.value)
+    (All-permutation P _ _ c.sort_by_key.ensures.permutation c.in_ok-entries.ensures.peers)
 
 pub returns-clause-ok : goal.returns-clause-ok
 returns-clause-ok c =
@@ -20,9 +21,13 @@ returns-clause-ok c =
     let number : Taken → ℕ = λ t. t.held.now.number in
     let of_source : SourcedEntry → ℕ = λ e. e.held.number in
     let same = always_returns_same _ _ _ (λ a r f k. search rules) in
-    let sorted = sorted_by_number number taken c.sort_by_key.new.self.items (c.in_ok-sort_by_key.ensures.sorted number same) (c.sort_by_key.ensures.stable number same) in
+    let sorted = sorted_by_number number taken c.sort_by_key.new.self.items
+    (c.in_ok-sort_by_key.ensures.sorted number same) (c.sort_by_key.ensures.stable number same) in
     c.in_ok-all_steps.ensures
-    ∙ ap (λ ts. flat_map (entry_steps content.criteria c.records_of-records.result.now) (all_sourced content.peers ts)) (c.as_slice.ensures.value ∙ sorted)
+    ∙ ap (λ ts. flat_map (entry_steps content.criteria c.records_of-records.result.now) (all_sourced content.peers ts))
+    (c.as_slice.ensures.value ∙ sorted)
     ∙ ap (flat_map (entry_steps content.criteria c.records_of-records.result.now))
-    (map-by_number (sourced_entry content.peers) number of_source (λ t. refl) taken ∙ ap (by_number of_source) c.in_ok-entries.ensures.entries)
-    ∙ ap (λ rs. flat_map (entry_steps content.criteria rs) (by_number of_source (entries_of content c.args.«package».now))) c.records_of-records.ensures.value
+    (map-by_number (sourced_entry content.peers) number of_source (λ t. refl) taken
+    ∙ ap (by_number of_source) c.in_ok-entries.ensures.entries)
+    ∙ ap (λ rs. flat_map (entry_steps content.criteria rs)
+    (by_number of_source (entries_of content c.args.«package».now))) c.records_of-records.ensures.value

@@ -5,7 +5,9 @@ use Rattle.vet_entries.proofs.MappedCriteria.{IsRising-names, entries_are}
 use Rattle.vet_entries.proofs.criteria_map.CriteriaMap.items.Goals as goal
 
 pub returns-clause-entries : goal.returns-clause-entries
-returns-clause-entries c = ap by_name c.items.ensures.value ∙ entries_are c.self.inside.items.items c.args.self.now c.self.invariant c.self.view_is
+returns-clause-entries c = ap by_name c.items.ensures.value ∙ entries_are c.self.inside.items.items c.args.self.now
+    c.self.invariant c.self.view_is
 
 pub returns-clause-rising : goal.returns-clause-rising
-returns-clause-rising c = subst (λ items. IsRising (names_of items)) (sym c.items.ensures.value) (IsRising-names c.self.inside.items.items c.self.invariant)
+returns-clause-rising c = subst (λ items. IsRising (names_of items)) (sym c.items.ensures.value)
+    (IsRising-names c.self.inside.items.items c.self.invariant)

@@ -11,4 +11,5 @@ pub loop-item-preserved : goal.loop-item-preserved
 loop-item-preserved c =
     c.lesser-least.ensures
     ∙ (λ i. lesser (c.loop-item.invariant i) (c.least_unknown.ensures i))
-    ∙ least_target_more c.args.table.now c.items-item-items.result.now c.loop-item.item-index c.item-item.result c.loop-item-test.true c.item-item.is
+    ∙ least_target_more c.args.table.now c.items-item-items.result.now c.loop-item.item-index c.item-item.result
+    c.loop-item-test.true c.item-item.is

@@ -13,7 +13,10 @@ returns-clause-fits c =
       omega (arith, ap length same),
       (
         c.in_ok-reserve.ensures.ok,
-        subst (λ n. AreByNumber (insert c.reserve.new.self.entries n (record { number = c.args.number; entry = c.args.entry }))) (sym (ap length same))
-            (one_behind c.reserve.new.self.entries (record { number = c.args.number; entry = c.args.entry }) c.entries-place.ensures.by_number below),
+        subst (λ n. AreByNumber
+            (insert c.reserve.new.self.entries n (record { number = c.args.number; entry = c.args.entry })))
+            (sym (ap length same))
+            (one_behind c.reserve.new.self.entries (record { number = c.args.number; entry = c.args.entry })
+            c.entries-place.ensures.by_number below),
       ),
     )

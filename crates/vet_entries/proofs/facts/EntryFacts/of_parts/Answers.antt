@@ -6,7 +6,8 @@ use Rattle.vet_entries.proofs.facts.EntryFacts.of_parts.Goals as goal
 
 pub returns-clause-ok : goal.returns-clause-ok
 returns-clause-ok c =
-    let peers : c.in_ok-peers.peers.items ≡ c.args.peers.items = c.in_ok-peers.ensures ∙ set_in_order R peer_name c.args.peers.items c.requires.peers in
+    let peers : c.in_ok-peers.peers.items ≡ c.args.peers.items = c.in_ok-peers.ensures
+    ∙ set_in_order R peer_name c.args.peers.items c.requires.peers in
     λ i. record {
       criteria = c.args.criteria;
       entries = c.in_ok-entries.ensures i;

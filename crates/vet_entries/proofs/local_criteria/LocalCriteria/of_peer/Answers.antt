@@ -14,7 +14,8 @@ returns c d =
     let place = c.args.place in
     let names = c.args.names.now in
     let peer = c.index-peers-place.result in
-    let same = λ (e : HeldPeer). c.index-peers-place.is ∙ ap (λ ps. slice_index_or ps place peer) c.peers.ensures.value ∙ get_or_default peers place peer e c.requires.place in
+    let same = λ (e : HeldPeer). c.index-peers-place.is ∙ ap (λ ps. slice_index_or ps place peer) c.peers.ensures.value
+    ∙ get_or_default peers place peer e c.requires.place in
     let there = closure_of peer.content.table names in
     c.close.ensures.closure table (mapped peer.settings.map there) c.requires.local.own
     (c.of_names-stands.ensures ∙ ap (λ t. placed t (mapped peer.settings.map there)) c.criteria-criteria.ensures.value)

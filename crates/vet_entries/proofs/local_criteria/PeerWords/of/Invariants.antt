@@ -8,5 +8,6 @@ use Rattle.vet_entries.proofs.local_criteria.PeerWords.of.Given as goal
 abbrev pub invariant-loop-place : goal.invariant-loop-place
 invariant-loop-place l = record {
   long : length l.stands ≡ 64;
-  below : (p : ℕ) → p < l.place → get_or l.stands p set.empty ≡ stands_for l.criteria l.peer (get_or (map.keys l.peer.content.table) p []);
+  below : (p : ℕ) → p < l.place
+      → get_or l.stands p set.empty ≡ stands_for l.criteria l.peer (get_or (map.keys l.peer.content.table) p []);
 }

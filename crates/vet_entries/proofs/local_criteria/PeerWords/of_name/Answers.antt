@@ -10,5 +10,7 @@ returns-in-None c =
     let defined = c.args.peer.now.content.table in
     let m = c.args.peer.now.settings.map in
     let n = c.args.name.now in
-    let none = missing_place defined n (ap (λ t. place_of t n) (sym c.definitions.ensures) ∙ sym c.place.ensures.value ∙ c.in-None.is) in
-    c.word.ensures ∙ ap (placed c.args.criteria.now) (sym (ap (mapped m) (closure_of_undefined defined n none) ∙ mapped_alone m n))
+    let none = missing_place defined n (ap (λ t. place_of t n) (sym c.definitions.ensures) ∙ sym c.place.ensures.value
+    ∙ c.in-None.is) in
+    c.word.ensures ∙ ap (placed c.args.criteria.now)
+    (sym (ap (mapped m) (closure_of_undefined defined n none) ∙ mapped_alone m n))

@@ -14,5 +14,6 @@ returns-clause-fits c =
     let held : KeyedRoom PackagePublishers = c.args.self.now in
     fits_setting e held name [] (subst (Fits R package_of e) c.self.view_is c.in-Some.ensures.fits)
     (subst (λ (k : KeyedRoom PackagePublishers). All HasAny k.items) c.self.view_is c.self.invariant.0)
-    (subst (λ (k : KeyedRoom PackagePublishers). edited e k.items ≡ without_item R package_of k.items name) c.self.view_is c.in-Some.ensures.edit)
+    (subst (λ (k : KeyedRoom PackagePublishers). edited e k.items ≡ without_item R package_of k.items name)
+    c.self.view_is c.in-Some.ensures.edit)
     c.requires.counted

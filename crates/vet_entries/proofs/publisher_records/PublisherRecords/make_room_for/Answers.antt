@@ -6,4 +6,5 @@ use Rattle.vet_entries.proofs.publisher_records.PublisherRecords.make_room_for.G
 
 pub returns-then-has-clause-ok : goal.returns-then-has-clause-ok
 returns-then-has-clause-ok c =
-    inl (subst (λ (k : KeyedRoom PackagePublishers). HasPackage k.items c.args.«package».now) c.self.view_is (sym c.has.ensures ∙ c.if-has.true))
+    inl (subst (λ (k : KeyedRoom PackagePublishers). HasPackage k.items c.args.«package».now) c.self.view_is
+    (sym c.has.ensures ∙ c.if-has.true))

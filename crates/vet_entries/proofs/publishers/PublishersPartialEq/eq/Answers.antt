@@ -1,5 +1,5 @@
-use Rattle.vet_entries.specs.Publisher.{publisher_eq-Decides}
-use Rattle.vet_base.proofs.KeyedLemmas.{told}
+use Rattle.vet_entries.specs.PublisherLaws.{publisher_eq-Decides}
+use Rattle.vet_base.proofs.ListLemmas.{told}
 use Rattle.vet_entries.proofs.publishers.PublishersPartialEq.eq.Goals as goal
 
 pub returns-clause-same : goal.returns-clause-same
