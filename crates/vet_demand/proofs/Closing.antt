@@ -11,7 +11,7 @@ use Rattle.vet_base.specs.Criteria.{Criteria, InClosure, closure_of}
 use Rattle.vet_base.specs.Criteria.InClosure.{named, implied}
 use Rattle.vet_base.specs.CriteriaSet.{has}
 use Rattle.vet_base.specs.Names.{NameSet}
-use Rattle.vet_base.specs.PlaceLaws.{same_places}
+use Rattle.vet_base.specs.CriteriaSetLaws.{same_places}
 use Rattle.vet_demand.specs.Needs.{covers}
 use Rattle.vet_demand.specs.Terms.{closed_places}
 
@@ -23,7 +23,8 @@ nothing_implied criteria n (implied {m = m} inner h) = nothing_implied criteria 
 pub none_closed : (criteria : Criteria) → closed_places criteria set.empty ≡ set.empty
 none_closed criteria = same_places _ _ (λ p. elim (cases_Bool (has p (closed_places criteria set.empty))) [
   | inl held ↦ (let parts = and_parts _ _ (sym (contains-placed criteria (closure_of criteria set.empty) p) ∙ held) in
-      absurd (nothing_implied criteria (get_or (map.keys criteria) p []) ((closure-law criteria set.empty (get_or (map.keys criteria) p [])).0 parts.1)))
+      absurd (nothing_implied criteria (get_or (map.keys criteria) p [])
+      ((closure-law criteria set.empty (get_or (map.keys criteria) p [])).0 parts.1)))
   | inr none ↦ none ∙ sym (set.contains-empty nat_cmp p)
 ])
 

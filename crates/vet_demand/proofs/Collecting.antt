@@ -38,13 +38,16 @@ new_next : (needed : Bool) (mid : List Pair) (x : Pair) → needed ≡ true → 
 new_next true mid x h = Contains-push mid x
 new_next false mid x h = cc h
 
-next_cases : (needed : Bool) (mid : List Pair) (x q : Pair) → Contains (cond needed (mid ++ x ∷ []) mid) q → Contains mid q ⊎ ((needed ≡ true) × (x ≡ q))
+next_cases : (needed : Bool) (mid : List Pair) (x q : Pair) → Contains (cond needed (mid ++ x ∷ []) mid) q
+    → Contains mid q ⊎ ((needed ≡ true) × (x ≡ q))
 next_cases true mid x q w = elim (Contains-push_cases mid x q w) [ inl was ↦ inl was | inr same ↦ inr (refl, same) ]
 next_cases false mid x q w = inl w
 
 -- one name more
-pair_next : (node : Node) (names : List (List ℕ)) (set : Places) (i : ℕ) (name : List ℕ) (needed : Bool) (old mid new : List Pair) → i < length names
-    → Adds (IsPairOf node names set i) old mid → name ≡ get_or names i name → needed ≡ has i set → new ≡ cond needed (mid ++ pair_of node name ∷ []) mid
+pair_next : (node : Node) (names : List (List ℕ)) (set : Places) (i : ℕ) (name : List ℕ) (needed : Bool)
+    (old mid new : List Pair) → i < length names
+    → Adds (IsPairOf node names set i) old mid → name ≡ get_or names i name → needed ≡ has i set
+    → new ≡ cond needed (mid ++ pair_of node name ∷ []) mid
     → Adds (IsPairOf node names set (i + 1)) old new
 pair_next node names set i name needed old mid new low so_far at tells is q =
     let named : name ≡ get_or names i [] = at ∙ get_or_default names i name [] low in (
@@ -61,46 +64,58 @@ pair_next node names set i name needed old mid new low so_far at tells is q =
           | inl same ↦ subst (Contains (cond needed (mid ++ pair_of node name ∷ []) mid))
               (ap (pair_of node) (named ∙ ap (λ p. get_or names p []) (sym same)) ∙ one.3)
               (new_next needed mid (pair_of node name) (tells ∙ ap (λ p. has p set) (sym same) ∙ one.2))
-          | inr differs ↦ in_next needed mid (pair_of node name) q ((so_far q).1 (inr (one.0, omega (arith, one.1, differs), one.2, one.3)))
+          | inr differs ↦ in_next needed mid (pair_of node name) q
+              ((so_far q).1 (inr (one.0, omega (arith, one.1, differs), one.2, one.3)))
         ]
       ]),
     )
 
 -- no name yet
-pub pairs_none : (node : Node) (names : List (List ℕ)) (set : Places) (old : List Pair) → AddsInOrder node names set 0 old old
+pub pairs_none : (node : Node) (names : List (List ℕ)) (set : Places) (old : List Pair)
+    → AddsInOrder node names set 0 old old
 pairs_none node names set old = record {
   adds = λ q. (λ w. inl w, λ h. elim h [ inl before ↦ before | inr one ↦ absurd (omega (arith, one.1)) ]);
   rises = λ up before. up;
 }
 
 -- one name more, which comes behind those before it
-pub pair_behind : (node : Node) (names : List (List ℕ)) (set : Places) (i : ℕ) (name : List ℕ) (needed : Bool) (old mid new : List Pair) → IsRising names → i < length names
-    → AddsInOrder node names set i old mid → name ≡ get_or names i name → needed ≡ has i set → new ≡ cond needed (mid ++ pair_of node name ∷ []) mid
+pub pair_behind : (node : Node) (names : List (List ℕ)) (set : Places) (i : ℕ) (name : List ℕ) (needed : Bool)
+    (old mid new : List Pair) → IsRising names → i < length names
+    → AddsInOrder node names set i old mid → name ≡ get_or names i name → needed ≡ has i set
+    → new ≡ cond needed (mid ++ pair_of node name ∷ []) mid
     → AddsInOrder node names set (i + 1) old new
 pair_behind node names set i name needed old mid new rising low so_far at tells is =
     let x = pair_of node name in
-    let last : IsInOrder old → All (λ q. (c : List ℕ) → pair_cmp q (pair_of node c) ≡ Less) old → All (λ q. pair_cmp q x ≡ Less) mid =
+    let last : IsInOrder old → All (λ q. (c : List ℕ) → pair_cmp q (pair_of node c) ≡ Less) old
+    → All (λ q. pair_cmp q x ≡ Less) mid =
     λ up before k d l. elim ((so_far.adds (get_or mid k d)).0 (Contains-get_or mid k d l)) [
-      | inl was ↦ All-contains (λ q. (c : List ℕ) → pair_cmp q (pair_of node c) ≡ Less) old (get_or mid k d) before was name
+      | inl was ↦ All-contains (λ q. (c : List ℕ) → pair_cmp q (pair_of node c) ≡ Less) old (get_or mid k d)
+          before was name
       | inr one ↦ subst (λ q. pair_cmp q x ≡ Less) one.3
           (later_name node (get_or names one.0 []) name
-          (subst (λ n. slice_cmp nat_cmp (get_or names one.0 []) n ≡ Less) (sym (at ∙ get_or_default names i name [] low)) (rising one.0 i [] one.1 low)))
+          (subst (λ n. slice_cmp nat_cmp (get_or names one.0 []) n ≡ Less)
+          (sym (at ∙ get_or_default names i name [] low)) (rising one.0 i [] one.1 low)))
     ] in
     record {
       adds = pair_next node names set i name needed old mid new low so_far.adds at tells is;
       rises = λ up before. subst IsInOrder (sym is) (next needed mid x (so_far.rises up before) (last up before));
     }
   where
-    next : (needed : Bool) (mid : List Pair) (x : Pair) → IsInOrder mid → All (λ q. pair_cmp q x ≡ Less) mid → IsInOrder (cond needed (mid ++ x ∷ []) mid)
+    next : (needed : Bool) (mid : List Pair) (x : Pair) → IsInOrder mid → All (λ q. pair_cmp q x ≡ Less) mid
+        → IsInOrder (cond needed (mid ++ x ∷ []) mid)
     next true mid x up behind = all_pairs_push (λ p q. pair_cmp p q ≡ Less) mid x up behind
     next false mid x up behind = up
 
 -- ---- the nodes of a project
 
-module _ (policies : List KeyedPolicy) (criteria : Criteria) (table : IsTable criteria) (known : PoliciesAreKnown criteria policies) (project : ProjectValue) (found : List (Option (Bor Policy))) (needs : List Places)
-    (names : List (List ℕ)) (of : ArePoliciesOf policies project.nodes found) (are : AreNeeds policies criteria project needs) (keys : names ≡ map.keys criteria)
+module _ (policies : List KeyedPolicy) (criteria : Criteria) (table : IsTable criteria)
+    (known : PoliciesAreKnown criteria policies) (project : ProjectValue) (found : List (Option (Bor Policy)))
+    (needs : List Places)
+    (names : List (List ℕ)) (of : ArePoliciesOf policies project.nodes found)
+    (are : AreNeeds policies criteria project needs) (keys : names ≡ map.keys criteria)
     (i : ℕ) (node : Node) (policy : Option (Bor Policy)) (set : Places) (low : i < length project.nodes)
-    (at : node ≡ get_or project.nodes i node) (by : policy ≡ get_or found i policy) (stands : set ≡ get_or needs i set) where
+    (at : node ≡ get_or project.nodes i node) (by : policy ≡ get_or found i policy)
+    (stands : set ≡ get_or needs i set) where
   there : node ≡ node_at project.nodes i
   there = node_is project.nodes i node low at
 
@@ -110,9 +125,11 @@ module _ (policies : List KeyedPolicy) (criteria : Criteria) (table : IsTable cr
   set_is : set ≡ get_or needs i places.empty
   set_is = stands ∙ get_or_default needs i set places.empty (omega (arith, low, are.count))
 
-  demanded_from : (q : Pair) → IsAuditedPair node (option_copied policy) names set q → IsDemandedIn policies criteria project q i
+  demanded_from : (q : Pair) → IsAuditedPair node (option_copied policy) names set q
+      → IsDemandedIn policies criteria project q i
   demanded_from q (audited, (p, l, h, e)) =
-      let name_is : get_or (map.keys criteria) p [] ≡ q.criterion = ap (λ (l : List (List ℕ)). get_or l p []) (sym keys) ∙ ap (λ (x : Pair). x.criterion) e in
+      let name_is : get_or (map.keys criteria) p [] ≡ q.criterion =
+      ap (λ (l : List (List ℕ)). get_or l p []) (sym keys) ∙ ap (λ (x : Pair). x.criterion) e in
       record {
         within = low;
         audited = sym audits ∙ audited;
@@ -121,20 +138,25 @@ module _ (policies : List KeyedPolicy) (criteria : Criteria) (table : IsTable cr
         is = (λ j. pair_of (sym there j) (sym (ap (λ (x : Pair). x.criterion) e) j)) ∙ e;
       }
 
-  audited_from : (q : Pair) → IsDemandedIn policies criteria project q i → IsAuditedPair node (option_copied policy) names set q
+  audited_from : (q : Pair) → IsDemandedIn policies criteria project q i
+      → IsAuditedPair node (option_copied policy) names set q
   audited_from q h =
-      let key = key_held criteria q.criterion (needed_known criteria table policies known project q.criterion i h.needed) in
+      let key = key_held criteria q.criterion
+      (needed_known criteria table policies known project q.criterion i h.needed) in
       let p = key.0 in
-      let name_is : get_or (map.keys criteria) p [] ≡ q.criterion = get_or_default (map.keys criteria) p [] q.criterion key.1 ∙ key.2 in (
+      let name_is : get_or (map.keys criteria) p [] ≡ q.criterion =
+      get_or_default (map.keys criteria) p [] q.criterion key.1 ∙ key.2 in (
         audits ∙ h.audited,
         (
           p,
           subst (λ (l : List (List ℕ)). p < length l) (sym keys) key.1,
-          ap (has p) set_is ∙ (are.least p i key.1 low).1 (subst (λ c. IsNeeded policies criteria project c i) (sym name_is) h.needed),
+          ap (has p) set_is ∙ (are.least p i key.1 low).1 (subst (λ c. IsNeeded policies criteria project c i)
+              (sym name_is) h.needed),
           (λ j. pair_of (there j) ((ap (λ (l : List (List ℕ)). get_or l p []) keys ∙ name_is) j)) ∙ h.is,
         ),
       )
 
   -- what is asked for at a node
-  pub audited-iff : (q : Pair) → IsAuditedPair node (option_copied policy) names set q ↔ IsDemandedIn policies criteria project q i
+  pub audited-iff : (q : Pair) → IsAuditedPair node (option_copied policy) names set q
+      ↔ IsDemandedIn policies criteria project q i
   audited-iff q = (demanded_from q, audited_from q)

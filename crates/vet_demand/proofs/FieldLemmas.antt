@@ -34,7 +34,9 @@ all_small (b ∷ bs) h (suc i) = all_small bs (λ k d l. h (suc k) d (omega arit
 pub no_name : (bs : List ℕ) → (IsUtf8 bs → ⊥) → read_package_name bs ≡ None
 no_name bs h =
     elim (is_package_name bs) as (λ t. is_package_name bs ≡ t → cond t (Some bs) None ≡ None) [
-      | true ↦ λ e. absurd (h (IsUtf8-from_ascii bs (all_small bs (AllPass-from_list_all is_package_byte bs (last_true (nat_le 1 (length bs)) (nat_le (length bs) MOST_NAME_BYTES) _ e)))))
+      | true ↦ λ e. absurd (h (IsUtf8-from_ascii bs
+          (all_small bs (AllPass-from_list_all is_package_byte bs
+          (last_true (nat_le 1 (length bs)) (nat_le (length bs) MOST_NAME_BYTES) _ e)))))
       | false ↦ λ e. refl
     ] refl
 
@@ -57,7 +59,11 @@ digit b h = (grind (arith, nat_tests), grind (arith, nat_tests), grind (arith, n
 
 -- the bytes of a number are digits, at most nine
 pub digits_few : (text : List ℕ) → is_number text ≡ true → AllPass is_ascii_digit text × (length text ≤ 9)
-digits_few text h = (AllPass-from_list_all is_ascii_digit text (last_true (nat_le 1 (length text)) (nat_le (length text) 9) _ h), grind (arith, nat_tests))
+digits_few text h = (
+  AllPass-from_list_all is_ascii_digit text
+      (last_true (nat_le 1 (length text)) (nat_le (length text) 9) _ h),
+  grind (arith, nat_tests),
+)
 
 all_digits : (text : List ℕ) → AllPass is_ascii_digit text → AllDigits 10 text
 all_digits [] h = tt
@@ -69,6 +75,7 @@ pub number_step : (text : List ℕ) (place value more : ℕ) → is_number text 
     → (value * 10 + more ≡ digits_value 10 (take (place + 1) text)) × (value * 10 + more < 10 ^ (place + 1))
 number_step text place value more h within was e =
     let this = digit (get_or text place 0) ((digits_few text h).0 place 0 within) in
-    let sum : digits_value 10 (take (place + 1) text) ≡ digits_value 10 (take place text) * 10 + digit_value (get_or text place 0) = digits_value_more 10 text place within in
+    let sum : digits_value 10 (take (place + 1) text) ≡ digits_value 10 (take place text) * 10 + digit_value
+    (get_or text place 0) = digits_value_more 10 text place within in
     let pow : 10 ^ (suc place) ≡ 10 ^ place * 10 = pow-suc 10 place in
     (cc (sum, e, this.1, was.0), rw (add-one) (omega (arith, pow, this, was, e)))

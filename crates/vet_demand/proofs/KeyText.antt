@@ -18,7 +18,8 @@ use Rattle.vet_demand.proofs.KeyLemmas.{told_at_colon}
 no_colon : (b : ℕ) → is_package_byte b ≡ true → is_colon b ≡ false
 no_colon b h = grind (arith, nat_tests)
 
-colon_place : (n rest : List ℕ) → list_all is_package_byte n ≡ true → position_or_len is_colon (n ++ 58 ∷ rest) ≡ length n
+colon_place : (n rest : List ℕ) → list_all is_package_byte n ≡ true
+    → position_or_len is_colon (n ++ 58 ∷ rest) ≡ length n
 colon_place [] rest h = refl
 colon_place (b ∷ n) rest h =
     let (here, more) = and_parts (is_package_byte b) (list_all is_package_byte n) h in
@@ -42,13 +43,16 @@ bytes_of n h = (and_parts (nat_le 1 (length n) && nat_le (length n) 64) (list_al
 name_read : (n : List ℕ) → is_package_name n ≡ true → read_package_name n ≡ Some n
 name_read n h = cond-true (is_package_name n) (Some n) None h
 
-plain_back : (n : List ℕ) → is_package_name n ≡ true → read_key (n ++ []) ≡ Some (record { «package» = n; version = None })
+plain_back : (n : List ℕ) → is_package_name n ≡ true
+    → read_key (n ++ []) ≡ Some (record { «package» = n; version = None })
 plain_back n h =
     let none = colon_none n (bytes_of n h) in
     let plain : key_told n ≡ plain_key n =
-    cond-true (position_or_len is_colon n == length n) (plain_key n) (versioned_key (before_first is_colon n) (after_first is_colon n)) (eq-eqb _ _ none) in
+    cond-true (position_or_len is_colon n == length n) (plain_key n)
+    (versioned_key (before_first is_colon n) (after_first is_colon n)) (eq-eqb _ _ none) in
     let key : plain_key n ≡ Ok (record { «package» = n; version = None }) =
-    ap (λ (o : Option (List ℕ)). let t : Told PolicyKey = found_or BadName o >>= (λ m. Ok (record { «package» = m; version = None })) in t) (name_read n h) in
+    ap (λ (o : Option (List ℕ)). let t : Told PolicyKey = found_or BadName o
+    >>= (λ m. Ok (record { «package» = m; version = None })) in t) (name_read n h) in
     ap read_key (append-nil n) ∙ ap result_ok (plain ∙ key)
 
 versioned_back : (n : List ℕ) (v : VersionValue) → is_package_name n ≡ true → read_version (version_text v) ≡ Some v
@@ -57,18 +61,23 @@ versioned_back n v h back =
     let text = n ++ 58 ∷ version_text v in
     let at : position_or_len is_colon text ≡ length n = colon_place n (version_text v) (bytes_of n h) in
     let has : position_or_len is_colon text < length text = omega (arith, at, length-append n (58 ∷ version_text v)) in
-    let front : n ≡ before_first is_colon text = sym (ap (λ k. take k text) at ∙ take-append_seam n (58 ∷ version_text v)) in
-    let rest : version_text v ≡ after_first is_colon text = sym (ap (λ k. drop (k + 1) text) at ∙ drop_front n (version_text v) 58) in
+    let front : n ≡ before_first is_colon text =
+    sym (ap (λ k. take k text) at ∙ take-append_seam n (58 ∷ version_text v)) in
+    let rest : version_text v ≡ after_first is_colon text =
+    sym (ap (λ k. drop (k + 1) text) at ∙ drop_front n (version_text v) 58) in
     let key : versioned_key n (version_text v) ≡ Ok (record { «package» = n; version = Some v }) =
-    λ i. (let t : Told PolicyKey = found_or BadName (name_read n h i) >>= (λ m. found_or BadVersion (back i) >>= (λ w. Ok (record { «package» = m; version = Some w }))) in t) in
+    λ i. (let t : Told PolicyKey = found_or BadName (name_read n h i)
+    >>= (λ m. found_or BadVersion (back i) >>= (λ w. Ok (record { «package» = m; version = Some w }))) in t) in
     ap result_ok (told_at_colon text n (version_text v) has front rest ∙ key)
 
-pub key_back : (k : PolicyKey) → is_package_name k.«package» ≡ true → ((v : VersionValue) → k.version ≡ Some v → read_version (version_text v) ≡ Some v)
+pub key_back : (k : PolicyKey) → is_package_name k.«package» ≡ true
+    → ((v : VersionValue) → k.version ≡ Some v → read_version (version_text v) ≡ Some v)
     → read_key (key_text k) ≡ Some k
 key_back k h back = by k.version refl
   where
     with_version : Option VersionValue → Type 0
-    with_version o = read_key (k.«package» ++ key_version_text o) ≡ Some (record { «package» = k.«package»; version = o })
+    with_version o = read_key (k.«package» ++ key_version_text o) ≡ Some
+        (record { «package» = k.«package»; version = o })
 
     by : (o : Option VersionValue) → k.version ≡ o → read_key (key_text k) ≡ Some k
     by None e = subst with_version (sym e) (plain_back k.«package» h)

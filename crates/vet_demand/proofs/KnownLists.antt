@@ -15,7 +15,7 @@ use Rattle.vet_base.specs.Criteria.InClosure.{named, implied}
 use Rattle.vet_base.specs.Keyed.{is_of, item_of}
 use Rattle.vet_base.specs.Names.{NameSet}
 use Rattle.vet_base.proofs.Closing.{closure-law, only_alone}
-use Rattle.vet_demand.proofs.Lists.{mapped}
+use Rattle.vet_demand.proofs.Lists.{map_gives}
 use Rattle.vet_demand.specs.DemandOf.{NamesAreKnown, PoliciesAreKnown, PolicyIsKnown}
 use Rattle.vet_demand.specs.DependencyCriteria.{criteria_for, item_name}
 use Rattle.vet_demand.specs.Needs.{IsNeeded, covers, node_at, own_at}
@@ -35,7 +35,8 @@ use Rattle.vet_demand.specs.declared.project.Party.{Party}
 use Rattle.vet_demand.specs.declared.project.Party.TheVariants.{Root, First, Third}
 
 -- what holds of all holds of the one that is found
-pub All-found : {X : Type 0} (P : X → Type 0) (test : X → Bool) (xs : List X) → All P xs → (x : X) → find test xs ≡ Some x → P x
+pub All-found : {X : Type 0} (P : X → Type 0) (test : X → Bool) (xs : List X) → All P xs → (x : X)
+    → find test xs ≡ Some x → P x
 All-found P test [] all x e = cc e
 All-found P test (y ∷ ys) all x e = step (test y) (All-found P test ys (All-tail P y ys all) x) e
   where
@@ -50,12 +51,14 @@ module _ (criteria : Criteria) (table : IsTable criteria) where
   IsKnown : Option Policy → Type 0
   IsKnown o = (p : Policy) → o ≡ Some p → PolicyIsKnown criteria p
 
-  closed : (names : NameSet) → Known names → (c : List ℕ) → InClosure criteria names c → map.contains_key criteria c ≡ true
+  closed : (names : NameSet) → Known names → (c : List ℕ) → InClosure criteria names c
+      → map.contains_key criteria c ≡ true
   unfolding Known
   closed names known c (named h) = known c h
   closed names known c (implied {m = m} inner h) = table.known m c h
 
-  covered : (names : NameSet) → Known names → (c : List ℕ) → covers criteria c names ≡ true → map.contains_key criteria c ≡ true
+  covered : (names : NameSet) → Known names → (c : List ℕ) → covers criteria c names ≡ true
+      → map.contains_key criteria c ≡ true
   covered names known c h = closed names known c ((closure-law criteria names c).0 h)
 
   deploy_known : Known (only safe_to_deploy)
@@ -89,12 +92,16 @@ module _ (criteria : Criteria) (table : IsTable criteria) where
   default_known Third = none_known
 
   own_known : (party : Party) (o : Option Policy) → IsKnown o → Known (own_criteria party o)
-  own_known party o h = or_known (settled_criteria party o) (default_criteria party) (settled_known party o h) (default_known party)
+  own_known party o h = or_known (settled_criteria party o) (default_criteria party) (settled_known party o h)
+      (default_known party)
 
-  item_known : (p : Policy) (name : List ℕ) → PolicyIsKnown criteria p → NamesAreKnown criteria (criteria_for p.dependency_criteria name)
+  item_known : (p : Policy) (name : List ℕ) → PolicyIsKnown criteria p
+      → NamesAreKnown criteria (criteria_for p.dependency_criteria name)
   item_known p name h names e =
-      let r = mapped (λ (i : DependencyItem). i.criteria) (item_of (slice_cmp nat_cmp) item_name p.dependency_criteria name) names e in
-      let known = All-found (λ (i : DependencyItem). NamesAreKnown criteria (Some i.criteria)) (is_of (slice_cmp nat_cmp) item_name name) p.dependency_criteria h.dependencies r.0 r.1 in
+      let r = map_gives (λ (i : DependencyItem). i.criteria)
+      (item_of (slice_cmp nat_cmp) item_name p.dependency_criteria name) names e in
+      let known = All-found (λ (i : DependencyItem). NamesAreKnown criteria (Some i.criteria))
+      (is_of (slice_cmp nat_cmp) item_name name) p.dependency_criteria h.dependencies r.0 r.1 in
       known names (ap (λ (n : NameSet). Some n) r.2)
 
   listed_known : (o : Option Policy) (name : List ℕ) → IsKnown o → NamesAreKnown criteria (listed_criteria o name)
@@ -108,23 +115,29 @@ module _ (criteria : Criteria) (table : IsTable criteria) where
   dev_known (Some p) h = or_known p.dev_criteria (only safe_to_run) (h p refl).dev run_known
 
   dev_passed_known : (party : Party) (o : Option Policy) (name : List ℕ) → IsKnown o → Known (dev_passed party o name)
-  dev_passed_known Root o name h = or_known (listed_criteria o name) (dev_criteria o) (listed_known o name h) (dev_known o h)
-  dev_passed_known First o name h = or_known (listed_criteria o name) (dev_criteria o) (listed_known o name h) (dev_known o h)
+  dev_passed_known Root o name h = or_known (listed_criteria o name) (dev_criteria o) (listed_known o name h)
+      (dev_known o h)
+  dev_passed_known First o name h = or_known (listed_criteria o name) (dev_criteria o) (listed_known o name h)
+      (dev_known o h)
   dev_passed_known Third o name h = none_known
 
-  passed_known : (kind : EdgeKind) (party : Party) (o : Option Policy) (name : List ℕ) → IsKnown o → NamesAreKnown criteria (passed_criteria kind party o name)
+  passed_known : (kind : EdgeKind) (party : Party) (o : Option Policy) (name : List ℕ) → IsKnown o
+      → NamesAreKnown criteria (passed_criteria kind party o name)
   unfolding Known
   passed_known Normal party o name h = listed_known o name h
   passed_known Build party o name h = listed_known o name h
-  passed_known Dev party o name h = λ names e c held. dev_passed_known party o name h c (subst (λ n. set.contains n c ≡ true) (sym (same_Some _ names e)) held)
+  passed_known Dev party o name h =
+      λ names e c held. dev_passed_known party o name h c
+      (subst (λ n. set.contains n c ≡ true) (sym (same_Some _ names e)) held)
 
   module _ (policies : List KeyedPolicy) (known : PoliciesAreKnown criteria policies) where
     policy_known : (key : PolicyKey) → IsKnown (policy_of policies key)
     unfolding IsKnown
     policy_known key p e =
-        let r = mapped (λ (k : KeyedPolicy). k.policy) (item_of policy_key_cmp key_of policies key) p e in
+        let r = map_gives (λ (k : KeyedPolicy). k.policy) (item_of policy_key_cmp key_of policies key) p e in
         subst (PolicyIsKnown criteria) r.2
-        (All-found (λ (k : KeyedPolicy). PolicyIsKnown criteria k.policy) (is_of policy_key_cmp key_of key) policies known r.0 r.1)
+        (All-found (λ (k : KeyedPolicy). PolicyIsKnown criteria k.policy) (is_of policy_key_cmp key_of key)
+        policies known r.0 r.1)
 
     either_known : (a b : Option Policy) → IsKnown a → IsKnown b → IsKnown (option_or a b)
     unfolding IsKnown
@@ -137,13 +150,17 @@ module _ (criteria : Criteria) (table : IsTable criteria) where
         (policy_known (record { «package» = node.«package»; version = None }))
 
     -- what is needed somewhere is in the table
-    pub needed_known : (project : ProjectValue) (c : List ℕ) (v : ℕ) → IsNeeded policies criteria project c v → map.contains_key criteria c ≡ true
+    pub needed_known : (project : ProjectValue) (c : List ℕ) (v : ℕ) → IsNeeded policies criteria project c v
+        → map.contains_key criteria c ≡ true
     unfolding Known
     needed_known project c v (own low h) =
         covered (own_at policies project.nodes v)
-        (own_known (node_at project.nodes v).party (policy_for policies (node_at project.nodes v)) (for_known (node_at project.nodes v))) c h
+        (own_known (node_at project.nodes v).party (policy_for policies (node_at project.nodes v))
+        (for_known (node_at project.nodes v))) c h
     needed_known project c v (passed e held t names is h) =
         covered names
-        (passed_known e.kind (node_at project.nodes e.from).party (policy_for policies (node_at project.nodes e.from)) (node_at project.nodes e.to).«package» (for_known (node_at project.nodes e.from)) names is)
+        (passed_known e.kind (node_at project.nodes e.from).party
+        (policy_for policies (node_at project.nodes e.from)) (node_at project.nodes e.to).«package»
+        (for_known (node_at project.nodes e.from)) names is)
         c h
     needed_known project c v (passed_on e held t is at) = needed_known project c e.from at

@@ -21,7 +21,6 @@ pub mod ReadOn
 pub mod ReadParts
 pub mod ReadingLemmas
 pub mod Renumbered
-pub mod SameKeys
 pub mod Spreading
 pub mod TableLemmas
 pub mod WrittenLines

@@ -6,7 +6,8 @@ use Rattle.std.specs.Prelude.{is_none}
 use Rattle.std.proofs.lemmas.Bool.{and_from, and_parts, or_cases, or_left, or_right}
 use Rattle.vet_base.specs.Criteria.{Criteria}
 use Rattle.vet_base.specs.Names.{NameSet}
-use Rattle.vet_demand.proofs.Lists.{any_from, below_range, from_any, from_filter, head_or_tail, in_head, in_none, in_range, in_tail, to_filter}
+use Rattle.vet_demand.proofs.Lists.{any_from, below_range, from_any, from_filter, in_none, in_range, to_filter}
+use Rattle.vet_base.proofs.ListLemmas.{Contains-cons_cases, Contains-here, Contains-later}
 use Rattle.vet_demand.specs.Needs.{IsNeeded, covers, is_needed, leads, own_at, passed_by, passes_listed, passes_on}
 use Rattle.vet_demand.specs.Needs.IsNeeded.{own, passed, passed_on}
 use Rattle.vet_demand.specs.Project.{ProjectValue}
@@ -19,11 +20,13 @@ leads_more : (e : Edge) (rest : List Edge) (u v : ℕ) → leads rest u v ≡ tr
 unfolding leads
 leads_more e rest u v h = or_left (leads rest u v) (leads rest u e.from && leads rest e.to v) h
 
-leads_over : (e : Edge) (rest : List Edge) (u v : ℕ) → leads rest u e.from ≡ true → leads rest e.to v ≡ true → leads (e ∷ rest) u v ≡ true
+leads_over : (e : Edge) (rest : List Edge) (u v : ℕ) → leads rest u e.from ≡ true → leads rest e.to v ≡ true
+    → leads (e ∷ rest) u v ≡ true
 unfolding leads
 leads_over e rest u v a b = or_right (leads rest u v) (leads rest u e.from && leads rest e.to v) (and_from _ _ a b)
 
-leads_cases : (e : Edge) (rest : List Edge) (u v : ℕ) → leads (e ∷ rest) u v ≡ true → (leads rest u v ≡ true) ⊎ ((leads rest u e.from ≡ true) × (leads rest e.to v ≡ true))
+leads_cases : (e : Edge) (rest : List Edge) (u v : ℕ) → leads (e ∷ rest) u v ≡ true → (leads rest u v ≡ true)
+    ⊎ ((leads rest u e.from ≡ true) × (leads rest e.to v ≡ true))
 unfolding leads
 leads_cases e rest u v h = elim (or_cases (leads rest u v) (leads rest u e.from && leads rest e.to v) h) [
   | inl more ↦ inl more
@@ -55,7 +58,7 @@ leads_on (e ∷ rest) u v w a b = elim (leads_cases e rest u v a) [
 
 leads_by : (es : List Edge) (e : Edge) → Contains es e → leads es e.from e.to ≡ true
 leads_by [] e held = in_none e held
-leads_by (d ∷ rest) e held = elim (head_or_tail d rest e held) [
+leads_by (d ∷ rest) e held = elim (Contains-cons_cases d rest e held) [
   | inl here ↦ leads_over d rest e.from e.to
       (subst (λ (x : Edge). leads rest x.from d.from ≡ true) here (leads_itself rest d.from))
       (subst (λ (x : Edge). leads rest d.to x.to ≡ true) here (leads_itself rest d.to))
@@ -63,18 +66,20 @@ leads_by (d ∷ rest) e held = elim (head_or_tail d rest e held) [
 ]
 
 -- what holds where they start, and where each ends if it holds where it starts, holds where they lead
-led : (P : ℕ → Type 0) (es : List Edge) → ((e : Edge) → Contains es e → P e.from → P e.to) → (u v : ℕ) → leads es u v ≡ true → P u → P v
+led : (P : ℕ → Type 0) (es : List Edge) → ((e : Edge) → Contains es e → P e.from → P e.to) → (u v : ℕ)
+    → leads es u v ≡ true → P u → P v
 led P [] closed u v h at = subst P (leads_none u v h) at
 led P (e ∷ rest) closed u v h at =
-    let more = led P rest (λ d held. closed d (in_tail e rest d held)) in
+    let more = led P rest (λ d held. closed d (Contains-later e d rest held)) in
     elim (leads_cases e rest u v h) [
       | inl first ↦ more u v first at
-      | inr over ↦ more e.to v over.1 (closed e (in_head e rest) (more u e.from over.0 at))
+      | inr over ↦ more e.to v over.1 (closed e (Contains-here e rest) (more u e.from over.0 at))
     ]
 
 -- ---- needs
 
-some_list : (test : NameSet → Bool) (o : Option NameSet) → option_map_or test o false ≡ true → (names : NameSet) × (o ≡ Some names) × (test names ≡ true)
+some_list : (test : NameSet → Bool) (o : Option NameSet) → option_map_or test o false ≡ true → (names : NameSet)
+    × (o ≡ Some names) × (test names ≡ true)
 some_list test None h = cc h
 some_list test (Some names) h = (names, refl, h)
 
@@ -92,14 +97,17 @@ module _ (policies : List KeyedPolicy) (criteria : Criteria) (project : ProjectV
   -- it is needed at a place by itself, or an edge passes it there
   data Source : ℕ → Type 0 where
     by_node : {u : ℕ} → u < length project.nodes → by_itself u ≡ true → Source u
-    by_edge : (e : Edge) → Contains project.edges e → passes_listed policies criteria project.nodes c e ≡ true → Source e.to
+    by_edge : (e : Edge) → Contains project.edges e → passes_listed policies criteria project.nodes c e ≡ true
+        → Source e.to
 
   tells : (u v : ℕ) → Source u → leads on u v ≡ true → is_needed policies criteria project c v ≡ true
   unfolding on by_itself
   tells u v (by_node low h) l =
-      or_left _ _ (any_from (λ u. by_itself u && leads on u v) (range_with_len 0 (length project.nodes)) u (in_range (length project.nodes) u low) (and_from _ _ h l))
+      or_left _ _ (any_from (λ u. by_itself u && leads on u v) (range_with_len 0 (length project.nodes)) u
+      (in_range (length project.nodes) u low) (and_from _ _ h l))
   tells u v (by_edge e held h) l =
-      or_right _ _ (any_from (λ e. passes_listed policies criteria project.nodes c e && leads on e.to v) project.edges e held (and_from _ _ h l))
+      or_right _ _ (any_from (λ e. passes_listed policies criteria project.nodes c e && leads on e.to v)
+      project.edges e held (and_from _ _ h l))
 
   told : (v : ℕ) → is_needed policies criteria project c v ≡ true → (u : ℕ) × Source u × (leads on u v ≡ true)
   unfolding on by_itself
@@ -107,7 +115,8 @@ module _ (policies : List KeyedPolicy) (criteria : Criteria) (project : ProjectV
     | inl node ↦ (let r = from_any (λ u. by_itself u && leads on u v) (range_with_len 0 (length project.nodes)) node in
         let parts = and_parts _ _ r.2 in
         (r.0, by_node (below_range (length project.nodes) r.0 r.1) parts.0, parts.1))
-    | inr edge ↦ (let r = from_any (λ e. passes_listed policies criteria project.nodes c e && leads on e.to v) project.edges edge in
+    | inr edge ↦ (let r = from_any (λ e. passes_listed policies criteria project.nodes c e && leads on e.to v)
+        project.edges edge in
         let parts = and_parts _ _ r.2 in
         (r.0.to, by_edge r.0 r.1 parts.0, parts.1))
   ]
@@ -141,7 +150,8 @@ module _ (policies : List KeyedPolicy) (criteria : Criteria) (project : ProjectV
       let r = told e.from (complete e.from at) in
       tells r.0 e.to r.1
       (leads_on on r.0 e.from e.to r.2
-      (leads_by on e (to_filter (passes_on policies project.nodes) project.edges e held (and_from _ _ t (ap is_none is)))))
+      (leads_by on e (to_filter (passes_on policies project.nodes) project.edges e held
+      (and_from _ _ t (ap is_none is)))))
 
   pub needs-iff : (v : ℕ) → (is_needed policies criteria project c v ≡ true) ↔ IsNeeded policies criteria project c v
   needs-iff v = (sound v, complete v)

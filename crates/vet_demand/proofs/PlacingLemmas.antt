@@ -57,9 +57,11 @@ next_found None false here later h = refl
 next_found (Some p) false here later h = refl
 
 -- one node more at its place
-pub ArePlaced-next : (all rest more : List NumberedNode) (nodes longer : List Node) (place new : ℕ → Option ℕ) (n : NumberedNode)
+pub ArePlaced-next : (all rest more : List NumberedNode) (nodes longer : List Node) (place new : ℕ → Option ℕ)
+    (n : NumberedNode)
     → ArePlaced all rest nodes place → rest ≡ n ∷ more → longer ≡ nodes ++ (n.node ∷ [])
-    → ((k : ℕ) → new k ≡ cond (is_at (nat_cmp n.number) k) (Some (length nodes)) (place k)) → ArePlaced all more longer new
+    → ((k : ℕ) → new k ≡ cond (is_at (nat_cmp n.number) k) (Some (length nodes)) (place k))
+    → ArePlaced all more longer new
 ArePlaced-next all rest more nodes longer place new n was now one at =
     let so_far : ArePlaced all (n ∷ more) nodes place = rw now at was in
     let own : place n.number ≡ None = so_far.fresh 0 n (omega arith) in
@@ -78,10 +80,12 @@ ArePlaced-next all rest more nodes longer place new n was now one at =
     found_next so_far own k =
         let long : length longer ≡ length nodes + 1 = ap length one ∙ length-append nodes (n.node ∷ []) in
         rw (at k, same_test k, long)
-        (next_found (place k) (n.number == k) (length nodes) (position_from (λ m. m.number == k) (length nodes + 1) more)
+        (next_found (place k) (n.number == k) (length nodes)
+        (position_from (λ m. m.number == k) (length nodes + 1) more)
         (λ e. ap place (sym ((Decides-eqb n.number k).0 e)) ∙ own) ∙ so_far.found k)
 
-    fresh_next : ArePlaced all (n ∷ more) nodes place → (k : ℕ) (d : NumberedNode) → k < length more → new (get_or more k d).number ≡ None
+    fresh_next : ArePlaced all (n ∷ more) nodes place → (k : ℕ) (d : NumberedNode) → k < length more
+        → new (get_or more k d).number ≡ None
     fresh_next so_far k d l =
         let apart : n.number ≢ (get_or more k d).number = so_far.differ 0 (suc k) d (omega arith) (omega arith) in
         let no : (n.number == (get_or more k d).number) ≡ false = grind (arith, nat_tests) in
@@ -92,45 +96,52 @@ or_none None = refl
 or_none (Some p) = refl
 
 -- after the last
-pub all_listed : (all rest : List NumberedNode) (nodes : List Node) (place : ℕ → Option ℕ) → ArePlaced all rest nodes place → rest ≡ []
+pub all_listed : (all rest : List NumberedNode) (nodes : List Node) (place : ℕ → Option ℕ)
+    → ArePlaced all rest nodes place → rest ≡ []
     → nodes ≡ map node_of all
 all_listed all rest nodes place was none = sym (append-nil nodes) ∙ (rw none at was.listed)
 
-pub all_found : (all rest : List NumberedNode) (nodes : List Node) (place : ℕ → Option ℕ) → ArePlaced all rest nodes place → rest ≡ []
+pub all_found : (all rest : List NumberedNode) (nodes : List Node) (place : ℕ → Option ℕ)
+    → ArePlaced all rest nodes place → rest ≡ []
     → place ≡ place_of all
 all_found all rest nodes place was none = λ i k. (sym (or_none (place k)) ∙ (rw none at (was.found k))) i
 
 -- ---- edges
 
-abbrev onto : List Edge → Told (List Edge) → Told (List Edge)
-onto done told = told >>= (λ more. Ok (done ++ more))
+abbrev with_front : List Edge → Told (List Edge) → Told (List Edge)
+with_front done told = told >>= (λ more. Ok (done ++ more))
 
 -- what is told of all edges is what was placed, then what is told of the rest
 pub record EdgesSoFar (place : ℕ → Option ℕ) (edges rest : List StatedEdge) (keys done : List Edge) : Type 0 where
-  pub told : placed_told place edges ≡ onto done (placed_told place rest)
+  pub told : placed_told place edges ≡ with_front done (placed_told place rest)
   pub order : keys ≡ in_edge_order done
 
-onto_none : (t : Told (List Edge)) → t ≡ onto [] t
+onto_none : (t : Told (List Edge)) → t ≡ with_front [] t
 onto_none (Ok x) = refl
 onto_none (Err e) = refl
 
-pub EdgesSoFar-none : (place : ℕ → Option ℕ) (edges rest : List StatedEdge) (keys : List Edge) → rest ≡ edges → keys ≡ []
+pub EdgesSoFar-none : (place : ℕ → Option ℕ) (edges rest : List StatedEdge) (keys : List Edge)
+    → rest ≡ edges → keys ≡ []
     → EdgesSoFar place edges rest keys []
 EdgesSoFar-none place edges rest keys same none = record {
   told = rw same (onto_none (placed_told place edges));
   order = none;
 }
 
-onto_next : (done : List Edge) (e : Edge) (t : Told (List Edge)) → onto done (t >>= (λ more. Ok (e ∷ more))) ≡ onto (done ++ (e ∷ [])) t
+onto_next : (done : List Edge) (e : Edge) (t : Told (List Edge))
+    → with_front done (t >>= (λ more. Ok (e ∷ more))) ≡ with_front (done ++ (e ∷ [])) t
 onto_next done e (Ok more) = ap (λ (es : List Edge). Ok es) (sym (append_assoc done (e ∷ []) more))
 onto_next done e (Err x) = refl
 
-pub EdgesSoFar-next : (place : ℕ → Option ℕ) (edges rest more : List StatedEdge) (s : StatedEdge) (keys new done : List Edge) (e : Edge)
-    → EdgesSoFar place edges rest keys done → rest ≡ s ∷ more → placed place s.edge ≡ Some e → new ≡ insert_key edge_cmp keys e
+pub EdgesSoFar-next : (place : ℕ → Option ℕ) (edges rest more : List StatedEdge) (s : StatedEdge)
+    (keys new done : List Edge) (e : Edge)
+    → EdgesSoFar place edges rest keys done → rest ≡ s ∷ more → placed place s.edge ≡ Some e
+    → new ≡ insert_key edge_cmp keys e
     → EdgesSoFar place edges more new (done ++ (e ∷ []))
 EdgesSoFar-next place edges rest more s keys new done e was now here put = record {
   told = was.told ∙ rw (now, here) (onto_next done e (placed_told place more));
-  order = put ∙ ap (λ ks. insert_key edge_cmp ks e) was.order ∙ sym (fold-append (insert_key edge_cmp) [] done (e ∷ []));
+  order = put ∙ ap (λ ks. insert_key edge_cmp ks e) was.order
+      ∙ sym (fold-append (insert_key edge_cmp) [] done (e ∷ []));
 }
 
 -- an edge that names no node is the first such
@@ -142,7 +153,8 @@ unknown_told place edges rest more s keys done was now here =
     rw first refl
 
 -- all are placed
-pub known_told : (place : ℕ → Option ℕ) (edges rest : List StatedEdge) (keys done : List Edge) → EdgesSoFar place edges rest keys done → rest ≡ []
+pub known_told : (place : ℕ → Option ℕ) (edges rest : List StatedEdge) (keys done : List Edge)
+    → EdgesSoFar place edges rest keys done → rest ≡ []
     → edges_told place edges ≡ Ok keys
 known_told place edges rest keys done was none =
     let all : placed_told place edges ≡ Ok done = was.told ∙ rw (none, append-nil done) refl in
@@ -153,13 +165,16 @@ known_told place edges rest keys done was none =
 abbrev Rises : Node → Node → Type 0
 Rises a b = node_cmp a b ≡ Less
 
-nodes_rise : (nodes : List NumberedNode) → AllPairs (λ a b. numbered_cmp a b ≡ Less) nodes → AllPairs Rises (map node_of nodes)
+nodes_rise : (nodes : List NumberedNode) → AllPairs (λ a b. numbered_cmp a b ≡ Less) nodes
+    → AllPairs Rises (map node_of nodes)
 nodes_rise [] up = λ i j d l m. absurd (omega arith)
 nodes_rise (n ∷ rest) up =
-    AllPairs-cons Rises n.node (map node_of rest) (All-map (Rises n.node) node_of rest (λ k d l. up 0 (suc k) d (omega arith) (omega arith)))
+    AllPairs-cons Rises n.node (map node_of rest)
+    (All-map (Rises n.node) node_of rest (λ k d l. up 0 (suc k) d (omega arith) (omega arith)))
     (nodes_rise rest (λ i j d l m. up (suc i) (suc j) d (omega arith) (omega arith)))
 
-position_within : (test : NumberedNode → Bool) (start : ℕ) (nodes : List NumberedNode) (p : ℕ) → position_from test start nodes ≡ Some p → p < start + length nodes
+position_within : (test : NumberedNode → Bool) (start : ℕ) (nodes : List NumberedNode) (p : ℕ)
+    → position_from test start nodes ≡ Some p → p < start + length nodes
 position_within test start [] p h = cc h
 position_within test start (n ∷ rest) p h = step (test n) h (position_within test (start + 1) rest p)
   where
@@ -168,8 +183,10 @@ position_within test start (n ∷ rest) p h = step (test n) h (position_within t
     step true e more = (let same : start ≡ p = cc e in omega arith)
     step false e more = (let below = more e in omega (arith, below))
 
-placed_within : (nodes : List NumberedNode) (e : Edge) (o p : Option ℕ) (q : Edge) → ((k : ℕ) → o ≡ Some k → k < length nodes) → ((k : ℕ) → p ≡ Some k → k < length nodes)
-    → option_and_then (λ from. option_map (λ to. record { from = from; to = to; kind = e.kind }) p) o ≡ Some q → IsWithin (length nodes) q
+placed_within : (nodes : List NumberedNode) (e : Edge) (o p : Option ℕ) (q : Edge)
+    → ((k : ℕ) → o ≡ Some k → k < length nodes) → ((k : ℕ) → p ≡ Some k → k < length nodes)
+    → option_and_then (λ from. option_map (λ to. record { from = from; to = to; kind = e.kind }) p) o ≡ Some q
+    → IsWithin (length nodes) q
 placed_within nodes e None p q from to h = cc h
 placed_within nodes e (Some k) None q from to h = cc h
 placed_within nodes e (Some k) (Some m) q from to h =
@@ -182,7 +199,8 @@ placed_within nodes e (Some k) (Some m) q from to h =
 abbrev AreWithin : List NumberedNode → List Edge → Type 0
 AreWithin nodes between = All (IsWithin (length nodes)) between
 
-edges_within : (nodes : List NumberedNode) (edges : List StatedEdge) (between : List Edge) → placed_told (place_of nodes) edges ≡ Ok between
+edges_within : (nodes : List NumberedNode) (edges : List StatedEdge) (between : List Edge)
+    → placed_told (place_of nodes) edges ≡ Ok between
     → AreWithin nodes between × (length between ≡ length edges)
 edges_within nodes [] between h =
     let none : [] ≡ between = cc h in
@@ -204,14 +222,17 @@ edges_within nodes (s ∷ rest) between h =
         let others = more found refl in
         rw (← same) (
           All-cons (IsWithin (length nodes)) q found
-              (placed_within nodes s.edge (place_of nodes s.edge.from) (place_of nodes s.edge.to) q (place_within s.edge.from) (place_within s.edge.to) at) others.0,
+              (placed_within nodes s.edge (place_of nodes s.edge.from) (place_of nodes s.edge.to) q
+              (place_within s.edge.from) (place_within s.edge.to) at) others.0,
           ap suc others.1,
         )
 
-order_All : (P : Edge → Type 0) (keys es : List Edge) → All P keys → All P es → All P (fold (insert_key edge_cmp) keys es)
+order_All : (P : Edge → Type 0) (keys es : List Edge) → All P keys → All P es
+    → All P (fold (insert_key edge_cmp) keys es)
 order_All P keys [] held all = held
 order_All P keys (e ∷ es) held all =
-    order_All P (insert_key edge_cmp keys e) es (All-insert_key edge_cmp e P keys held (All-head P e es all)) (All-tail P e es all)
+    order_All P (insert_key edge_cmp keys e) es (All-insert_key edge_cmp e P keys held (All-head P e es all))
+    (All-tail P e es all)
 
 length_put : (keys : List Edge) (e : Edge) → length (insert_key edge_cmp keys e) ≤ length keys + 1
 length_put [] e = omega arith
@@ -230,21 +251,25 @@ order_length keys (e ∷ es) =
     let one = length_put keys e in
     omega (arith, more, one)
 
-pub in_order_told : (t : Told (List Edge)) (keys : List Edge) → (t >>= (λ between. Ok (in_edge_order between))) ≡ Ok keys
+pub in_order_told : (t : Told (List Edge)) (keys : List Edge)
+    → (t >>= (λ between. Ok (in_edge_order between))) ≡ Ok keys
     → (between : List Edge) × (t ≡ Ok between) × (in_edge_order between ≡ keys)
 in_order_told (Err x) keys h = cc h
 in_order_told (Ok between) keys h = (between, refl, (cc h))
 
 -- nodes and edges in order are a project
-pub stated_IsProject : (nodes : List NumberedNode) (stated : List StatedEdge) (edges : List Edge) → IsTable nodes stated → 0 < length nodes
-    → IsStrictlySortedBy numbered_cmp nodes → IsStrictlySortedBy edge_cmp edges → edges_told (place_of nodes) stated ≡ Ok edges
+pub stated_IsProject : (nodes : List NumberedNode) (stated : List StatedEdge) (edges : List Edge)
+    → IsTable nodes stated → 0 < length nodes
+    → IsStrictlySortedBy numbered_cmp nodes → IsStrictlySortedBy edge_cmp edges
+    → edges_told (place_of nodes) stated ≡ Ok edges
     → IsProject (record { nodes = map (λ n. n.node) nodes; edges = edges })
 stated_IsProject nodes stated edges table some up_nodes up_edges h =
     let told = in_order_told (placed_told (place_of nodes) stated) edges h in
     let known = edges_within nodes stated told.0 told.1 in
     let many : length (map node_of nodes) ≡ length nodes = length-map nodes node_of in
     let within : All (IsWithin (length nodes)) edges =
-    subst (λ es. All (IsWithin (length nodes)) es) told.2 (order_All (IsWithin (length nodes)) [] told.0 (All-nil (IsWithin (length nodes))) known.0) in
+    subst (λ es. All (IsWithin (length nodes)) es) told.2
+    (order_All (IsWithin (length nodes)) [] told.0 (All-nil (IsWithin (length nodes))) known.0) in
     let fewer = order_length [] told.0 in
     let ordered : length (in_edge_order told.0) ≡ length edges = ap length told.2 in
     record {

@@ -15,18 +15,20 @@ use Rattle.std.proofs.lemmas.Map.Views.{All-insert_key}
 use Rattle.vet_base.specs.Gives.{Told, found_or, ◌>>=◌}
 use Rattle.vet_base.specs.declared.limits.TheConstants.{MOST_NODES, MOST_EDGES}
 use Rattle.vet_base.specs.declared.refusal.Refusal.TheVariants.{CsvRefused}
-use Rattle.vet_demand.specs.DependencyRecord.{numbered_cmp, numbered_total, record_stated}
+use Rattle.vet_demand.specs.DependencyRecord.{numbered_cmp, record_stated}
+use Rattle.vet_demand.specs.DependencyRecordLaws.{numbered_total}
 use Rattle.vet_demand.specs.DependencyTable.{StatedValue, edge_told, is_stated, node_told, record_told, records_told, with_edge, with_record}
 use Rattle.vet_demand.specs.Numbering.{edge_of, edges_in, node_of, nodes_in}
-use Rattle.vet_demand.specs.Project.{edge_eq, edge_eq-Decides}
+use Rattle.vet_demand.specs.Project.{edge_eq}
+use Rattle.vet_demand.specs.ProjectLaws.{edge_eq-Decides}
 use Rattle.vet_demand.specs.declared.dependency_record.DependencyRecord.{DependencyRecord}
 use Rattle.vet_demand.specs.declared.dependency_record.DependencyRecord.TheVariants.{NodeRecord, EdgeRecord}
 use Rattle.vet_demand.specs.declared.dependency_record.NumberedNode.{NumberedNode}
 use Rattle.vet_demand.specs.declared.dependency_record.StatedEdge.{StatedEdge}
 use Rattle.vet_demand.specs.declared.project.Edge.{Edge}
-use Rattle.vet_demand.proofs.Lists.{in_head, in_tail}
+use Rattle.vet_base.proofs.ListLemmas.{Contains-here, Contains-later}
 use Rattle.vet_demand.proofs.ReadParts.{edge_absent, edges_append, edges_of, from_with, recounted, restated}
-use Rattle.vet_demand.proofs.SameKeys.{from_put}
+use Rattle.vet_base.proofs.SameKeys.{from_put}
 use Rattle.vet_demand.proofs.TableLemmas.{length_put}
 use Rattle.vet_demand.proofs.WrittenTable.{node_told_ok}
 
@@ -37,7 +39,8 @@ Differ a b = a ≢ b
 pub record Awaits (s : StatedValue) (nodes : List NumberedNode) (edges known : List Edge) : Type 0 where
   pub counted : (i : ℕ) (d : NumberedNode) → i < length nodes → (get_or nodes i d).number ≡ length s.nodes + i
   pub lower : All (λ m. m.number < length s.nodes) s.nodes
-  pub apart : (m n : NumberedNode) → Contains s.nodes m ⊎ Contains nodes m → Contains nodes n → numbered_cmp n m ≡ Equal → m.number ≡ n.number
+  pub apart : (m n : NumberedNode) → Contains s.nodes m ⊎ Contains nodes m → Contains nodes n
+      → numbered_cmp n m ≡ Equal → m.number ≡ n.number
   pub few : length s.nodes + length nodes ≤ MOST_NODES
   pub once : AllPairs Differ (edges_of s.edges)
   pub stated_known : (e : Edge) → Contains (edges_of s.edges) e → Contains known e
@@ -46,36 +49,40 @@ pub record Awaits (s : StatedValue) (nodes : List NumberedNode) (edges known : L
 
 -- ---- a node
 
-none_found : (nodes : List NumberedNode) (n : NumberedNode) → ((m : NumberedNode) → Contains nodes m → numbered_cmp n m ≡ Equal → ⊥)
+none_found : (nodes : List NumberedNode) (n : NumberedNode)
+    → ((m : NumberedNode) → Contains nodes m → numbered_cmp n m ≡ Equal → ⊥)
     → find (λ m. is_eq (numbered_cmp n m)) nodes ≡ None
 none_found [] n h = refl
-none_found (x ∷ rest) n h = step (numbered_cmp n x) refl (none_found rest n (λ m held. h m (in_tail x rest m held)))
+none_found (x ∷ rest) n h = step (numbered_cmp n x) refl (none_found rest n (λ m held. h m (Contains-later x m rest held)))
   where
     step : (r : Ordering) → numbered_cmp n x ≡ r → find (λ m. is_eq (numbered_cmp n m)) rest ≡ None
         → cond (is_eq r) (Some x) (find (λ m. is_eq (numbered_cmp n m)) rest) ≡ None
     step Less e more = more
-    step Equal e more = absurd (h x (in_head x rest) e)
+    step Equal e more = absurd (h x (Contains-here x rest) e)
     step Greater e more = more
 
-new_node : (s : StatedValue) (n : NumberedNode) (nodes : List NumberedNode) (edges known : List Edge) → Awaits s (n ∷ nodes) edges known
+new_node : (s : StatedValue) (n : NumberedNode) (nodes : List NumberedNode) (edges known : List Edge)
+    → Awaits s (n ∷ nodes) edges known
     → find (λ m. is_eq (numbered_cmp n m)) s.nodes ≡ None
 new_node s n nodes edges known fits = none_found s.nodes n (λ m held tie. clash m held tie)
   where
     clash : (m : NumberedNode) → Contains s.nodes m → numbered_cmp n m ≡ Equal → ⊥
     clash m held tie =
-        let same = fits.apart m n (inl held) (in_head n nodes) tie in
+        let same = fits.apart m n (inl held) (Contains-here n nodes) tie in
         let below = All-contains (λ k. k.number < length s.nodes) s.nodes m fits.lower held in
         let own = fits.counted 0 n (omega arith) in
         absurd (omega (arith, same, below, own))
 
-node_fine : (k : ℕ) (s : StatedValue) (n : NumberedNode) (nodes : List NumberedNode) (edges known : List Edge) → Awaits s (n ∷ nodes) edges known
+node_fine : (k : ℕ) (s : StatedValue) (n : NumberedNode) (nodes : List NumberedNode) (edges known : List Edge)
+    → Awaits s (n ∷ nodes) edges known
     → node_told k s.nodes n ≡ Ok (tt {0})
 node_fine k s n nodes edges known fits =
     let own = fits.counted 0 n (omega arith) in
     let few = fits.few in
     node_told_ok k s.nodes n (omega (arith, own)) (new_node s n nodes edges known fits) (omega (arith, few))
 
-Awaits-node : (s : StatedValue) (n : NumberedNode) (nodes : List NumberedNode) (edges known : List Edge) → Awaits s (n ∷ nodes) edges known
+Awaits-node : (s : StatedValue) (n : NumberedNode) (nodes : List NumberedNode) (edges known : List Edge)
+    → Awaits s (n ∷ nodes) edges known
     → Awaits (record { nodes = insert_key numbered_cmp s.nodes n; edges = s.edges }) nodes edges known
 Awaits-node s n nodes edges known fits =
     let long = length_put n s.nodes (new_node s n nodes edges known fits) in
@@ -87,7 +94,7 @@ Awaits-node s n nodes edges known fits =
     record {
       counted = λ i d l. (let number = fits.counted (suc i) d (omega (arith, l)) in omega (arith, number, long));
       lower = λ k d l. (let below = all k d l in omega (arith, below, long));
-      apart = λ m o h held tie. fits.apart m o (among m h) (in_tail n nodes o held) tie;
+      apart = λ m o h held tie. fits.apart m o (among m h) (Contains-later n o nodes held) tie;
       few = omega (arith, few, long);
       once = fits.once;
       stated_known = fits.stated_known;
@@ -95,8 +102,9 @@ Awaits-node s n nodes edges known fits =
       few_known = fits.few_known;
     }
   where
-    among : (m : NumberedNode) → Contains (insert_key numbered_cmp s.nodes n) m ⊎ Contains nodes m → Contains s.nodes m ⊎ Contains (n ∷ nodes) m
-    among m (inr held) = inr (in_tail n nodes m held)
+    among : (m : NumberedNode) → Contains (insert_key numbered_cmp s.nodes n) m ⊎ Contains nodes m
+        → Contains s.nodes m ⊎ Contains (n ∷ nodes) m
+    among m (inr held) = inr (Contains-later n m nodes held)
     among m (inl held) = elim (from_put numbered_cmp numbered_total s.nodes n m held) [
       | inl here ↦ inr (0, omega arith, here)
       | inr before ↦ inl before
@@ -105,22 +113,27 @@ Awaits-node s n nodes edges known fits =
 -- ---- an edge
 
 -- different edges that are all known are no more than those
-no_more : (xs known : List Edge) → AllPairs Differ xs → ((e : Edge) → Contains xs e → Contains known e) → length xs ≤ length known
+no_more : (xs known : List Edge) → AllPairs Differ xs → ((e : Edge) → Contains xs e → Contains known e)
+    → length xs ≤ length known
 no_more xs known once there =
-    length-le_from_is_member (decided edge_eq edge_eq-Decides) xs known (IsDistinct-from_AllPairs edge_eq-Decides xs once)
+    length-le_from_is_member (decided edge_eq edge_eq-Decides) xs known
+    (IsDistinct-from_AllPairs edge_eq-Decides xs once)
     (λ q m. (is_member-Decides edge_eq-Decides known q).1 (there q ((is_member-Decides edge_eq-Decides xs q).0 m)))
 
-one_more : (s : StatedValue) (g : StatedEdge) (nodes : List NumberedNode) (edges known : List Edge) → Awaits s nodes (g.edge ∷ edges) known
+one_more : (s : StatedValue) (g : StatedEdge) (nodes : List NumberedNode) (edges known : List Edge)
+    → Awaits s nodes (g.edge ∷ edges) known
     → is_stated s.edges g.edge ≡ false → AllPairs Differ (edges_of (s.edges ++ g ∷ []))
 one_more s g nodes edges known fits new =
     rw (edges_append s.edges g)
     (all_pairs_push Differ (edges_of s.edges) g.edge fits.once
-    (λ k d l same. edge_absent s.edges g.edge new (subst (Contains (edges_of s.edges)) same (Contains-get_or (edges_of s.edges) k d l))))
+    (λ k d l same. edge_absent s.edges g.edge new
+    (subst (Contains (edges_of s.edges)) same (Contains-get_or (edges_of s.edges) k d l))))
 
-still_known : (s : StatedValue) (g : StatedEdge) (nodes : List NumberedNode) (edges known : List Edge) → Awaits s nodes (g.edge ∷ edges) known
+still_known : (s : StatedValue) (g : StatedEdge) (nodes : List NumberedNode) (edges known : List Edge)
+    → Awaits s nodes (g.edge ∷ edges) known
     → (e : Edge) → Contains (edges_of (with_edge s.edges g)) e → Contains known e
 still_known s g nodes edges known fits e held = elim (from_with s.edges g e held) [
-  | inl here ↦ subst (Contains known) here (fits.all_known g.edge (in_head g.edge edges))
+  | inl here ↦ subst (Contains known) here (fits.all_known g.edge (Contains-here g.edge edges))
   | inr before ↦ fits.stated_known e before
 ]
 
@@ -128,7 +141,8 @@ pub length-edges : (edges : List StatedEdge) → length (edges_of edges) ≡ len
 length-edges [] = refl
 length-edges (e ∷ rest) = ap suc (length-edges rest)
 
-edge_fine : (s : StatedValue) (g : StatedEdge) (nodes : List NumberedNode) (edges known : List Edge) → Awaits s nodes (g.edge ∷ edges) known
+edge_fine : (s : StatedValue) (g : StatedEdge) (nodes : List NumberedNode) (edges known : List Edge)
+    → Awaits s nodes (g.edge ∷ edges) known
     → (edge_told s.edges g ≡ Ok (tt {0})) × AllPairs Differ (edges_of (with_edge s.edges g))
 edge_fine s g nodes edges known fits = elim (cases_Bool (is_stated s.edges g.edge)) [
   | inl old ↦ rw old (refl, fits.once)
@@ -140,11 +154,14 @@ edge_fine s g nodes edges known fits = elim (cases_Bool (is_stated s.edges g.edg
       let long = length-edges (s.edges ++ g ∷ []) in
       let sum = length-append s.edges (g ∷ []) in
       let few = fits.few_known in
-      let below : nat_le MOST_EDGES (length s.edges) ≡ false = (let less : length s.edges < MOST_EDGES = omega (arith, fit, long, sum, few) in grind (arith, nat_tests, less)) in
+      let below : nat_le MOST_EDGES (length s.edges) ≡ false =
+      (let less : length s.edges < MOST_EDGES = omega (arith, fit, long, sum, few) in
+      grind (arith, nat_tests, less)) in
       rw (new, below) (refl, more)
 ]
 
-Awaits-edge : (s : StatedValue) (g : StatedEdge) (nodes : List NumberedNode) (edges known : List Edge) → Awaits s nodes (g.edge ∷ edges) known
+Awaits-edge : (s : StatedValue) (g : StatedEdge) (nodes : List NumberedNode) (edges known : List Edge)
+    → Awaits s nodes (g.edge ∷ edges) known
     → Awaits (record { nodes = s.nodes; edges = with_edge s.edges g }) nodes edges known
 Awaits-edge s g nodes edges known fits = record {
   counted = fits.counted;
@@ -153,13 +170,14 @@ Awaits-edge s g nodes edges known fits = record {
   few = fits.few;
   once = (edge_fine s g nodes edges known fits).1;
   stated_known = still_known s g nodes edges known fits;
-  all_known = λ e held. fits.all_known e (in_tail g.edge edges e held);
+  all_known = λ e held. fits.all_known e (Contains-later g.edge e edges held);
   few_known = fits.few_known;
 }
 
 -- ---- all records
 
-pub reads_on : (k : ℕ) (s : StatedValue) (rows : List (List (List ℕ))) (known : List Edge) → All (λ fields. IsSome (record_stated 0 fields)) rows
+pub reads_on : (k : ℕ) (s : StatedValue) (rows : List (List (List ℕ))) (known : List Edge)
+    → All (λ fields. IsSome (record_stated 0 fields)) rows
     → Awaits s (nodes_in rows) (edges_in rows) known → (t : StatedValue) × (records_told k s rows ≡ Ok t)
 reads_on k s [] known formed fits = (s, refl)
 reads_on k s (fields ∷ rows) known formed fits =
@@ -169,19 +187,27 @@ reads_on k s (fields ∷ rows) known formed fits =
     (t, ap told (restated k fields) ∙ told_t)
   where
     told : Option DependencyRecord → Told StatedValue
-    told o = found_or (CsvRefused k) o >>= (λ found. record_told k s found >>= (λ _. Ok (with_record s found))) >>= (λ more. records_told (k + 1) more rows)
+    told o = found_or (CsvRefused k) o >>= (λ found. record_told k s found >>= (λ _. Ok (with_record s found)))
+        >>= (λ more. records_told (k + 1) more rows)
 
     step : (o : Option DependencyRecord)
-        → ((more : StatedValue) → Awaits more (nodes_in rows) (edges_in rows) known → (t : StatedValue) × (records_told (k + 1) more rows ≡ Ok t))
+        → ((more : StatedValue) → Awaits more (nodes_in rows) (edges_in rows) known → (t : StatedValue)
+        × (records_told (k + 1) more rows ≡ Ok t))
         → IsSome o → Awaits s (node_of o ++ nodes_in rows) (edge_of o ++ edges_in rows) known
         → (t : StatedValue) × (told (option_map (recounted k) o) ≡ Ok t)
     step None rest some awaits = cc some
     step (Some (NodeRecord n)) rest some awaits =
         let more : StatedValue = record { nodes = insert_key numbered_cmp s.nodes n; edges = s.edges } in
-        let (t, last) = rest more (Awaits-node s n (nodes_in rows) (edges_in rows) known awaits) in
-        (t, ap (λ (w : Told (Unit {0})). w >>= (λ _. Ok more) >>= (λ v. records_told (k + 1) v rows)) (node_fine k s n (nodes_in rows) (edges_in rows) known awaits) ∙ last)
+        let (t, last) = rest more (Awaits-node s n (nodes_in rows) (edges_in rows) known awaits) in (
+          t,
+          ap (λ (w : Told (Unit {0})). w >>= (λ _. Ok more) >>= (λ v. records_told (k + 1) v rows))
+              (node_fine k s n (nodes_in rows) (edges_in rows) known awaits) ∙ last,
+        )
     step (Some (EdgeRecord f)) rest some awaits =
         let g : StatedEdge = record { record_number = k; edge = f.edge } in
         let more : StatedValue = record { nodes = s.nodes; edges = with_edge s.edges g } in
-        let (t, last) = rest more (Awaits-edge s g (nodes_in rows) (edges_in rows) known awaits) in
-        (t, ap (λ (w : Told (Unit {0})). w >>= (λ _. Ok more) >>= (λ v. records_told (k + 1) v rows)) (edge_fine s g (nodes_in rows) (edges_in rows) known awaits).0 ∙ last)
+        let (t, last) = rest more (Awaits-edge s g (nodes_in rows) (edges_in rows) known awaits) in (
+          t,
+          ap (λ (w : Told (Unit {0})). w >>= (λ _. Ok more) >>= (λ v. records_told (k + 1) v rows))
+              (edge_fine s g (nodes_in rows) (edges_in rows) known awaits).0 ∙ last,
+        )

@@ -20,15 +20,20 @@ use Rattle.vet_demand.specs.RecordsLeft.{BytesReader, FirstIs, RecordsLeft, byte
 -- ---- records
 
 -- a record was read: it was the first of those left
-pub first_read : (old new : BytesReader) (fields : List (List ℕ)) → ReadRecord bytes_ahead old new true fields → took_first new ≡ true
-    → is_flexible new ≡ is_flexible old → (most : ℕ) (rows : List (List (List ℕ))) → RecordsLeft old (suc most) rows → FirstIs true fields new most rows
+pub first_read : (old new : BytesReader) (fields : List (List ℕ)) → ReadRecord bytes_ahead old new true fields
+    → took_first new ≡ true
+    → is_flexible new ≡ is_flexible old → (most : ℕ) (rows : List (List (List ℕ))) → RecordsLeft old (suc most) rows
+    → FirstIs true fields new most rows
 unfolding Reached records_from
 first_read old new fields read first flexible most rows (state, left, was, is) =
-    let one = rows-more bytes_ahead old new fields default_config old.state left left [] was.plain was.ahead (refl, refl) read in
-    let reached : (p : Read) × (next_record default_config old.state [] [] left ≡ Some p) × (fields ≡ p.0) × ((p.1 ≡ new.state) × (p.2 ≡ one.0)) = one.2 in
+    let one = rows-more bytes_ahead old new fields default_config old.state left left [] was.plain was.ahead
+    (refl, refl) read in
+    let reached : (p : Read) × (next_record default_config old.state [] [] left ≡ Some p) × (fields ≡ p.0)
+    × ((p.1 ≡ new.state) × (p.2 ≡ one.0)) = one.2 in
     let (p, next, same, (now, after)) = reached in (
       records_from default_config most p.1 p.2,
-      sym is ∙ rw (← was.now, next) (ap (λ (fs : List (List ℕ)). fs ∷ records_from default_config most p.1 p.2) (sym same)),
+      sym is ∙ rw (← was.now, next) (ap (λ (fs : List (List ℕ)). fs ∷ records_from default_config most p.1 p.2)
+          (sym same)),
       (
         p.1,
         p.2,
@@ -58,7 +63,8 @@ unfolding records_from
 none_left reader rows (state, left, was, is) = sym is
 
 -- an error is want of memory, or one that bytes in memory don't give
-pub read_refused : (number : ℕ) (old new : BytesReader) (k : ErrorKind) → is_flexible old ≡ true → ExplainsRead bytes_ahead old new false k
+pub read_refused : (number : ℕ) (old new : BytesReader) (k : ErrorKind) → is_flexible old ≡ true
+    → ExplainsRead bytes_ahead old new false k
     → refusal_for number k ≡ NoMemory
 read_refused number old new (kind.Io e) flexible h = refl
 read_refused number old new kind.OutOfMemory flexible h = refl
@@ -69,8 +75,10 @@ read_refused number old new (kind.Deserialize pos err) flexible h = absurd h
 
 -- what a read found, if it was of a reader with records left
 pub row_read : (old new : BytesReader) (found : Bool) (fields : List (List ℕ))
-    → (reader_trim old ≡ trim.None → Ready old → ReadRecord bytes_ahead old new found fields) → (reader_trim old ≡ trim.None → took_first new ≡ true)
-    → is_flexible new ≡ is_flexible old → (most : ℕ) (rows : List (List (List ℕ))) → RecordsLeft old (suc most) rows → FirstIs found fields new most rows
+    → (reader_trim old ≡ trim.None → Ready old → ReadRecord bytes_ahead old new found fields)
+    → (reader_trim old ≡ trim.None → took_first new ≡ true)
+    → is_flexible new ≡ is_flexible old → (most : ℕ) (rows : List (List (List ℕ))) → RecordsLeft old (suc most) rows
+    → FirstIs found fields new most rows
 row_read old new true fields read first flexible most rows left =
     let was = left.2 in
     first_read old new fields (read was.untrimmed was.ready) (first was.untrimmed) flexible most rows left
@@ -84,16 +92,19 @@ and_none : (b : Bool) → (b && false) ≡ false
 and_none true = refl
 and_none false = refl
 
-pub text_marked : (bs : List ℕ) → starts_with nat_eq bs (0xEF ∷ 0xBB ∷ 0xBF ∷ []) ≡ true → length bs - 3 ≡ length (strip_bom bs)
+pub text_marked : (bs : List ℕ) → starts_with nat_eq bs (0xEF ∷ 0xBB ∷ 0xBF ∷ []) ≡ true
+    → length bs - 3 ≡ length (strip_bom bs)
 unfolding strip_bom
 text_marked [] h = cc h
 text_marked (a ∷ []) h = absurd (false≢true (sym (and_none (0xEF == a)) ∙ h))
-text_marked (a ∷ b ∷ []) h = absurd (false≢true (sym (ap (λ t. (0xEF == a) && t) (and_none (0xBB == b)) ∙ and_none (0xEF == a)) ∙ h))
+text_marked (a ∷ b ∷ []) h =
+    absurd (false≢true (sym (ap (λ t. (0xEF == a) && t) (and_none (0xBB == b)) ∙ and_none (0xEF == a)) ∙ h))
 text_marked (a ∷ b ∷ c ∷ rest) h =
     let mark : is_bom a b c ≡ true = grind (arith, nat_tests) in
     rw mark (omega arith)
 
-pub text_unmarked : (bs : List ℕ) → starts_with nat_eq bs (0xEF ∷ 0xBB ∷ 0xBF ∷ []) ≡ false → length bs ≡ length (strip_bom bs)
+pub text_unmarked : (bs : List ℕ) → starts_with nat_eq bs (0xEF ∷ 0xBB ∷ 0xBF ∷ []) ≡ false
+    → length bs ≡ length (strip_bom bs)
 unfolding strip_bom
 text_unmarked [] h = refl
 text_unmarked (a ∷ []) h = refl
@@ -116,11 +127,14 @@ RowsSoFar-none first most begun rows left = (most, rows, omega arith, left, refl
 
 -- what a turn of the loop finds
 abbrev pub Finds : BytesReader → BytesReader → Bool → List (List ℕ) → Type 0
-Finds reader after found fields = (most : ℕ) (rows : List (List (List ℕ))) → RecordsLeft reader (suc most) rows → FirstIs found fields after most rows
+Finds reader after found fields = (most : ℕ) (rows : List (List (List ℕ))) → RecordsLeft reader (suc most) rows
+    → FirstIs found fields after most rows
 
 -- another record is left, or none
-turn_found : (first : BytesReader) (most : ℕ) (begun : StatedValue) (turn : ℕ) (reader after : BytesReader) (stated : StatedValue) (found : Bool) (fields : List (List ℕ))
-    → RowsSoFar first most begun turn reader stated → Finds reader after found fields → turn < most → (rows : List (List (List ℕ))) → RecordsLeft first most rows
+turn_found : (first : BytesReader) (most : ℕ) (begun : StatedValue) (turn : ℕ) (reader after : BytesReader)
+    (stated : StatedValue) (found : Bool) (fields : List (List ℕ))
+    → RowsSoFar first most begun turn reader stated → Finds reader after found fields → turn < most
+    → (rows : List (List (List ℕ))) → RecordsLeft first most rows
     → (left : ℕ) × (rest : List (List (List ℕ))) × (suc left + turn ≡ most) × FirstIs found fields after left rest
     × (records_told 2 begun rows ≡ records_told (turn + 2) stated rest)
 turn_found first most begun turn reader after stated found fields so_far finds more rows left = step (so_far rows left)
@@ -132,31 +146,39 @@ turn_found first most begun turn reader after stated found fields so_far finds m
     step (zero, rest, sum, held, told) = absurd (omega (arith, sum, more))
     step (suc n, rest, sum, held, told) = (n, rest, sum, finds n rest held, told)
 
-pub RowsSoFar-next : (first : BytesReader) (most : ℕ) (begun : StatedValue) (turn : ℕ) (reader after : BytesReader) (stated longer : StatedValue) (fields : List (List ℕ))
-    → RowsSoFar first most begun turn reader stated → Finds reader after true fields → turn < most → fields_told (turn + 2) stated fields ≡ Ok longer
+pub RowsSoFar-next : (first : BytesReader) (most : ℕ) (begun : StatedValue) (turn : ℕ) (reader after : BytesReader)
+    (stated longer : StatedValue) (fields : List (List ℕ))
+    → RowsSoFar first most begun turn reader stated → Finds reader after true fields → turn < most
+    → fields_told (turn + 2) stated fields ≡ Ok longer
     → RowsSoFar first most begun (turn + 1) after longer
 RowsSoFar-next first most begun turn reader after stated longer fields so_far finds more taken rows left =
-    let (n, rest, sum, (others, is, held), told) = turn_found first most begun turn reader after stated true fields so_far finds more rows left in
+    let (n, rest, sum, (others, is, held), told) =
+    turn_found first most begun turn reader after stated true fields so_far finds more rows left in
     let number : turn + 2 + 1 ≡ turn + 1 + 2 = omega arith in
     (n, others, omega (arith, sum), held, told ∙ rw (is, taken) (ap (λ k. records_told k longer others) number))
 
-pub told_end : (first : BytesReader) (most : ℕ) (begun : StatedValue) (turn : ℕ) (reader after : BytesReader) (stated : StatedValue) (fields : List (List ℕ))
+pub told_end : (first : BytesReader) (most : ℕ) (begun : StatedValue) (turn : ℕ) (reader after : BytesReader)
+    (stated : StatedValue) (fields : List (List ℕ))
     → RowsSoFar first most begun turn reader stated → Finds reader after false fields → turn < most
     → (rows : List (List (List ℕ))) → RecordsLeft first most rows → records_told 2 begun rows ≡ Ok stated
 told_end first most begun turn reader after stated fields so_far finds more rows left =
-    let (n, rest, sum, none, told) = turn_found first most begun turn reader after stated false fields so_far finds more rows left in
+    let (n, rest, sum, none, told) =
+    turn_found first most begun turn reader after stated false fields so_far finds more rows left in
     told ∙ rw none refl
 
-pub told_refused : (first : BytesReader) (most : ℕ) (begun : StatedValue) (turn : ℕ) (reader after : BytesReader) (stated : StatedValue) (fields : List (List ℕ)) (e : Refusal)
+pub told_refused : (first : BytesReader) (most : ℕ) (begun : StatedValue) (turn : ℕ) (reader after : BytesReader)
+    (stated : StatedValue) (fields : List (List ℕ)) (e : Refusal)
     → RowsSoFar first most begun turn reader stated → Finds reader after true fields → turn < most
     → (e ≡ NoMemory) ⊎ (fields_told (turn + 2) stated fields ≡ Err e)
     → (rows : List (List (List ℕ))) → RecordsLeft first most rows → (e ≡ NoMemory) ⊎ (records_told 2 begun rows ≡ Err e)
 told_refused first most begun turn reader after stated fields e so_far finds more (inl memory) rows left = inl memory
 told_refused first most begun turn reader after stated fields e so_far finds more (inr refused) rows left =
-    let (n, rest, sum, (others, is, held), told) = turn_found first most begun turn reader after stated true fields so_far finds more rows left in
+    let (n, rest, sum, (others, is, held), told) =
+    turn_found first most begun turn reader after stated true fields so_far finds more rows left in
     inr (told ∙ rw (is, refused) refl)
 
-pub told_all : (first : BytesReader) (most : ℕ) (begun : StatedValue) (turn : ℕ) (reader : BytesReader) (stated : StatedValue)
+pub told_all : (first : BytesReader) (most : ℕ) (begun : StatedValue) (turn : ℕ) (reader : BytesReader)
+    (stated : StatedValue)
     → RowsSoFar first most begun turn reader stated → most ≤ turn
     → (rows : List (List (List ℕ))) → RecordsLeft first most rows → records_told 2 begun rows ≡ Ok stated
 told_all first most begun turn reader stated so_far done rows left = step (so_far rows left)
@@ -167,7 +189,8 @@ told_all first most begun turn reader stated so_far done rows left = step (so_fa
     step (suc n, rest, sum, held, told) = absurd (omega (arith, sum, done))
 
 -- a refusal that is handed on is given
-pub handed_on : {A T : Type 0} (view : T → A) (told : Told A) (answer : Result T Refusal) (e : Refusal) → IsErrAnd answer (λ x. x ≡ e)
+pub handed_on : {A T : Type 0} (view : T → A) (told : Told A) (answer : Result T Refusal) (e : Refusal)
+    → IsErrAnd answer (λ x. x ≡ e)
     → (e ≡ NoMemory) ⊎ (told ≡ Err e) → Gives view told answer
 handed_on view told (Ok v) e h given = absurd h
 handed_on view told (Err x) e h given = rw h given
@@ -175,8 +198,10 @@ handed_on view told (Err x) e h given = rw h given
 -- ---- the whole table
 
 -- where no record is left, or the first is no header, 27 is told
-pub no_header : (reader after : BytesReader) (found : Bool) (fields : List (List ℕ)) (most : ℕ) → Finds reader after found fields
-    → (found && is_header fields) ≡ false → (rows : List (List (List ℕ))) → RecordsLeft reader (suc most) rows → table_told rows ≡ Err (CsvRefused 1)
+pub no_header : (reader after : BytesReader) (found : Bool) (fields : List (List ℕ)) (most : ℕ)
+    → Finds reader after found fields
+    → (found && is_header fields) ≡ false → (rows : List (List (List ℕ))) → RecordsLeft reader (suc most) rows
+    → table_told rows ≡ Err (CsvRefused 1)
 no_header reader after false fields most finds h rows left = rw (finds most rows left) refl
 no_header reader after true fields most finds h rows left =
     let (rest, is, held) = finds most rows left in
@@ -184,28 +209,35 @@ no_header reader after true fields most finds h rows left =
     ap table_told is ∙ told
 
 -- under the header, what is told of the table is told of the others
-pub under_header : (reader after : BytesReader) (fields : List (List ℕ)) (most : ℕ) → Finds reader after true fields → is_header fields ≡ true
+pub under_header : (reader after : BytesReader) (fields : List (List ℕ)) (most : ℕ) → Finds reader after true fields
+    → is_header fields ≡ true
     → (rows : List (List (List ℕ))) → RecordsLeft reader (suc most) rows
-    → (rest : List (List (List ℕ))) × RecordsLeft after most rest × (table_told rows ≡ records_told 2 nothing_stated rest)
+    → (rest : List (List (List ℕ))) × RecordsLeft after most rest
+    × (table_told rows ≡ records_told 2 nothing_stated rest)
 under_header reader after fields most finds h rows left =
     let (rest, is, held) = finds most rows left in
     let told : table_told (fields ∷ rest) ≡ records_told 2 nothing_stated rest = rw h refl in
     (rest, held, ap table_told is ∙ told)
 
 -- a read that failed while records were left wanted memory
-pub memory_wanting : (first : BytesReader) (most : ℕ) (begun : StatedValue) (turn : ℕ) (reader : BytesReader) (stated : StatedValue) (e : Refusal)
-    → RowsSoFar first most begun turn reader stated → ((most : ℕ) (rows : List (List (List ℕ))) → RecordsLeft reader most rows → e ≡ NoMemory)
+pub memory_wanting : (first : BytesReader) (most : ℕ) (begun : StatedValue) (turn : ℕ) (reader : BytesReader)
+    (stated : StatedValue) (e : Refusal)
+    → RowsSoFar first most begun turn reader stated
+    → ((most : ℕ) (rows : List (List (List ℕ))) → RecordsLeft reader most rows → e ≡ NoMemory)
     → (rows : List (List (List ℕ))) → RecordsLeft first most rows → e ≡ NoMemory
 memory_wanting first most begun turn reader stated e so_far failed rows left =
     let (n, rest, sum, held, told) = so_far rows left in
     failed n rest held
 
-pub found_end : (reader after : BytesReader) (found : Bool) (fields : List (List ℕ)) → Finds reader after found fields → found ≡ false → Finds reader after false fields
+pub found_end : (reader after : BytesReader) (found : Bool) (fields : List (List ℕ))
+    → Finds reader after found fields → found ≡ false → Finds reader after false fields
 found_end reader after found fields finds no_more = rw no_more at finds
 
-pub found_more : (reader after : BytesReader) (found : Bool) (fields : List (List ℕ)) → Finds reader after found fields → found ≡ true → Finds reader after true fields
+pub found_more : (reader after : BytesReader) (found : Bool) (fields : List (List ℕ))
+    → Finds reader after found fields → found ≡ true → Finds reader after true fields
 found_more reader after found fields finds one = rw one at finds
 
-pub told_alike : {A : Type 0} (told same : Told A) (e : Refusal) → told ≡ same → (e ≡ NoMemory) ⊎ (same ≡ Err e) → (e ≡ NoMemory) ⊎ (told ≡ Err e)
+pub told_alike : {A : Type 0} (told same : Told A) (e : Refusal) → told ≡ same → (e ≡ NoMemory) ⊎ (same ≡ Err e)
+    → (e ≡ NoMemory) ⊎ (told ≡ Err e)
 told_alike told same e h (inl memory) = inl memory
 told_alike told same e h (inr refused) = inr (h ∙ refused)

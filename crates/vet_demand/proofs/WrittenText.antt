@@ -26,7 +26,8 @@ IsPlain (x ∷ y ∷ rest) = are_plain (x ∷ y ∷ rest) ≡ true
 plain_text : (x : List ℕ) → list_all is_plain x ≡ true → field_text default_writer x ≡ x
 plain_text x h = rw (needs_no_quotes x h) refl
 
-line_rest : (x : List ℕ) (rest : List (List ℕ)) → are_plain rest ≡ true → line (x ∷ rest) ≡ x ++ (fields_text default_writer rest ++ (10 ∷ []))
+line_rest : (x : List ℕ) (rest : List (List ℕ)) → are_plain rest ≡ true
+    → line (x ∷ rest) ≡ x ++ (fields_text default_writer rest ++ (10 ∷ []))
 unfolding fields_text
 line_rest x [] h = refl
 line_rest x (y ∷ rest) h =
@@ -37,7 +38,8 @@ line_rest x (y ∷ rest) h =
     ∙ ap (λ (f : List ℕ). (f ++ fields_text default_writer rest) ++ (10 ∷ [])) (sym (plain_text y here)))
 
 -- csv's own text of the record is the same line
-line_row : (x y : List ℕ) (rest : List (List ℕ)) → are_plain (x ∷ y ∷ rest) ≡ true → line (x ∷ y ∷ rest) ≡ row_text default_writer (x ∷ y ∷ rest)
+line_row : (x y : List ℕ) (rest : List (List ℕ)) → are_plain (x ∷ y ∷ rest) ≡ true
+    → line (x ∷ y ∷ rest) ≡ row_text default_writer (x ∷ y ∷ rest)
 unfolding is_blank
 line_row x y rest h =
     let (here, more) = and_parts (list_all is_plain x) (are_plain (y ∷ rest)) h in
@@ -49,7 +51,8 @@ line_read : (fields : List (List ℕ)) (tail : List ℕ) → IsPlain fields
 line_read [] tail h = absurd h
 line_read (x ∷ []) tail h = absurd h
 line_read (x ∷ y ∷ rest) tail h =
-    ap (λ (t : List ℕ). next_record default_config st.StartRecord [] [] (t ++ tail)) (line_row x y rest h) ∙ read-write-many x y rest tail
+    ap (λ (t : List ℕ). next_record default_config st.StartRecord [] [] (t ++ tail)) (line_row x y rest h)
+    ∙ read-write-many x y rest tail
 
 line_long : (fields : List (List ℕ)) → 0 < length (line fields)
 line_long [] = omega arith
@@ -73,13 +76,15 @@ lines_long (row ∷ rows) =
     let one = line_long row in
     omega (arith, more, one, length-append (line row) (lines rows))
 
-lines_from : (rows : List (List (List ℕ))) (n : ℕ) → ArePlain rows → length rows ≤ n → records_from default_config n st.StartRecord (lines rows) ≡ rows
+lines_from : (rows : List (List (List ℕ))) (n : ℕ) → ArePlain rows → length rows ≤ n
+    → records_from default_config n st.StartRecord (lines rows) ≡ rows
 unfolding records_from next_record
 lines_from [] zero h few = refl
 lines_from [] (suc n) h few = refl
 lines_from (row ∷ rows) zero h few = absurd (omega (arith, few))
 lines_from (row ∷ rows) (suc n) h few =
-    rw (line_read row (lines rows) h.0) (ap (λ (rs : List (List (List ℕ))). row ∷ rs) (lines_from rows n h.1 (omega (arith, few))))
+    rw (line_read row (lines rows) h.0)
+    (ap (λ (rs : List (List (List ℕ))). row ∷ rs) (lines_from rows n h.1 (omega (arith, few))))
 
 pub lines_read : (rows : List (List (List ℕ))) → ArePlain rows → records default_config (lines rows) ≡ rows
 lines_read rows h = (let long = lines_long rows in lines_from rows (length (lines rows) + 1) h (omega (arith, long)))

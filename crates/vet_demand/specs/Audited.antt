@@ -22,14 +22,14 @@ pub record AuditedNode : Type 0 where
   pub node : Node
   pub needs : Places
 
-abbrev pub beside : List (Bor Node) → List Places → List AuditedNode
-beside [] needs = []
-beside (n ∷ nodes) [] = []
-beside (n ∷ nodes) (s ∷ needs) = (record { node = n.now; needs = s }) ∷ beside nodes needs
+abbrev pub audited_nodes : List (Bor Node) → List Places → List AuditedNode
+audited_nodes [] needs = []
+audited_nodes (n ∷ nodes) [] = []
+audited_nodes (n ∷ nodes) (s ∷ needs) = (record { node = n.now; needs = s }) ∷ audited_nodes nodes needs
 
 -- what the code holds as two lists
-abbrev pub listed : AuditedNodes → List AuditedNode
-listed a = beside a.nodes.items a.needs.items
+abbrev pub audited_list : AuditedNodes → List AuditedNode
+audited_list a = audited_nodes a.nodes.items a.needs.items
 
 abbrev pub AreParallel : AuditedNodes → Type 0
 AreParallel a = length a.nodes.items ≡ length a.needs.items
@@ -47,17 +47,20 @@ abbrev pub IsAsked : List (List ℕ) → List AuditedNode → Pair → Type 0
 IsAsked names audited q = (a : AuditedNode) × Contains audited a × IsPairOf a.node names a.needs (length names) q
 
 -- exactly the pairs that projects demand are asked for
-pub record AreAudited (policies : List KeyedPolicy) (criteria : Criteria) (projects : List NamedProject) (audited : List AuditedNode) : Type 0 where
+pub record AreAudited (policies : List KeyedPolicy) (criteria : Criteria) (projects : List NamedProject)
+    (audited : List AuditedNode) : Type 0 where
   pub in_order : AreInAuditedOrder audited
   pub same : (q : Pair) → IsAsked (map.keys criteria) audited q ↔ IsDemanded projects policies criteria q
 
 -- those that one project demands
-pub record AreAuditedIn (policies : List KeyedPolicy) (criteria : Criteria) (project : ProjectValue) (audited : List AuditedNode) : Type 0 where
+pub record AreAuditedIn (policies : List KeyedPolicy) (criteria : Criteria) (project : ProjectValue)
+    (audited : List AuditedNode) : Type 0 where
   pub in_order : AreInAuditedOrder audited
   pub same : (q : Pair) → IsAsked (map.keys criteria) audited q ↔ IsDemandedBy policies criteria project q
 
 -- those that the first n nodes of a project demand; all of these come before the nodes from there on
-pub record AreAuditedBefore (policies : List KeyedPolicy) (criteria : Criteria) (project : ProjectValue) (n : ℕ) (audited : List AuditedNode) : Type 0 where
+pub record AreAuditedBefore (policies : List KeyedPolicy) (criteria : Criteria) (project : ProjectValue) (n : ℕ)
+    (audited : List AuditedNode) : Type 0 where
   pub in_order : AreInAuditedOrder audited
   pub left : (j k : ℕ) (a : AuditedNode) (d : Node) → j < length audited → n ≤ k → k < length project.nodes
       → node_cmp (slice_index_or audited j a).node (slice_index_or project.nodes k d) ≡ Less
@@ -81,22 +84,27 @@ pub record IsMerging (first second : List AuditedNode) (i j : ℕ) (all : List A
   pub in_order : AreInAuditedOrder all
   pub first_left : AreBefore all first i
   pub second_left : AreBefore all second j
-  pub same : (names : List (List ℕ)) (q : Pair) → IsAsked names all q ↔ (IsAsked names (take i first) q ⊎ IsAsked names (take j second) q)
+  pub same : (names : List (List ℕ)) (q : Pair) → IsAsked names all q
+      ↔ (IsAsked names (take i first) q ⊎ IsAsked names (take j second) q)
 
 -- how the nodes at two places compare, where a list past its end gives way
 abbrev pub AreHeads : List AuditedNode → List AuditedNode → ℕ → ℕ → Ordering → Type 0
 AreHeads first second i j Less =
-    (i < length first) × ((a d : AuditedNode) → j < length second → audited_cmp (slice_index_or first i a) (slice_index_or second j d) ≡ Less)
+    (i < length first) × ((a d : AuditedNode) → j < length second
+    → audited_cmp (slice_index_or first i a) (slice_index_or second j d) ≡ Less)
 AreHeads first second i j Equal =
-    (i < length first) × ((j < length second) × ((a d : AuditedNode) → audited_cmp (slice_index_or first i a) (slice_index_or second j d) ≡ Equal))
+    (i < length first) × ((j < length second)
+    × ((a d : AuditedNode) → audited_cmp (slice_index_or first i a) (slice_index_or second j d) ≡ Equal))
 AreHeads first second i j Greater =
-    (j < length second) × ((a d : AuditedNode) → i < length first → audited_cmp (slice_index_or first i a) (slice_index_or second j d) ≡ Greater)
+    (j < length second) × ((a d : AuditedNode) → i < length first
+    → audited_cmp (slice_index_or first i a) (slice_index_or second j d) ≡ Greater)
 
 -- the node that is next where they compare so: the lesser one, or one with what either of two needs
 abbrev pub IsHead : List AuditedNode → List AuditedNode → ℕ → ℕ → AuditedNode → Ordering → Type 0
 IsHead first second i j x Less = x ≡ slice_index_or first i x
 IsHead first second i j x Equal =
-    (x.node ≡ (slice_index_or first i x).node) × (x.needs ≡ places.union (slice_index_or first i x).needs (slice_index_or second j x).needs)
+    (x.node ≡ (slice_index_or first i x).node)
+    × (x.needs ≡ places.union (slice_index_or first i x).needs (slice_index_or second j x).needs)
 IsHead first second i j x Greater = x ≡ slice_index_or second j x
 
 -- the places after that
@@ -106,5 +114,6 @@ IsAfter i j m n Equal = (m ≡ i + 1) × (n ≡ j + 1)
 IsAfter i j m n Greater = (m ≡ i) × (n ≡ j + 1)
 
 -- it is put behind others
-abbrev pub PutsHead : List AuditedNode → List AuditedNode → ℕ → ℕ → List AuditedNode → List AuditedNode → Ordering → Type 0
+abbrev pub PutsHead : List AuditedNode → List AuditedNode → ℕ → ℕ → List AuditedNode → List AuditedNode
+    → Ordering → Type 0
 PutsHead first second i j old new order = (x : AuditedNode) × IsHead first second i j x order × (new ≡ old ++ x ∷ [])

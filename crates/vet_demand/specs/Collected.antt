@@ -31,4 +31,5 @@ pub record AddsInOrder (node : Node) (names : List (List ℕ)) (set : Places) (n
 
 -- one of the first n nodes of a project demands a pair
 abbrev pub IsDemandedBefore : List KeyedPolicy → Criteria → ProjectValue → ℕ → Pair → Type 0
-IsDemandedBefore policies criteria project n q = (place : ℕ) × (place < n) × IsDemandedIn policies criteria project q place
+IsDemandedBefore policies criteria project n q = (place : ℕ) × (place < n)
+    × IsDemandedIn policies criteria project q place

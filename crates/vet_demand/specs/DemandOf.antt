@@ -1,9 +1,9 @@
 -- What projects demand (ours): each pair once, in the order of reports.
-use Rattle.std.specs.Prelude.{◌≡◌, ◌↔◌, ◌<◌, Bool, true, false, ℕ, List, [], ◌∷◌, if◌then◌else◌, length, unwrap_or, Option, Some, None}
+use Rattle.std.specs.Prelude.{◌≡◌, ◌↔◌, ◌<◌, Bool, true, false, ℕ, List, [], ◌∷◌, if◌then◌else◌, fold, length, unwrap_or, Option, Some, None}
 use Rattle.std.specs.FinMap as map
 use Rattle.std.specs.FinSet as set
 use Rattle.std.specs.List.{All, Contains, flat_map, range_with_len}
-use Rattle.std.specs.Ordering.{match_ordering}
+use Rattle.std.specs.BTreeSet.{insert_key}
 use Rattle.vet_base.specs.Criteria.{Criteria, IsTable}
 use Rattle.vet_base.specs.Names.{NameSet}
 use Rattle.vet_demand.specs.Needs.{IsNeeded, is_needed, node_at}
@@ -37,7 +37,8 @@ abbrev pub pair_of : Node → List ℕ → Pair
 pair_of node c = record { «package» = node.«package»; version = node.version; criterion = c }
 
 -- a pair is demanded: some project has an audited node that needs the criterion
-pub record IsDemandedIn (policies : List KeyedPolicy) (criteria : Criteria) (project : ProjectValue) (p : Pair) (place : ℕ) : Type 0 where
+pub record IsDemandedIn (policies : List KeyedPolicy) (criteria : Criteria) (project : ProjectValue) (p : Pair)
+    (place : ℕ) : Type 0 where
   pub within : place < length project.nodes
   pub audited : is_audited_node policies (node_at project.nodes place) ≡ true
   pub needed : IsNeeded policies criteria project p.criterion place
@@ -51,7 +52,8 @@ IsDemanded projects policies criteria p =
     (named : NamedProject) × Contains projects named × IsDemandedBy policies criteria named.project p
 
 -- exactly the pairs that are demanded, each once, in the order of reports
-pub record IsLeastDemand (projects : List NamedProject) (policies : List KeyedPolicy) (criteria : Criteria) (demand : List Pair) : Type 0 where
+pub record IsLeastDemand (projects : List NamedProject) (policies : List KeyedPolicy) (criteria : Criteria)
+    (demand : List Pair) : Type 0 where
   pub in_order : IsInOrder demand
   pub same : (p : Pair) → Contains demand p ↔ IsDemanded projects policies criteria p
 
@@ -59,7 +61,8 @@ pub record IsLeastDemand (projects : List NamedProject) (policies : List KeyedPo
 
 -- all criteria of a list are in the table, if there is a list
 abbrev pub NamesAreKnown : Criteria → Option NameSet → Type 0
-NamesAreKnown criteria names = (list : NameSet) → names ≡ Some list → (c : List ℕ) → set.contains list c ≡ true → map.contains_key criteria c ≡ true
+NamesAreKnown criteria names = (list : NameSet) → names ≡ Some list → (c : List ℕ) → set.contains list c ≡ true
+    → map.contains_key criteria c ≡ true
 
 -- each criterion that a policy names is in the table
 pub record PolicyIsKnown (criteria : Criteria) (policy : Policy) : Type 0 where
@@ -79,22 +82,20 @@ HasDemanded criteria demand = All (λ p. map.contains_key criteria p.criterion �
 -- the pairs of a node with the criteria of the table that it needs
 abbrev pub pairs_at : List KeyedPolicy → Criteria → ProjectValue → ℕ → List Pair
 pairs_at policies criteria project place =
-    flat_map (λ c. if is_needed policies criteria project c place then pair_of (node_at project.nodes place) c ∷ [] else []) (map.keys criteria)
+    flat_map (λ c. if is_needed policies criteria project c place
+    then pair_of (node_at project.nodes place) c ∷ [] else [])
+    (map.keys criteria)
 
 -- the pairs of the audited nodes of a project
 abbrev pub pairs_in : List KeyedPolicy → Criteria → ProjectValue → List Pair
 pairs_in policies criteria project =
-    flat_map (λ place. if is_audited_node policies (node_at project.nodes place) then pairs_at policies criteria project place else [])
+    flat_map (λ place. if is_audited_node policies (node_at project.nodes place)
+    then pairs_at policies criteria project place else [])
     (range_with_len 0 (length project.nodes))
 
--- a pair put where it belongs, if it is not there
-abbrev pub put_in_order : Pair → List Pair → List Pair
-put_in_order p [] = p ∷ []
-put_in_order p (q ∷ rest) = match_ordering (pair_cmp p q) (p ∷ q ∷ rest) (q ∷ rest) (q ∷ put_in_order p rest)
-
+-- pairs in their order, each once
 abbrev pub in_order : List Pair → List Pair
-in_order [] = []
-in_order (p ∷ rest) = put_in_order p (in_order rest)
+in_order = fold (insert_key pair_cmp) []
 
 -- the pairs of all projects
 unfoldable pub demand_of : List NamedProject → List KeyedPolicy → Criteria → List Pair
@@ -103,18 +104,21 @@ demand_of projects policies criteria = in_order (flat_map (λ named. pairs_in po
 -- the function tells the least demand
 abbrev pub DemandIsLeast : Type 0
 DemandIsLeast =
-    (projects : List NamedProject) (policies : List KeyedPolicy) (criteria : Criteria) → IsTable criteria → PoliciesAreKnown criteria policies
+    (projects : List NamedProject) (policies : List KeyedPolicy) (criteria : Criteria) → IsTable criteria
+    → PoliciesAreKnown criteria policies
     → IsLeastDemand projects policies criteria (demand_of projects policies criteria)
 
 -- no other list is the least demand
 abbrev pub LeastDemandIsOnly : Type 0
 LeastDemandIsOnly =
-    (projects : List NamedProject) (policies : List KeyedPolicy) (criteria : Criteria) (demand : List Pair) → IsTable criteria → PoliciesAreKnown criteria policies
+    (projects : List NamedProject) (policies : List KeyedPolicy) (criteria : Criteria) (demand : List Pair)
+    → IsTable criteria → PoliciesAreKnown criteria policies
     → IsLeastDemand projects policies criteria demand → demand ≡ demand_of projects policies criteria
 
 -- the table has each criterion of the demand
 abbrev pub DemandedAreKnown : Type 0
-DemandedAreKnown = (projects : List NamedProject) (policies : List KeyedPolicy) (criteria : Criteria) → HasDemanded criteria (demand_of projects policies criteria)
+DemandedAreKnown = (projects : List NamedProject) (policies : List KeyedPolicy) (criteria : Criteria)
+    → HasDemanded criteria (demand_of projects policies criteria)
 
 -- where there are no projects, nothing is demanded
 abbrev pub NothingIsDemanded : Type 0

@@ -1,12 +1,8 @@
--- Criteria by the names of dependencies, in the order of the names.
+-- Criteria by the names of dependencies, in the order of the names (ours).
 use Rattle.std.specs.Prelude.{ℕ, ◌≡◌, ◌&&◌, Bool, List, Option, Some, nat_eq, option_map}
-use Rattle.std.specs.Bool.{Decides}
 use Rattle.std.specs.Ordering.{nat_cmp}
-use Rattle.std.specs.Cmp.Lexicographic.{bytes_decides, pointwise, pointwise_decides, slice_cmp}
-use Rattle.std.proofs.Common.{ap}
-use Rattle.std.proofs.lemmas.Bool.Decides.{Decides-and, Decides-like}
+use Rattle.std.specs.Cmp.Lexicographic.{pointwise, slice_cmp}
 use Rattle.vet_base.specs.Names.{NameSet, same_names}
-use Rattle.vet_base.specs.NameLaws.{same_names-Decides}
 use Rattle.vet_base.specs.Keyed.{IsByKey, item_of, with_item}
 use Rattle.vet_demand.specs.declared.dependency_criteria.DependencyItem.{DependencyItem}
 
@@ -24,32 +20,23 @@ criteria_for items name = option_map (λ i. i.criteria) (item_of (slice_cmp nat_
 
 -- the items of lesser names, then these criteria at this name, then the items of greater names
 abbrev pub with_criteria : List DependencyItem → List ℕ → NameSet → List DependencyItem
-with_criteria items name criteria = with_item (slice_cmp nat_cmp) item_name items (record { «package» = name; criteria = criteria })
+with_criteria items name criteria =
+    with_item (slice_cmp nat_cmp) item_name items (record { «package» = name; criteria = criteria })
 
 -- criteria are found at the name at which they were set, and at each other name what was found there stays
 abbrev pub SetCriteriaAreFound : Type 0
-SetCriteriaAreFound = (items : List DependencyItem) (name : List ℕ) (criteria : NameSet) → criteria_for (with_criteria items name criteria) name ≡ Some criteria
+SetCriteriaAreFound = (items : List DependencyItem) (name : List ℕ) (criteria : NameSet)
+    → criteria_for (with_criteria items name criteria) name ≡ Some criteria
 
 abbrev pub OtherCriteriaStay : Type 0
 OtherCriteriaStay =
-    (items : List DependencyItem) (name other : List ℕ) (criteria : NameSet) → (other ≡ name → ⊥) → criteria_for (with_criteria items name criteria) other ≡ criteria_for items other
+    (items : List DependencyItem) (name other : List ℕ) (criteria : NameSet) → (other ≡ name → ⊥)
+    → criteria_for (with_criteria items name criteria) other ≡ criteria_for items other
 
 -- the same name with the same criteria
 abbrev pub dependency_eq : DependencyItem → DependencyItem → Bool
 dependency_eq a b = pointwise nat_eq a.«package» b.«package» && same_names a.criteria b.criteria
 
-same_dependency : (a b : DependencyItem) → (a.«package» ≡ b.«package») × (a.criteria ≡ b.criteria) → a ≡ b
-same_dependency a b h = λ i. record { «package» = h.0 i; criteria = h.1 i }
-
--- only an item itself is equal to it
-pub dependency_eq-Decides : (a b : DependencyItem) → Decides (dependency_eq a b) (a ≡ b)
-dependency_eq-Decides a b =
-    Decides-like _ (same_dependency a b) (λ e. (ap (λ (d : DependencyItem). d.«package») e, ap (λ (d : DependencyItem). d.criteria) e))
-    (Decides-and _ _ (bytes_decides a.«package» b.«package») (same_names-Decides a.criteria b.criteria))
-
 -- the same names with the same criteria
 abbrev pub dependencies_eq : List DependencyItem → List DependencyItem → Bool
 dependencies_eq = pointwise dependency_eq
-
-pub dependencies_eq-Decides : (a b : List DependencyItem) → Decides (dependencies_eq a b) (a ≡ b)
-dependencies_eq-Decides = pointwise_decides dependency_eq-Decides

@@ -1,7 +1,6 @@
 -- Records of a dependency table (RFC 4180 for records and fields; their forms are ours): what each states by itself.
 use Rattle.std.specs.Prelude.{ℕ, ◌==◌, ◌&&◌, nat_le, Bool, List, [], Option, Some, None, length, codes, if◌then◌else◌, option_and_then, option_map, unwrap_or}
 use Rattle.std.specs.Char.{is_ascii_digit}
-use Rattle.std.specs.Cmp.{IsTotalOrder, on_total}
 use Rattle.std.specs.List.{list_all}
 use Rattle.std.specs.Ordering.{on, eq_by_cmp}
 use Rattle.std.specs.Str.{bytes_eq, is_utf8}
@@ -10,7 +9,7 @@ use Rattle.std.specs.declared.cmp.Ordering.{Ordering}
 use Rattle.csv.specs.Records.{field_at}
 use Rattle.vet_base.specs.Name.{read_package_name}
 use Rattle.vet_base.specs.Version.{VersionValue, read_version}
-use Rattle.vet_demand.specs.Project.{node_cmp, node_total}
+use Rattle.vet_demand.specs.Project.{node_cmp}
 use Rattle.vet_demand.specs.declared.dependency_record.DependencyRecord.{DependencyRecord}
 use Rattle.vet_demand.specs.declared.dependency_record.DependencyRecord.TheVariants.{NodeRecord, EdgeRecord}
 use Rattle.vet_demand.specs.declared.dependency_record.NumberedNode.{NumberedNode}
@@ -69,7 +68,8 @@ read_kind word =
 -- the node that the last three fields state
 abbrev pub node_stated : List (List ℕ) → Option Node
 node_stated fields =
-    option_and_then (λ name. option_and_then (λ version. option_map (λ party. record { «package» = name; version = version; party = party })
+    option_and_then (λ name. option_and_then (λ version. option_map
+    (λ party. record { «package» = name; version = version; party = party })
     (read_party (field fields 4))) (read_version_field (field fields 3))) (read_package_name (field fields 2))
 
 -- the record of a node: its number, then the node
@@ -87,7 +87,9 @@ edge_stated fields =
 -- the record of an edge, whose last field is empty
 abbrev pub edge_record : ℕ → List (List ℕ) → Option DependencyRecord
 edge_record number fields =
-    if is_word fields 4 [] then option_map (λ edge. EdgeRecord (record { record_number = number; edge = edge })) (edge_stated fields) else None
+    if is_word fields 4 []
+    then option_map (λ edge. EdgeRecord (record { record_number = number; edge = edge })) (edge_stated fields)
+    else None
 
 -- what the record of this number states, if it has the form of a node or of an edge
 abbrev pub record_stated : ℕ → List (List ℕ) → Option DependencyRecord
@@ -101,9 +103,6 @@ record_stated number fields =
 -- by the bytes of the package's name, then by version
 abbrev pub numbered_cmp : NumberedNode → NumberedNode → Ordering
 numbered_cmp = on (λ n. n.node) node_cmp
-
-pub numbered_total : IsTotalOrder numbered_cmp
-numbered_total = on_total (λ (n : NumberedNode). n.node) node_total
 
 -- whether two have the same name and version
 abbrev pub numbered_eq : NumberedNode → NumberedNode → Bool

@@ -72,7 +72,8 @@ record_told number s (EdgeRecord e) = edge_told s.edges e
 -- what is stated with the fields of this record, or its first fault
 abbrev pub fields_told : ℕ → StatedValue → List (List ℕ) → Told StatedValue
 fields_told number s fields =
-    found_or (CsvRefused number) (record_stated number fields) >>= (λ found. record_told number s found >>= (λ _. Ok (with_record s found)))
+    found_or (CsvRefused number) (record_stated number fields)
+    >>= (λ found. record_told number s found >>= (λ _. Ok (with_record s found)))
 
 -- what is stated with these records, the first of them of this number, or the first fault
 abbrev pub records_told : ℕ → StatedValue → List (List (List ℕ)) → Told StatedValue
@@ -87,13 +88,16 @@ place_of nodes number = position_from (λ n. n.number == number) 0 nodes
 
 -- an edge between the places that numbers have, where both have one
 abbrev pub placed : (ℕ → Option ℕ) → Edge → Option Edge
-placed place e = option_and_then (λ from. option_map (λ to. record { from = from; to = to; kind = e.kind }) (place e.to)) (place e.from)
+placed place e =
+    option_and_then (λ from. option_map (λ to. record { from = from; to = to; kind = e.kind }) (place e.to))
+    (place e.from)
 
 -- the edges between places, or the first that names no node
 abbrev pub placed_told : (ℕ → Option ℕ) → List StatedEdge → Told (List Edge)
 placed_told place [] = Ok []
 placed_told place (s ∷ rest) =
-    found_or (UnknownNode s.record_number) (placed place s.edge) >>= (λ e. placed_told place rest >>= (λ more. Ok (e ∷ more)))
+    found_or (UnknownNode s.record_number) (placed place s.edge)
+    >>= (λ e. placed_told place rest >>= (λ more. Ok (e ∷ more)))
 
 -- edges in their order, each once
 abbrev pub in_edge_order : List Edge → List Edge
@@ -113,7 +117,8 @@ stated_told s =
 -- what the records of a table state, or their first fault
 abbrev pub table_told : List (List (List ℕ)) → Told StatedValue
 table_told [] = Err (CsvRefused 1)
-table_told (header ∷ rows) = refuse_if (not (is_header header)) (CsvRefused 1) >>= (λ _. records_told 2 nothing_stated rows)
+table_told (header ∷ rows) = refuse_if (not (is_header header)) (CsvRefused 1)
+    >>= (λ _. records_told 2 nothing_stated rows)
 
 -- the project that they state, or the first fault of all
 abbrev pub project_told : List (List (List ℕ)) → Told ProjectValue

@@ -46,7 +46,8 @@ abbrev pub GoesOn : List KeyedPolicy → List Node → List Edge → ℕ → ℕ
 GoesOn policies nodes edges u v = (e : Edge) × Contains edges e × (e.from ≡ u) × (e.to ≡ v) × PassesOn policies nodes e
 
 -- for each node the criteria that begin there, and the nodes to which it passes what it needs, by these edges
-pub record IsFlow (policies : List KeyedPolicy) (criteria : Criteria) (nodes : List Node) (edges : List Edge) (needs : List Places) (onward : List (List ℕ)) : Type 0 where
+pub record IsFlow (policies : List KeyedPolicy) (criteria : Criteria) (nodes : List Node) (edges : List Edge)
+    (needs : List Places) (onward : List (List ℕ)) : Type 0 where
   pub count : length needs ≡ length nodes
   pub lists : length onward ≡ length nodes
   pub below : AreBelow (length nodes) onward
@@ -54,12 +55,15 @@ pub record IsFlow (policies : List KeyedPolicy) (criteria : Criteria) (nodes : L
   pub go_on : (u v : ℕ) → u < length nodes → Contains (get_or onward u []) v ↔ GoesOn policies nodes edges u v
 
 -- the flow by one edge more
-abbrev pub Follows : List KeyedPolicy → Criteria → List Node → Edge → List Places → List (List ℕ) → List Places → List (List ℕ) → Type 0
+abbrev pub Follows : List KeyedPolicy → Criteria → List Node → Edge → List Places → List (List ℕ) → List Places
+    → List (List ℕ) → Type 0
 Follows policies criteria nodes e needs onward more_needs more_onward =
-    (edges : List Edge) → IsFlow policies criteria nodes edges needs onward → IsFlow policies criteria nodes (edges ++ e ∷ []) more_needs more_onward
+    (edges : List Edge) → IsFlow policies criteria nodes edges needs onward
+    → IsFlow policies criteria nodes (edges ++ e ∷ []) more_needs more_onward
 
 -- the criteria of the table that the nodes of a project need
-pub record AreNeeds (policies : List KeyedPolicy) (criteria : Criteria) (project : ProjectValue) (needs : List Places) : Type 0 where
+pub record AreNeeds (policies : List KeyedPolicy) (criteria : Criteria) (project : ProjectValue)
+    (needs : List Places) : Type 0 where
   pub count : length needs ≡ length project.nodes
   pub least : (p v : ℕ) → p < length (table.keys criteria) → v < length project.nodes
       → stands p needs v ↔ IsNeeded policies criteria project (get_or (table.keys criteria) p []) v

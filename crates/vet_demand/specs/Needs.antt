@@ -30,21 +30,25 @@ takes_at policies nodes place = takes (node_at nodes place).party (policy_for po
 -- what an edge passes; none: what the node needs where it starts
 abbrev pub passed_by : List KeyedPolicy → List Node → Edge → Option NameSet
 passed_by policies nodes e =
-    passed_criteria e.kind (node_at nodes e.from).party (policy_for policies (node_at nodes e.from)) (node_at nodes e.to).«package»
+    passed_criteria e.kind (node_at nodes e.from).party (policy_for policies (node_at nodes e.from))
+    (node_at nodes e.to).«package»
 
 -- whether some criteria imply a criterion in the end, or have it
 abbrev pub covers : Criteria → List ℕ → NameSet → Bool
 covers criteria c names = set.contains (closure_of criteria names) c
 
--- at which places a criterion is needed: where it is by itself, where an edge passes a list that covers it, and where an edge
--- passes what its node needs, from a place where it is needed
-pub data IsNeeded (policies : List KeyedPolicy) (criteria : Criteria) (project : ProjectValue) (c : List ℕ) : ℕ → Type 0 where
+-- at which places a criterion is needed: where it is by itself, where an edge passes a list that covers it, and where
+-- an edge passes what its node needs, from a place where it is needed
+pub data IsNeeded (policies : List KeyedPolicy) (criteria : Criteria) (project : ProjectValue) (c : List ℕ) : ℕ
+    → Type 0 where
   own : {v : ℕ} → v < length project.nodes → covers criteria c (own_at policies project.nodes v) ≡ true
       → IsNeeded policies criteria project c v
   passed : (e : Edge) → Contains project.edges e → takes_at policies project.nodes e.to ≡ true → (names : NameSet)
-      → passed_by policies project.nodes e ≡ Some names → covers criteria c names ≡ true → IsNeeded policies criteria project c e.to
+      → passed_by policies project.nodes e ≡ Some names → covers criteria c names ≡ true
+      → IsNeeded policies criteria project c e.to
   passed_on : (e : Edge) → Contains project.edges e → takes_at policies project.nodes e.to ≡ true
-      → passed_by policies project.nodes e ≡ None → IsNeeded policies criteria project c e.from → IsNeeded policies criteria project c e.to
+      → passed_by policies project.nodes e ≡ None → IsNeeded policies criteria project c e.from
+      → IsNeeded policies criteria project c e.to
 
 -- ---- the same as a function
 
@@ -62,12 +66,13 @@ abbrev pub passes_listed : List KeyedPolicy → Criteria → List Node → List 
 passes_listed policies criteria nodes c e =
     takes_at policies nodes e.to && option_map_or (covers criteria c) (passed_by policies nodes e) false
 
--- whether a criterion is needed at a place: edges that pass on needs lead there from a place where it is so by itself, or
--- from one to which an edge passes it
+-- whether a criterion is needed at a place: edges that pass on needs lead there from a place where it is so by itself,
+-- or from one to which an edge passes it
 abbrev pub is_needed : List KeyedPolicy → Criteria → ProjectValue → List ℕ → ℕ → Bool
 is_needed policies criteria project c v =
     let on = filter (passes_on policies project.nodes) project.edges in
-    list_any (λ u. covers criteria c (own_at policies project.nodes u) && leads on u v) (range_with_len 0 (length project.nodes))
+    list_any (λ u. covers criteria c (own_at policies project.nodes u) && leads on u v)
+    (range_with_len 0 (length project.nodes))
     || list_any (λ e. passes_listed policies criteria project.nodes c e && leads on e.to v) project.edges
 
 -- the function tells the least needs

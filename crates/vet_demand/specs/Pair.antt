@@ -1,15 +1,11 @@
--- The order of pairs, which is the order of reports (ours): it is total, and in it only equals tie.
-use Rattle.std.specs.Prelude.{◌≡◌, ℕ, Bool, List}
-use Rattle.std.specs.Bool.{Decides}
+-- The order of pairs, which is the order of reports (ours).
+use Rattle.std.specs.Prelude.{◌≡◌, Bool, List}
 use Rattle.std.specs.List.{AllPairs}
-use Rattle.std.specs.Ordering.{nat_cmp, on, then_cmp, ordering_then, eq_by_cmp, is_eq}
-use Rattle.std.specs.Cmp.{IsTotalOrder, then_total, on_total, tied_itself, Equal-is}
-use Rattle.std.specs.Cmp.Lexicographic.{slice_cmp, nat_list_cmp_total}
-use Rattle.std.specs.FinMap.{nat_cmp-IsAntisymmetric, slice_cmp-IsAntisymmetric}
+use Rattle.std.specs.Ordering.{nat_cmp, on, then_cmp, eq_by_cmp}
+use Rattle.std.specs.Cmp.Lexicographic.{slice_cmp}
 use Rattle.std.specs.declared.cmp.Ordering.{Ordering}
-use Rattle.std.specs.declared.cmp.Ordering.TheVariants.{Less, Equal, Greater}
-use Rattle.std.proofs.Common.{refl, ap, ◌∙◌}
-use Rattle.vet_base.specs.VersionOrder.{version_cmp, version_total, version_cmp-IsAntisymmetric}
+use Rattle.std.specs.declared.cmp.Ordering.TheVariants.{Less}
+use Rattle.vet_base.specs.VersionOrder.{version_cmp}
 use Rattle.vet_demand.specs.declared.pair.Pair.{Pair}
 
 -- by the bytes of the package's name, then by version, then by the bytes of the criterion's name
@@ -17,42 +13,9 @@ abbrev pub pair_cmp : Pair → Pair → Ordering
 pair_cmp = then_cmp (on (λ p. p.«package») (slice_cmp nat_cmp))
     (then_cmp (on (λ p. p.version) version_cmp) (on (λ p. p.criterion) (slice_cmp nat_cmp)))
 
-pub pair_total : IsTotalOrder pair_cmp
-pair_total = then_total (on_total (λ (p : Pair). p.«package») nat_list_cmp_total)
-    (then_total (on_total (λ (p : Pair). p.version) version_total) (on_total (λ (p : Pair). p.criterion) nat_list_cmp_total))
-
-then_first : (r s : Ordering) → ordering_then r s ≡ Equal → r ≡ Equal
-then_first Less s e = cc e
-then_first Equal s e = refl
-then_first Greater s e = cc e
-
-then_second : (r s : Ordering) → ordering_then r s ≡ Equal → s ≡ Equal
-then_second Less s e = cc e
-then_second Equal s e = e
-then_second Greater s e = cc e
-
-same_bytes : (a b : List ℕ) → slice_cmp nat_cmp a b ≡ Equal → a ≡ b
-same_bytes = slice_cmp-IsAntisymmetric nat_cmp-IsAntisymmetric
-
-same_pair : (p q : Pair) → p.«package» ≡ q.«package» → p.version ≡ q.version → p.criterion ≡ q.criterion → p ≡ q
-same_pair p q a b c = λ i. record { «package» = a i; version = b i; criterion = c i }
-
--- only a pair itself ties with it
-pub pair_cmp-IsAntisymmetric : (p q : Pair) → pair_cmp p q ≡ Equal → p ≡ q
-pair_cmp-IsAntisymmetric p q e =
-    let more = then_second (slice_cmp nat_cmp p.«package» q.«package») _ e in
-    same_pair p q (same_bytes _ _ (then_first _ _ e)) (version_cmp-IsAntisymmetric _ _ (then_first _ _ more))
-    (same_bytes _ _ (then_second (version_cmp p.version q.version) _ more))
-
 -- whether two pairs tie
 abbrev pub pair_eq : Pair → Pair → Bool
 pair_eq = eq_by_cmp pair_cmp
-
-pub pair_eq-Decides : (p q : Pair) → Decides (pair_eq p q) (p ≡ q)
-pair_eq-Decides p q = (
-  λ tied. pair_cmp-IsAntisymmetric p q ((Equal-is (pair_cmp p q)).0 tied),
-  λ same. ap (λ r. is_eq (pair_cmp r q)) same ∙ ap is_eq (tied_itself pair_total q),
-)
 
 -- each pair comes before those after it
 abbrev pub IsInOrder : List Pair → Type 0

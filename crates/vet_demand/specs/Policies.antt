@@ -1,12 +1,9 @@
--- Policies in the order of their keys, no key twice.
+-- Policies in the order of their keys, no key twice (ours).
 use Rattle.std.specs.Prelude.{◌≡◌, ◌&&◌, Bool, List, [], Option, Some, is_some, option_map}
-use Rattle.std.specs.Bool.{Decides}
-use Rattle.std.specs.Cmp.Lexicographic.{pointwise, pointwise_decides}
-use Rattle.std.proofs.Common.{ap}
-use Rattle.std.proofs.lemmas.Bool.Decides.{Decides-and, Decides-like}
+use Rattle.std.specs.Cmp.Lexicographic.{pointwise}
 use Rattle.vet_base.specs.Keyed.{IsByKey, all_set, item_of, with_item}
-use Rattle.vet_demand.specs.Policy.{policy_eq, policy_eq-Decides}
-use Rattle.vet_demand.specs.PolicyKey.{policy_key_cmp, policy_key_eq, policy_key_eq-Decides}
+use Rattle.vet_demand.specs.Policy.{policy_eq}
+use Rattle.vet_demand.specs.PolicyKey.{policy_key_cmp, policy_key_eq}
 use Rattle.vet_demand.specs.declared.policy.Policy.{Policy}
 use Rattle.vet_demand.specs.declared.policy_key.PolicyKey.{PolicyKey}
 use Rattle.vet_demand.specs.declared.policies.KeyedPolicy.{KeyedPolicy}
@@ -37,28 +34,18 @@ in_key_order policies = all_set policy_key_cmp key_of [] policies
 
 -- a policy is found at its key, and at each other key what was found there stays
 abbrev pub SetPolicyIsFound : Type 0
-SetPolicyIsFound = (policies : List KeyedPolicy) (key : PolicyKey) (policy : Policy) → policy_of (with_policy policies key policy) key ≡ Some policy
+SetPolicyIsFound = (policies : List KeyedPolicy) (key : PolicyKey) (policy : Policy)
+    → policy_of (with_policy policies key policy) key ≡ Some policy
 
 abbrev pub OtherPoliciesStay : Type 0
 OtherPoliciesStay =
-    (policies : List KeyedPolicy) (key other : PolicyKey) (policy : Policy) → (other ≡ key → ⊥) → policy_of (with_policy policies key policy) other ≡ policy_of policies other
+    (policies : List KeyedPolicy) (key other : PolicyKey) (policy : Policy) → (other ≡ key → ⊥)
+    → policy_of (with_policy policies key policy) other ≡ policy_of policies other
 
 -- the same key with the same policy
 abbrev pub keyed_policy_eq : KeyedPolicy → KeyedPolicy → Bool
 keyed_policy_eq a b = policy_key_eq a.key b.key && policy_eq a.policy b.policy
 
-same_keyed : (a b : KeyedPolicy) → (a.key ≡ b.key) × (a.policy ≡ b.policy) → a ≡ b
-same_keyed a b h = λ i. record { key = h.0 i; policy = h.1 i }
-
--- only a policy of its key itself is equal to it
-pub keyed_policy_eq-Decides : (a b : KeyedPolicy) → Decides (keyed_policy_eq a b) (a ≡ b)
-keyed_policy_eq-Decides a b =
-    Decides-like _ (same_keyed a b) (λ e. (ap (λ (p : KeyedPolicy). p.key) e, ap (λ (p : KeyedPolicy). p.policy) e))
-    (Decides-and _ _ (policy_key_eq-Decides a.key b.key) (policy_eq-Decides a.policy b.policy))
-
 -- the same keys with the same policies
 abbrev pub policies_eq : List KeyedPolicy → List KeyedPolicy → Bool
 policies_eq = pointwise keyed_policy_eq
-
-pub policies_eq-Decides : (a b : List KeyedPolicy) → Decides (policies_eq a b) (a ≡ b)
-policies_eq-Decides = pointwise_decides keyed_policy_eq-Decides

@@ -26,7 +26,8 @@ names_passed (item ∷ rest) = set.union item.criteria (names_passed rest)
 
 -- all criteria that a policy names
 abbrev pub names_in : Policy → NameSet
-names_in p = set.union (set.union (names_listed p.criteria) (names_listed p.dev_criteria)) (names_passed p.dependency_criteria)
+names_in p = set.union (set.union (names_listed p.criteria) (names_listed p.dev_criteria))
+    (names_passed p.dependency_criteria)
 
 -- whether a policy names a criterion
 abbrev pub policy_names : List ℕ → KeyedPolicy → Bool
@@ -36,7 +37,8 @@ policy_names name k = set.contains (names_in k.policy) name
 abbrev pub KnownWithSet : Type 0
 KnownWithSet =
     (criteria : Criteria) (policies : List KeyedPolicy) (p : KeyedPolicy) → PoliciesAreKnown criteria policies
-    → least_unknown criteria (names_in p.policy) ≡ None → PoliciesAreKnown criteria (with_item policy_key_cmp key_of policies p)
+    → least_unknown criteria (names_in p.policy) ≡ None
+    → PoliciesAreKnown criteria (with_item policy_key_cmp key_of policies p)
 
 -- where one is dropped
 abbrev pub KnownWithoutDropped : Type 0
@@ -47,7 +49,8 @@ KnownWithoutDropped =
 -- where a criterion is set
 abbrev pub KnownByMoreCriteria : Type 0
 KnownByMoreCriteria =
-    (criteria : Criteria) (policies : List KeyedPolicy) (name : List ℕ) (c : Criterion) → PoliciesAreKnown criteria policies
+    (criteria : Criteria) (policies : List KeyedPolicy) (name : List ℕ) (c : Criterion)
+    → PoliciesAreKnown criteria policies
     → PoliciesAreKnown (map.insert criteria name c) policies
 
 -- and where one is removed that none of them names

@@ -28,12 +28,14 @@ pub record IsReading (reader : BytesReader) (state : State) (left : List ℕ) : 
 
 -- the records that are left, if they are at most so many
 abbrev pub RecordsLeft : BytesReader → ℕ → List (List (List ℕ)) → Type 0
-RecordsLeft reader most rows = (state : State) × (left : List ℕ) × IsReading reader state left × (records_from default_config most state left ≡ rows)
+RecordsLeft reader most rows = (state : State) × (left : List ℕ) × IsReading reader state left
+    × (records_from default_config most state left ≡ rows)
 
 -- there was no record, or these are the fields of the first, and the others are left
 abbrev pub FirstIs : Bool → List (List ℕ) → BytesReader → ℕ → List (List (List ℕ)) → Type 0
 FirstIs false fields reader most rows = rows ≡ []
-FirstIs true fields reader most rows = (rest : List (List (List ℕ))) × (rows ≡ fields ∷ rest) × RecordsLeft reader most rest
+FirstIs true fields reader most rows = (rest : List (List (List ℕ))) × (rows ≡ fields ∷ rest)
+    × RecordsLeft reader most rest
 
 -- what stands for an error of the reader at the record of this number
 abbrev pub refusal_for : ℕ → ErrorKind → Refusal

@@ -51,7 +51,8 @@ IsDone lists reached n = (k : ℕ) → k < n → All (Contains reached) (get_or 
 -- leading a criterion to these places goes on with what it reaches, wherever it started
 abbrev pub Reaches : ℕ → List ℕ → List Places → List ℕ → List Places → List ℕ → Type 0
 Reaches c places old reached new after =
-    (lists : List (List ℕ)) (before : List Places) → IsReaching c lists before old reached → All (IsLed (stands c before) lists) places
+    (lists : List (List ℕ)) (before : List Places) → IsReaching c lists before old reached
+    → All (IsLed (stands c before) lists) places
     → IsReaching c lists before new after × All (Contains after) places
 
 -- these are the first n places at which a criterion stands, each once

@@ -1,23 +1,23 @@
--- A project and its dependency table, by example.
+-- A project and its dependency table, by example (ours).
 use Rattle.std.specs.Prelude.{ℕ, List, [], ◌∷◌, ◌++◌, None, codes}
 use Rattle.vet_base.specs.Version.{VersionValue}
 use Rattle.vet_demand.specs.Project.{ProjectValue}
 use Rattle.vet_demand.specs.declared.project.EdgeKind.TheVariants.{Normal, Dev}
 use Rattle.vet_demand.specs.declared.project.Party.TheVariants.{Root, Third}
 
-abbrev pub one : VersionValue
-one = record { parts = (1, 0, 0, [], []); revision = None }
+abbrev pub version_one : VersionValue
+version_one = record { parts = (1, 0, 0, [], []); revision = None }
 
-abbrev pub one_tenth : VersionValue
-one_tenth = record { parts = (0, 1, 0, [], []); revision = None }
+abbrev pub version_tenth : VersionValue
+version_tenth = record { parts = (0, 1, 0, [], []); revision = None }
 
 -- a program, what it is tested by, and what that stands on
 abbrev pub example_project : ProjectValue
 example_project = record {
   nodes =
-      record { «package» = codes "a"; version = one; party = Third }
-      ∷ record { «package» = codes "app"; version = one_tenth; party = Root }
-      ∷ record { «package» = codes "b"; version = one; party = Third } ∷ [];
+      record { «package» = codes "a"; version = version_one; party = Third }
+      ∷ record { «package» = codes "app"; version = version_tenth; party = Root }
+      ∷ record { «package» = codes "b"; version = version_one; party = Third } ∷ [];
   edges = record { from = 0; to = 2; kind = Normal } ∷ record { from = 1; to = 0; kind = Dev } ∷ [];
 }
 

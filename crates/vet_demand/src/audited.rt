@@ -7,7 +7,7 @@
 //! other is put together there, before pairs are made of it.
 ghost use Rattle.std.specs.Prelude.{◌≡◌, ◌⊎◌, ◌<◌, ◌+◌, ◌^◌, ◌++◌, ◌∷◌, [], IfOk, IfErr, cond, length};
 ghost use Rattle.std.specs.Option.{option_copied};
-ghost use Rattle.vet_demand.specs.Audited.{AreAudited, AreAuditedIn, AreHeads, AreInAuditedOrder, AreMerged, AreParallel, IsAfter, PutsHead, listed};
+ghost use Rattle.vet_demand.specs.Audited.{AreAudited, AreAuditedIn, AreHeads, AreInAuditedOrder, AreMerged, AreParallel, IsAfter, PutsHead, audited_list};
 ghost use Rattle.vet_demand.specs.DemandOf.{PoliciesAreKnown, is_audited};
 ghost use Rattle.vet_demand.specs.Terms.{AreTerms};
 
@@ -21,7 +21,7 @@ use std::cmp::Ordering;
 use vet_base::criteria_set::CriteriaSet;
 use vet_base::refusal::Refusal;
 
-/// Audited nodes, and beside each what it needs.
+/// Audited nodes, and audited_nodes each what it needs.
 #[derive(Drop)]
 pub(crate) struct AuditedNodes<'n> {
     pub(crate) nodes: Vec<&'n Node>,
@@ -39,7 +39,7 @@ impl<'n> AuditedNodes<'n> {
     // No nodes.
     fn new(alloc: Global) -> AuditedNodes<'n>
         ensures parallel { AreParallel result }
-        ensures none { listed result ≡ [] }
+        ensures none { audited_list result ≡ [] }
     {
         AuditedNodes {
             nodes: Vec::new(alloc),
@@ -52,7 +52,7 @@ impl<'n> AuditedNodes<'n> {
         requires { AreParallel self.old }
         ensures parallel { IfOk result (λ _. AreParallel self.new) }
         ensures pushed { IfOk result (λ _.
-            listed self.new ≡ listed self.old ++ (record { node = node.now; needs = needs }) ∷ []) }
+            audited_list self.new ≡ audited_list self.old ++ (record { node = node.now; needs = needs }) ∷ []) }
         ensures memory { IfErr result (λ e. e ≡ Refusal.NoMemory) }
     {
         self.nodes.push(node)?;
@@ -95,7 +95,7 @@ pub(crate) fn audited_in<'n>(
     requires known { PoliciesAreKnown terms.now.criteria.now terms.now.policies.now.items }
     ensures parallel { IfOk result AreParallel }
     ensures ok { IfOk result (λ audited.
-        AreAudited terms.now.policies.now.items terms.now.criteria.now projects.now (listed audited)) }
+        AreAudited terms.now.policies.now.items terms.now.criteria.now projects.now (audited_list audited)) }
     ensures memory { IfErr result (λ e. e ≡ Refusal.NoMemory) }
 {
     if projects.is_empty() {
@@ -107,7 +107,7 @@ pub(crate) fn audited_in<'n>(
     let (front, back) = projects.split_at(projects.len() / 2);
     let first = audited_in(alloc, terms, front)?;
     let second = audited_in(alloc, terms, back)?;
-    merged(alloc, &first, &second)
+    merge(alloc, &first, &second)
 }
 
 // The audited nodes of a project.
@@ -120,7 +120,7 @@ fn audited_of<'n>(
     requires known { PoliciesAreKnown terms.now.criteria.now terms.now.policies.now.items }
     ensures parallel { IfOk result AreParallel }
     ensures ok { IfOk result (λ audited.
-        AreAuditedIn terms.now.policies.now.items terms.now.criteria.now project.now (listed audited)) }
+        AreAuditedIn terms.now.policies.now.items terms.now.criteria.now project.now (audited_list audited)) }
     ensures memory { IfErr result (λ e. e ≡ Refusal.NoMemory) }
 {
     let nodes = project.nodes();
@@ -142,8 +142,9 @@ fn put_audited<'n>(
 ) -> Result<(), Refusal>
     requires { AreParallel audited.old }
     ensures parallel { IfOk result (λ _. AreParallel audited.new) }
-    ensures ok { IfOk result (λ _. listed audited.new ≡ cond (is_audited node.now.party (option_copied policy.entry))
-        (listed audited.old ++ (record { node = node.now; needs = needs.now }) ∷ []) (listed audited.old)) }
+    ensures ok { IfOk result (λ _. audited_list audited.new
+        ≡ cond (is_audited node.now.party (option_copied policy.entry))
+        (audited_list audited.old ++ (record { node = node.now; needs = needs.now }) ∷ []) (audited_list audited.old)) }
     ensures memory { IfErr result (λ e. e ≡ Refusal.NoMemory) }
 {
     if !is_audited(node.party, policy) {
@@ -153,17 +154,17 @@ fn put_audited<'n>(
 }
 
 // Two lists in one.
-fn merged<'n>(
+fn merge<'n>(
     alloc: Global,
     first: &AuditedNodes<'n>,
     second: &AuditedNodes<'n>,
 ) -> Result<AuditedNodes<'n>, Refusal>
     requires first { AreParallel first.now }
     requires second { AreParallel second.now }
-    requires first_in_order { AreInAuditedOrder (listed first.now) }
-    requires second_in_order { AreInAuditedOrder (listed second.now) }
+    requires first_in_order { AreInAuditedOrder (audited_list first.now) }
+    requires second_in_order { AreInAuditedOrder (audited_list second.now) }
     ensures parallel { IfOk result AreParallel }
-    ensures ok { IfOk result (λ all. AreMerged (listed first.now) (listed second.now) (listed all)) }
+    ensures ok { IfOk result (λ all. AreMerged (audited_list first.now) (audited_list second.now) (audited_list all)) }
     ensures memory { IfErr result (λ e. e ≡ Refusal.NoMemory) }
 {
     let mut all = AuditedNodes::new(alloc);
@@ -185,7 +186,7 @@ fn heads_cmp(first: &AuditedNodes<'_>, second: &AuditedNodes<'_>, at: Places) ->
     requires first { AreParallel first.now }
     requires second { AreParallel second.now }
     requires left { (at.first < length first.now.nodes.items) ⊎ (at.second < length second.now.nodes.items) }
-    ensures { AreHeads (listed first.now) (listed second.now) at.first at.second result }
+    ensures { AreHeads (audited_list first.now) (audited_list second.now) at.first at.second result }
 {
     if second.nodes.len() <= at.second {
         return Ordering::Less;
@@ -207,10 +208,11 @@ fn put_head<'n>(
     requires first { AreParallel first.now }
     requires second { AreParallel second.now }
     requires all { AreParallel all.old }
-    requires heads { AreHeads (listed first.now) (listed second.now) at.first at.second order }
+    requires heads { AreHeads (audited_list first.now) (audited_list second.now) at.first at.second order }
     ensures parallel { IfOk result (λ _. AreParallel all.new) }
     ensures ok { IfOk result (λ _.
-        PutsHead (listed first.now) (listed second.now) at.first at.second (listed all.old) (listed all.new) order) }
+        PutsHead (audited_list first.now) (audited_list second.now) at.first at.second
+        (audited_list all.old) (audited_list all.new) order) }
     ensures memory { IfErr result (λ e. e ≡ Refusal.NoMemory) }
 {
     match order {

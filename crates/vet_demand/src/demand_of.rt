@@ -26,9 +26,9 @@
 ghost use Rattle.std.specs.Prelude.{◌≡◌, ◌↔◌, ◌++◌, ◌∷◌, [], IfOk, IfErr, cond, length};
 ghost use Rattle.std.specs.List.{Contains};
 ghost use Rattle.vet_base.specs.Names.{IsRising};
-ghost use Rattle.vet_demand.specs.Audited.{AreInAuditedOrder, AreParallel, IsAsked, listed};
+ghost use Rattle.vet_demand.specs.Audited.{AreInAuditedOrder, AreParallel, IsAsked, audited_list};
 ghost use Rattle.vet_demand.specs.Collected.{AddsInOrder};
-ghost use Rattle.vet_demand.specs.DemandOf.{DemandIsLeast, DemandedAreKnown, IsLeastDemand, LeastDemandIsOnly, NothingIsDemanded, PoliciesAreKnown, demand_of, pair_of};
+ghost use Rattle.vet_demand.specs.DemandOf.{IsLeastDemand, PoliciesAreKnown, demand_of, pair_of};
 ghost use Rattle.vet_demand.specs.Pair.{IsInOrder};
 ghost use Rattle.vet_demand.specs.declared.pair.Pair as demanded;
 
@@ -45,9 +45,8 @@ use vet_base::keyed::Keyed;
 use vet_base::name::Name;
 use vet_base::refusal::Refusal;
 
-/// What projects demand: the least demand that these policies ask for, by the criteria of this table. Costs,
-/// for a project, a look at each node and each edge for each criterion that it gets, and a merge of the nodes of
-/// projects. Refused: `NoMemory`.
+/// What projects demand: the least demand that these policies ask for, by the criteria of this table. What it costs
+/// is told above. Refused: `NoMemory`.
 pub fn demand(
     alloc: Global,
     projects: &[NamedProject],
@@ -65,30 +64,14 @@ pub fn demand(
     Ok(Demand::in_order(pairs))
 }
 
-/// The demand is told as the least one, in the order of reports, and no other list is it.
-pub fn demand_is_least()
-    ensures least { DemandIsLeast }
-    ensures only { LeastDemandIsOnly }
-{}
-
-/// Each demanded criterion is in the table.
-pub fn demanded_are_known()
-    ensures { DemandedAreKnown }
-{}
-
-/// Where there are no projects, nothing is demanded.
-pub fn nothing_is_demanded()
-    ensures { NothingIsDemanded }
-{}
-
 // The pairs of some audited nodes, in order.
 fn pairs_of(alloc: Global, audited: &AuditedNodes<'_>, names: &[Name]) -> Result<Vec<Pair>, Refusal>
     requires names { IsRising names.now }
     requires parallel { AreParallel audited.now }
-    requires nodes { AreInAuditedOrder (listed audited.now) }
+    requires nodes { AreInAuditedOrder (audited_list audited.now) }
     ensures in_order { IfOk result (λ pairs. IsInOrder pairs.items) }
     ensures same { IfOk result (λ pairs. (q : demanded.Pair)
-        → Contains pairs.items q ↔ IsAsked names.now (listed audited.now) q) }
+        → Contains pairs.items q ↔ IsAsked names.now (audited_list audited.now) q) }
     ensures memory { IfErr result (λ e. e ≡ Refusal.NoMemory) }
 {
     let mut pairs = Vec::new(alloc);

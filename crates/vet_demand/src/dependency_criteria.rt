@@ -2,7 +2,8 @@
 ghost use Rattle.std.specs.Prelude.{◌≡◌, ◌↔◌, ◌==◌, [], IsTrue, OnErr, OnOk, Ok, is_some, length};
 ghost use Rattle.std.specs.Cmp.{decided, partial_equiv_from_equiv};
 ghost use Rattle.std.specs.Option.{option_copied};
-ghost use Rattle.vet_demand.specs.DependencyCriteria.{IsByPackage, OtherCriteriaStay, SetCriteriaAreFound, criteria_for, dependencies_eq, dependencies_eq-Decides, dependency_eq, dependency_eq-Decides, item_name, with_criteria};
+ghost use Rattle.vet_demand.specs.DependencyCriteria.{IsByPackage, criteria_for, dependencies_eq, dependency_eq, item_name, with_criteria};
+ghost use Rattle.vet_demand.specs.DependencyCriteriaLaws.{dependencies_eq-Decides, dependency_eq-Decides};
 
 use std::alloc::{AllocError, Global};
 use std::marker::Model;
@@ -171,9 +172,3 @@ impl PartialEq for DependencyCriteria {
 impl Eq for DependencyCriteria {
     ghost laws = { decided dependencies_eq dependencies_eq-Decides };
 }
-
-/// Criteria are found at the name at which they were set, and at each other name what was found there stays.
-pub fn set_criteria_are_found()
-    ensures own { SetCriteriaAreFound }
-    ensures others { OtherCriteriaStay }
-{}

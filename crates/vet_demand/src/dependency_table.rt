@@ -85,7 +85,10 @@ impl DependencyTable {
 
     fn take_edge(&mut self, edge: StatedEdge) -> Result<(), Refusal>
         ensures told { Gives (λ _. tt) (edge_told self.old.edges edge) result }
-        ensures taken { OnOk result (self.new ≡ record { nodes = self.old.nodes; edges = with_edge self.old.edges edge }) }
+        ensures taken { OnOk result (self.new ≡ record {
+          nodes = self.old.nodes;
+          edges = with_edge self.old.edges edge;
+        }) }
     {
         if self.known.contains(&edge.edge) {
             return Ok(());

@@ -2,7 +2,8 @@
 ghost use Rattle.std.specs.Prelude.{◌≡◌, ◌↔◌, IsTrue, refl};
 ghost use Rattle.std.specs.Cmp.{eq_by_cmp_equiv, partial_equiv_from_equiv, partial_order_from_total};
 ghost use Rattle.std.specs.Ordering.{as_partial_cmp};
-ghost use Rattle.vet_demand.specs.Pair.{pair_cmp, pair_eq, pair_total};
+ghost use Rattle.vet_demand.specs.Pair.{pair_cmp, pair_eq};
+ghost use Rattle.vet_demand.specs.PairLaws.{pair_total};
 
 use std::cmp::Ordering;
 use vet_base::name::{Name, PackageName};

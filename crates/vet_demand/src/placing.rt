@@ -70,7 +70,7 @@ fn placed_edges(
         };
         between.insert(edge)?;
     }
-    let list = listed(alloc, between)?;
+    let list = edge_list(alloc, between)?;
     Ok(list)
 }
 
@@ -87,7 +87,7 @@ fn placed(places: &BTreeMap<usize, usize>, edge: Edge) -> Option<Edge>
     })
 }
 
-fn listed(alloc: Global, edges: BTreeSet<Edge>) -> Result<Vec<Edge>, AllocError>
+fn edge_list(alloc: Global, edges: BTreeSet<Edge>) -> Result<Vec<Edge>, AllocError>
     ensures value { IfOk result (λ list. list.items ≡ edges.keys) }
     ensures ordered { OnOk result (IsStrictlySortedBy edge_cmp edges.keys) }
 {

@@ -1,7 +1,8 @@
 //! Policies: what is asked of a package and of its dependencies.
 ghost use Rattle.std.specs.Prelude.{◌≡◌, ◌↔◌, IfOk, IsTrue};
 ghost use Rattle.std.specs.Cmp.{decided, partial_equiv_from_equiv};
-ghost use Rattle.vet_demand.specs.Policy.{policy_eq, policy_eq-Decides};
+ghost use Rattle.vet_demand.specs.Policy.{policy_eq};
+ghost use Rattle.vet_demand.specs.PolicyLaws.{policy_eq-Decides};
 
 use crate::dependency_criteria::DependencyCriteria;
 use std::alloc::AllocError;

@@ -4,7 +4,7 @@ ghost use Rattle.std.specs.FinSet as set;
 ghost use Rattle.std.specs.List.{list_any};
 ghost use Rattle.std.specs.Option.{option_copied};
 ghost use Rattle.vet_base.specs.Criteria.{least_unknown};
-ghost use Rattle.vet_demand.specs.PolicyNames.{KnownByFewerCriteria, KnownByMoreCriteria, KnownWithSet, KnownWithoutDropped, names_in, names_listed, names_passed, policy_names};
+ghost use Rattle.vet_demand.specs.PolicyNames.{names_in, names_listed, names_passed, policy_names};
 
 use crate::dependency_criteria::DependencyItem;
 use crate::policies::KeyedPolicy;
@@ -32,15 +32,6 @@ pub fn names_criterion(policies: &[KeyedPolicy], name: &Name) -> bool
 {
     policies.iter().any(|held| names(&held.policy, name))
 }
-
-/// Policies that name only criteria of a table still do where a policy that does so is set, where one is dropped,
-/// where a criterion is set, and where one goes that none of them names. Does nothing.
-pub fn policies_stay_known()
-    ensures set { KnownWithSet }
-    ensures dropped { KnownWithoutDropped }
-    ensures more_criteria { KnownByMoreCriteria }
-    ensures fewer_criteria { KnownByFewerCriteria }
-{}
 
 // The least name of a list, if there is one, that a table lacks.
 fn least_listed<'p>(names: &'p Option<Names>, criteria: &CriteriaTable) -> Option<&'p Name>

@@ -2,7 +2,8 @@
 ghost use Rattle.std.specs.Prelude.{◌≡◌, ◌↔◌, IsTrue, refl};
 ghost use Rattle.std.specs.Cmp.{decided, eq_by_cmp_equiv, partial_equiv_from_equiv, partial_order_from_total};
 ghost use Rattle.std.specs.Ordering.{as_partial_cmp};
-ghost use Rattle.vet_demand.specs.Project.{IsProject, edge_cmp, edge_eq, edge_total, kind_eq, kind_eq-Decides, kind_place, node_cmp, node_eq, node_eq-Decides, party_eq, party_eq-Decides, party_place, project_eq, project_eq-Decides};
+ghost use Rattle.vet_demand.specs.Project.{IsProject, edge_cmp, edge_eq, kind_eq, kind_place, node_cmp, node_eq, party_eq, party_place, project_eq};
+ghost use Rattle.vet_demand.specs.ProjectLaws.{edge_total, kind_eq-Decides, node_eq-Decides, party_eq-Decides, project_eq-Decides};
 
 use std::alloc::AllocError;
 use std::cmp::Ordering;
@@ -66,7 +67,8 @@ pub struct NamedProject {
 impl Model for Project {
     ghost use Rattle.vet_demand.specs.contracts.project.Edge as edge;
     ghost use Rattle.vet_demand.specs.contracts.project.Node as node;
-    ghost use Rattle.vet_demand.specs.Project.{IsProject, ProjectValue, project_code};
+    ghost use Rattle.vet_demand.specs.Project.{IsProject, ProjectValue};
+    ghost use Rattle.vet_demand.specs.Encodings.{project_code};
 
     ghost Value = { ProjectValue };
 
@@ -314,7 +316,8 @@ impl Clone for NamedProject {
 }
 
 impl PartialEq for NamedProject {
-    ghost use Rattle.vet_demand.specs.NamedProject.{named_project_eq, named_project_eq-Decides};
+    ghost use Rattle.vet_demand.specs.NamedProject.{named_project_eq};
+    ghost use Rattle.vet_demand.specs.NamedProjectLaws.{named_project_eq-Decides};
 
     ghost eq = { named_project_eq };
 
@@ -329,7 +332,8 @@ impl PartialEq for NamedProject {
 }
 
 impl Eq for NamedProject {
-    ghost use Rattle.vet_demand.specs.NamedProject.{named_project_eq, named_project_eq-Decides};
+    ghost use Rattle.vet_demand.specs.NamedProject.{named_project_eq};
+    ghost use Rattle.vet_demand.specs.NamedProjectLaws.{named_project_eq-Decides};
 
     ghost laws = { decided named_project_eq named_project_eq-Decides };
 }
@@ -347,7 +351,7 @@ impl HasKey for NamedProject {
 }
 
 impl ExactItem for NamedProject {
-    ghost use Rattle.vet_demand.specs.NamedProject.{named_project_eq-Decides};
+    ghost use Rattle.vet_demand.specs.NamedProjectLaws.{named_project_eq-Decides};
 
     ghost only_copies = { λ a b h. h };
 

@@ -107,8 +107,8 @@ fn read_row(
 
 // Reads the record of this number, and tells whether there is one.
 fn next_row(reader: &mut Reader<&[u8]>, row: &mut ByteRecord, number: u64) -> Result<bool, Refusal>
-    ensures first { IfOk result (λ found. (most : ℕ) (rows : List (List (List ℕ))) → RecordsLeft reader.old (suc most) rows
-        → FirstIs found (fields_of row.new) reader.new most rows) }
+    ensures first { IfOk result (λ found. (most : ℕ) (rows : List (List (List ℕ)))
+        → RecordsLeft reader.old (suc most) rows → FirstIs found (fields_of row.new) reader.new most rows) }
     ensures memory { IfErr result (λ e. (most : ℕ) (rows : List (List (List ℕ))) → RecordsLeft reader.old most rows
         → e ≡ Refusal.NoMemory) }
 {

@@ -2,7 +2,6 @@
 ghost use Rattle.std.specs.Prelude.{◌≡◌, ◌<◌, ◌++◌, Ok, IfOk, IfErr, OnOk, map, string_bytes};
 ghost use Rattle.std.specs.List.{All};
 ghost use Rattle.vet_demand.specs.DependencyTable.{project_of_bytes};
-ghost use Rattle.vet_demand.specs.TableByExample.{example_project, example_table, other_table};
 ghost use Rattle.vet_demand.specs.WrittenProject.{IsNamed, edge_fields, kind_word, line, lines, node_fields, node_records, party_word, written_text};
 
 use crate::project::{Edge, EdgeKind, Node, Party, Project};
@@ -85,10 +84,3 @@ fn kind_word(kind: EdgeKind) -> &'static str
         EdgeKind::Dev => "dev",
     }
 }
-
-/// What is written of a project, and what is read, by example.
-pub fn table_by_example()
-    ensures written { written_text example_project ≡ example_table }
-    ensures read { project_of_bytes example_table ≡ Ok example_project }
-    ensures other { project_of_bytes other_table ≡ Ok example_project }
-{}

@@ -5,15 +5,17 @@ use Rattle.vet_base.specs.Criteria.{IsTable}
 use Rattle.vet_base.specs.Names.{IsRising}
 use Rattle.vet_demand.proofs.Auditing.{least_demand}
 use Rattle.vet_demand.proofs.DemandLaws.{least_is_demand}
-use Rattle.vet_demand.specs.Audited.{listed}
+use Rattle.vet_demand.specs.Audited.{audited_list}
 use Rattle.vet_demand.specs.DemandOf.{IsLeastDemand}
 use Rattle.vet_demand.proofs.demand_of.demand.Goals as goal
 
 pub audited_in-requires-clause-known : goal.audited_in-requires-clause-known
-audited_in-requires-clause-known c = rw (c.in_ok-terms.ensures.policies, c.in_ok-terms.ensures.criteria) c.requires.known
+audited_in-requires-clause-known c = rw (c.in_ok-terms.ensures.policies, c.in_ok-terms.ensures.criteria)
+    c.requires.known
 
 pub pairs_of-requires-clause-names : goal.pairs_of-requires-clause-names
-pairs_of-requires-clause-names c = subst IsRising (sym c.in_ok-terms.ensures.terms.names) (rising_keys c.in_ok-terms.terms.criteria.now)
+pairs_of-requires-clause-names c = subst IsRising (sym c.in_ok-terms.ensures.terms.names)
+    (rising_keys c.in_ok-terms.terms.criteria.now)
 
 pub returns-clause-least : goal.returns-clause-least
 returns-clause-least c =
@@ -21,8 +23,11 @@ returns-clause-least c =
     let policies = c.args.policies.now.items in
     let criteria = c.args.criteria.now in
     let terms = c.in_ok-terms.ensures in
-    let least = least_demand projects policies criteria c.in_ok-terms.terms.names.now (listed c.in_ok-audited.audited) c.in_ok-pairs.pairs.items
-    (terms.terms.names ∙ ap map.keys terms.criteria) (rw (terms.policies, terms.criteria) at c.in_ok-audited.ensures.ok) c.in_ok-pairs.ensures.in_order c.in_ok-pairs.ensures.same in
+    let least = least_demand projects policies criteria c.in_ok-terms.terms.names.now
+    (audited_list c.in_ok-audited.audited) c.in_ok-pairs.pairs.items
+    (terms.terms.names ∙ ap map.keys terms.criteria)
+    (rw (terms.policies, terms.criteria) at c.in_ok-audited.ensures.ok)
+    c.in_ok-pairs.ensures.in_order c.in_ok-pairs.ensures.same in
     subst (IsLeastDemand projects policies criteria) (sym c.in_order.ensures) least
 
 pub returns-clause-value : goal.returns-clause-value
@@ -31,6 +36,10 @@ returns-clause-value c =
     let policies = c.args.policies.now.items in
     let criteria = c.args.criteria.now in
     let terms = c.in_ok-terms.ensures in
-    let least = least_demand projects policies criteria c.in_ok-terms.terms.names.now (listed c.in_ok-audited.audited) c.in_ok-pairs.pairs.items
-    (terms.terms.names ∙ ap map.keys terms.criteria) (rw (terms.policies, terms.criteria) at c.in_ok-audited.ensures.ok) c.in_ok-pairs.ensures.in_order c.in_ok-pairs.ensures.same in
-    c.in_order.ensures ∙ least_is_demand projects policies criteria c.in_ok-pairs.pairs.items (subst IsTable terms.criteria terms.terms.table) c.requires.known least
+    let least = least_demand projects policies criteria c.in_ok-terms.terms.names.now
+    (audited_list c.in_ok-audited.audited) c.in_ok-pairs.pairs.items
+    (terms.terms.names ∙ ap map.keys terms.criteria)
+    (rw (terms.policies, terms.criteria) at c.in_ok-audited.ensures.ok)
+    c.in_ok-pairs.ensures.in_order c.in_ok-pairs.ensures.same in
+    c.in_order.ensures ∙ least_is_demand projects policies criteria c.in_ok-pairs.pairs.items
+    (subst IsTable terms.criteria terms.terms.table) c.requires.known least

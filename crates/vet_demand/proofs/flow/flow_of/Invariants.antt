@@ -6,4 +6,5 @@ use Rattle.vet_demand.proofs.flow.flow_of.Given as goal
 
 abbrev pub invariant-edges : goal.invariant-edges
 invariant-edges l =
-    IsFlow l.terms.policies.now.items l.terms.criteria.now l.nodes (take l.edge-index l.edges) l.flow.needs.items (lists_in l.flow.onward.items)
+    IsFlow l.terms.policies.now.items l.terms.criteria.now l.nodes (take l.edge-index l.edges) l.flow.needs.items
+    (lists_in l.flow.onward.items)

@@ -10,7 +10,8 @@ spread_all-requires-clause-count c =
 
 pub returns-clause-ok : goal.returns-clause-ok
 returns-clause-ok c =
-    AreNeeds-spread c.args.terms.now.policies.now.items c.args.terms.now.criteria.now c.args.project.now c.in_ok-flow.flow.needs.items (lists_in c.in_ok-flow.flow.onward.items) c.spread_all.new.sets.items
+    AreNeeds-spread c.args.terms.now.policies.now.items c.args.terms.now.criteria.now c.args.project.now
+    c.in_ok-flow.flow.needs.items (lists_in c.in_ok-flow.flow.onward.items) c.spread_all.new.sets.items
     c.edges.ensures.is_project.within
     (rw (c.nodes.ensures.value, c.edges.ensures.value) at c.in_ok-flow.ensures.ok)
     (rw (c.requires.terms.names, c.as_slice.ensures.value) at c.in_ok-spread_all.ensures.ok)

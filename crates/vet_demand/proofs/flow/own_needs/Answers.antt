@@ -10,8 +10,11 @@ pub nodes-preserved : goal.nodes-preserved
 nodes-preserved c =
     let policies = c.args.terms.now.policies.now.items in
     let criteria = c.args.terms.now.criteria.now in
-    own_next policies criteria c.args.nodes.now c.nodes.place c.nodes.needs.items c.push.new.self.items c.own_set.result c.nodes-test.true c.nodes.invariant
+    own_next policies criteria c.args.nodes.now c.nodes.place c.nodes.needs.items c.push.new.self.items
+    c.own_set.result c.nodes-test.true c.nodes.invariant
     (c.own_set.ensures
-    ∙ ap (λ (n : Node). closed_places criteria (own_criteria n.party (option_copied c.index-found-place.result))) (sym c.index-nodes-place.is)
-    ∙ own_read policies c.args.nodes.now c.args.found.now c.requires.found c.nodes.place c.index-nodes-place.result c.index-found-place.result c.nodes-test.true c.index-nodes-place.is c.index-found-place.is criteria)
+    ∙ ap (λ (n : Node). closed_places criteria (own_criteria n.party (option_copied c.index-found-place.result)))
+    (sym c.index-nodes-place.is)
+    ∙ own_read policies c.args.nodes.now c.args.found.now c.requires.found c.nodes.place c.index-nodes-place.result
+    c.index-found-place.result c.nodes-test.true c.index-nodes-place.is c.index-found-place.is criteria)
     c.in_ok-push.ensures.items

@@ -14,8 +14,10 @@ edges-preserved c =
     let edges = c.args.edges.now in
     let place = get nat_cmp c.args.places.now in
     let at = c.edges.stated-index in
-    let next : drop at edges ≡ get_or edges at any_edge ∷ drop (at + 1) edges = rw (add-one) (drop-cons edges at any_edge c.edges-test.true) in (
+    let next : drop at edges ≡ get_or edges at any_edge ∷ drop (at + 1) edges =
+    rw (add-one) (drop-cons edges at any_edge c.edges-test.true) in (
       c.edges.invariant.0 ++ (c.in-Some.edge ∷ []),
-      EdgesSoFar-next place edges (drop at edges) (drop (at + 1) edges) (get_or edges at any_edge) c.edges.between.keys c.insert.new.self.keys c.edges.invariant.0 c.in-Some.edge
+      EdgesSoFar-next place edges (drop at edges) (drop (at + 1) edges) (get_or edges at any_edge)
+          c.edges.between.keys c.insert.new.self.keys c.edges.invariant.0 c.in-Some.edge
           c.edges.invariant.1 next (sym c.placed.ensures ∙ c.in-Some.is) c.in_ok-insert.ensures.keys,
     )

@@ -7,4 +7,5 @@ use Rattle.vet_demand.proofs.PlacingLemmas.{EdgesSoFar}
 use Rattle.vet_demand.proofs.placing.placed_edges.Given as goal
 
 abbrev pub invariant-edges : goal.invariant-edges
-invariant-edges l = (done : List Edge) × EdgesSoFar (get nat_cmp l.places) l.edges (drop l.stated-index l.edges) l.between.keys done
+invariant-edges l = (done : List Edge) × EdgesSoFar (get nat_cmp l.places) l.edges (drop l.stated-index l.edges)
+    l.between.keys done

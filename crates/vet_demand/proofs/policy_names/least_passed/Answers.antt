@@ -11,4 +11,5 @@ pub items-preserved : goal.items-preserved
 items-preserved c =
     c.lesser-least.ensures
     ∙ (λ i. lesser (c.items.invariant i) (c.least_unknown.ensures i))
-    ∙ least_passed_more c.args.criteria.now c.args.items.now c.items.item-index c.item-item.result c.items-test.true c.item-item.is
+    ∙ least_passed_more c.args.criteria.now c.args.items.now c.items.item-index c.item-item.result
+    c.items-test.true c.item-item.is

@@ -9,5 +9,6 @@ pub returns : goal.returns
 returns c =
     c.lesser-2.ensures
     ∙ (λ i. lesser ((c.lesser.ensures ∙ λ j. lesser (c.least_listed-own.ensures j) (c.least_listed-dev.ensures j)) i)
-    ((c.least_passed-passed.ensures ∙ ap (λ items. least_unknown c.args.criteria.now (names_passed items)) c.items.ensures.value) i))
+    ((c.least_passed-passed.ensures ∙ ap (λ items. least_unknown c.args.criteria.now (names_passed items))
+    c.items.ensures.value) i))
     ∙ least-names_in c.args.policy.now c.args.criteria.now

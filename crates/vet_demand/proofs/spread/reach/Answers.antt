@@ -12,9 +12,13 @@ returns-clause-reaches c =
     let n = c.args.node in
     let sets = c.args.sets.now.items in
     let reached = c.args.reached.now.items in
-    let here : c.index.result.now ≡ get_or sets n places.empty = c.index.ensures ∙ get_or_default sets n c.index.result.now places.empty c.requires.below in
-    let again : c.index-2.result.now ≡ get_or sets n places.empty = c.index-2.ensures ∙ get_or_default sets n c.index-2.result.now places.empty c.requires.below in
+    let here : c.index.result.now ≡ get_or sets n places.empty =
+    c.index.ensures ∙ get_or_default sets n c.index.result.now places.empty c.requires.below in
+    let again : c.index-2.result.now ≡ get_or sets n places.empty =
+    c.index-2.ensures ∙ get_or_default sets n c.index-2.result.now places.empty c.requires.below in
     let fresh = ap (has p) (sym here) ∙ sym c.has.ensures.value ∙ c.if-has.false in
-    subst (λ s. Reaches p (n ∷ []) sets reached (set sets n s) c.push.new.self.items) (sym (c.with.ensures ∙ ap (λ s. places.insert s p) again))
-    (subst (λ r. Reaches p (n ∷ []) sets reached (set sets n (places.insert (get_or sets n places.empty) p)) r) (sym c.in_ok-push.ensures.items)
+    subst (λ s. Reaches p (n ∷ []) sets reached (set sets n s) c.push.new.self.items)
+    (sym (c.with.ensures ∙ ap (λ s. places.insert s p) again))
+    (subst (λ r. Reaches p (n ∷ []) sets reached (set sets n (places.insert (get_or sets n places.empty) p)) r)
+    (sym c.in_ok-push.ensures.items)
     (Reaches-new p n sets reached c.requires.below fresh))

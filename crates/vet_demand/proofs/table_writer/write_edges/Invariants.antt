@@ -5,4 +5,5 @@ use Rattle.vet_demand.specs.WrittenProject.{edge_fields, lines}
 use Rattle.vet_demand.proofs.table_writer.write_edges.Given as goal
 
 abbrev pub invariant-edges : goal.invariant-edges
-invariant-edges l = string_bytes l.text ++ lines (map edge_fields (drop l.edge-index l.edges)) ≡ string_bytes l.fn.text ++ lines (map edge_fields l.edges)
+invariant-edges l = string_bytes l.text ++ lines (map edge_fields (drop l.edge-index l.edges))
+    ≡ string_bytes l.fn.text ++ lines (map edge_fields l.edges)

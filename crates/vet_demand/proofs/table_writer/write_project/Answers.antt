@@ -13,7 +13,10 @@ returns-clause-read_again c =
     let header : string_bytes c.in_ok-text.text ≡ line header_record = c.in_ok-text.ensures.ok in
     let nodes : string_bytes c.write_nodes.new.text ≡ string_bytes c.in_ok-text.text ++ lines (node_records 0 p.nodes) =
     rw (← c.nodes.ensures.value) c.in_ok-write_nodes.ensures.lines in
-    let edges : string_bytes c.write_edges.new.text ≡ string_bytes c.write_nodes.new.text ++ lines (map edge_fields p.edges) =
+    let edges : string_bytes c.write_edges.new.text ≡ string_bytes c.write_nodes.new.text ++ lines
+    (map edge_fields p.edges) =
     rw (← c.edges.ensures.value) c.in_ok-write_edges.ensures in
-    let text = all_written p (string_bytes c.in_ok-text.text) (string_bytes c.write_nodes.new.text) (string_bytes c.write_edges.new.text) header nodes edges in
-    ap project_of_bytes text ∙ written_is_read p c.nodes.ensures.is_project (subst (All IsNamed) c.nodes.ensures.value c.in_ok-write_nodes.ensures.named)
+    let text = all_written p (string_bytes c.in_ok-text.text) (string_bytes c.write_nodes.new.text)
+    (string_bytes c.write_edges.new.text) header nodes edges in
+    ap project_of_bytes text ∙ written_is_read p c.nodes.ensures.is_project
+    (subst (All IsNamed) c.nodes.ensures.value c.in_ok-write_nodes.ensures.named)

@@ -6,10 +6,12 @@ pub returns-clause-pairs : goal.returns-clause-pairs
 returns-clause-pairs c =
     let lent = c.as_mut_slice.ensures in
     let e = c.in_ok-sort.ensures in
-    are_the_pairs_lent c.args.pairs.len _ _ _ _ lent.value (e.len ∙ lent.len) e.permutation e.sorted c.dedup.ensures.filtered
+    are_the_pairs_lent c.args.pairs.len _ _ _ _ lent.value (e.len ∙ lent.len)
+    e.permutation e.sorted c.dedup.ensures.filtered
 
 pub invariant_of-result : goal.invariant_of-result
 invariant_of-result c =
     let lent = c.as_mut_slice.ensures in
     let e = c.in_ok-sort.ensures in
-    (are_the_pairs_lent c.args.pairs.len _ _ _ _ lent.value (e.len ∙ lent.len) e.permutation e.sorted c.dedup.ensures.filtered).in_order
+    (are_the_pairs_lent c.args.pairs.len _ _ _ _ lent.value (e.len ∙ lent.len)
+    e.permutation e.sorted c.dedup.ensures.filtered).in_order

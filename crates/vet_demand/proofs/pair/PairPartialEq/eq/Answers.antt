@@ -1,6 +1,7 @@
 use Rattle.std.proofs.Common.{◌≡◌, ◌∙◌, sym, ap}
 use Rattle.std.specs.Ordering.{is_eq}
-use Rattle.vet_demand.specs.Pair.{pair_eq, pair_eq-Decides}
+use Rattle.vet_demand.specs.Pair.{pair_eq}
+use Rattle.vet_demand.specs.PairLaws.{pair_eq-Decides}
 use Rattle.vet_demand.proofs.pair.PairPartialEq.eq.Goals as goal
 
 pub returns-clause-same : goal.returns-clause-same

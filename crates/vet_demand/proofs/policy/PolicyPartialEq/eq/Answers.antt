@@ -1,5 +1,5 @@
 use Rattle.std.proofs.Common.{sym, ◌∙◌}
-use Rattle.vet_demand.specs.Policy.{policy_eq-Decides}
+use Rattle.vet_demand.specs.PolicyLaws.{policy_eq-Decides}
 use Rattle.vet_demand.proofs.policy.PolicyPartialEq.eq.Goals as goal
 
 pub returns-clause-same : goal.returns-clause-same

@@ -1,5 +1,5 @@
 use Rattle.std.proofs.Common.{sym, ◌∙◌}
-use Rattle.vet_demand.specs.Project.{project_eq-Decides}
+use Rattle.vet_demand.specs.ProjectLaws.{project_eq-Decides}
 use Rattle.vet_demand.proofs.project.ProjectPartialEq.eq.Goals as goal
 
 pub returns-clause-same : goal.returns-clause-same

@@ -10,6 +10,8 @@ returns-clause-terms c =
       table = c.names-names.ensures.table;
       names = c.names-names.ensures.names;
       closures = c.closures-closures.ensures;
-      deploy = c.close-deploy.ensures.closure criteria (only safe_to_deploy) c.closures-closures.ensures (c.set_of.ensures ∙ ap (placed criteria) c.in_ok-deploy.ensures.ok);
-      run = c.close-run.ensures.closure criteria (only safe_to_run) c.closures-closures.ensures (c.set_of-2.ensures ∙ ap (placed criteria) c.in_ok-run.ensures.ok);
+      deploy = c.close-deploy.ensures.closure criteria (only safe_to_deploy) c.closures-closures.ensures
+          (c.set_of.ensures ∙ ap (placed criteria) c.in_ok-deploy.ensures.ok);
+      run = c.close-run.ensures.closure criteria (only safe_to_run) c.closures-closures.ensures (c.set_of-2.ensures
+          ∙ ap (placed criteria) c.in_ok-run.ensures.ok);
     }

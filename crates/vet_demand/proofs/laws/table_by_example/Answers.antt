@@ -5,7 +5,7 @@ use Rattle.std.proofs.Math.Utf8.{encode}
 use Rattle.csv.specs.Records.{field_at}
 use Rattle.csv.proofs.OnLiterals.{csv_on_literals}
 use Rattle.semver.proofs.OnLiterals.{semver_on_literals}
-use Rattle.vet_demand.proofs.table_writer.table_by_example.Goals as goal
+use Rattle.vet_demand.proofs.laws.table_by_example.Goals as goal
 
 pub returns-clause-written : goal.returns-clause-written
 unfolding digits

@@ -1,5 +1,5 @@
 use Rattle.vet_demand.proofs.Naming.{known_by_fewer, known_by_more, known_with, known_without}
-use Rattle.vet_demand.proofs.policy_names.policies_stay_known.Goals as goal
+use Rattle.vet_demand.proofs.laws.policies_stay_known.Goals as goal
 
 pub returns-clause-set : goal.returns-clause-set
 returns-clause-set c criteria policies p known none = known_with criteria policies known p none
