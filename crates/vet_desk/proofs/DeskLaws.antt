@@ -14,8 +14,10 @@ use Rattle.vet_base.specs.declared.refusal.Limit.TheVariants as limit
 use Rattle.vet_base.specs.declared.refusal.Refusal.TheVariants.{NotYours, ReviewClosed, TooLarge, UnknownMember, UnknownReview, WrongTarget}
 use Rattle.vet_base.specs.Criteria.{Criteria, least_unknown}
 use Rattle.vet_base.specs.Gives.{refuse_if, ◌>>=◌}
-use Rattle.vet_base.specs.VersionOrder.{version_eq, version_eq-Decides}
-use Rattle.vet_base.proofs.KeyedLemmas.{equal, item_of-other, item_of-own}
+use Rattle.vet_base.specs.VersionOrder.{version_eq}
+use Rattle.vet_base.specs.VersionOrderLaws.{version_eq-Decides}
+use Rattle.vet_base.proofs.KeyedLemmas.{item_of-other, item_of-own}
+use Rattle.vet_base.proofs.Comparisons.{equal}
 use Rattle.vet_base.proofs.KeyedParts.{All-with_item, item_found}
 use Rattle.vet_base.proofs.Rising.{R, only_equal}
 use Rattle.vet_base.proofs.Telling.{all_known, not_refused, then_told}
@@ -25,7 +27,7 @@ use Rattle.vet_desk.specs.declared.command.DeskCommand.TheVariants.{AddMember, O
 use Rattle.vet_desk.specs.declared.review.Review.{Review}
 use Rattle.vet_desk.specs.declared.review.ReviewState.{ReviewState}
 use Rattle.vet_desk.specs.declared.review.ReviewState.TheVariants.{Waiting, Assigned, Finished, Withdrawn}
-use Rattle.vet_desk.specs.Desk.{DeskState, desk_after, is_member, opened, own_name}
+use Rattle.vet_desk.specs.Desk.{DeskState, desk_after, is_member, new_review, own_name}
 use Rattle.vet_desk.specs.DeskLaws.{DeskStaysSound, FinishedEntriesStayGiven, KnownIsNotBeyond, MemberIsAdded, MembersStay, OnlyItsMemberFinishes, OpenCriteriaStayKnown, OpenWaitsOrIsAssigned, OtherReviewsStay, ReviewChangesItsState, UnnamedCriterionMayGo, WaitingOrOwnIsWithdrawn}
 use Rattle.vet_desk.specs.DeskVerdict.{asked_of, both_held, desk_checked, desk_limits, desk_number, desk_references, desk_rules, finish_rules, still_open, target_of}
 use Rattle.vet_desk.specs.Review.{in_state, is_anothers, is_assigned_to, is_closed, is_open_beyond, is_open_for, review_number, review_of, with_review, with_state, with_state_of}
@@ -38,12 +40,14 @@ pub member_is_added : MemberIsAdded
 member_is_added name members = ap is_some (item_of-own R nat_list_cmp_total only_equal own_name members name)
 
 pub members_stay : MembersStay
-members_stay name other members differ = ap is_some (item_of-other R nat_list_cmp_total only_equal own_name members name other differ)
+members_stay name other members differ =
+    ap is_some (item_of-other R nat_list_cmp_total only_equal own_name members name other differ)
 
 -- the review that is found has the number
 pub of_number : (reviews : List Review) (n : ℕ) (r : Review) → review_of reviews n ≡ Some r → r.number ≡ n
 of_number reviews n r e =
-    nat_cmp-IsAntisymmetric r.number n (equal (nat_cmp r.number n) (item_found nat_cmp review_number (λ _. Unit {0}) reviews n r (λ k d l. tt) e).0)
+    nat_cmp-IsAntisymmetric r.number n
+    (equal (nat_cmp r.number n) (item_found nat_cmp review_number (λ _. Unit {0}) reviews n r (λ k d l. tt) e).0)
 
 pub review_changes : ReviewChangesItsState
 review_changes n state reviews r e =
@@ -54,14 +58,19 @@ review_changes n state reviews r e =
 pub other_reviews_stay : OtherReviewsStay
 other_reviews_stay n m state reviews differ = by (review_of reviews n) refl
   where
-    by : (o : Option Review) → review_of reviews n ≡ o → review_of (with_state_of o state reviews) m ≡ review_of reviews m
+    by : (o : Option Review) → review_of reviews n ≡ o
+        → review_of (with_state_of o state reviews) m ≡ review_of reviews m
     by None e = refl
-    by (Some r) e = item_of-other nat_cmp nat_cmp_total nat_cmp-IsAntisymmetric review_number reviews (in_state state r) m (λ same. differ (same ∙ of_number reviews n r e))
+    by (Some r) e = item_of-other nat_cmp nat_cmp_total nat_cmp-IsAntisymmetric review_number reviews
+        (in_state state r) m (λ same. differ (same ∙ of_number reviews n r e))
 
 -- ---- who may do what
 
 pub open_waits : OpenWaitsOrIsAssigned
-open_waits r = (λ h. opens r.state (not_refused (is_closed r.state) ReviewClosed h), λ h. ap (λ b. refuse_if b ReviewClosed) (shuts r.state h))
+open_waits r = (
+  λ h. opens r.state (not_refused (is_closed r.state) ReviewClosed h),
+  λ h. ap (λ b. refuse_if b ReviewClosed) (shuts r.state h),
+)
   where
     opens : (s : ReviewState) → is_closed s ≡ false → (s ≡ Waiting) ⊎ ((member : List ℕ) × (s ≡ Assigned member))
     opens Waiting e = inl refl
@@ -89,10 +98,12 @@ only_its_member member reviewed r = (finishes, may_finish)
     finishes : finish_rules member reviewed r ≡ Ok tt → (r.state ≡ Assigned member) × (target_of reviewed ≡ r.version)
     finishes h =
         let right = refuse_if (not (version_eq (target_of reviewed) r.version)) WrongTarget in
-        let first = then_told (still_open r) (λ _. refuse_if (not (is_assigned_to member r.state)) NotYours >>= λ _. right) tt h in
+        let first = then_told (still_open r) (λ _. refuse_if (not (is_assigned_to member r.state)) NotYours
+        >>= λ _. right) tt h in
         let second = then_told (refuse_if (not (is_assigned_to member r.state)) NotYours) (λ _. right) tt first.1 in (
           assigned member r.state (not_true _ (not_refused (not (is_assigned_to member r.state)) NotYours second.0)),
-          (version_eq-Decides (target_of reviewed) r.version).0 (not_true _ (not_refused (not (version_eq (target_of reviewed) r.version)) WrongTarget second.1)),
+          (version_eq-Decides (target_of reviewed) r.version).0
+              (not_true _ (not_refused (not (version_eq (target_of reviewed) r.version)) WrongTarget second.1)),
         )
 
     may_finish : (r.state ≡ Assigned member) × (target_of reviewed ≡ r.version) → finish_rules member reviewed r ≡ Ok tt
@@ -102,13 +113,18 @@ only_its_member member reviewed r = (finishes, may_finish)
 pub waiting_or_own : WaitingOrOwnIsWithdrawn
 waiting_or_own member r = (λ h. withdraws r.state h, λ h. may_withdraw r.state h)
   where
-    withdraws : (s : ReviewState) → (refuse_if (is_closed s) ReviewClosed >>= λ _. refuse_if (is_anothers member s) NotYours) ≡ Ok tt → (s ≡ Waiting) ⊎ (s ≡ Assigned member)
+    withdraws : (s : ReviewState)
+        → (refuse_if (is_closed s) ReviewClosed >>= λ _. refuse_if (is_anothers member s) NotYours) ≡ Ok tt
+        → (s ≡ Waiting) ⊎ (s ≡ Assigned member)
     withdraws Waiting h = inl refl
-    withdraws (Assigned name) h = inr (ap Assigned ((bytes_decides name member).0 (not_true _ (not_refused (not (bytes_eq name member)) NotYours h))))
+    withdraws (Assigned name) h =
+        inr (ap Assigned ((bytes_decides name member).0
+        (not_true _ (not_refused (not (bytes_eq name member)) NotYours h))))
     withdraws (Finished entry) h = cc h
     withdraws Withdrawn h = cc h
 
-    may_withdraw : (s : ReviewState) → (s ≡ Waiting) ⊎ (s ≡ Assigned member) → (refuse_if (is_closed s) ReviewClosed >>= λ _. refuse_if (is_anothers member s) NotYours) ≡ Ok tt
+    may_withdraw : (s : ReviewState) → (s ≡ Waiting) ⊎ (s ≡ Assigned member)
+        → (refuse_if (is_closed s) ReviewClosed >>= λ _. refuse_if (is_anothers member s) NotYours) ≡ Ok tt
     may_withdraw s (inl e) = rw e refl
     may_withdraw s (inr e) = rw (e, (bytes_decides member member).1 refl) refl
 
@@ -121,12 +137,14 @@ pub record ArePassed (criteria : Criteria) (demand : List Pair) (d : DeskState) 
   pub references : desk_references criteria d command ≡ Ok tt
   pub rules : desk_rules demand d command ≡ Ok tt
 
-pub passed : (criteria : Criteria) (demand : List Pair) (d : DeskState) (command : DeskCommand) → desk_checked criteria demand d command ≡ Ok tt
+pub passed : (criteria : Criteria) (demand : List Pair) (d : DeskState) (command : DeskCommand)
+    → desk_checked criteria demand d command ≡ Ok tt
     → ArePassed criteria demand d command
 passed criteria demand d command h =
     let rules = desk_rules demand d command in
     let references = desk_references criteria d command in
-    let limited = then_told (desk_limits d command) (λ _. desk_number d command >>= λ _. references >>= λ _. rules) tt h in
+    let limited = then_told (desk_limits d command) (λ _. desk_number d command >>= λ _. references >>= λ _. rules)
+    tt h in
     let numbered = then_told (desk_number d command) (λ _. references >>= λ _. rules) tt limited.1 in
     let known = then_told references (λ _. rules) tt numbered.1 in
     record { limits = limited.0; number = numbered.0; references = known.0; rules = known.1 }
@@ -136,15 +154,21 @@ some_of None e = cc e
 some_of (Some x) e = (x, refl)
 
 -- a member and a review that are referred to are held
-pub both : (d : DeskState) (n : ℕ) (member : List ℕ) → both_held d n member ≡ Ok tt → (is_member d.members member ≡ true) × ((r : Review) × (review_of d.reviews n ≡ Some r))
+pub both : (d : DeskState) (n : ℕ) (member : List ℕ) → both_held d n member ≡ Ok tt
+    → (is_member d.members member ≡ true) × ((r : Review) × (review_of d.reviews n ≡ Some r))
 both d n member h =
-    let two = then_told (refuse_if (not (is_member d.members member)) UnknownMember) (λ _. refuse_if (is_none (review_of d.reviews n)) UnknownReview) tt h in
-    (not_true _ (not_refused (not (is_member d.members member)) UnknownMember two.0), some_of (review_of d.reviews n) (not_refused (is_none (review_of d.reviews n)) UnknownReview two.1))
+    let two = then_told (refuse_if (not (is_member d.members member)) UnknownMember)
+    (λ _. refuse_if (is_none (review_of d.reviews n)) UnknownReview) tt h in (
+      not_true _ (not_refused (not (is_member d.members member)) UnknownMember two.0),
+      some_of (review_of d.reviews n) (not_refused (is_none (review_of d.reviews n)) UnknownReview two.1),
+    )
 
 pub stays_sound : DeskStaysSound
 stays_sound criteria demand d day entry (AddMember name) h sound =
     let p = passed criteria demand d (AddMember name) h in
-    sound_joined d name sound (let few = ltb-false MOST_MEMBERS (length d.members + 1) (not_refused _ (TooLarge limit.Members) p.limits) in omega (arith, few))
+    sound_joined d name sound (let few =
+    ltb-false MOST_MEMBERS (length d.members + 1) (not_refused _ (TooLarge limit.Members) p.limits) in
+    omega (arith, few))
 stays_sound criteria demand d day entry (OpenReview name version wanted) h sound =
     let p = passed criteria demand d (OpenReview name version wanted) h in
     let few = ltb-false MOST_REVIEWS (length d.reviews + 1) (not_refused _ (TooLarge limit.Reviews) p.limits) in
@@ -170,10 +194,13 @@ kept_by P reviews n state each one = by (review_of reviews n) refl
   where
     by : (o : Option Review) → review_of reviews n ≡ o → All P (with_state_of o state reviews)
     by None e = each
-    by (Some r) e = All-with_item nat_cmp review_number P reviews (in_state state r) each (one r e (item_found nat_cmp review_number P reviews n r each e).1)
+    by (Some r) e = All-with_item nat_cmp review_number P reviews (in_state state r) each
+        (one r e (item_found nat_cmp review_number P reviews n r each e).1)
 
-known_assigned : (criteria : Criteria) (demand : List Pair) (d : DeskState) (n : ℕ) (member : List ℕ) → desk_rules demand d (AssignReview n member) ≡ Ok tt
-    → (r : Review) → review_of d.reviews n ≡ Some r → IsKnownTo criteria r → IsKnownTo criteria (in_state (Assigned member) r)
+known_assigned : (criteria : Criteria) (demand : List Pair) (d : DeskState) (n : ℕ) (member : List ℕ)
+    → desk_rules demand d (AssignReview n member) ≡ Ok tt
+    → (r : Review) → review_of d.reviews n ≡ Some r → IsKnownTo criteria r
+    → IsKnownTo criteria (in_state (Assigned member) r)
 known_assigned criteria demand d n member rules r e known unclosed =
     known (not_refused (is_closed r.state) ReviewClosed (subst (λ o. asked_of still_open o ≡ Ok tt) e rules))
 
@@ -181,16 +208,18 @@ pub stay_known : OpenCriteriaStayKnown
 stay_known criteria demand d day entry (AddMember name) h known = known
 stay_known criteria demand d day entry (OpenReview name version wanted) h known =
     let p = passed criteria demand d (OpenReview name version wanted) h in
-    let review = opened d.next_review day name version wanted in
+    let review = new_review d.next_review day name version wanted in
     All-append (IsKnownTo criteria) d.reviews (review ∷ []) known
-    (All-cons (IsKnownTo criteria) review [] (λ unclosed. all_known (least_unknown criteria wanted) p.references) (All-nil (IsKnownTo criteria)))
+    (All-cons (IsKnownTo criteria) review [] (λ unclosed. all_known (least_unknown criteria wanted) p.references)
+    (All-nil (IsKnownTo criteria)))
 stay_known criteria demand d day entry (AssignReview n member) h known =
     let p = passed criteria demand d (AssignReview n member) h in
     kept_by (IsKnownTo criteria) d.reviews n (Assigned member) known (known_assigned criteria demand d n member p.rules)
 stay_known criteria demand d day None (FinishReview n member reviewed) h known = known
 stay_known criteria demand d day (Some entry) (FinishReview n member reviewed) h known =
     kept_by (IsKnownTo criteria) d.reviews n (Finished entry) known (λ r e k unclosed. cc unclosed)
-stay_known criteria demand d day entry (WithdrawReview n member) h known = kept_by (IsKnownTo criteria) d.reviews n Withdrawn known (λ r e k unclosed. cc unclosed)
+stay_known criteria demand d day entry (WithdrawReview n member) h known =
+    kept_by (IsKnownTo criteria) d.reviews n Withdrawn known (λ r e k unclosed. cc unclosed)
 
 -- none of some passes a test
 none_pass : {X : Type 0} (p : X → Bool) (xs : List X) → list_any p xs ≡ false → All (λ x. p x ≡ false) xs
@@ -210,7 +239,8 @@ second false b h e = h
 
 pub unnamed_may_go : UnnamedCriterionMayGo
 unnamed_may_go criteria other name reviews keeps unnamed known k d l unclosed =
-    keeps _ (second (is_closed _) (set.contains _ name) (none_pass (is_open_for name) reviews unnamed k d l) unclosed) (known k d l unclosed)
+    keeps _ (second (is_closed _) (set.contains _ name) (none_pass (is_open_for name) reviews unnamed k d l)
+    unclosed) (known k d l unclosed)
 
 none_of : {X : Type 0} (o : Option X) → is_some o ≡ false → o ≡ None
 none_of None e = refl
@@ -218,7 +248,8 @@ none_of (Some x) e = cc e
 
 pub known_is_not_beyond : KnownIsNotBeyond
 known_is_not_beyond criteria reviews = (
-  λ h k d l unclosed. none_of _ (second (is_closed _) (is_some _) (none_pass (is_open_beyond criteria) reviews h k d l) unclosed),
+  λ h k d l unclosed. none_of _
+      (second (is_closed _) (is_some _) (none_pass (is_open_beyond criteria) reviews h k d l) unclosed),
   λ known. all_fail (is_open_beyond criteria) reviews (λ k d l. within (get_or reviews k d) (known k d l)),
 )
   where
@@ -241,14 +272,19 @@ pub stay_given : FinishedEntriesStayGiven
 stay_given next later d day entry command le new given = by command entry new
   where
     still : HaveEntriesGiven later d.reviews
-    still = All-weaker (HasEntryGiven next) (HasEntryGiven later) (λ (r : Review). given_later next later le r.state) d.reviews given
+    still = All-weaker (HasEntryGiven next) (HasEntryGiven later)
+        (λ (r : Review). given_later next later le r.state) d.reviews given
 
-    by : (c : DeskCommand) (e : Option ℕ) → IfSome e (λ n. n < later) → HaveEntriesGiven later (desk_after day e c d).reviews
+    by : (c : DeskCommand) (e : Option ℕ) → IfSome e (λ n. n < later)
+        → HaveEntriesGiven later (desk_after day e c d).reviews
     by (AddMember name) e new = still
     by (OpenReview name version wanted) e new =
-        let review = opened d.next_review day name version wanted in
-        All-append (HasEntryGiven later) d.reviews (review ∷ []) still (All-cons (HasEntryGiven later) review [] tt (All-nil (HasEntryGiven later)))
-    by (AssignReview n member) e new = kept_by (HasEntryGiven later) d.reviews n (Assigned member) still (λ r found h. tt)
+        let review = new_review d.next_review day name version wanted in
+        All-append (HasEntryGiven later) d.reviews (review ∷ []) still
+        (All-cons (HasEntryGiven later) review [] tt (All-nil (HasEntryGiven later)))
+    by (AssignReview n member) e new = kept_by (HasEntryGiven later) d.reviews n (Assigned member) still
+        (λ r found h. tt)
     by (FinishReview n member reviewed) None new = still
-    by (FinishReview n member reviewed) (Some entry) new = kept_by (HasEntryGiven later) d.reviews n (Finished entry) still (λ r found h. new)
+    by (FinishReview n member reviewed) (Some entry) new =
+        kept_by (HasEntryGiven later) d.reviews n (Finished entry) still (λ r found h. new)
     by (WithdrawReview n member) e new = kept_by (HasEntryGiven later) d.reviews n Withdrawn still (λ r found h. tt)

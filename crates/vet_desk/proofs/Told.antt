@@ -30,7 +30,8 @@ tells_refusal (Ok x) f h = cc h
 tells_refusal (Err e) f h = refuses_too _ _ e f h
 
 -- what was accepted is answered by a change, or memory is wanting
-pub tells_change : (t : Told DeskAnswer) (s : DeskStep) → t ≡ Ok Accepted → desk_answer s ≡ Accepted → TellsDesk t (Ok s)
+pub tells_change : (t : Told DeskAnswer) (s : DeskStep) → t ≡ Ok Accepted → desk_answer s ≡ Accepted
+    → TellsDesk t (Ok s)
 tells_change t s told is = rw told is
 
 pub tells_want : (t : Told DeskAnswer) (f : Refusal) → t ≡ Ok Accepted → f ≡ NoMemory → TellsDesk t (Err f)

@@ -75,8 +75,8 @@ entry_of d _ = None
 -- ---- the effect of a command
 
 -- a review that nobody has begun
-abbrev pub opened : ℕ → DayValue → List ℕ → VersionValue → NameSet → Review
-opened number day name version criteria = record {
+abbrev pub new_review : ℕ → DayValue → List ℕ → VersionValue → NameSet → Review
+new_review number day name version criteria = record {
   number = number;
   «package» = name;
   version = version;
@@ -86,17 +86,17 @@ opened number day name version criteria = record {
 }
 
 -- the reviews, that of a number finished with the entry of another, where one is given
-abbrev pub finished : ℕ → Option ℕ → List Review → List Review
-finished n None reviews = reviews
-finished n (Some entry) reviews = with_state n (Finished entry) reviews
+abbrev pub with_entry : ℕ → Option ℕ → List Review → List Review
+with_entry n None reviews = reviews
+with_entry n (Some entry) reviews = with_state n (Finished entry) reviews
 
 -- the desk after a command on a day; a finished review has the entry of this number
 abbrev pub desk_after : DayValue → Option ℕ → DeskCommand → DeskState → DeskState
 desk_after day entry (AddMember name) d = record d { members = with_member name d.members }
 desk_after day entry (OpenReview name version criteria) d = record d {
-  reviews = d.reviews ++ opened d.next_review day name version criteria ∷ [];
+  reviews = d.reviews ++ new_review d.next_review day name version criteria ∷ [];
   next_review = d.next_review + 1;
 }
 desk_after day entry (AssignReview n member) d = record d { reviews = with_state n (Assigned member) d.reviews }
-desk_after day entry (FinishReview n member reviewed) d = record d { reviews = finished n entry d.reviews }
+desk_after day entry (FinishReview n member reviewed) d = record d { reviews = with_entry n entry d.reviews }
 desk_after day entry (WithdrawReview n member) d = record d { reviews = with_state n Withdrawn d.reviews }

@@ -22,22 +22,26 @@ abbrev pub MemberIsAdded : Type 0
 MemberIsAdded = (name : List ℕ) (members : List (List ℕ)) → is_member (with_member name members) name ≡ true
 
 abbrev pub MembersStay : Type 0
-MembersStay = (name other : List ℕ) (members : List (List ℕ)) → (other ≡ name → ⊥) → is_member (with_member name members) other ≡ is_member members other
+MembersStay = (name other : List ℕ) (members : List (List ℕ)) → (other ≡ name → ⊥)
+    → is_member (with_member name members) other ≡ is_member members other
 
 -- the review of a number comes into another state, and nothing else of it changes
 abbrev pub ReviewChangesItsState : Type 0
-ReviewChangesItsState = (n : ℕ) (state : ReviewState) (reviews : List Review) (r : Review) → review_of reviews n ≡ Some r
+ReviewChangesItsState = (n : ℕ) (state : ReviewState) (reviews : List Review) (r : Review)
+    → review_of reviews n ≡ Some r
     → review_of (with_state n state reviews) n ≡ Some (in_state state r)
 
 -- all other reviews stay
 abbrev pub OtherReviewsStay : Type 0
-OtherReviewsStay = (n m : ℕ) (state : ReviewState) (reviews : List Review) → (m ≡ n → ⊥) → review_of (with_state n state reviews) m ≡ review_of reviews m
+OtherReviewsStay = (n m : ℕ) (state : ReviewState) (reviews : List Review) → (m ≡ n → ⊥)
+    → review_of (with_state n state reviews) m ≡ review_of reviews m
 
 -- ---- who may do what
 
 -- a review is open where it waits, or is somebody's
 abbrev pub OpenWaitsOrIsAssigned : Type 0
-OpenWaitsOrIsAssigned = (r : Review) → (still_open r ≡ Ok tt) ↔ ((r.state ≡ Waiting) ⊎ ((member : List ℕ) × (r.state ≡ Assigned member)))
+OpenWaitsOrIsAssigned = (r : Review) → (still_open r ≡ Ok tt)
+    ↔ ((r.state ≡ Waiting) ⊎ ((member : List ℕ) × (r.state ≡ Assigned member)))
 
 -- only the member to whom it is assigned finishes it, and only for its version
 abbrev pub OnlyItsMemberFinishes : Type 0
@@ -46,31 +50,39 @@ OnlyItsMemberFinishes = (member : List ℕ) (reviewed : Reviewed) (r : Review)
 
 -- any member withdraws one that waits, and else only the member to whom it is assigned
 abbrev pub WaitingOrOwnIsWithdrawn : Type 0
-WaitingOrOwnIsWithdrawn = (member : List ℕ) (r : Review) → (withdraw_rules member r ≡ Ok tt) ↔ ((r.state ≡ Waiting) ⊎ (r.state ≡ Assigned member))
+WaitingOrOwnIsWithdrawn = (member : List ℕ) (r : Review) → (withdraw_rules member r ≡ Ok tt)
+    ↔ ((r.state ≡ Waiting) ⊎ (r.state ≡ Assigned member))
 
 -- ---- what stays so
 
 -- a sound desk is sound after each command that is accepted
 abbrev pub DeskStaysSound : Type 0
-DeskStaysSound = (criteria : Criteria) (demand : List Pair) (d : DeskState) (day : DayValue) (entry : Option ℕ) (command : DeskCommand)
+DeskStaysSound = (criteria : Criteria) (demand : List Pair) (d : DeskState) (day : DayValue) (entry : Option ℕ)
+    (command : DeskCommand)
     → desk_checked criteria demand d command ≡ Ok tt → IsSoundDesk d → IsSoundDesk (desk_after day entry command d)
 
 -- what open reviews name stays known
 abbrev pub OpenCriteriaStayKnown : Type 0
-OpenCriteriaStayKnown = (criteria : Criteria) (demand : List Pair) (d : DeskState) (day : DayValue) (entry : Option ℕ) (command : DeskCommand)
-    → desk_checked criteria demand d command ≡ Ok tt → AreKnownTo criteria d.reviews → AreKnownTo criteria (desk_after day entry command d).reviews
+OpenCriteriaStayKnown = (criteria : Criteria) (demand : List Pair) (d : DeskState) (day : DayValue)
+    (entry : Option ℕ) (command : DeskCommand)
+    → desk_checked criteria demand d command ≡ Ok tt → AreKnownTo criteria d.reviews
+    → AreKnownTo criteria (desk_after day entry command d).reviews
 
 -- so it does where a criterion goes that none of them names
 abbrev pub UnnamedCriterionMayGo : Type 0
 UnnamedCriterionMayGo = (criteria other : Criteria) (name : List ℕ) (reviews : List Review)
-    → ((names : NameSet) → set.contains names name ≡ false → least_unknown criteria names ≡ None → least_unknown other names ≡ None)
+    → ((names : NameSet) → set.contains names name ≡ false → least_unknown criteria names ≡ None
+    → least_unknown other names ≡ None)
     → are_open_for reviews name ≡ false → AreKnownTo criteria reviews → AreKnownTo other reviews
 
 -- it is known to a table just where none of them names what the table lacks
 abbrev pub KnownIsNotBeyond : Type 0
-KnownIsNotBeyond = (criteria : Criteria) (reviews : List Review) → (are_open_beyond criteria reviews ≡ false) ↔ AreKnownTo criteria reviews
+KnownIsNotBeyond = (criteria : Criteria) (reviews : List Review) → (are_open_beyond criteria reviews ≡ false)
+    ↔ AreKnownTo criteria reviews
 
 -- the entries of finished reviews stay below the next number, also where this command gave one
 abbrev pub FinishedEntriesStayGiven : Type 0
-FinishedEntriesStayGiven = (next later : ℕ) (d : DeskState) (day : DayValue) (entry : Option ℕ) (command : DeskCommand) → next ≤ later
-    → IfSome entry (λ n. n < later) → HaveEntriesGiven next d.reviews → HaveEntriesGiven later (desk_after day entry command d).reviews
+FinishedEntriesStayGiven = (next later : ℕ) (d : DeskState) (day : DayValue) (entry : Option ℕ)
+    (command : DeskCommand) → next ≤ later
+    → IfSome entry (λ n. n < later) → HaveEntriesGiven next d.reviews
+    → HaveEntriesGiven later (desk_after day entry command d).reviews

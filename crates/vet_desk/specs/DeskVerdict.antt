@@ -26,7 +26,8 @@ use Rattle.vet_desk.specs.Review.{is_anothers, is_assigned_to, is_closed, review
 
 -- whether the review of a number is assigned to a member
 abbrev pub is_assigned_review : List Review → ℕ → List ℕ → Bool
-is_assigned_review reviews n member = option_map_or (λ (r : Review). is_assigned_to member r.state) (review_of reviews n) false
+is_assigned_review reviews n member = option_map_or (λ (r : Review). is_assigned_to member r.state)
+    (review_of reviews n) false
 
 -- whether what a command would set or add is held: the member, or the assignment
 abbrev pub desk_held : DeskState → DeskCommand → Bool
@@ -60,7 +61,8 @@ desk_number d _ = Ok tt
 -- a member and a review are held
 abbrev pub both_held : DeskState → ℕ → List ℕ → Told (Unit {0})
 both_held d n member =
-    refuse_if (not (is_member d.members member)) UnknownMember >>= λ _. refuse_if (is_none (review_of d.reviews n)) UnknownReview
+    refuse_if (not (is_member d.members member)) UnknownMember
+    >>= λ _. refuse_if (is_none (review_of d.reviews n)) UnknownReview
 
 -- what a command refers to is held
 abbrev pub desk_references : Criteria → DeskState → DeskCommand → Told (Unit {0})
@@ -72,7 +74,8 @@ desk_references criteria d (WithdrawReview n member) = both_held d n member
 
 -- a version of a package is demanded for a criterion
 abbrev pub is_demanded : List Pair → List ℕ → VersionValue → List ℕ → Bool
-is_demanded demand name version criterion = list_any (pair_eq (record { «package» = name; version = version; criterion = criterion })) demand
+is_demanded demand name version criterion =
+    list_any (pair_eq (record { «package» = name; version = version; criterion = criterion })) demand
 
 -- it is for each of some criteria, and there are some
 abbrev pub are_demanded : List Pair → List ℕ → VersionValue → NameSet → Bool
@@ -118,7 +121,8 @@ desk_rules demand d (WithdrawReview n member) = asked_of (withdraw_rules member)
 -- what is asked of a command that is not held already
 abbrev pub desk_checked : Criteria → List Pair → DeskState → DeskCommand → Told (Unit {0})
 desk_checked criteria demand d command =
-    desk_limits d command >>= λ _. desk_number d command >>= λ _. desk_references criteria d command >>= λ _. desk_rules demand d command
+    desk_limits d command >>= λ _. desk_number d command >>= λ _. desk_references criteria d command
+    >>= λ _. desk_rules demand d command
 
 -- what is held already goes before all refusals
 abbrev pub already_or : Bool → Told (Unit {0}) → Told DeskAnswer

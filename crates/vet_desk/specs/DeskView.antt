@@ -1,4 +1,4 @@
--- What a desk is seen as, and what was prepared for it. This module alone of the desk's knows of room.
+-- What a desk is seen as (ours), and what was prepared for it. This module alone of the desk's knows of room.
 use Rattle.std.specs.Prelude.{◌≡◌, ℕ, ◌+◌, ◌++◌, ◌<◌, ◌≤◌, List, [], ◌∷◌, Option, Some, None, true, is_some, length, slice_get, slice_set, Result, Ok, Err, MatchResult}
 use Rattle.std.specs.Coded.{Coded, code_by, coded×, coded_list, coded_ℕ}
 use Rattle.std.specs.Ordering.{nat_cmp}
@@ -37,18 +37,6 @@ pub record DeskView : Type 0 where
   pub content : DeskState
   pub room : DeskRoom
 
--- a desk is stored as the tuple of its parts and rooms
-abbrev pub desk_code : Coded Review → Coded DeskView
-desk_code review_code =
-    code_by (List (List ℕ) × (List Review × (ℕ × (ℕ × ℕ))))
-    (coded× (coded_list (coded_list coded_ℕ)) (coded× (coded_list review_code) (coded× coded_ℕ (coded× coded_ℕ coded_ℕ))))
-    (λ d. (d.content.members, (d.content.reviews, (d.content.next_review, (d.room.members, d.room.reviews)))))
-    (λ p. record {
-      content = record { members = p.0; reviews = p.1.0; next_review = p.1.1.0 };
-      room = record { members = p.1.1.1.0; reviews = p.1.1.1.1 };
-    })
-    (λ _. refl)
-
 -- the members, and for how many more there is room
 abbrev pub members_room : DeskView → KeyedRoom (List ℕ)
 members_room d = record { items = d.content.members; room = d.room.members }
@@ -56,24 +44,24 @@ members_room d = record { items = d.content.members; room = d.room.members }
 -- ---- changes
 
 -- the review at a place in another state
-abbrev pub turned_one : Option Review → ℕ → ReviewState → List Review → List Review
-turned_one None place state reviews = reviews
-turned_one (Some review) place state reviews = slice_set reviews place (in_state state review)
+abbrev pub with_state_there : Option Review → ℕ → ReviewState → List Review → List Review
+with_state_there None place state reviews = reviews
+with_state_there (Some review) place state reviews = slice_set reviews place (in_state state review)
 
-abbrev pub turned : ℕ → ReviewState → List Review → List Review
-turned place state reviews = turned_one (slice_get reviews place) place state reviews
+abbrev pub with_state_at : ℕ → ReviewState → List Review → List Review
+with_state_at place state reviews = with_state_there (slice_get reviews place) place state reviews
 
 -- the review at a place finished with the entry of a number, where one is given
-abbrev pub finished_at : ℕ → Option ℕ → List Review → List Review
-finished_at place None reviews = reviews
-finished_at place (Some entry) reviews = turned place (Finished entry) reviews
+abbrev pub with_entry_at : ℕ → Option ℕ → List Review → List Review
+with_entry_at place None reviews = reviews
+with_entry_at place (Some entry) reviews = with_state_at place (Finished entry) reviews
 
 -- the desk after a change; a finished review has the entry of this number
 abbrev pub desk_changed : DeskChange → Option ℕ → DeskState → DeskState
 desk_changed (Join edit) entry d = record d { members = keyed.edited edit d.members }
 desk_changed (Open review) entry d = record d { reviews = d.reviews ++ review ∷ []; next_review = d.next_review + 1 }
-desk_changed (Turn place state) entry d = record d { reviews = turned place state d.reviews }
-desk_changed (Finish place made) entry d = record d { reviews = finished_at place entry d.reviews }
+desk_changed (Turn place state) entry d = record d { reviews = with_state_at place state d.reviews }
+desk_changed (Finish place made) entry d = record d { reviews = with_entry_at place entry d.reviews }
 
 -- the own entry of a change
 abbrev pub entry_in : DeskChange → Option Entry
@@ -116,7 +104,8 @@ IsStepOf d day command (step.Change change) = IsDeskChange d day command change
 -- what was prepared on the old desk is prepared on the new one
 abbrev pub KeepsDeskChanges : DeskView → DeskView → Type 0
 KeepsDeskChanges old new =
-    (day : DayValue) (command : DeskCommand) (change : DeskChange) → IsDeskChange old day command change → IsDeskChange new day command change
+    (day : DayValue) (command : DeskCommand) (change : DeskChange) → IsDeskChange old day command change
+    → IsDeskChange new day command change
 
 -- no room is lost
 abbrev pub HoldsDeskRoom : DeskRoom → DeskRoom → Type 0

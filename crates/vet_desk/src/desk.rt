@@ -14,7 +14,7 @@ ghost use Rattle.vet_base.specs.Day.{DayValue};
 ghost use Rattle.vet_base.specs.Keyed.{Fits, IsPlace, edited};
 ghost use Rattle.vet_desk.specs.Desk.{DeskCommandValue, desk_after, empty_desk, is_member, own_name};
 ghost use Rattle.vet_desk.specs.DeskVerdict.{desk_verdict};
-ghost use Rattle.vet_desk.specs.DeskView.{IsDeskChange, IsStepOf, KeepsDeskChanges, TellsDesk, entry_in, turned};
+ghost use Rattle.vet_desk.specs.DeskView.{IsDeskChange, IsStepOf, KeepsDeskChanges, TellsDesk, entry_in, with_state_at};
 ghost use Rattle.vet_desk.specs.Review.{are_open_beyond, are_open_for, review_number, review_of};
 ghost use Rattle.vet_desk.specs.SoundDesk.{IsSoundDesk};
 
@@ -40,7 +40,8 @@ pub struct Desk {
 
 impl Model for Desk {
     ghost use Rattle.std.specs.Prelude.{◌-◌, vec_len, vec_capacity};
-    ghost use Rattle.vet_desk.specs.DeskView.{DeskView, desk_code};
+    ghost use Rattle.vet_desk.specs.DeskView.{DeskView};
+    ghost use Rattle.vet_desk.specs.Encodings.{desk_code};
     ghost use Rattle.vet_desk.specs.SoundDesk.{IsSoundDesk};
     ghost use Rattle.vet_desk.specs.contracts.review.Review as review;
 
@@ -236,7 +237,7 @@ fn join(members: &mut Keyed<Name>, edit: KeyedEdit<Name>)
 // Brings the review at a place into a state.
 fn turn(reviews: &mut Vec<Review>, place: usize, state: ReviewState)
     requires { place < length reviews.old.items }
-    ensures items { reviews.new.items ≡ turned place state reviews.old.items }
+    ensures items { reviews.new.items ≡ with_state_at place state reviews.old.items }
     ensures len { vec_len reviews.new ≡ vec_len reviews.old }
     ensures capacity { vec_capacity reviews.new ≡ vec_capacity reviews.old }
 {

@@ -13,7 +13,7 @@ ghost use Rattle.std.specs.Ordering.{nat_cmp};
 ghost use Rattle.vet_base.specs.Day.{DayValue};
 ghost use Rattle.vet_base.specs.Keyed.{IsPlace};
 ghost use Rattle.vet_desk.specs.declared.command.DeskCommand.TheVariants as command;
-ghost use Rattle.vet_desk.specs.Desk.{is_member, opened};
+ghost use Rattle.vet_desk.specs.Desk.{is_member, new_review};
 ghost use Rattle.vet_desk.specs.DeskView.{HoldsDeskRoom, IsAcceptable, IsDeskChange};
 ghost use Rattle.vet_desk.specs.Review.{review_number, review_of};
 ghost use Rattle.vet_desk.specs.SoundDesk.{IsSoundDesk};
@@ -89,7 +89,7 @@ impl Desk {
         ensures room_stays { HoldsDeskRoom self.old.room self.new.room }
     {
         self.reviews.reserve(1)?;
-        let review = opened(self.next_review, day, package, version, criteria)?;
+        let review = new_review(self.next_review, day, package, version, criteria)?;
         Ok(DeskChange::Open(review))
     }
 
@@ -144,14 +144,14 @@ impl Desk {
 }
 
 // A review that nobody has begun, of copies.
-fn opened(
+fn new_review(
     number: u64,
     day: Day,
     package: &PackageName,
     version: &VetVersion,
     criteria: &Names,
 ) -> Result<Review, AllocError>
-    ensures { IfOk result (λ r. r ≡ opened number day «package».now version.now criteria.now) }
+    ensures { IfOk result (λ r. r ≡ new_review number day «package».now version.now criteria.now) }
 {
     Ok(Review {
         number,

@@ -12,5 +12,6 @@ returns-clause-change c =
     let n = c.args.number in
     let place = c.place_held-place.result in
     let member = c.args.member.now in
-    λ day. subst (λ name. IsDeskChange d day (AssignReview n member) (Turn place (Assigned name))) (sym c.in_ok-copied.ensures)
+    λ day. subst (λ name. IsDeskChange d day (AssignReview n member) (Turn place (Assigned name)))
+    (sym c.in_ok-copied.ensures)
     (assigning d c.place_held-place.ensures.sound n place c.place_held-place.ensures.place day member c.requires.member)

@@ -5,4 +5,6 @@ use Rattle.vet_desk.proofs.desk.Desk.place_held.Goals as goal
 
 pub unreachable-requires : goal.unreachable-requires
 unreachable-requires c =
-    false≢true (sym (ap is_some (none_found c.args.self.now.content.reviews c.args.number c.in-Err.field-0 c.in-Err.ensures.place)) ∙ c.requires)
+    false≢true (sym (ap is_some
+    (none_found c.args.self.now.content.reviews c.args.number c.in-Err.field-0 c.in-Err.ensures.place))
+    ∙ c.requires)

@@ -14,4 +14,5 @@ returns-in_err-judge-clause-told c =
 pub returns-in_ok-change-in-Accepted-clause-told : goal.returns-in_ok-change-in-Accepted-clause-told
 returns-in_ok-change-in-Accepted-clause-told c =
     let told = desk_verdict c.args.criteria.now c.args.demand.now c.args.self.now.content c.args.command.now in
-    tells_change told _ (answered told Accepted (subst (Answers told) (ap Ok c.in-Accepted.is) c.in_ok-judge.ensures)) refl
+    tells_change told _ (answered told Accepted
+    (subst (Answers told) (ap Ok c.in-Accepted.is) c.in_ok-judge.ensures)) refl
