@@ -8,7 +8,8 @@ use Rattle.std.proofs.lemmas.List.{get_or_append_left, get_or_push}
 use Rattle.std.proofs.lemmas.Result.{IfOk-weaker}
 use Rattle.vet_base.specs.CriteriaSet.{has}
 use Rattle.vet_base.specs.Version.{VersionValue}
-use Rattle.vet_base.specs.VersionOrder.{version_eq, version_eq-Decides}
+use Rattle.vet_base.specs.VersionOrder.{version_eq}
+use Rattle.vet_base.specs.VersionOrderLaws.{version_eq-Decides}
 use Rattle.vet_entries.specs.declared.step.Step.{Step}
 use Rattle.vet_graph.specs.declared.guarded.GuardedStep.{GuardedStep}
 use Rattle.vet_graph.specs.declared.search.Skip.{Skip}

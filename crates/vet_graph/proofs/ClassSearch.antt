@@ -9,7 +9,8 @@ use Rattle.std.proofs.lemmas.List.Elements.{All-head, All-tail}
 use Rattle.std.proofs.lemmas.List.Sorted.{searchable_from_sorted}
 use Rattle.std.proofs.lemmas.Bool.{cases_lt}
 use Rattle.vet_demand.specs.declared.pair.Pair.{Pair}
-use Rattle.vet_demand.specs.Pair.{pair_cmp, pair_cmp-IsAntisymmetric, pair_eq, pair_total}
+use Rattle.vet_demand.specs.Pair.{pair_cmp, pair_eq}
+use Rattle.vet_demand.specs.PairLaws.{pair_cmp-IsAntisymmetric, pair_total}
 use Rattle.vet_graph.specs.declared.standing.Stand.{Stand}
 use Rattle.vet_graph.specs.Standing.{class_in, IsStanding}
 use Rattle.vet_graph.proofs.Differences.{standing_head, standing_tail}

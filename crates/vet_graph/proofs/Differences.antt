@@ -8,7 +8,8 @@ use Rattle.std.proofs.lemmas.Bool.{cases_Bool}
 use Rattle.std.proofs.lemmas.List.Elements.{All-nil, All-cons, All-head, All-tail, All-append, All-weaker, Contains-append_right}
 use Rattle.std.proofs.lemmas.List.Kept.{AllPairs-cons}
 use Rattle.vet_demand.specs.declared.pair.Pair.{Pair}
-use Rattle.vet_demand.specs.Pair.{pair_cmp, pair_cmp-IsAntisymmetric, pair_eq, pair_eq-Decides, pair_total}
+use Rattle.vet_demand.specs.Pair.{pair_cmp, pair_eq}
+use Rattle.vet_demand.specs.PairLaws.{pair_cmp-IsAntisymmetric, pair_eq-Decides, pair_total}
 use Rattle.vet_graph.specs.declared.class.Class.{Class}
 use Rattle.vet_graph.specs.declared.moves.Move.{Move}
 use Rattle.vet_graph.specs.declared.standing.Stand.{Stand}

@@ -4,7 +4,8 @@ use Rattle.std.proofs.lemmas.Bool.{cases_Bool, cases_lt, false≢true}
 use Rattle.std.proofs.lemmas.List.{get_or_append_left, get_or_push, get_or-map, get_or-replicate, get_or-set_same, get_or-set_other, get_or_default, map-set, length-set, length-replicate, length_push}
 use Rattle.std.proofs.lemmas.List.Elements.{All-nil, All-push, All-weaker, Contains-append_left, Contains-push}
 use Rattle.vet_base.specs.Version.{VersionValue}
-use Rattle.vet_base.specs.VersionOrder.{version_eq, version_eq-Decides}
+use Rattle.vet_base.specs.VersionOrder.{version_eq}
+use Rattle.vet_base.specs.VersionOrderLaws.{version_eq-Decides}
 use Rattle.vet_graph.specs.declared.guarded.GuardedStep.{GuardedStep}
 use Rattle.vet_graph.specs.declared.links.Links.{Links}
 use Rattle.vet_graph.specs.Links.{AreFiled, AreFrom, AreHeads, IsLinked, Knows, lists_in, origin_at}

@@ -10,11 +10,14 @@ use Rattle.std.proofs.lemmas.Map.Made.{IsDistinct-from_AllPairs, length-le_from_
 use Rattle.std.proofs.lemmas.Bool.{and_parts, and_from, cases_lt, false≢true, not-true, not_from_false}
 use Rattle.vet_base.specs.CriteriaSet.{has}
 use Rattle.vet_base.specs.Version.{VersionValue}
-use Rattle.vet_base.specs.VersionOrder.{version_eq, version_eq-Decides}
+use Rattle.vet_base.specs.VersionOrder.{version_eq}
+use Rattle.vet_base.specs.VersionOrderLaws.{version_eq-Decides}
 use Rattle.vet_graph.specs.declared.guarded.GuardedStep.{GuardedStep}
 use Rattle.vet_graph.specs.declared.search.Terms.{Terms}
 use Rattle.vet_graph.specs.Chain.{Leads}
-use Rattle.vet_graph.specs.ListLaws.{AllPairs-head, AllPairs-tail, Contains-cons_cases, Contains-here, Contains-later, Contains-map}
+use Rattle.vet_graph.specs.ListLaws.{Contains-map}
+use Rattle.vet_base.proofs.ItemLemmas.{pairs_head, pairs_tail}
+use Rattle.vet_base.proofs.ListLemmas.{Contains-cons_cases, Contains-here, Contains-later}
 use Rattle.vet_graph.specs.declared.links.Links.{Links}
 use Rattle.vet_graph.specs.Links.{AreFrom, IsLinked, lists_in, origin_at}
 use Rattle.vet_graph.specs.Reaching.{IsDone, IsOpenChain, IsReaching, IsSound, LeadsFrom, LeadsOn, Stands, StandsBefore}
@@ -39,8 +42,8 @@ AllPairs-mapped : {X Y : Type 0} (R : Y → Y → Type 0) (f : X → Y) (xs : Li
     → AllPairs R (map f xs)
 AllPairs-mapped R f [] h = λ i j d l m. absurd (omega arith)
 AllPairs-mapped R f (x ∷ xs) h = AllPairs-cons R (f x) (map f xs)
-    (All-map (R (f x)) f xs (AllPairs-head (λ a b. R (f a) (f b)) x xs h))
-    (AllPairs-mapped R f xs (AllPairs-tail (λ a b. R (f a) (f b)) x xs h))
+    (All-map (R (f x)) f xs (pairs_head (λ a b. R (f a) (f b)) x xs h))
+    (AllPairs-mapped R f xs (pairs_tail (λ a b. R (f a) (f b)) x xs h))
 
 module _ (steps : List GuardedStep) (open_step : GuardedStep → Bool) where
   -- a chain goes on by an open step to a version that isn't on it

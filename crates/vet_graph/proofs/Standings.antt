@@ -14,10 +14,11 @@ use Rattle.vet_graph.specs.Chain.{Condemned, IsChain}
 use Rattle.vet_graph.specs.ClassAt.{class_at}
 use Rattle.vet_graph.specs.ClassAtLaws.{class_at-is, class_at-unique}
 use Rattle.vet_graph.specs.Class.{IsClass, IsClassOfPair}
-use Rattle.vet_graph.specs.ListLaws.{Contains-cons_cases, Contains-here, Contains-later}
+use Rattle.vet_base.proofs.ListLemmas.{Contains-cons_cases, Contains-here, Contains-later}
 use Rattle.std.proofs.lemmas.Bool.{false≢true}
 use Rattle.vet_graph.specs.declared.class.Class.{Class}
-use Rattle.vet_demand.specs.Pair.{IsInOrder, pair_eq, pair_eq-Decides}
+use Rattle.vet_demand.specs.Pair.{IsInOrder, pair_eq}
+use Rattle.vet_demand.specs.PairLaws.{pair_eq-Decides}
 use Rattle.vet_graph.specs.Standing.{IsStanding, class_in, pairs_of}
 use Rattle.vet_graph.specs.PackageSteps.{AreStepsOf}
 use Rattle.vet_graph.specs.StandingOf.{PairClassHolds, PairClassIsOnly, PairsStandAtTheirClass, class_of_pair, condemned_of, standing_of}

@@ -9,7 +9,8 @@ use Rattle.std.proofs.lemmas.List.Elements.{All-map, All-weaker, All-contains}
 use Rattle.std.proofs.lemmas.Map.Made.{IsDistinct-from_AllPairs, length-le_from_is_member, is_member-Decides}
 use Rattle.vet_base.specs.CriteriaSet.{has}
 use Rattle.vet_base.specs.Version.{VersionValue}
-use Rattle.vet_base.specs.VersionOrder.{same_or_other, version_eq, version_eq-Decides}
+use Rattle.vet_base.specs.VersionOrder.{version_eq}
+use Rattle.vet_base.specs.VersionOrderLaws.{same_or_other, version_eq-Decides}
 use Rattle.vet_entries.specs.declared.step.Step.{Step}
 use Rattle.vet_graph.specs.Chain.{Condemned, EndsReviewed, HasCleanChain, HasNoExempt, IsChain, IsClean, Leads}
 use Rattle.vet_graph.specs.Class.{IsConflicting}

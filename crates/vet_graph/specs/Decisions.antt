@@ -4,7 +4,8 @@ use Rattle.std.specs.List.{All, AllPairs, Contains, flat_map}
 use Rattle.std.proofs.Common.{refl, inl, inr, arith}
 use Rattle.std.proofs.lemmas.List.Elements.{All-nil, All-cons, All-head, All-tail}
 use Rattle.std.proofs.lemmas.List.Kept.{AllPairs-cons}
-use Rattle.vet_graph.specs.ListLaws.{AllPairs-head, AllPairs-tail, Contains-cons_cases, Contains-here, Contains-later}
+use Rattle.vet_base.proofs.ItemLemmas.{pairs_head, pairs_tail}
+use Rattle.vet_base.proofs.ListLemmas.{Contains-cons_cases, Contains-here, Contains-later}
 
 -- an answer to a question
 abbrev pub Answer : Type 0 → Type 0
@@ -54,7 +55,7 @@ pub each_pair : {X : Type 0} (R : X → X → Type 0) → ((x y : X) → Answer 
     → Answer (AllPairs R xs)
 each_pair R a [] = inl (λ i j d l m. absurd (omega arith))
 each_pair R a (x ∷ xs) = same_answer (λ h. AllPairs-cons R x xs h.0 h.1)
-    (λ h. (AllPairs-head R x xs h, AllPairs-tail R x xs h)) (both (each (R x) (a x) xs) (each_pair R a xs))
+    (λ h. (pairs_head R x xs h, pairs_tail R x xs h)) (both (each (R x) (a x) xs) (each_pair R a xs))
 
 -- all lists of at most n of the elements
 unfoldable pub lists_up_to : {X : Type 0} → ℕ → List X → List (List X)

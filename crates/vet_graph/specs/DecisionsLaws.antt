@@ -4,7 +4,8 @@ use Rattle.std.specs.List.{All, Contains}
 use Rattle.std.proofs.Common.{get_or, arith}
 use Rattle.std.proofs.lemmas.List.Elements.{All-nil, All-cons, All-head, All-tail, All-map, All-weaker, Contains-get_or}
 use Rattle.vet_graph.specs.Decisions.{lists_up_to}
-use Rattle.vet_graph.specs.ListLaws.{All-flat_map, Contains-flat_map, Contains-here, Contains-later, Contains-map}
+use Rattle.vet_graph.specs.ListLaws.{All-flat_map, Contains-flat_map, Contains-map}
+use Rattle.vet_base.proofs.ListLemmas.{Contains-here, Contains-later}
 
 -- each list of at most n of the elements is one of them, and each of them is of the elements
 pub Contains-lists_up_to : {X : Type 0} (n : ℕ) (xs l : List X) → length l ≤ n → All (Contains xs) l

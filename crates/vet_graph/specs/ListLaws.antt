@@ -5,22 +5,8 @@ use Rattle.std.proofs.Common.{refl, ◌∙◌, ap, inl, inr, arith}
 use Rattle.std.proofs.lemmas.List.{length-map, get_or-map}
 use Rattle.std.proofs.lemmas.List.Elements.{All-nil, All-head, All-tail, All-map, All-append, Contains-append_left, Contains-append_right}
 use Rattle.std.proofs.lemmas.List.Kept.{AllPairs-cons}
-
-pub Contains-here : {X : Type 0} (x : X) (xs : List X) → Contains (x ∷ xs) x
-Contains-here x xs = (0, omega arith, refl)
-
-pub Contains-later : {X : Type 0} (x y : X) (xs : List X) → Contains xs y → Contains (x ∷ xs) y
-Contains-later x y xs h = (suc h.0, omega (arith, h.1), h.2)
-
-pub Contains-cons_cases : {X : Type 0} (y : X) (ys : List X) (x : X) → Contains (y ∷ ys) x → (y ≡ x) ⊎ Contains ys x
-Contains-cons_cases y ys x (zero, l, e) = inl e
-Contains-cons_cases y ys x (suc k, l, e) = inr (k, omega arith, e)
-
-pub AllPairs-head : {X : Type 0} (R : X → X → Type 0) (x : X) (xs : List X) → AllPairs R (x ∷ xs) → All (R x) xs
-AllPairs-head R x xs h k d l = h 0 (suc k) d (omega arith) (omega arith)
-
-pub AllPairs-tail : {X : Type 0} (R : X → X → Type 0) (x : X) (xs : List X) → AllPairs R (x ∷ xs) → AllPairs R xs
-AllPairs-tail R x xs h i j d l m = h (suc i) (suc j) d (omega arith) (omega arith)
+use Rattle.vet_base.proofs.ItemLemmas.{pairs_head, pairs_tail}
+use Rattle.vet_base.proofs.ListLemmas.{Contains-cons_cases}
 
 pub Contains-map : {X Y : Type 0} (f : X → Y) (xs : List X) (x : X) → Contains xs x → Contains (map f xs) (f x)
 Contains-map f xs x h = (h.0, rw length-map h.1, get_or-map f xs h.0 x (f x) h.1 ∙ ap f h.2)
@@ -43,5 +29,5 @@ pub AllPairs-map : {X Y : Type 0} (f : X → Y) (xs : List X) → AllPairs (λ x
     → AllPairs (λ x y. x ≢ y) (map f xs)
 AllPairs-map f [] h = λ i j d l m. absurd (omega arith)
 AllPairs-map f (x ∷ xs) h = AllPairs-cons (λ a b. a ≢ b) (f x) (map f xs)
-    (All-map (λ b. f x ≢ b) f xs (AllPairs-head (λ a b. f a ≢ f b) x xs h))
-    (AllPairs-map f xs (AllPairs-tail (λ a b. f a ≢ f b) x xs h))
+    (All-map (λ b. f x ≢ b) f xs (pairs_head (λ a b. f a ≢ f b) x xs h))
+    (AllPairs-map f xs (pairs_tail (λ a b. f a ≢ f b) x xs h))
