@@ -9,7 +9,7 @@ use Rattle.std.specs.List.{list_any}
 use Rattle.std.specs.Option.{IfSome}
 use Rattle.std.specs.Ordering.{nat_cmp, eq_by_cmp, is_eq}
 use Rattle.toml.specs.Data.{Data, boolean, string, table}
-use Rattle.vet_base.specs.NameLaws.{any-members}
+use Rattle.vet_base.specs.NamesLaws.{any-members}
 use Rattle.vet_base.specs.Names.{NameSet, members}
 use Rattle.vet_demand.specs.declared.dependency_criteria.DependencyItem.{DependencyItem}
 use Rattle.vet_demand.specs.declared.policy.Policy.{Policy}
@@ -31,10 +31,12 @@ use Rattle.vet_files.proofs.KeysRead.{none_is_empty, optional_read, required_rea
 -- ---- what is left out
 
 -- a list in which nothing is found is empty
-none_found : (texts : List (List ℕ)) → ((t : List ℕ) → list_any (eq_by_cmp (slice_cmp nat_cmp) t) texts ≡ false) → texts ≡ []
+none_found : (texts : List (List ℕ)) → ((t : List ℕ) → list_any (eq_by_cmp (slice_cmp nat_cmp) t) texts ≡ false)
+    → texts ≡ []
 none_found [] none = refl
 none_found (t ∷ rest) none =
-    absurd (false≢true (sym (none t) ∙ ap (λ o. is_eq o || list_any (eq_by_cmp (slice_cmp nat_cmp) t) rest) (tied_itself nat_list_cmp_total t)))
+    absurd (false≢true (sym (none t) ∙ ap (λ o. is_eq o || list_any (eq_by_cmp (slice_cmp nat_cmp) t) rest)
+    (tied_itself nat_list_cmp_total t)))
 
 no_members_of : members set.empty ≡ []
 no_members_of = none_found (members set.empty) (λ t. any-members set.empty t ∙ set.contains-empty (slice_cmp nat_cmp) t)
@@ -56,25 +58,30 @@ no_length (x ∷ xs) e = absurd (omega (arith, e))
 
 -- a map in which nothing stands is the empty one
 no_entries : (m : NamesByName) → m ≡ finite.empty → finite.entries m ≡ []
-no_entries m none = no_length (finite.entries m) (sym (finite.len-entries m) ∙ ap finite.len none ∙ finite.len-empty (slice_cmp nat_cmp) NameSet)
+no_entries m none = no_length (finite.entries m)
+    (sym (finite.len-entries m) ∙ ap finite.len none ∙ finite.len-empty (slice_cmp nat_cmp) NameSet)
 
 none_mapped : (m : NamesByName) → finite.entries m ≡ [] → m ≡ finite.empty
 none_mapped m none = finite.empty_of_len m (finite.len-entries m ∙ ap length none)
 
 -- an empty map is left out, and another one is not
 pub empty_map_out : (m : NamesByName) → m ≡ finite.empty → None ≡ unless_empty (mapped_table m)
-empty_map_out m none = ap (λ es. unless_empty (members_from (map (λ e. (e.0, set_data e.1)) es))) (sym (no_entries m none))
+empty_map_out m none = ap (λ es. unless_empty (members_from (map (λ e. (e.0, set_data e.1)) es)))
+    (sym (no_entries m none))
 
-pub other_map_in : (m : NamesByName) → (m ≡ finite.empty → ⊥) → Some (table (mapped_table m)) ≡ unless_empty (mapped_table m)
+pub other_map_in : (m : NamesByName) → (m ≡ finite.empty → ⊥)
+    → Some (table (mapped_table m)) ≡ unless_empty (mapped_table m)
 other_map_in m some = by (finite.entries m) refl
   where
     by : (es : List (List ℕ × NameSet)) → finite.entries m ≡ es
-        → Some (table (members_from (map (λ e. (e.0, set_data e.1)) es))) ≡ unless_empty (members_from (map (λ e. (e.0, set_data e.1)) es))
+        → Some (table (members_from (map (λ e. (e.0, set_data e.1)) es)))
+        ≡ unless_empty (members_from (map (λ e. (e.0, set_data e.1)) es))
     by [] none = absurd (some (none_mapped m none))
     by (e ∷ rest) is = refl
 
 -- where there are edges, they are written
-pub edges_in : (items : List DependencyItem) → (length items == 0) ≡ false → Some (table (dependencies_table items)) ≡ unless_empty (dependencies_table items)
+pub edges_in : (items : List DependencyItem) → (length items == 0) ≡ false → Some (table (dependencies_table items))
+    ≡ unless_empty (dependencies_table items)
 edges_in [] some = cc some
 edges_in (i ∷ rest) some = refl
 
@@ -83,32 +90,41 @@ edges_in (i ∷ rest) some = refl
 pub peer_read : (p : PeerSettings) (mapped : Option NamesByName) (exclude : Option NameSet)
     → option_map (λ m. table (mapped_table m)) mapped ≡ unless_empty (mapped_table p.map) → or_no_map mapped ≡ p.map
     → option_map list_data exclude ≡ some_list p.exclude → or_none exclude ≡ p.exclude
-    → IfSome mapped (λ m. IsReadAs criteria_map (table (mapped_table m)) m) → IfSome exclude (λ s. IsReadAs package_names (list_data s) s)
+    → IfSome mapped (λ m. IsReadAs criteria_map (table (mapped_table m)) m)
+    → IfSome exclude (λ s. IsReadAs package_names (list_data s) s)
     → IsReadAs texts (set_data p.url) p.url → (path : List ℕ) → peer_told p.name path (peer_table p) ≡ Ok (one p 0)
 peer_read p mapped exclude map_written map_is exclude_written exclude_is map_read exclude_read url_read path =
     let fs = peer_fields p in
     let ms = peer_table p in
     let urls = required_read texts set_data path (codes "url") ms p.url (get_field (codes "url") fs) url_read in
-    let excluded = optional_read package_names list_data path (codes "exclude") ms exclude (get_field (codes "exclude") fs ∙ sym exclude_written) exclude_read in
-    let maps = optional_read criteria_map (λ m. table (mapped_table m)) path (codes "criteria-map") ms mapped (get_field (codes "criteria-map") fs ∙ sym map_written) map_read in
+    let excluded = optional_read package_names list_data path (codes "exclude") ms exclude
+    (get_field (codes "exclude") fs ∙ sym exclude_written) exclude_read in
+    let maps = optional_read criteria_map (λ m. table (mapped_table m)) path (codes "criteria-map") ms mapped
+    (get_field (codes "criteria-map") fs ∙ sym map_written) map_read in
     rw (urls, excluded, maps, none_unknown kind.Peer fs refl, exclude_is, map_is) refl
 
 -- ---- a policy
 
 pub policy_read : (p : Policy) (dependencies : Option (List DependencyItem))
-    → option_map (λ d. table (dependencies_table d)) dependencies ≡ unless_empty (dependencies_table p.dependency_criteria)
+    → option_map (λ d. table (dependencies_table d)) dependencies
+    ≡ unless_empty (dependencies_table p.dependency_criteria)
     → or_no_dependencies dependencies ≡ p.dependency_criteria
-    → IfSome p.audit_as_crates_io (λ b. IsReadAs a_flag (boolean b) b) → IfSome p.criteria (λ s. IsReadAs names (set_data s) s)
+    → IfSome p.audit_as_crates_io (λ b. IsReadAs a_flag (boolean b) b)
+    → IfSome p.criteria (λ s. IsReadAs names (set_data s) s)
     → IfSome dependencies (λ d. IsReadAs dependency_criteria (table (dependencies_table d)) d)
     → IfSome p.dev_criteria (λ s. IsReadAs names (set_data s) s) → IfSome p.notes (λ x. IsReadAs a_text (string x) x)
     → (path : List ℕ) → policy_told path (policy_table p) ≡ Ok (record { content = p; notices = no_notices })
 policy_read p dependencies written is flag_read criteria_read dependencies_read dev_read notes_read path =
     let fs = policy_fields p in
     let ms = policy_table p in
-    let flags = optional_read a_flag boolean path (codes "audit-as-crates-io") ms p.audit_as_crates_io (get_field (codes "audit-as-crates-io") fs) flag_read in
-    let criteria = optional_read names set_data path (codes "criteria") ms p.criteria (get_field (codes "criteria") fs) criteria_read in
-    let devs = optional_read names set_data path (codes "dev-criteria") ms p.dev_criteria (get_field (codes "dev-criteria") fs) dev_read in
-    let edges = optional_read dependency_criteria (λ d. table (dependencies_table d)) path (codes "dependency-criteria") ms dependencies
+    let flags = optional_read a_flag boolean path (codes "audit-as-crates-io") ms p.audit_as_crates_io
+    (get_field (codes "audit-as-crates-io") fs) flag_read in
+    let criteria = optional_read names set_data path (codes "criteria") ms p.criteria (get_field (codes "criteria") fs)
+    criteria_read in
+    let devs = optional_read names set_data path (codes "dev-criteria") ms p.dev_criteria
+    (get_field (codes "dev-criteria") fs) dev_read in
+    let edges = optional_read dependency_criteria (λ d. table (dependencies_table d)) path (codes "dependency-criteria")
+    ms dependencies
     (get_field (codes "dependency-criteria") fs ∙ sym written) dependencies_read in
     let notes = optional_read a_text string path (codes "notes") ms p.notes (get_field (codes "notes") fs) notes_read in
     rw (flags, criteria, devs, edges, notes, none_unknown kind.Policy fs refl, is) refl

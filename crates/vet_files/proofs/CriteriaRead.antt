@@ -13,19 +13,24 @@ use Rattle.vet_files.proofs.Fields.{Fields, get_field, none_unknown}
 use Rattle.vet_files.proofs.KeysRead.{optional_read, optional_set_read}
 
 abbrev criterion_fields : Criterion → Fields
-criterion_fields c = (codes "description", some_text c.description) ∷ (codes "description-url", some_text c.url) ∷ (codes "implies", some_set c.implies) ∷ []
+criterion_fields c = (codes "description", some_text c.description) ∷ (codes "description-url", some_text c.url) ∷
+    (codes "implies", some_set c.implies) ∷ []
 
 pub criterion_read : (c : Criterion) → is_name c.name ≡ true → IfSome c.description (λ t. IsReadAs a_text (string t) t)
-    → IfSome c.url (λ t. IsReadAs a_text (string t) t) → IsReadAs names (set_data c.implies) c.implies → ReadsCriterion c
+    → IfSome c.url (λ t. IsReadAs a_text (string t) t) → IsReadAs names (set_data c.implies) c.implies
+    → ReadsCriterion c
 criterion_read c named description url implies = record {
   named = named;
   read = λ path. (
       let fs = criterion_fields c in
       let ms = fields fs in
-      let (o, (told, is)) = optional_set_read names set_data path (codes "implies") ms c.implies (get_field (codes "implies") fs) implies in
+      let (o, (told, is)) = optional_set_read names set_data path (codes "implies") ms c.implies
+      (get_field (codes "implies") fs) implies in
       rw (
-        optional_read a_text string path (codes "description") ms c.description (get_field (codes "description") fs) description,
-        optional_read a_text string path (codes "description-url") ms c.url (get_field (codes "description-url") fs) url,
+        optional_read a_text string path (codes "description") ms c.description (get_field (codes "description") fs)
+            description,
+        optional_read a_text string path (codes "description-url") ms c.url (get_field (codes "description-url") fs)
+            url,
         told,
         is,
         none_unknown kind.Criterion fs refl,

@@ -25,7 +25,7 @@ use Rattle.vet_files.specs.declared.audits_file.AuditsContent.{AuditsContent}
 use Rattle.vet_files.specs.declared.config_file.ConfigContent.{ConfigContent}
 use Rattle.vet_files.specs.declared.imports_file.ImportedPeer.{ImportedPeer}
 use Rattle.vet_files.specs.declared.imports_file.ImportsContent.{ImportsContent}
-use Rattle.vet_files.specs.declared.listing.Listing.TheVariants as listing
+use Rattle.vet_files.specs.declared.write.sections.Listing.TheVariants as listing
 use Rattle.vet_files.specs.AuditsTable.{audits_file_fields, audits_file_table, audits_table, criteria_table, criterion_fields, criterion_table}
 use Rattle.vet_files.specs.ConfigTable.{cargo_vet_table, config_fields, config_table, dependencies_table, exemptions_table, mapped_table, optional_set, peer_fields, peer_table, peers_table, policies_table, policy_fields, policy_table}
 use Rattle.vet_files.specs.EntryTables.{entry_fields, entry_items, entry_table, listed_entries, of_package, package_lists, some_flag, some_text}
@@ -55,28 +55,35 @@ pub members_within : (n : ℕ) (ps : List (List ℕ × Data)) → PairsWithin n 
 members_within n [] h = omega arith
 members_within n (p ∷ rest) h = omega (arith, h.0, members_within n rest h.1)
 
-put_within : (n : ℕ) (k : List ℕ) (d : Data) (ps : List (List ℕ × Data)) → depth d ≤ n → PairsWithin n ps → PairsWithin n (put (slice_cmp nat_cmp) k d ps)
+put_within : (n : ℕ) (k : List ℕ) (d : Data) (ps : List (List ℕ × Data)) → depth d ≤ n → PairsWithin n ps
+    → PairsWithin n (put (slice_cmp nat_cmp) k d ps)
 put_within n k d [] here h = (here, tt)
 put_within n k d (p ∷ rest) here h =
-    elim (slice_cmp nat_cmp k p.0) as (λ o. PairsWithin n (by_order o ((k, d) ∷ p ∷ rest) ((p.0, d) ∷ rest) (p ∷ put (slice_cmp nat_cmp) k d rest))) [
+    elim (slice_cmp nat_cmp k p.0)
+    as (λ o. PairsWithin n
+    (by_order o ((k, d) ∷ p ∷ rest) ((p.0, d) ∷ rest) (p ∷ put (slice_cmp nat_cmp) k d rest))) [
       | Less ↦ (here, h)
       | Equal ↦ (here, h.1)
       | Greater ↦ (h.0, put_within n k d rest here h.1)
     ]
 
-put_all_within : (n : ℕ) (found ps : List (List ℕ × Data)) → PairsWithin n found → PairsWithin n ps → PairsWithin n (put_all found ps)
+put_all_within : (n : ℕ) (found ps : List (List ℕ × Data)) → PairsWithin n found → PairsWithin n ps
+    → PairsWithin n (put_all found ps)
 put_all_within n found [] before h = before
-put_all_within n found (p ∷ rest) before h = put_all_within n (put (slice_cmp nat_cmp) p.0 p.1 found) rest (put_within n p.0 p.1 found h.0 before) h.1
+put_all_within n found (p ∷ rest) before h = put_all_within n (put (slice_cmp nat_cmp) p.0 p.1 found) rest
+    (put_within n p.0 p.1 found h.0 before) h.1
 
 pub by_name_within : (n : ℕ) (ps : List (List ℕ × Data)) → PairsWithin n ps → members_depth (by_name ps) ≤ n
 by_name_within n ps h = members_within n (put_all [] ps) (put_all_within n [] ps tt h)
 
 -- pairs made of a list
-pub pairs_within : {X : Type 0} (n : ℕ) (name : X → List ℕ) (value : X → Data) → ((x : X) → depth (value x) ≤ n) → (xs : List X) → PairsWithin n (map (λ x. (name x, value x)) xs)
+pub pairs_within : {X : Type 0} (n : ℕ) (name : X → List ℕ) (value : X → Data) → ((x : X) → depth (value x) ≤ n)
+    → (xs : List X) → PairsWithin n (map (λ x. (name x, value x)) xs)
 pairs_within n name value each [] = tt
 pairs_within n name value each (x ∷ xs) = (each x, pairs_within n name value each xs)
 
-pub items_within : {X : Type 0} (n : ℕ) (value : X → Data) → ((x : X) → depth (value x) ≤ n) → (xs : List X) → items_depth (items_of (map value xs)) ≤ n
+pub items_within : {X : Type 0} (n : ℕ) (value : X → Data) → ((x : X) → depth (value x) ≤ n) → (xs : List X)
+    → items_depth (items_of (map value xs)) ≤ n
 items_within n value each [] = omega arith
 items_within n value each (x ∷ xs) = omega (arith, each x, items_within n value each xs)
 
@@ -133,33 +140,58 @@ deeper n h = omega (arith, h)
 
 -- ---- audits files
 
-entry_kind_within : (criteria : Data) (notes : Option Data) (kind : Kind) → depth criteria ≤ 1 → option_depth notes ≤ 1 → members_depth (fields (entry_fields criteria notes kind)) ≤ 1
-entry_kind_within c n (Full v a) h k = fields_within 1 (entry_fields c n (Full v a)) (h, (flag_within a.importable, (k, (omega arith, (some_set_within a.who, tt)))))
-entry_kind_within c n (Delta d a) h k = fields_within 1 (entry_fields c n (Delta d a)) (h, (omega arith, (flag_within a.importable, (k, (some_set_within a.who, tt)))))
-entry_kind_within c n (Violation r a) h k = fields_within 1 (entry_fields c n (Violation r a)) (h, (flag_within a.importable, (k, (omega arith, (some_set_within a.who, tt)))))
-entry_kind_within c n (Wildcard w g) h k = fields_within 1 (entry_fields c n (Wildcard w g)) (h, (omega arith, (k, (flag_within g.renew, (omega arith, (omega arith, (some_set_within g.who, tt)))))))
-entry_kind_within c n (Trusted w) h k = fields_within 1 (entry_fields c n (Trusted w)) (h, (omega arith, (k, (omega arith, (omega arith, tt)))))
-entry_kind_within c n (Exemption v s) h k = fields_within 1 (entry_fields c n (Exemption v s)) (h, (k, (flag_within s, (omega arith, tt))))
+entry_kind_within : (criteria : Data) (notes : Option Data) (kind : Kind) → depth criteria ≤ 1 → option_depth notes ≤ 1
+    → members_depth (fields (entry_fields criteria notes kind)) ≤ 1
+entry_kind_within c n (Full v a) h k = fields_within 1 (entry_fields c n (Full v a))
+    (h, (flag_within a.importable, (k, (omega arith, (some_set_within a.who, tt)))))
+entry_kind_within c n (Delta d a) h k = fields_within 1 (entry_fields c n (Delta d a))
+    (h, (omega arith, (flag_within a.importable, (k, (some_set_within a.who, tt)))))
+entry_kind_within c n (Violation r a) h k = fields_within 1 (entry_fields c n (Violation r a))
+    (h, (flag_within a.importable, (k, (omega arith, (some_set_within a.who, tt)))))
+entry_kind_within c n (Wildcard w g) h k = fields_within 1 (entry_fields c n (Wildcard w g))
+    (h, (omega arith, (k, (flag_within g.renew, (omega arith, (omega arith, (some_set_within g.who, tt)))))))
+entry_kind_within c n (Trusted w) h k = fields_within 1 (entry_fields c n (Trusted w))
+    (h, (omega arith, (k, (omega arith, (omega arith, tt)))))
+entry_kind_within c n (Exemption v s) h k = fields_within 1 (entry_fields c n (Exemption v s))
+    (h, (k, (flag_within s, (omega arith, tt))))
 
 entry_within : (e : Entry) → members_depth (entry_table e) ≤ 1
-entry_within e = entry_kind_within (set_data e.criteria) (some_text e.notes) e.kind (set_within e.criteria) (text_within e.notes)
+entry_within e = entry_kind_within (set_data e.criteria) (some_text e.notes) e.kind (set_within e.criteria)
+    (text_within e.notes)
 
 lists_within : (es : List Entry) → members_depth (package_lists es) ≤ 3
 lists_within es =
-    let items : (xs : List Entry) → items_depth (entry_items xs) ≤ 2 = λ xs. items_within 2 (λ e. table (entry_table e)) (λ e. omega (arith, entry_within e)) xs in
-    by_name_within 3 _ (pairs_within 3 (λ (e : Entry). e.«package») (λ (e : Entry). array (entry_items (of_package e.«package» es))) (λ e. omega (arith, items (of_package e.«package» es))) es)
+    let items : (xs : List Entry) → items_depth (entry_items xs) ≤ 2 = λ xs. items_within 2 (λ e. table (entry_table e))
+    (λ e. omega (arith, entry_within e)) xs in
+    by_name_within 3 _ (pairs_within 3 (λ (e : Entry). e.«package»)
+    (λ (e : Entry). array (entry_items (of_package e.«package» es)))
+    (λ e. omega (arith, items (of_package e.«package» es))) es)
 
 criterion_within : (c : Criterion) → members_depth (criterion_table c) ≤ 1
-criterion_within c = fields_within 1 (criterion_fields c) (text_within c.description, (text_within c.url, (some_set_within c.implies, tt)))
+criterion_within c = fields_within 1 (criterion_fields c)
+    (text_within c.description, (text_within c.url, (some_set_within c.implies, tt)))
 
 criteria_within : (cs : List Criterion) → members_depth (criteria_table cs) ≤ 2
-criteria_within cs = by_name_within 2 _ (pairs_within 2 (λ (c : Criterion). c.name) (λ c. table (criterion_table c)) (λ c. omega (arith, criterion_within c)) cs)
+criteria_within cs = by_name_within 2 _
+    (pairs_within 2 (λ (c : Criterion). c.name) (λ c. table (criterion_table c))
+    (λ c. omega (arith, criterion_within c)) cs)
 
-pub audits_file_within : (exclude : NameSet) (criteria : List Criterion) (entries : List Entry) → members_depth (audits_file_table exclude criteria entries) ≤ 4
+pub audits_file_within : (exclude : NameSet) (criteria : List Criterion) (entries : List Entry)
+    → members_depth (audits_file_table exclude criteria entries) ≤ 4
 audits_file_within exclude criteria entries =
-    let lists : (xs : List Entry) → option_depth (unless_empty (package_lists xs)) ≤ 4 = λ xs. unless_empty_within 3 (package_lists xs) (lists_within xs) in
+    let lists : (xs : List Entry) → option_depth (unless_empty (package_lists xs)) ≤ 4 =
+    λ xs. unless_empty_within 3 (package_lists xs) (lists_within xs) in
     let defined = unless_empty_within 3 (criteria_table criteria) (omega (arith, criteria_within criteria)) in
-    fields_within 4 (audits_file_fields exclude criteria entries) (table_here 3 _ (lists_within (listed_entries listing.Audits exclude entries)), (defined, (lists (listed_entries listing.Trusted exclude entries), (lists (listed_entries listing.WildcardAudits exclude entries), tt))))
+    fields_within 4 (audits_file_fields exclude criteria entries) (
+      table_here 3 _ (lists_within (listed_entries listing.Audits exclude entries)),
+      (
+        defined,
+        (
+          lists (listed_entries listing.Trusted exclude entries),
+          (lists (listed_entries listing.WildcardAudits exclude entries), tt),
+        ),
+      ),
+    )
 
 pub audits_depth : (content : AuditsContent) → members_depth (audits_table content) ≤ 80
 audits_depth content = omega (arith, audits_file_within set.empty content.criteria content.entries)
@@ -167,24 +199,45 @@ audits_depth content = omega (arith, audits_file_within set.empty content.criter
 -- ---- config files
 
 mapped_within : (m : NamesByName) → members_depth (mapped_table m) ≤ 1
-mapped_within m = members_within 1 _ (pairs_within 1 (λ p. p.0) (λ p. set_data p.1) (λ p. set_within p.1) (finite.entries m))
+mapped_within m = members_within 1 _
+    (pairs_within 1 (λ p. p.0) (λ p. set_data p.1) (λ p. set_within p.1) (finite.entries m))
 
 dependencies_within : (items : List DependencyItem) → members_depth (dependencies_table items) ≤ 1
-dependencies_within items = members_within 1 _ (pairs_within 1 (λ (i : DependencyItem). i.«package») (λ i. set_data i.criteria) (λ i. set_within i.criteria) items)
+dependencies_within items =
+    members_within 1 _ (pairs_within 1 (λ (i : DependencyItem). i.«package») (λ i. set_data i.criteria)
+    (λ i. set_within i.criteria) items)
 
 peer_within : (p : PeerSettings) → members_depth (peer_table p) ≤ 2
 peer_within p =
-    fields_within 2 (peer_fields p) (unless_empty_within 1 (mapped_table p.map) (mapped_within p.map), (more _ (unless_none_within (members p.exclude) (list_data p.exclude) (list_within p.exclude)), (more _ (set_within p.url), tt)))
+    fields_within 2 (peer_fields p) (
+      unless_empty_within 1 (mapped_table p.map) (mapped_within p.map),
+      (
+        more _ (unless_none_within (members p.exclude) (list_data p.exclude) (list_within p.exclude)),
+        (more _ (set_within p.url), tt),
+      ),
+    )
 
 peers_within : (ps : List PeerSettings) → members_depth (peers_table ps) ≤ 3
-peers_within ps = by_name_within 3 _ (pairs_within 3 (λ (p : PeerSettings). p.name) (λ p. table (peer_table p)) (λ p. omega (arith, peer_within p)) ps)
+peers_within ps = by_name_within 3 _
+    (pairs_within 3 (λ (p : PeerSettings). p.name) (λ p. table (peer_table p)) (λ p. omega (arith, peer_within p)) ps)
 
 policy_within : (p : Policy) → members_depth (policy_table p) ≤ 2
 policy_within p =
-    fields_within 2 (policy_fields p) (more _ (flag_within p.audit_as_crates_io), (more _ (optional_set_within p.criteria), (unless_empty_within 1 (dependencies_table p.dependency_criteria) (dependencies_within p.dependency_criteria), (more _ (optional_set_within p.dev_criteria), (more _ (text_within p.notes), tt)))))
+    fields_within 2 (policy_fields p) (
+      more _ (flag_within p.audit_as_crates_io),
+      (
+        more _ (optional_set_within p.criteria),
+        (
+          unless_empty_within 1 (dependencies_table p.dependency_criteria) (dependencies_within p.dependency_criteria),
+          (more _ (optional_set_within p.dev_criteria), (more _ (text_within p.notes), tt)),
+        ),
+      ),
+    )
 
 policies_within : (ps : List KeyedPolicy) → members_depth (policies_table ps) ≤ 3
-policies_within ps = by_name_within 3 _ (pairs_within 3 (λ (p : KeyedPolicy). key_text p.key) (λ p. table (policy_table p.policy)) (λ p. omega (arith, policy_within p.policy)) ps)
+policies_within ps = by_name_within 3 _
+    (pairs_within 3 (λ (p : KeyedPolicy). key_text p.key) (λ p. table (policy_table p.policy))
+    (λ p. omega (arith, policy_within p.policy)) ps)
 
 cargo_vet_within : (o : Option (List ℕ)) → option_depth (option_map (λ v. table (cargo_vet_table v)) o) ≤ 4
 cargo_vet_within None = omega arith
@@ -192,25 +245,50 @@ cargo_vet_within (Some v) = omega arith
 
 pub config_depth : (content : ConfigContent) → members_depth (config_table content) ≤ 80
 config_depth content =
-    let whole : members_depth (config_table content) ≤ 4 = fields_within 4 (config_fields content) (cargo_vet_within content.vet_version, (most _ (optional_set_within content.default_criteria), (unless_empty_within 3 (exemptions_table content.exemptions) (lists_within (listed_entries listing.Exemptions set.empty content.exemptions)), (unless_empty_within 3 (peers_table content.peers) (peers_within content.peers), (unless_empty_within 3 (policies_table content.policies) (policies_within content.policies), tt))))) in
+    let whole : members_depth (config_table content) ≤ 4 = fields_within 4 (config_fields content) (
+      cargo_vet_within content.vet_version,
+      (
+        most _ (optional_set_within content.default_criteria),
+        (
+          unless_empty_within 3 (exemptions_table content.exemptions)
+              (lists_within (listed_entries listing.Exemptions set.empty content.exemptions)),
+          (
+            unless_empty_within 3 (peers_table content.peers) (peers_within content.peers),
+            (unless_empty_within 3 (policies_table content.policies) (policies_within content.policies), tt),
+          ),
+        ),
+      ),
+    ) in
     omega (arith, whole)
 
 -- ---- imports files
 
 publisher_within : (p : Publisher) → members_depth (publisher_table p) ≤ 1
-publisher_within p = fields_within 1 (publisher_fields p) (omega arith, (text_within p.login, (text_within p.name, (omega arith, (omega arith, tt)))))
+publisher_within p = fields_within 1 (publisher_fields p)
+    (omega arith, (text_within p.login, (text_within p.name, (omega arith, (omega arith, tt)))))
 
 publishers_within : (ps : List PackagePublishers) → members_depth (publishers_table ps) ≤ 3
 publishers_within ps =
-    let items : (xs : List Publisher) → items_depth (publisher_items xs) ≤ 2 = λ xs. items_within 2 (λ p. table (publisher_table p)) (λ p. omega (arith, publisher_within p)) xs in
-    by_name_within 3 _ (pairs_within 3 (λ (p : PackagePublishers). p.«package») (λ p. array (publisher_items p.publishers)) (λ p. omega (arith, items p.publishers)) ps)
+    let items : (xs : List Publisher)
+    → items_depth (publisher_items xs) ≤ 2 = λ xs. items_within 2 (λ p. table (publisher_table p))
+    (λ p. omega (arith, publisher_within p)) xs in
+    by_name_within 3 _ (pairs_within 3 (λ (p : PackagePublishers). p.«package»)
+    (λ p. array (publisher_items p.publishers)) (λ p. omega (arith, items p.publishers)) ps)
 
-imported_within : (settings : List PeerSettings) (ps : List ImportedPeer) → members_depth (imported_peers_table settings ps) ≤ 5
+imported_within : (settings : List PeerSettings) (ps : List ImportedPeer)
+    → members_depth (imported_peers_table settings ps) ≤ 5
 imported_within settings ps =
     by_name_within 5 _ (pairs_within 5 (λ (p : ImportedPeer). p.name) (λ p. table (imported_peer_table settings p))
     (λ p. omega (arith, audits_file_within (excluded_of settings p.name) p.content.criteria p.content.entries)) ps)
 
-pub imports_depth : (settings : List PeerSettings) (content : ImportsContent) → members_depth (imports_table settings content) ≤ 80
+pub imports_depth : (settings : List PeerSettings) (content : ImportsContent)
+    → members_depth (imports_table settings content) ≤ 80
 imports_depth settings content =
-    let whole : members_depth (imports_table settings content) ≤ 6 = fields_within 6 (imports_fields settings content) (table_here 5 _ (imported_within settings content.peers), (unless_empty_within 5 (publishers_table content.publishers) (deeper _ (publishers_within content.publishers)), tt)) in
+    let whole : members_depth (imports_table settings content) ≤ 6 = fields_within 6 (imports_fields settings content) (
+      table_here 5 _ (imported_within settings content.peers),
+      (
+        unless_empty_within 5 (publishers_table content.publishers) (deeper _ (publishers_within content.publishers)),
+        tt,
+      ),
+    ) in
     omega (arith, whole)

@@ -26,12 +26,12 @@ use Rattle.vet_files.specs.OfKind.{of_kind}
 use Rattle.vet_files.specs.ReadAgain.{IsReadAs, ReadsEntry, is_taken, reading_of}
 use Rattle.vet_files.specs.Tables.{fields, set_data, some_set}
 use Rattle.vet_files.specs.declared.keys.TableKind.TheVariants as kind
-use Rattle.vet_files.specs.declared.subject.Subject.{Subject}
-use Rattle.vet_files.specs.declared.subject.SubjectKey.{SubjectKey}
-use Rattle.vet_files.specs.declared.subject.Subject.TheVariants as subject
-use Rattle.vet_files.specs.declared.subject.SubjectKey.TheVariants as key
-use Rattle.vet_files.specs.declared.whose.Whose.{Whose}
-use Rattle.vet_files.specs.declared.whose.Whose.TheVariants.{Ours, Peers}
+use Rattle.vet_files.specs.declared.read.subject.Subject.{Subject}
+use Rattle.vet_files.specs.declared.read.subject.SubjectKey.{SubjectKey}
+use Rattle.vet_files.specs.declared.read.subject.Subject.TheVariants as subject
+use Rattle.vet_files.specs.declared.read.subject.SubjectKey.TheVariants as key
+use Rattle.vet_files.specs.declared.read.whose.Whose.{Whose}
+use Rattle.vet_files.specs.declared.read.whose.Whose.TheVariants.{Ours, Peers}
 use Rattle.vet_files.proofs.Fields.{Fields, all_known, field_at, get_field, none_unknown}
 use Rattle.vet_files.proofs.KeysRead.{optional_read, optional_set_read, required_read}
 
@@ -67,20 +67,29 @@ own_source (Peer name) own = absurd (false≢true own)
 abbrev KindRead : Entry → Kind → Type 0
 KindRead e what =
     (whose : Whose) → is_taken whose what ≡ true → (path : List ℕ)
-    → reading_of whose what e.«package» path (fields (fields_of e what)) ≡ Ok (one (own_entry e.«package» what e.criteria e.notes) 0)
+    → reading_of whose what e.«package» path (fields (fields_of e what))
+    ≡ Ok (one (own_entry e.«package» what e.criteria e.notes) 0)
 
 of_own : (e : Entry) (what : Kind) → is_package_name e.«package» ≡ true → KindRead e what → ReadsEntry (of_kind e what)
 of_own e what named reads = record {
   named = named;
   read = λ whose own taken path. (
       reads whose taken path
-      ∙ ap (λ s. Ok (one (record { source = s; «package» = e.«package»; kind = what; criteria = e.criteria; notes = e.notes }) 0)) (sym (own_source e.source own)));
+      ∙ ap (λ s. Ok (one (record {
+        source = s;
+        «package» = e.«package»;
+        kind = what;
+        criteria = e.criteria;
+        notes =
+            e.notes;
+      }) 0)) (sym (own_source e.source own)));
 }
 
 -- ---- audits
 
 -- an audit that is taken isn't withheld
-not_withheld : (whose : Whose) (what : Kind) (importable : Option Bool) (ms : Members) → is_peer_kind what ≡ may_import importable → is_taken whose what ≡ true
+not_withheld : (whose : Whose) (what : Kind) (importable : Option Bool) (ms : Members)
+    → is_peer_kind what ≡ may_import importable → is_taken whose what ≡ true
     → get_member (codes "importable") ms ≡ some_flag importable → is_withheld whose ms ≡ false
 not_withheld Ours what importable ms same taken at = refl
 not_withheld Peers what None ms same taken at = ap is_no at
@@ -95,55 +104,77 @@ record AuditAt (e : Entry) (a : Audit) (fs : Fields) : Type 0 where
   who : field_at (codes "who") fs ≡ some_set a.who
   known : all_known kind.Audit fs ≡ true
 
-audit_read : (e : Entry) (a : Audit) (whose : Whose) (path : List ℕ) (fs : Fields) (first : SubjectKey) (what : Subject) → AuditAt e a fs
-    → first_key (fields fs) ≡ Some first → subject_told path (fields fs) first ≡ Ok what → is_peer_kind (audit_kind what a) ≡ may_import a.importable
+audit_read : (e : Entry) (a : Audit) (whose : Whose) (path : List ℕ) (fs : Fields) (first : SubjectKey) (what : Subject)
+    → AuditAt e a fs
+    → first_key (fields fs) ≡ Some first → subject_told path (fields fs) first ≡ Ok what
+    → is_peer_kind (audit_kind what a) ≡ may_import a.importable
     → is_taken whose (audit_kind what a) ≡ true → ValuesRead e → FlagRead a.importable → WhoRead a.who
-    → audit_told whose e.«package» path (fields fs) ≡ Ok (one (own_entry e.«package» (audit_kind what a) e.criteria e.notes) 0)
+    → audit_told whose e.«package» path (fields fs)
+    ≡ Ok (one (own_entry e.«package» (audit_kind what a) e.criteria e.notes) 0)
 audit_read e a whose path fs first what at is_first told same taken values importable who =
     let ms = fields fs in
     let importable_at = get_field (codes "importable") fs ∙ at.importable in
-    let (o, (who_told, is)) = optional_set_read texts set_data path (codes "who") ms a.who (get_field (codes "who") fs ∙ at.who) who in
-    ap (λ b. if b then Ok skipped else audit_of e.«package» path ms (first_key ms)) (not_withheld whose (audit_kind what a) a.importable ms same taken importable_at)
+    let (o, (who_told, is)) = optional_set_read texts set_data path (codes "who") ms a.who
+    (get_field (codes "who") fs ∙ at.who) who in
+    ap (λ b. if b then Ok skipped else audit_of e.«package» path ms (first_key ms))
+    (not_withheld whose (audit_kind what a) a.importable ms same taken importable_at)
     ∙ ap (audit_of e.«package» path ms) is_first
     ∙ rw (
-      required_read names set_data path (codes "criteria") ms e.criteria (get_field (codes "criteria") fs ∙ at.criteria) values.criteria,
+      required_read names set_data path (codes "criteria") ms e.criteria (get_field (codes "criteria") fs ∙ at.criteria)
+          values.criteria,
       told,
       who_told,
-      optional_read a_text string path (codes "notes") ms e.notes (get_field (codes "notes") fs ∙ at.notes) values.notes,
+      optional_read a_text string path (codes "notes") ms e.notes (get_field (codes "notes") fs ∙ at.notes)
+          values.notes,
       optional_read a_flag boolean path (codes "importable") ms a.importable importable_at importable,
       is,
       none_unknown kind.Audit fs at.known,
     )
     refl
 
-pub full_read : (e : Entry) (v : VersionValue) (a : Audit) → ValuesRead e → FlagRead a.importable → WhoRead a.who → IsReadAs a_version (string (version_text v)) v
+pub full_read : (e : Entry) (v : VersionValue) (a : Audit) → ValuesRead e → FlagRead a.importable → WhoRead a.who
+    → IsReadAs a_version (string (version_text v)) v
     → ReadsEntry (of_kind e (Full v a))
 full_read e v a values importable who version = of_own e (Full v a) values.named (λ whose taken path. (
     let fs = fields_of e (Full v a) in
-    let told = required_read a_version (λ x. string (version_text x)) path (codes "version") (fields fs) v (get_field (codes "version") fs) version in
-    audit_read e a whose path fs key.Version (subject.Full v) record { criteria = refl; importable = refl; notes = refl; who = refl; known = refl }
-    (rw (get_field (codes "version") fs) refl) (rw (told, get_field (codes "delta") fs, get_field (codes "violation") fs) refl) refl taken values importable who))
+    let told = required_read a_version (λ x. string (version_text x)) path (codes "version") (fields fs) v
+    (get_field (codes "version") fs) version in
+    audit_read e a whose path fs key.Version (subject.Full v) record
+    { criteria = refl; importable = refl; notes = refl; who = refl; known = refl }
+    (rw (get_field (codes "version") fs) refl)
+    (rw (told, get_field (codes "delta") fs, get_field (codes "violation") fs) refl) refl taken values importable
+    who))
 
-pub delta_read : (e : Entry) (d : Change) (a : Audit) → ValuesRead e → FlagRead a.importable → WhoRead a.who → IsReadAs a_delta (string (delta_text d)) d
+pub delta_read : (e : Entry) (d : Change) (a : Audit) → ValuesRead e → FlagRead a.importable → WhoRead a.who
+    → IsReadAs a_delta (string (delta_text d)) d
     → ReadsEntry (of_kind e (Delta d a))
 delta_read e d a values importable who delta = of_own e (Delta d a) values.named (λ whose taken path. (
     let fs = fields_of e (Delta d a) in
-    let told = required_read a_delta (λ x. string (delta_text x)) path (codes "delta") (fields fs) d (get_field (codes "delta") fs) delta in
-    audit_read e a whose path fs key.Delta (subject.Delta d) record { criteria = refl; importable = refl; notes = refl; who = refl; known = refl }
-    (rw (get_field (codes "version") fs) refl) (rw (told, get_field (codes "violation") fs) refl) refl taken values importable who))
+    let told = required_read a_delta (λ x. string (delta_text x)) path (codes "delta") (fields fs) d
+    (get_field (codes "delta") fs) delta in
+    audit_read e a whose path fs key.Delta (subject.Delta d) record
+    { criteria = refl; importable = refl; notes = refl; who = refl; known = refl }
+    (rw (get_field (codes "version") fs) refl) (rw (told, get_field (codes "violation") fs) refl) refl taken values
+    importable who))
 
-pub violation_read : (e : Entry) (req : List ℕ) (a : Audit) → ValuesRead e → FlagRead a.importable → WhoRead a.who → IsReadAs a_requirement (string req) req
+pub violation_read : (e : Entry) (req : List ℕ) (a : Audit) → ValuesRead e → FlagRead a.importable → WhoRead a.who
+    → IsReadAs a_requirement (string req) req
     → ReadsEntry (of_kind e (Violation req a))
 violation_read e req a values importable who violation = of_own e (Violation req a) values.named (λ whose taken path. (
     let fs = fields_of e (Violation req a) in
-    let told = required_read a_requirement string path (codes "violation") (fields fs) req (get_field (codes "violation") fs) violation in
-    audit_read e a whose path fs key.Violation (subject.Violation req) record { criteria = refl; importable = refl; notes = refl; who = refl; known = refl }
-    (rw (get_field (codes "version") fs, get_field (codes "delta") fs, get_field (codes "violation") fs) refl) (rw told refl) refl taken values importable who))
+    let told = required_read a_requirement string path (codes "violation") (fields fs) req
+    (get_field (codes "violation") fs) violation in
+    audit_read e a whose path fs key.Violation (subject.Violation req) record
+    { criteria = refl; importable = refl; notes = refl; who = refl; known = refl }
+    (rw (get_field (codes "version") fs, get_field (codes "delta") fs, get_field (codes "violation") fs) refl)
+    (rw told refl) refl taken values importable who))
 
 -- ---- windows
 
-window_read : (path : List ℕ) (ms : Members) (w : Window) → get_member (codes "user-id") ms ≡ Some (integer (pos w.user))
-    → get_member (codes "start") ms ≡ Some (string (day_text w.first)) → get_member (codes "end") ms ≡ Some (string (day_text w.last))
+window_read : (path : List ℕ) (ms : Members) (w : Window)
+    → get_member (codes "user-id") ms ≡ Some (integer (pos w.user))
+    → get_member (codes "start") ms ≡ Some (string (day_text w.first))
+    → get_member (codes "end") ms ≡ Some (string (day_text w.last))
     → WindowRead w → window_told path ms ≡ Ok w
 window_read path ms w user first last reads =
     rw (
@@ -153,15 +184,19 @@ window_read path ms w user first last reads =
     )
     refl
 
-pub wildcard_read : (e : Entry) (w : Window) (g : Grant) → ValuesRead e → WindowRead w → FlagRead g.renew → WhoRead g.who → ReadsEntry (of_kind e (Wildcard w g))
+pub wildcard_read : (e : Entry) (w : Window) (g : Grant) → ValuesRead e → WindowRead w → FlagRead g.renew
+    → WhoRead g.who → ReadsEntry (of_kind e (Wildcard w g))
 wildcard_read e w g values window renew who = of_own e (Wildcard w g) values.named (λ whose taken path. (
     let fs = fields_of e (Wildcard w g) in
     let ms = fields fs in
-    let (o, (who_told, is)) = optional_set_read texts set_data path (codes "who") ms g.who (get_field (codes "who") fs) who in
+    let (o, (who_told, is)) = optional_set_read texts set_data path (codes "who") ms g.who (get_field (codes "who") fs)
+    who in
     ap (λ d. if is_some d then wildcard_of e.«package» path ms else Ok skipped) (get_field (codes "user-id") fs)
     ∙ rw (
-      required_read names set_data path (codes "criteria") ms e.criteria (get_field (codes "criteria") fs) values.criteria,
-      window_read path ms w (get_field (codes "user-id") fs) (get_field (codes "start") fs) (get_field (codes "end") fs) window,
+      required_read names set_data path (codes "criteria") ms e.criteria (get_field (codes "criteria") fs)
+          values.criteria,
+      window_read path ms w (get_field (codes "user-id") fs) (get_field (codes "start") fs) (get_field (codes "end") fs)
+          window,
       who_told,
       optional_read a_flag boolean path (codes "renew") ms g.renew (get_field (codes "renew") fs) renew,
       optional_read a_text string path (codes "notes") ms e.notes (get_field (codes "notes") fs) values.notes,
@@ -171,13 +206,16 @@ wildcard_read e w g values window renew who = of_own e (Wildcard w g) values.nam
     refl))
 
 trusted_of_read : (e : Entry) (w : Window) (path : List ℕ) → ValuesRead e → WindowRead w
-    → trusted_of e.«package» path (fields (fields_of e (Trusted w))) ≡ Ok (one (own_entry e.«package» (Trusted w) e.criteria e.notes) 0)
+    → trusted_of e.«package» path (fields (fields_of e (Trusted w)))
+    ≡ Ok (one (own_entry e.«package» (Trusted w) e.criteria e.notes) 0)
 trusted_of_read e w path values window =
     let fs = fields_of e (Trusted w) in
     let ms = fields fs in
     rw (
-      required_read names set_data path (codes "criteria") ms e.criteria (get_field (codes "criteria") fs) values.criteria,
-      window_read path ms w (get_field (codes "user-id") fs) (get_field (codes "start") fs) (get_field (codes "end") fs) window,
+      required_read names set_data path (codes "criteria") ms e.criteria (get_field (codes "criteria") fs)
+          values.criteria,
+      window_read path ms w (get_field (codes "user-id") fs) (get_field (codes "start") fs) (get_field (codes "end") fs)
+          window,
       optional_read a_text string path (codes "notes") ms e.notes (get_field (codes "notes") fs) values.notes,
       none_unknown kind.Trusted fs refl,
     )
@@ -188,20 +226,24 @@ trusted_read e w values window = of_own e (Trusted w) values.named by
   where
     by : KindRead e (Trusted w)
     by Ours taken path =
-        ap (λ d. if is_some d then trusted_of e.«package» path (fields (fields_of e (Trusted w))) else Ok skipped) (get_field (codes "user-id") (fields_of e (Trusted w)))
+        ap (λ d. if is_some d then trusted_of e.«package» path (fields (fields_of e (Trusted w))) else Ok skipped)
+        (get_field (codes "user-id") (fields_of e (Trusted w)))
         ∙ trusted_of_read e w path values window
     by Peers taken path = absurd (false≢true taken)
 
 -- ---- exemptions
 
-pub exemption_read : (e : Entry) (v : VersionValue) (suggest : Option Bool) → ValuesRead e → IsReadAs a_version (string (version_text v)) v → FlagRead suggest
+pub exemption_read : (e : Entry) (v : VersionValue) (suggest : Option Bool) → ValuesRead e
+    → IsReadAs a_version (string (version_text v)) v → FlagRead suggest
     → ReadsEntry (of_kind e (Exemption v suggest))
 exemption_read e v suggest values version suggested = of_own e (Exemption v suggest) values.named (λ whose taken path. (
     let fs = fields_of e (Exemption v suggest) in
     let ms = fields fs in
     rw (
-      required_read a_version (λ x. string (version_text x)) path (codes "version") ms v (get_field (codes "version") fs) version,
-      required_read names set_data path (codes "criteria") ms e.criteria (get_field (codes "criteria") fs) values.criteria,
+      required_read a_version (λ x. string (version_text x)) path (codes "version") ms v
+          (get_field (codes "version") fs) version,
+      required_read names set_data path (codes "criteria") ms e.criteria (get_field (codes "criteria") fs)
+          values.criteria,
       optional_read a_flag boolean path (codes "suggest") ms suggest (get_field (codes "suggest") fs) suggested,
       optional_read a_text string path (codes "notes") ms e.notes (get_field (codes "notes") fs) values.notes,
       none_unknown kind.Exemption fs refl,

@@ -40,14 +40,16 @@ without_last : (front : Fields) (k : List ℕ) → fields (front ++ (k, None) �
 without_last [] k = refl
 without_last ((l, o) ∷ rest) k = ap (at_key l o) (without_last rest k)
 
-put_last : (front : Fields) (k : List ℕ) (d : Data) → all_before front k ≡ true → put_member k d (fields front) ≡ fields (front ++ (k, Some d) ∷ [])
+put_last : (front : Fields) (k : List ℕ) (d : Data) → all_before front k ≡ true
+    → put_member k d (fields front) ≡ fields (front ++ (k, Some d) ∷ [])
 put_last [] k d h = refl
 put_last ((l, None) ∷ rest) k d h = put_last rest k d (and_parts _ _ h).1
 put_last ((l, Some e) ∷ rest) k d h =
     let (here, more) = and_parts (is_lt (slice_cmp nat_cmp l k)) (all_before rest k) h in
     rw (after l k here) (ap (member l e) (put_last rest k d more))
 
-key_last : (front : Fields) (k : List ℕ) (o : Option Data) → all_before front k ≡ true → with_key (fields front) k o ≡ fields (front ++ (k, o) ∷ [])
+key_last : (front : Fields) (k : List ℕ) (o : Option Data) → all_before front k ≡ true
+    → with_key (fields front) k o ≡ fields (front ++ (k, o) ∷ [])
 key_last front k None h = sym (without_last front k)
 key_last front k (Some d) h = put_last front k d h
 
@@ -55,7 +57,8 @@ built_from : (front rest : Fields) → rises front rest ≡ true → built (fiel
 built_from front [] h = ap fields (sym (append-nil front))
 built_from front ((k, o) ∷ rest) h =
     let (here, more) = and_parts (all_before front k) (rises (front ++ (k, o) ∷ []) rest) h in
-    ap (λ ms. built ms rest) (key_last front k o here) ∙ built_from (front ++ (k, o) ∷ []) rest more ∙ ap fields (append_assoc front ((k, o) ∷ []) rest)
+    ap (λ ms. built ms rest) (key_last front k o here) ∙ built_from (front ++ (k, o) ∷ []) rest more
+    ∙ ap fields (append_assoc front ((k, o) ∷ []) rest)
 
 -- keys that are put in their order leave the table of these keys
 pub fields_built : (fs : Fields) → rises [] fs ≡ true → built no_members fs ≡ fields fs
@@ -71,7 +74,8 @@ or_later (Some later) (Some d) = Some d
 
 abbrev pub field_at : List ℕ → Fields → Option Data
 field_at key [] = None
-field_at key (f ∷ rest) = match_ordering (slice_cmp nat_cmp key f.0) (field_at key rest) (or_later (field_at key rest) f.1) (field_at key rest)
+field_at key (f ∷ rest) = match_ordering (slice_cmp nat_cmp key f.0) (field_at key rest)
+    (or_later (field_at key rest) f.1) (field_at key rest)
 
 without : (o : Ordering) (later : Option Data) → later ≡ match_ordering o later (or_later later None) later
 without Less later = refl
@@ -79,7 +83,8 @@ without Equal None = refl
 without Equal (Some d) = refl
 without Greater later = refl
 
-with_value : (o : Ordering) (later : Option Data) (d : Data) → match_ordering o later (Some d) later ≡ match_ordering o later (or_later later (Some d)) later
+with_value : (o : Ordering) (later : Option Data) (d : Data) → match_ordering o later (Some d) later
+    ≡ match_ordering o later (or_later later (Some d)) later
 with_value Less later d = refl
 with_value Equal None d = refl
 with_value Equal (Some e) d = refl
@@ -89,7 +94,8 @@ pub get_field : (key : List ℕ) (fs : Fields) → get_member key (fields fs) �
 get_field key [] = refl
 get_field key ((l, None) ∷ rest) = get_field key rest ∙ without (slice_cmp nat_cmp key l) (field_at key rest)
 get_field key ((l, Some d) ∷ rest) =
-    ap (λ later. match_ordering (slice_cmp nat_cmp key l) later (Some d) later) (get_field key rest) ∙ with_value (slice_cmp nat_cmp key l) (field_at key rest) d
+    ap (λ later. match_ordering (slice_cmp nat_cmp key l) later (Some d) later) (get_field key rest)
+    ∙ with_value (slice_cmp nat_cmp key l) (field_at key rest) d
 
 -- ---- no key is unknown
 

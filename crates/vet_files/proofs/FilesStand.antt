@@ -8,7 +8,8 @@ use Rattle.vet_base.proofs.ItemLemmas.{pairs_none}
 use Rattle.vet_base.proofs.KeyedLemmas.{IsByKey-all_set}
 use Rattle.vet_base.proofs.KeyedParts.{All-with_item}
 use Rattle.vet_base.proofs.Rising.{R, only_equal}
-use Rattle.vet_entries.specs.Distinct.{distinct, distinct-All}
+use Rattle.vet_entries.specs.Distinct.{distinct}
+use Rattle.vet_entries.specs.DistinctLaws.{distinct-All}
 use Rattle.vet_entries.specs.PeerContent.{IsPeerContent, is_own}
 use Rattle.vet_entries.specs.PeerSettings.{settings_name}
 use Rattle.vet_entries.specs.PublisherRecords.{HasAny, package_of}
@@ -23,8 +24,8 @@ use Rattle.vet_files.specs.declared.audits_file.AuditsContent.{AuditsContent}
 use Rattle.vet_files.specs.declared.config_file.ConfigContent.{ConfigContent}
 use Rattle.vet_files.specs.declared.imports_file.ImportedPeer.{ImportedPeer}
 use Rattle.vet_files.specs.declared.imports_file.ImportsContent.{ImportsContent}
-use Rattle.vet_files.specs.declared.listing.Listing.TheVariants.{Exemptions}
-use Rattle.vet_files.specs.declared.whose.Whose.TheVariants.{Ours, Peers}
+use Rattle.vet_files.specs.declared.write.sections.Listing.TheVariants.{Exemptions}
+use Rattle.vet_files.specs.declared.read.whose.Whose.TheVariants.{Ours, Peers}
 use Rattle.vet_files.proofs.Once.{distinct-apart, distinct-once}
 use Rattle.vet_files.proofs.Ordered.{in_order-AreTheRecords}
 use Rattle.vet_files.proofs.PeerStanding.{is-content}
@@ -33,13 +34,15 @@ use Rattle.vet_files.proofs.PeerStanding.{is-content}
 
 module _ {E : Type 0} (key : E → List ℕ) where
   all_set-by_name : (xs : List E) → IsByKey R key (all_set R key [] xs)
-  all_set-by_name xs = IsByKey-all_set R nat_list_cmp_total only_equal key [] xs (pairs_none (λ a b. R (key a) (key b) ≡ Less))
+  all_set-by_name xs = IsByKey-all_set R nat_list_cmp_total only_equal key [] xs
+      (pairs_none (λ a b. R (key a) (key b) ≡ Less))
 
   -- what holds of each item still does
   all_set-All : (P : E → Type 0) (held more : List E) → All P held → All P more → All P (all_set R key held more)
   all_set-All P held [] each others = each
   all_set-All P held (e ∷ more) each others =
-      all_set-All P (with_item R key held e) more (All-with_item R key P held e each (All-head P e more others)) (All-tail P e more others)
+      all_set-All P (with_item R key held e) more (All-with_item R key P held e each (All-head P e more others))
+      (All-tail P e more others)
 
 -- ---- entries
 
@@ -50,11 +53,14 @@ first false b h = h
 abbrev IsOwn : Entry → Type 0
 IsOwn e = is_own e.source ≡ true
 
-entries_own : (audits : AuditsContent) (config : ConfigContent) → IsAudits audits → IsConfig config → All IsOwn (audits.entries ++ config.exemptions)
+entries_own : (audits : AuditsContent) (config : ConfigContent) → IsAudits audits → IsConfig config
+    → All IsOwn (audits.entries ++ config.exemptions)
 entries_own audits config can is =
     All-append IsOwn audits.entries config.exemptions
-    (All-weaker (λ e. is_entry_of Ours e ≡ true) IsOwn (λ e h. first (is_own e.source) (is_kind_of Ours e.kind) h) audits.entries can.kinds)
-    (All-weaker (λ e. is_own_exemption e ≡ true) IsOwn (λ e h. first (is_own e.source) (is_listed Exemptions e.kind) h) config.exemptions is.kinds)
+    (All-weaker (λ e. is_entry_of Ours e ≡ true) IsOwn (λ e h. first (is_own e.source) (is_kind_of Ours e.kind) h)
+    audits.entries can.kinds)
+    (All-weaker (λ e. is_own_exemption e ≡ true) IsOwn (λ e h. first (is_own e.source) (is_listed Exemptions e.kind) h)
+    config.exemptions is.kinds)
 
 -- ---- publisher records
 
@@ -73,7 +79,8 @@ records_in_order held has = subst IsInOrder has.1 (in_order-AreTheRecords held.p
 abbrev IsReadable : ImportedPeer → Type 0
 IsReadable p = IsPeerContent p.content.criteria p.content.entries
 
-pub files-stand : (audits : AuditsContent) (config : ConfigContent) (imports : ImportsContent) → IsAudits audits → IsConfig config → IsImports imports
+pub files-stand : (audits : AuditsContent) (config : ConfigContent) (imports : ImportsContent) → IsAudits audits
+    → IsConfig config → IsImports imports
     → IsFiles (files_of audits config imports)
 files-stand audits config imports can is held = record {
   further = can.further;
@@ -83,7 +90,8 @@ files-stand audits config imports can is held = record {
   settings_by_name = all_set-by_name settings_name config.peers;
   contents_by_name = all_set-by_name imported_name imports.peers;
   readable = all_set-All imported_name IsReadable [] imports.peers (All-nil IsReadable)
-      (All-weaker (λ p. CanStand Peers p.content.criteria p.content.entries) IsReadable (λ p h. is-content p.content.criteria p.content.entries h) imports.peers held.peers);
+      (All-weaker (λ p. CanStand Peers p.content.criteria p.content.entries) IsReadable
+      (λ p h. is-content p.content.criteria p.content.entries h) imports.peers held.peers);
   publishers_by_name = record {
     rising = all_set-by_name package_of imports.publishers;
     filled = all_set-All package_of HasAny [] imports.publishers (All-nil HasAny)

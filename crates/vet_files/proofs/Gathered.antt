@@ -17,7 +17,8 @@ next-seen : (read : Data → Told (List ℕ)) (found : List (List ℕ)) (place :
     → seen as_set (next_item read found place d) ≡ with_item read (as_set found) place d
 next-seen read found place d = go (read d)
   where
-    go : (r : Told (List ℕ)) → seen as_set (r >>= λ x. Ok (found ++ x ∷ [])) ≡ (r >>= λ text. Ok (set.insert (as_set found) text))
+    go : (r : Told (List ℕ)) → seen as_set (r >>= λ x. Ok (found ++ x ∷ []))
+        ≡ (r >>= λ text. Ok (set.insert (as_set found) text))
     go (Ok x) = ap Ok (set.from_list_push nat_list_cmp_total only_equal found x)
     go (Err refusal) = refl
 
@@ -26,7 +27,9 @@ items-seen read ds = each_item-seen as_set (next_item read) (with_item read) (ne
 
 -- a text or a list, made a set
 pub one_or_list-seen : (read : List ℕ → List ℕ → Data → Told (List ℕ)) (path key : List ℕ) (d : Data)
-    → seen as_set (one_or_list_told read path key d) ≡ (found_or (fault path key) (items_of d) >>= set_of_items (read path key))
+    → seen as_set (one_or_list_told read path key d)
+    ≡ (found_or (fault path key) (items_of d) >>= set_of_items (read path key))
 one_or_list-seen read path key d =
     seen-bind as_set (found_or (fault path key) (items_of d)) (items_told (read path key))
-    ∙ ap (λ (f : Items → Told NameSet). found_or (fault path key) (items_of d) >>= f) (λ i ds. items-seen (read path key) ds i)
+    ∙ ap (λ (f : Items → Told NameSet). found_or (fault path key) (items_of d) >>= f)
+    (λ i ds. items-seen (read path key) ds i)

@@ -11,8 +11,8 @@ use Rattle.vet_entries.specs.declared.publisher_records.PackagePublishers.{Packa
 use Rattle.vet_files.specs.declared.imports_file.ImportedPeer.{ImportedPeer}
 use Rattle.vet_files.specs.declared.imports_file.ImportsContent.{ImportsContent}
 use Rattle.vet_files.specs.declared.keys.TableKind.TheVariants as kind
-use Rattle.vet_files.specs.declared.listing.Listing.TheVariants.{Audits, Trusted, WildcardAudits}
-use Rattle.vet_files.specs.declared.whose.Whose.TheVariants.{Peers}
+use Rattle.vet_files.specs.declared.write.sections.Listing.TheVariants.{Audits, Trusted, WildcardAudits}
+use Rattle.vet_files.specs.declared.read.whose.Whose.TheVariants.{Peers}
 use Rattle.vet_files.specs.EntryTables.{listed_entries}
 use Rattle.vet_files.specs.Imports.{imported_told, imports_file_told, next_imported, next_publishers, peer_value, publisher_told, published, publishers_told}
 use Rattle.vet_files.specs.ImportsTable.{excluded_of, imported_peer_table, imports_fields, imports_table, publisher_items, publisher_table, publishers_table}
@@ -31,7 +31,8 @@ use Rattle.vet_files.proofs.TablesRead.{IsNext, by_name-read, same_items}
 -- ---- publisher records
 
 -- records that are in order stand once
-each_once-same : (records : List Publisher) → in_order records ≡ records → each_once in_order (all_of records) ≡ all_of records
+each_once-same : (records : List Publisher) → in_order records ≡ records → each_once in_order (all_of records)
+    ≡ all_of records
 each_once-same records same =
     let none : length records - length records ≡ 0 = omega arith in
     rw (same, none) refl
@@ -40,7 +41,8 @@ each_once-same records same =
 with_any-one : (p : PackagePublishers) → (p.publishers ≡ [] → ⊥) → with_any p.«package» p.publishers ≡ p ∷ []
 with_any-one p filled = some p.publishers filled
   where
-    some : (records : List Publisher) → (records ≡ [] → ⊥) → with_any p.«package» records ≡ (record { «package» = p.«package»; publishers = records }) ∷ []
+    some : (records : List Publisher) → (records ≡ [] → ⊥)
+        → with_any p.«package» records ≡ (record { «package» = p.«package»; publishers = records }) ∷ []
     some [] filled = absurd (filled refl)
     some (first ∷ rest) filled = refl
 
@@ -50,8 +52,13 @@ ReadsPackage p = (is_package_name p.«package» ≡ true) × All ReadsPublisher 
 package_read : (p : PackagePublishers) → HasRecords p → ReadsPackage p → (found : List PackagePublishers)
     → next_publishers (all_of found) p.«package» (array (publisher_items p.publishers)) ≡ Ok (all_of (found ++ p ∷ []))
 package_read p has reads found =
-    rw (reads.0, tables_read publisher_told (codes "publisher") p.«package» publisher_table p.publishers (λ k d l. (reads.1 k d l).read p.«package»))
-    (ap (λ more. Ok (onto (all_of found) (published p.«package» more))) (each_once-same p.publishers has.1) ∙ ap (λ l. Ok (all_of (found ++ l))) (with_any-one p has.0))
+    rw (
+      reads.0,
+      tables_read publisher_told (codes "publisher") p.«package» publisher_table p.publishers
+          (λ k d l. (reads.1 k d l).read p.«package»),
+    )
+    (ap (λ more. Ok (onto (all_of found) (published p.«package» more))) (each_once-same p.publishers has.1)
+    ∙ ap (λ l. Ok (all_of (found ++ l))) (with_any-one p has.0))
 
 abbrev name_of_package : PackagePublishers → List ℕ
 name_of_package p = p.«package»
@@ -67,7 +74,8 @@ packages_next packages has reads k d l = (_, (refl, package_read _ (has k d l) (
 
 -- what is written of a peer is read again
 abbrev pub AuditsCanBeRead : List PeerSettings → ImportedPeer → Type 0
-AuditsCanBeRead settings p = All ReadsCriterion p.content.criteria × All ReadsEntry (listed_entries Audits (excluded_of settings p.name) p.content.entries)
+AuditsCanBeRead settings p = All ReadsCriterion p.content.criteria
+    × All ReadsEntry (listed_entries Audits (excluded_of settings p.name) p.content.entries)
     × All ReadsEntry (listed_entries WildcardAudits (excluded_of settings p.name) p.content.entries)
     × All ReadsEntry (listed_entries Trusted (excluded_of settings p.name) p.content.entries)
 
@@ -88,34 +96,46 @@ peer_next : (settings : List PeerSettings) (p : ImportedPeer) → CanStandPeer p
     → IsNext (SamePeer settings) next_imported name_of_peer (table_of_peer settings) p
 peer_next settings p stands (named, reads) =
     let path = path_below (codes "audits") p.name in
-    let (content, (told, (criteria, entries))) = audits_read_back Peers path (path ++ codes ".") (excluded_of settings p.name) p.content.criteria p.content.entries stands
+    let (content, (told, (criteria, entries))) = audits_read_back Peers path (path ++ codes ".")
+    (excluded_of settings p.name) p.content.criteria p.content.entries stands
     reads.0 reads.1 reads.2 reads.3 in (
       record { name = p.name; content = peer_value content },
       (record { name = refl; criteria = criteria; entries = entries }, λ found. rw (named, told) refl),
     )
 
-peers_next : (settings : List PeerSettings) (peers : List ImportedPeer) → All CanStandPeer peers → All (IsImportedAgain settings) peers
+peers_next : (settings : List PeerSettings) (peers : List ImportedPeer) → All CanStandPeer peers
+    → All (IsImportedAgain settings) peers
     → All (IsNext (SamePeer settings) next_imported name_of_peer (table_of_peer settings)) peers
 peers_next settings peers stand reads k d l = peer_next settings _ (stand k d l) (reads k d l)
 
 -- ---- the file
 
 publishers_read : (settings : List PeerSettings) (content : ImportsContent) (found : List PackagePublishers)
-    → each_member next_publishers nothing (publishers_table content.publishers) ≡ Ok (all_of found) → publishers_told (imports_table settings content) ≡ Ok (all_of found)
+    → each_member next_publishers nothing (publishers_table content.publishers) ≡ Ok (all_of found)
+    → publishers_told (imports_table settings content) ≡ Ok (all_of found)
 publishers_read settings content found told =
-    rw (get_field (codes "publisher") (imports_fields settings content), unless_empty-read (codes "top") (codes "publisher") (publishers_table content.publishers)) told
+    rw (
+      get_field (codes "publisher") (imports_fields settings content),
+      unless_empty-read (codes "top")
+          (codes "publisher") (publishers_table content.publishers),
+    ) told
 
 -- a file is told as its parts are
-file_told : (ms : Members) (publishers : List PackagePublishers) (peers : List ImportedPeer) → publishers_told ms ≡ Ok (all_of publishers)
+file_told : (ms : Members) (publishers : List PackagePublishers) (peers : List ImportedPeer)
+    → publishers_told ms ≡ Ok (all_of publishers)
     → imported_told ms ≡ Ok (all_of peers) → unknown_keys kind.ImportsFile ms ≡ 0
-    → imports_file_told ms ≡ Ok (record { content = record { publishers = publishers; peers = peers }; notices = no_notices })
+    → imports_file_told ms
+    ≡ Ok (record { content = record { publishers = publishers; peers = peers }; notices = no_notices })
 file_told ms publishers peers first second known = rw (first, second, known) refl
 
 -- what is written of an imports file is read again, less the entries of excluded packages
 pub imports_read_back : (settings : List PeerSettings) (content : ImportsContent) → IsImports content
-    → All (λ (p : PackagePublishers). (is_package_name p.«package» ≡ true) × All ReadsPublisher p.publishers) content.publishers
+    → All (λ (p : PackagePublishers). (is_package_name p.«package» ≡ true) × All ReadsPublisher p.publishers)
+    content.publishers
     → All (λ (p : ImportedPeer). (is_name p.name ≡ true) × AuditsCanBeRead settings p) content.peers
-    → (found : ImportsContent) × ((imports_file_told (imports_table settings content) ≡ Ok (record { content = found; notices = no_notices })) × SameImports settings content found)
+    → (found : ImportsContent)
+    × ((imports_file_told (imports_table settings content) ≡ Ok (record { content = found; notices = no_notices }))
+    × SameImports settings content found)
 imports_read_back settings content is of_publishers of_peers =
     let (publishers, (same, publishers_told)) =
     by_name-read (λ a b. a ≡ b) next_publishers name_of_package records_of_package content.publishers is.published_once
@@ -125,15 +145,21 @@ imports_read_back settings content is of_publishers of_peers =
     (peers_next settings content.peers is.peers of_peers) in (
       record { publishers = publishers; peers = peers },
       (
-        file_told (imports_table settings content) publishers peers (publishers_read settings content publishers publishers_told) peers_told
+        file_told (imports_table settings content) publishers peers
+            (publishers_read settings content publishers publishers_told) peers_told
             (none_unknown kind.ImportsFile (imports_fields settings content) refl),
         record { publishers = same_items content.publishers publishers same; peers = matched.0; no_others = matched.1 },
       ),
     )
 
 -- the same, from what the writer tells
-pub imports_read_again : (settings : List PeerSettings) (content : ImportsContent) → IsImports content → ReadsImports settings content
-    → (found : ImportsContent) × ((imports_file_told (imports_table settings content) ≡ Ok (record { content = found; notices = no_notices })) × SameImports settings content found)
+pub imports_read_again : (settings : List PeerSettings) (content : ImportsContent) → IsImports content
+    → ReadsImports settings content
+    → (found : ImportsContent)
+    × ((imports_file_told (imports_table settings content) ≡ Ok (record { content = found; notices = no_notices }))
+    × SameImports settings content found)
 imports_read_again settings content is reads =
-    imports_read_back settings content is (λ k d l. let records = reads.publishers k d l in (records.named, records.read))
-    (λ k d l. let peer = reads.peers k d l in (peer.named, (peer.read.each_criterion, peer.read.audits, peer.read.wildcards, peer.read.trusted)))
+    imports_read_back settings content is
+    (λ k d l. let records = reads.publishers k d l in (records.named, records.read))
+    (λ k d l. let peer = reads.peers k d l
+    in (peer.named, (peer.read.each_criterion, peer.read.audits, peer.read.wildcards, peer.read.trusted)))

@@ -9,18 +9,19 @@ use Rattle.toml.specs.Data.{Data, Members, as_array, as_table}
 use Rattle.vet_base.specs.Gives.{found_or, ◌>>=◌}
 use Rattle.vet_base.specs.Name.{is_package_name}
 use Rattle.vet_base.specs.Names.{NameSet}
-use Rattle.vet_entries.specs.Distinct.{distinct, distinct-All}
+use Rattle.vet_entries.specs.Distinct.{distinct}
+use Rattle.vet_entries.specs.DistinctLaws.{distinct-All}
 use Rattle.vet_entries.specs.PeerContent.{is_own}
 use Rattle.vet_entries.specs.declared.entry.Entry.{Entry}
 use Rattle.vet_entries.specs.declared.kind.Audit.{Audit}
 use Rattle.vet_entries.specs.declared.kind.Kind.{Kind}
 use Rattle.vet_files.specs.declared.found.Found.{Found}
-use Rattle.vet_files.specs.declared.listing.Listing.{Listing}
-use Rattle.vet_files.specs.declared.listing.Listing.TheVariants as listing
-use Rattle.vet_files.specs.declared.subject.Subject.{Subject}
-use Rattle.vet_files.specs.declared.subject.Subject.TheVariants as subject
-use Rattle.vet_files.specs.declared.subject.SubjectKey.{SubjectKey}
-use Rattle.vet_files.specs.declared.whose.Whose.{Whose}
+use Rattle.vet_files.specs.declared.write.sections.Listing.{Listing}
+use Rattle.vet_files.specs.declared.write.sections.Listing.TheVariants as listing
+use Rattle.vet_files.specs.declared.read.subject.Subject.{Subject}
+use Rattle.vet_files.specs.declared.read.subject.Subject.TheVariants as subject
+use Rattle.vet_files.specs.declared.read.subject.SubjectKey.{SubjectKey}
+use Rattle.vet_files.specs.declared.read.whose.Whose.{Whose}
 use Rattle.vet_files.specs.Audits.{audit_kind, audit_of, audit_told, entries_of, first_key, has, is_trusted, is_withheld, next_package, or_none, own_entry, subject_told, trusted_of, trusted_told, wildcard_of, wildcard_told, window_told}
 use Rattle.vet_files.specs.Config.{exemption_told}
 use Rattle.vet_files.specs.EntryTables.{is_listed}
@@ -42,7 +43,8 @@ IfFound P found = All P (option_to_list found.content)
 abbrev pub GivesOf : {A : Type 0} → (A → Type 0) → List ℕ → Reading A → Type 0
 GivesOf P name read = (path : List ℕ) (ms : Members) → IfOk (read name path ms) (IfFound P)
 
-next_table-of : {A : Type 0} (P : A → Type 0) (read : Reading A) (path name : List ℕ) → GivesOf P name read → (found : Found (List A)) (place : ℕ) (d : Data) → AllFound P found
+next_table-of : {A : Type 0} (P : A → Type 0) (read : Reading A) (path name : List ℕ) → GivesOf P name read
+    → (found : Found (List A)) (place : ℕ) (d : Data) → AllFound P found
     → IfOk (next_table read path name found place d) (AllFound P)
 next_table-of P read path name gives found place d held =
     let below = path_in_list path name place in
@@ -51,10 +53,12 @@ next_table-of P read path name gives found place d held =
     (λ more given. All-append P found.content (option_to_list more.content) held given)
 
 -- what is read of each table holds of all that is found
-pub package-of : {A : Type 0} (P : A → Type 0) (read : Reading A) (path name : List ℕ) (d : Data) → GivesOf P name read → IfOk (tables_of_package read path name d) (AllFound P)
+pub package-of : {A : Type 0} (P : A → Type 0) (read : Reading A) (path name : List ℕ) (d : Data) → GivesOf P name read
+    → IfOk (tables_of_package read path name d) (AllFound P)
 package-of P read path name d gives =
     let step = next_table read path name in
-    cond_both (is_package_name name) (found_or (fault path name) (as_array d) >>= each_item step nothing 0) (Err (fault path name)) (λ r. IfOk r (AllFound P))
+    cond_both (is_package_name name) (found_or (fault path name) (as_array d) >>= each_item step nothing 0)
+    (Err (fault path name)) (λ r. IfOk r (AllFound P))
     (λ _. bind-gives (AllFound P) (found_or (fault path name) (as_array d)) (each_item step nothing 0)
     (λ ds. each_item-keeps (AllFound P) step (next_table-of P read path name gives) nothing 0 ds (All-nil P)))
     (λ _. tt)
@@ -76,10 +80,12 @@ GivesEntries which read = (name : List ℕ) → GivesOf (IsAt which name) name r
 abbrev pub StandOnce : Listing → Found (List Entry) → Type 0
 StandOnce which = Holds IsOther (IsOf which)
 
-next_package-appends : (which : Listing) (read : Reading Entry) → GivesEntries which read → (path : List ℕ) (found : Found (List Entry)) (name : List ℕ) (d : Data)
+next_package-appends : (which : Listing) (read : Reading Entry) → GivesEntries which read
+    → (path : List ℕ) (found : Found (List Entry)) (name : List ℕ) (d : Data)
     → IfOk (next_package read path found name d) (Appends (λ (e : Entry). e.«package») IsOther (IsOf which) found name)
 next_package-appends which read gives path found name d =
-    bind-keeps (AllFound (IsAt which name)) (Appends (λ (e : Entry). e.«package») IsOther (IsOf which) found name) (tables_of_package read path name d) _
+    bind-keeps (AllFound (IsAt which name)) (Appends (λ (e : Entry). e.«package») IsOther (IsOf which) found name)
+    (tables_of_package read path name d) _
     (package-of (IsAt which name) read path name d (gives name))
     (λ more held.
     let once : All (IsAt which name) (distinct more.content) = distinct-All (IsAt which name) more.content held in (
@@ -88,31 +94,40 @@ next_package-appends which read gives path found name d =
         refl,
         (
           All-weaker (IsAt which name) (λ (e : Entry). e.«package» ≡ name) (λ e h. h.0) (distinct more.content) once,
-          (distinct-once more.content, All-weaker (IsAt which name) (IsOf which) (λ e h. h.1) (distinct more.content) once),
+          (
+            distinct-once more.content,
+            All-weaker (IsAt which name) (IsOf which) (λ e h. h.1) (distinct more.content)
+                once,
+          ),
         ),
       ),
     ))
 
-pub entries-once : (which : Listing) (read : Reading Entry) → GivesEntries which read → (path prefix key : List ℕ) (ms : Members) → RisesAt path key ms
+pub entries-once : (which : Listing) (read : Reading Entry) → GivesEntries which read
+    → (path prefix key : List ℕ) (ms : Members) → RisesAt path key ms
     → IfOk (entries_of read path prefix key ms) (StandOnce which)
 entries-once which read gives path prefix key ms rise =
     let step = next_package read (prefix ++ key) in
     bind-keeps KeysRise (StandOnce which) (table_at path key ms) (each_member step nothing) rise
-    (λ inner inner_rise. walk-keys (λ (e : Entry). e.«package») IsOther (IsOf which) (other-item (λ (e : Entry). e.«package»)) step
+    (λ inner inner_rise. walk-keys (λ (e : Entry). e.«package») IsOther (IsOf which)
+    (other-item (λ (e : Entry). e.«package»)) step
     (λ found name d. next_package-appends which read gives (prefix ++ key) found name d) inner inner_rise)
 
 -- ---- what the readers of one table give
 
-one-entry : (which : Listing) (name : List ℕ) (what : Kind) (criteria : NameSet) (notes : Option (List ℕ)) → is_listed which what ≡ true
+one-entry : (which : Listing) (name : List ℕ) (what : Kind) (criteria : NameSet) (notes : Option (List ℕ))
+    → is_listed which what ≡ true
     → All (IsAt which name) (own_entry name what criteria notes ∷ [])
-one-entry which name what criteria notes is = All-cons (IsAt which name) (own_entry name what criteria notes) [] (refl, (refl, is)) (All-nil (IsAt which name))
+one-entry which name what criteria notes is = All-cons (IsAt which name) (own_entry name what criteria notes) []
+    (refl, (refl, is)) (All-nil (IsAt which name))
 
 audit_kind-listed : (what : Subject) (audit : Audit) → is_listed listing.Audits (audit_kind what audit) ≡ true
 audit_kind-listed (subject.Full version) audit = refl
 audit_kind-listed (subject.Delta delta) audit = refl
 audit_kind-listed (subject.Violation req) audit = refl
 
-audit_of-listed : (name path : List ℕ) (ms : Members) (key : Option SubjectKey) → IfOk (audit_of name path ms key) (IfFound (IsAt listing.Audits name))
+audit_of-listed : (name path : List ℕ) (ms : Members) (key : Option SubjectKey)
+    → IfOk (audit_of name path ms key) (IfFound (IsAt listing.Audits name))
 audit_of-listed name path ms None = All-nil (IsAt listing.Audits name)
 audit_of-listed name path ms (Some key) =
     let Given = IfFound (IsAt listing.Audits name) in
@@ -126,7 +141,8 @@ audit_of-listed name path ms (Some key) =
 
 pub audits-listed : (whose : Whose) → GivesEntries listing.Audits (audit_told whose)
 audits-listed whose name path ms =
-    cond_both (is_withheld whose ms) (Ok skipped) (audit_of name path ms (first_key ms)) (λ r. IfOk r (IfFound (IsAt listing.Audits name)))
+    cond_both (is_withheld whose ms) (Ok skipped) (audit_of name path ms (first_key ms))
+    (λ r. IfOk r (IfFound (IsAt listing.Audits name)))
     (λ _. All-nil (IsAt listing.Audits name)) (λ _. audit_of-listed name path ms (first_key ms))
 
 pub wildcards-listed : GivesEntries listing.WildcardAudits wildcard_told
@@ -137,7 +153,8 @@ wildcards-listed name path ms =
     bind-gives Given (window_told path ms) _ (λ window.
     bind-gives Given (optional texts path (codes "who") ms) _ (λ who.
     bind-gives Given (optional a_flag path (codes "renew") ms) _ (λ renew.
-    bind-gives Given (optional a_text path (codes "notes") ms) _ (λ notes. one-entry listing.WildcardAudits name _ criteria notes refl))))))
+    bind-gives Given (optional a_text path (codes "notes") ms) _
+    (λ notes. one-entry listing.WildcardAudits name _ criteria notes refl))))))
     (λ _. All-nil (IsAt listing.WildcardAudits name))
 
 pub trusted-listed : (whose : Whose) → GivesEntries listing.Trusted (trusted_told whose)
@@ -146,7 +163,8 @@ trusted-listed whose name path ms =
     cond_both (is_trusted whose ms) (trusted_of name path ms) (Ok skipped) (λ r. IfOk r Given) (λ _.
     bind-gives Given (required names path (codes "criteria") ms) _ (λ criteria.
     bind-gives Given (window_told path ms) _ (λ window.
-    bind-gives Given (optional a_text path (codes "notes") ms) _ (λ notes. one-entry listing.Trusted name _ criteria notes refl))))
+    bind-gives Given (optional a_text path (codes "notes") ms) _
+    (λ notes. one-entry listing.Trusted name _ criteria notes refl))))
     (λ _. All-nil (IsAt listing.Trusted name))
 
 pub exemptions-listed : GivesEntries listing.Exemptions exemption_told
@@ -155,4 +173,5 @@ exemptions-listed name path ms =
     bind-gives Given (required a_version path (codes "version") ms) _ (λ version.
     bind-gives Given (required names path (codes "criteria") ms) _ (λ criteria.
     bind-gives Given (optional a_flag path (codes "suggest") ms) _ (λ suggest.
-    bind-gives Given (optional a_text path (codes "notes") ms) _ (λ notes. one-entry listing.Exemptions name _ criteria notes refl))))
+    bind-gives Given (optional a_text path (codes "notes") ms) _
+    (λ notes. one-entry listing.Exemptions name _ criteria notes refl))))

@@ -43,13 +43,16 @@ module _ {A : Type 0} (read : Reading A) (path name : List ℕ) (table_for : A �
   abbrev items : List A → Items
   items xs = items_of (map (λ x. table (table_for x)) xs)
 
-  tables_read_from : (found xs : List A) (place : ℕ) → All IsRead xs → each_item (next_table read path name) (all_of found) place (items xs) ≡ Ok (all_of (found ++ xs))
+  tables_read_from : (found xs : List A) (place : ℕ) → All IsRead xs
+      → each_item (next_table read path name) (all_of found) place (items xs) ≡ Ok (all_of (found ++ xs))
   tables_read_from found [] place each = ap (λ (ys : List A). Ok (all_of ys)) (sym (append-nil found))
   tables_read_from found (x ∷ xs) place each =
       rw (All-head IsRead x xs each _)
-      (tables_read_from (found ++ x ∷ []) xs (place + 1) (All-tail IsRead x xs each) ∙ ap (λ (ys : List A). Ok (all_of ys)) (append_assoc found (x ∷ []) xs))
+      (tables_read_from (found ++ x ∷ []) xs (place + 1) (All-tail IsRead x xs each)
+      ∙ ap (λ (ys : List A). Ok (all_of ys)) (append_assoc found (x ∷ []) xs))
 
-  pub tables_read : (xs : List A) → All IsRead xs → each_item (next_table read path name) nothing 0 (items xs) ≡ Ok (all_of xs)
+  pub tables_read : (xs : List A) → All IsRead xs → each_item (next_table read path name) nothing 0 (items xs)
+      ≡ Ok (all_of xs)
   tables_read xs each = tables_read_from [] xs 0 each
 
 -- ---- what is once stays so
@@ -58,17 +61,21 @@ firsts-length : (seen es : List Entry) → length (firsts seen es) ≤ length es
 firsts-length seen [] = omega arith
 firsts-length seen (e ∷ es) = step (firsts-length seen es) (firsts-length (e ∷ seen) es) (list_any (entry_eq e) seen)
   where
-    step : length (firsts seen es) ≤ length es → length (firsts (e ∷ seen) es) ≤ length es → (b : Bool) → length (cond b (firsts seen es) (e ∷ firsts (e ∷ seen) es)) ≤ suc (length es)
+    step : length (firsts seen es) ≤ length es → length (firsts (e ∷ seen) es) ≤ length es → (b : Bool)
+        → length (cond b (firsts seen es) (e ∷ firsts (e ∷ seen) es)) ≤ suc (length es)
     step some more true = omega arith
     step some more false = omega arith
 
 -- the first is new, and the others are so behind it
-once_first : (seen es : List Entry) (e : Entry) → firsts seen (e ∷ es) ≡ e ∷ es → (list_any (entry_eq e) seen ≡ false) × (firsts (e ∷ seen) es ≡ es)
+once_first : (seen es : List Entry) (e : Entry) → firsts seen (e ∷ es) ≡ e ∷ es → (list_any (entry_eq e) seen ≡ false)
+    × (firsts (e ∷ seen) es ≡ es)
 once_first seen es e once = step (firsts-length seen es) (list_any (entry_eq e) seen) refl once
   where
-    step : length (firsts seen es) ≤ length es → (b : Bool) → list_any (entry_eq e) seen ≡ b → cond b (firsts seen es) (e ∷ firsts (e ∷ seen) es) ≡ e ∷ es
+    step : length (firsts seen es) ≤ length es → (b : Bool) → list_any (entry_eq e) seen ≡ b
+        → cond b (firsts seen es) (e ∷ firsts (e ∷ seen) es) ≡ e ∷ es
         → (list_any (entry_eq e) seen ≡ false) × (firsts (e ∷ seen) es ≡ es)
-    step most true is same = let long : length (firsts seen es) ≡ length (e ∷ es) = ap length same in absurd (omega (arith, long, most))
+    step most true is same = let long : length (firsts seen es) ≡ length (e ∷ es) = ap length same
+        in absurd (omega (arith, long, most))
     step most false is same = (is, ap (drop 1) same)
 
 -- what is not among these is not among those
@@ -83,14 +90,16 @@ fewer_with x seen fewer h e apart =
     let (first, others) = or_parts (entry_eq e x) (list_any (entry_eq e) seen) apart in
     or_from (entry_eq e x) (list_any (entry_eq e) fewer) first (h e others)
 
-firsts-filter : (p : Entry → Bool) (seen fewer es : List Entry) → AreFewer seen fewer → firsts seen es ≡ es → firsts fewer (filter p es) ≡ filter p es
+firsts-filter : (p : Entry → Bool) (seen fewer es : List Entry) → AreFewer seen fewer → firsts seen es ≡ es
+    → firsts fewer (filter p es) ≡ filter p es
 firsts-filter p seen fewer [] h once = refl
 firsts-filter p seen fewer (e ∷ es) h once =
     let parts = once_first seen es e once in
     step (h e parts.0) (firsts-filter p (e ∷ seen) (e ∷ fewer) es (fewer_with e seen fewer h) parts.1)
     (firsts-filter p (e ∷ seen) fewer es (fewer_behind e seen fewer h) parts.1) (p e)
   where
-    step : list_any (entry_eq e) fewer ≡ false → firsts (e ∷ fewer) (filter p es) ≡ filter p es → firsts fewer (filter p es) ≡ filter p es
+    step : list_any (entry_eq e) fewer ≡ false → firsts (e ∷ fewer) (filter p es) ≡ filter p es
+        → firsts fewer (filter p es) ≡ filter p es
         → (b : Bool) → firsts fewer (cond b (e ∷ filter p es) (filter p es)) ≡ cond b (e ∷ filter p es) (filter p es)
     step new more without true = rw new (ap (λ (rest : List Entry). e ∷ rest) more)
     step new more without false = without
@@ -100,22 +109,28 @@ distinct-filter p es once = firsts-filter p [] [] es (λ e apart. apart) once
 
 each_once-same : (es : List Entry) → distinct es ≡ es → each_once distinct (all_of es) ≡ all_of es
 each_once-same es once =
-    let no_doubles : length es - length (distinct es) ≡ 0 = (let long : length (distinct es) ≡ length es = ap length once in omega (arith, long)) in
+    let no_doubles : length es - length (distinct es) ≡ 0 =
+    (let long : length (distinct es) ≡ length es = ap length once in omega (arith, long)) in
     λ i. record { content = once i; notices = together no_notices (only_doubles (no_doubles i)) }
 
 -- ---- a package's list
 
 -- an entry of a package, which is read from its table
 abbrev pub IsReadBy : Reading Entry → Entry → Type 0
-IsReadBy read e = (is_package_name e.«package» ≡ true) × ((path : List ℕ) → read e.«package» path (entry_table e) ≡ Ok (one e 0))
+IsReadBy read e = (is_package_name e.«package» ≡ true)
+    × ((path : List ℕ) → read e.«package» path (entry_table e) ≡ Ok (one e 0))
 
 of_its_package : (name : List ℕ) (es : List Entry) (e : Entry) → IsIn e (of_package name es) → name ≡ e.«package»
-of_its_package name es e among = (bytes_decides name e.«package»).0 (IsIn-of_filter (λ x. bytes_eq name x.«package») e es among).1
+of_its_package name es e among = (bytes_decides name e.«package»).0
+    (IsIn-of_filter (λ x. bytes_eq name x.«package») e es among).1
 
-in_its_package : (name : List ℕ) (es : List Entry) (e : Entry) → IsIn e es → name ≡ e.«package» → IsIn e (of_package name es)
-in_its_package name es e among same = IsIn-filter (λ x. bytes_eq name x.«package») e es among ((bytes_decides name e.«package»).1 same)
+in_its_package : (name : List ℕ) (es : List Entry) (e : Entry) → IsIn e es → name ≡ e.«package»
+    → IsIn e (of_package name es)
+in_its_package name es e among same = IsIn-filter (λ x. bytes_eq name x.«package») e es among
+    ((bytes_decides name e.«package»).1 same)
 
-module _ (read : Reading Entry) (path : List ℕ) (es : List Entry) (once : distinct es ≡ es) (each : All (IsReadBy read) es) where
+module _ (read : Reading Entry) (path : List ℕ) (es : List Entry) (once : distinct es ≡ es)
+    (each : All (IsReadBy read) es) where
   abbrev IsReadAt : List ℕ → Entry → Type 0
   IsReadAt name e = (path : List ℕ) → read name path (entry_table e) ≡ Ok (one e 0)
 
@@ -125,13 +140,18 @@ module _ (read : Reading Entry) (path : List ℕ) (es : List Entry) (once : dist
       (λ e among path. subst (λ n. read n path (entry_table e) ≡ Ok (one e 0)) (sym (of_its_package name es e among))
       ((All-IsIn (IsReadBy read) e es each (IsIn-of_filter (λ x. bytes_eq name x.«package») e es among).0).1 path))
 
-  tables_of_package-read : (name : List ℕ) → is_package_name name ≡ true → tables_of_package read path name (array (entry_items (of_package name es))) ≡ Ok (all_of (of_package name es))
-  tables_of_package-read name named = rw named (tables_read read path name entry_table (of_package name es) (package_read name))
+  tables_of_package-read : (name : List ℕ) → is_package_name name ≡ true
+      → tables_of_package read path name (array (entry_items (of_package name es))) ≡ Ok (all_of (of_package name es))
+  tables_of_package-read name named =
+      rw named (tables_read read path name entry_table (of_package name es) (package_read name))
 
   next_package-read : (found : List Entry) (name : List ℕ) → is_package_name name ≡ true
-      → next_package read path (all_of found) name (array (entry_items (of_package name es))) ≡ Ok (all_of (found ++ of_package name es))
+      → next_package read path (all_of found) name (array (entry_items (of_package name es)))
+      ≡ Ok (all_of (found ++ of_package name es))
   next_package-read found name named =
-      rw (tables_of_package-read name named) (ap (λ more. Ok (onto (all_of found) more)) (each_once-same (of_package name es) (distinct-filter (λ e. bytes_eq name e.«package») es once)))
+      rw (tables_of_package-read name named)
+      (ap (λ more. Ok (onto (all_of found) more))
+      (each_once-same (of_package name es) (distinct-filter (λ e. bytes_eq name e.«package») es once)))
 
   -- ---- the lists of some packages
 
@@ -142,17 +162,21 @@ module _ (read : Reading Entry) (path : List ℕ) (es : List Entry) (once : dist
   abbrev lists : List Entry → Members
   lists some = members_from (map (λ e. (e.«package», array (entry_items (of_package e.«package» es)))) some)
 
-  lists_read : (found some : List Entry) → All (λ e. is_package_name e.«package» ≡ true) some → each_member (next_package read path) (all_of found) (lists some) ≡ Ok (all_of (found ++ of_packages some))
+  lists_read : (found some : List Entry) → All (λ e. is_package_name e.«package» ≡ true) some
+      → each_member (next_package read path) (all_of found) (lists some) ≡ Ok (all_of (found ++ of_packages some))
   lists_read found [] named = ap (λ (ys : List Entry). Ok (all_of ys)) (sym (append-nil found))
   lists_read found (e ∷ rest) named =
       rw (next_package-read found e.«package» (All-head (λ e. is_package_name e.«package» ≡ true) e rest named))
-      (lists_read (found ++ of_package e.«package» es) rest (All-tail (λ e. is_package_name e.«package» ≡ true) e rest named)
+      (lists_read (found ++ of_package e.«package» es) rest
+      (All-tail (λ e. is_package_name e.«package» ≡ true) e rest named)
       ∙ ap (λ (ys : List Entry). Ok (all_of ys)) (append_assoc found (of_package e.«package» es) (of_packages rest)))
 
-  among_packages : (some : List Entry) (e : Entry) → IsIn e es → (f : Entry) × (IsIn f some × (e.«package» ≡ f.«package»)) → IsIn e (of_packages some)
+  among_packages : (some : List Entry) (e : Entry) → IsIn e es
+      → (f : Entry) × (IsIn f some × (e.«package» ≡ f.«package»)) → IsIn e (of_packages some)
   among_packages [] e among (f, (none, same)) = absurd none
   among_packages (g ∷ rest) e among (f, (inl here, same)) =
-      IsIn-left e (of_package g.«package» es) (of_packages rest) (in_its_package g.«package» es e among (sym (same ∙ ap (λ (h : Entry). h.«package») here)))
+      IsIn-left e (of_package g.«package» es) (of_packages rest)
+      (in_its_package g.«package» es e among (sym (same ∙ ap (λ (h : Entry). h.«package») here)))
   among_packages (g ∷ rest) e among (f, (inr later, same)) =
       IsIn-right e (of_package g.«package» es) (of_packages rest) (among_packages rest e among (f, (later, same)))
 
@@ -164,14 +188,16 @@ module _ (read : Reading Entry) (path : List ℕ) (es : List Entry) (once : dist
   ]
 
   -- all entries are read, in the order of their packages
-  pub package_lists_read : (found : List Entry) × ((each_member (next_package read path) nothing (package_lists es) ≡ Ok (all_of found)) × SameItems es found)
+  pub package_lists_read : (found : List Entry)
+      × ((each_member (next_package read path) nothing (package_lists es) ≡ Ok (all_of found)) × SameItems es found)
   package_lists_read =
       let of : Entry → List ℕ = λ e. e.«package» in
       let heads : List Entry = sorted of es in
       let named = sorted-All of (λ e. is_package_name e.«package» ≡ true) es (λ k d l. (each k d l).0) in (
         of_packages heads,
         (
-          ap (each_member (next_package read path) nothing) (by_name-sorted of (λ e. array (entry_items (of_package e.«package» es))) es) ∙ lists_read [] heads named,
+          ap (each_member (next_package read path) nothing)
+              (by_name-sorted of (λ e. array (entry_items (of_package e.«package» es))) es) ∙ lists_read [] heads named,
           (λ e among. among_packages heads e among (sorted-named of es e among), λ e among. of_them heads e among),
         ),
       )

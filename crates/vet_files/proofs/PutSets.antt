@@ -7,7 +7,7 @@ use Rattle.std.specs.FinSet as set
 use Rattle.std.specs.List.{list_any}
 use Rattle.std.specs.Ordering.{nat_cmp, eq_by_cmp, is_eq}
 use Rattle.toml.specs.Data.{no_items, array}
-use Rattle.vet_base.specs.NameLaws.{any-members}
+use Rattle.vet_base.specs.NamesLaws.{any-members}
 use Rattle.vet_base.specs.Names.{NameSet, members}
 use Rattle.vet_files.specs.Field.{names, texts}
 use Rattle.vet_files.specs.ReadAgain.{IsReadAs}
@@ -15,12 +15,16 @@ use Rattle.vet_files.specs.Tables.{one_or_list, set_data, some_set, unless_none}
 use Rattle.vet_files.proofs.KeysRead.{none_is_empty}
 
 -- a list in which nothing is found is empty
-none_found : (names : List (List ℕ)) → ((n : List ℕ) → list_any (eq_by_cmp (slice_cmp nat_cmp) n) names ≡ false) → names ≡ []
+none_found : (names : List (List ℕ)) → ((n : List ℕ) → list_any (eq_by_cmp (slice_cmp nat_cmp) n) names ≡ false)
+    → names ≡ []
 none_found [] h = refl
-none_found (x ∷ xs) h = absurd (false≢true (sym (h x) ∙ ap (λ o. is_eq o || list_any (eq_by_cmp (slice_cmp nat_cmp) x) xs) (tied_itself nat_list_cmp_total x)))
+none_found (x ∷ xs) h =
+    absurd (false≢true (sym (h x) ∙ ap (λ o. is_eq o || list_any (eq_by_cmp (slice_cmp nat_cmp) x) xs)
+    (tied_itself nat_list_cmp_total x)))
 
 no_members_of : (s : NameSet) → s ≡ set.empty → members s ≡ []
-no_members_of s e = ap members e ∙ none_found (members set.empty) (λ n. any-members set.empty n ∙ set.contains-empty (slice_cmp nat_cmp) n)
+no_members_of s e = ap members e
+    ∙ none_found (members set.empty) (λ n. any-members set.empty n ∙ set.contains-empty (slice_cmp nat_cmp) n)
 
 -- an empty set is left out
 pub left_out : (s : NameSet) → s ≡ set.empty → some_set s ≡ None

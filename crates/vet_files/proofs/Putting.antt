@@ -10,11 +10,15 @@ use Rattle.toml.specs.View.{members_view, view}
 use Rattle.toml.specs.declared.value.Value.{Value}
 use Rattle.vet_files.specs.Tables.{put_member, unless_empty}
 
-pub inserted : (es : List Entry) (k : String Global) (v : Value) → members_view (insert_entry string_cmp es k v) ≡ put_member (string_bytes k) (view v) (members_view es)
+pub inserted : (es : List Entry) (k : String Global) (v : Value) → members_view (insert_entry string_cmp es k v)
+    ≡ put_member (string_bytes k) (view v) (members_view es)
 inserted [] k v = refl
 inserted (e ∷ es) k v =
-    elim (string_cmp k e.0) as (λ o. members_view (match_ordering o ((k, v) ∷ e ∷ es) ((e.0, v) ∷ es) (e ∷ insert_entry string_cmp es k v))
-    ≡ by_order o (member (string_bytes k) (view v) (members_view (e ∷ es))) (member (string_bytes e.0) (view v) (members_view es)) (member (string_bytes e.0) (view e.1) (put_member (string_bytes k) (view v) (members_view es)))) [
+    elim (string_cmp k e.0)
+    as (λ o. members_view (match_ordering o ((k, v) ∷ e ∷ es) ((e.0, v) ∷ es) (e ∷ insert_entry string_cmp es k v))
+    ≡ by_order o (member (string_bytes k) (view v) (members_view (e ∷ es)))
+    (member (string_bytes e.0) (view v) (members_view es))
+    (member (string_bytes e.0) (view e.1) (put_member (string_bytes k) (view v) (members_view es)))) [
       | Less ↦ refl
       | Equal ↦ refl
       | Greater ↦ ap (member (string_bytes e.0) (view e.1)) (inserted es k v)

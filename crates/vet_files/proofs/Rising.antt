@@ -31,20 +31,24 @@ push-rises (item x ds) d h one = (h.0, push-rises ds d h.1 one)
 -- ---- options
 
 -- what is made of a value that is there
-pub map-if : {A B : Type 0} (P : A → Type 0) (Q : B → Type 0) (f : A → B) (o : Option A) → IfSome o P → ((a : A) → P a → Q (f a)) → IfSome (option_map f o) Q
+pub map-if : {A B : Type 0} (P : A → Type 0) (Q : B → Type 0) (f : A → B) (o : Option A) → IfSome o P
+    → ((a : A) → P a → Q (f a)) → IfSome (option_map f o) Q
 map-if P Q f None first second = tt
 map-if P Q f (Some a) first second = second a first
 
-pub then-if : {A B : Type 0} (P : A → Type 0) (Q : B → Type 0) (o : Option A) (f : A → Option B) → IfSome o P → ((a : A) → P a → IfSome (f a) Q)
+pub then-if : {A B : Type 0} (P : A → Type 0) (Q : B → Type 0) (o : Option A) (f : A → Option B) → IfSome o P
+    → ((a : A) → P a → IfSome (f a) Q)
     → IfSome (option_and_then f o) Q
 then-if P Q None f first second = tt
 then-if P Q (Some a) f first second = second a first
 
 -- the same, where the first value tells nothing
-pub map-any : {A B : Type 0} (Q : B → Type 0) (f : A → B) (o : Option A) → ((a : A) → Q (f a)) → IfSome (option_map f o) Q
+pub map-any : {A B : Type 0} (Q : B → Type 0) (f : A → B) (o : Option A) → ((a : A) → Q (f a))
+    → IfSome (option_map f o) Q
 map-any Q f None each = tt
 map-any Q f (Some a) each = each a
 
-pub then-any : {A B : Type 0} (Q : B → Type 0) (o : Option A) (f : A → Option B) → ((a : A) → IfSome (f a) Q) → IfSome (option_and_then f o) Q
+pub then-any : {A B : Type 0} (Q : B → Type 0) (o : Option A) (f : A → Option B) → ((a : A) → IfSome (f a) Q)
+    → IfSome (option_and_then f o) Q
 then-any Q None f each = tt
 then-any Q (Some a) f each = each a

@@ -22,7 +22,8 @@ get-rises : (key : List ℕ) (ms : Members) → Rising ms → IfSome (get_member
 get-rises key no_members h = tt
 get-rises key (member l d rest) h = step (slice_cmp nat_cmp key l) (get-rises key rest h.1.1)
   where
-    step : (o : Ordering) → IfSome (get_member key rest) Rises → IfSome (match_ordering o (get_member key rest) (Some d) (get_member key rest)) Rises
+    step : (o : Ordering) → IfSome (get_member key rest) Rises
+        → IfSome (match_ordering o (get_member key rest) (Some d) (get_member key rest)) Rises
     step Less more = more
     step Equal more = h.1.0
     step Greater more = more
@@ -59,4 +60,5 @@ found-rises (Some ms) h = h
 
 pub file-rises : (bytes : List ℕ) → IfOk (document_told bytes) Rising
 file-rises bytes =
-    found-rises _ (cond_both (is_utf8 bytes) (parse_document bytes) None (λ o. IfSome o Rising) (λ _. document-rises bytes) (λ _. tt))
+    found-rises _ (cond_both (is_utf8 bytes) (parse_document bytes) None (λ o. IfSome o Rising)
+    (λ _. document-rises bytes) (λ _. tt))

@@ -19,10 +19,12 @@ after : (told : Data → Told (List ℕ)) (front ts : List (List ℕ)) (place : 
 after told front [] place each = ap (λ ts. Ok (set.from_list ts)) (sym (append-nil front))
 after told front (t ∷ ts) place each =
     rw (All-head (λ t. told (string t) ≡ Ok t) t ts each, ← set.from_list_push nat_list_cmp_total only_equal front t)
-    (after told (front ++ t ∷ []) ts (place + 1) (All-tail (λ t. told (string t) ≡ Ok t) t ts each) ∙ ap (λ ts. Ok (set.from_list ts)) (append_assoc front (t ∷ []) ts))
+    (after told (front ++ t ∷ []) ts (place + 1) (All-tail (λ t. told (string t) ≡ Ok t) t ts each)
+    ∙ ap (λ ts. Ok (set.from_list ts)) (append_assoc front (t ∷ []) ts))
 
 -- a list of the set's texts
-set_of_texts : (told : Data → Told (List ℕ)) (ts : List (List ℕ)) (s : NameSet) → s ≡ set.from_list ts → All (λ t. told (string t) ≡ Ok t) ts
+set_of_texts : (told : Data → Told (List ℕ)) (ts : List (List ℕ)) (s : NameSet) → s ≡ set.from_list ts
+    → All (λ t. told (string t) ≡ Ok t) ts
     → set_of_items told (text_items ts) ≡ Ok s
 set_of_texts told ts s same each = after told [] ts 0 each ∙ ap Ok (sym same)
 
@@ -31,10 +33,13 @@ items_of_set [] = refl
 items_of_set (t ∷ []) = refl
 items_of_set (t ∷ u ∷ ts) = refl
 
-module _ (told : List ℕ → List ℕ → Data → Told (List ℕ)) (ts : List (List ℕ)) (s : NameSet) (same : s ≡ set.from_list ts) (each : All (λ t. IsReadAs told (string t) t) ts) where
+module _ (told : List ℕ → List ℕ → Data → Told (List ℕ)) (ts : List (List ℕ)) (s : NameSet)
+    (same : s ≡ set.from_list ts) (each : All (λ t. IsReadAs told (string t) t) ts) where
   -- one or a list
-  pub set_read : ts ≡ members s → IsReadAs (λ path key d. found_or (fault path key) (items_of d) >>= set_of_items (told path key)) (set_data s) s
-  set_read are path key = rw (← are, items_of_set ts) (set_of_texts (told path key) ts s same (λ k d l. each k d l path key))
+  pub set_read : ts ≡ members s
+      → IsReadAs (λ path key d. found_or (fault path key) (items_of d) >>= set_of_items (told path key)) (set_data s) s
+  set_read are path key =
+      rw (← are, items_of_set ts) (set_of_texts (told path key) ts s same (λ k d l. each k d l path key))
 
   -- always a list
   pub list_read : ts ≡ members s → (path key : List ℕ) → set_of_items (told path key) (text_items (members s)) ≡ Ok s

@@ -9,7 +9,8 @@ use Rattle.toml.specs.Data.{Data, Members, as_table}
 use Rattle.vet_base.specs.Gives.{found_or, ◌>>=◌}
 use Rattle.vet_base.specs.Name.{is_name}
 use Rattle.vet_demand.specs.Policies.{IsInKeyOrder, key_of}
-use Rattle.vet_demand.specs.PolicyKey.{policy_key_cmp, policy_key_cmp-IsAntisymmetric, policy_key_total, read_key}
+use Rattle.vet_demand.specs.PolicyKey.{policy_key_cmp, read_key}
+use Rattle.vet_demand.specs.PolicyKeyLaws.{policy_key_cmp-IsAntisymmetric, policy_key_total}
 use Rattle.vet_demand.specs.declared.policies.KeyedPolicy.{KeyedPolicy}
 use Rattle.vet_base.proofs.KeyedLemmas.{IsByKey-with_item}
 use Rattle.vet_entries.specs.PeerContent.{is_own}
@@ -17,7 +18,7 @@ use Rattle.vet_entries.specs.declared.entry.Entry.{Entry}
 use Rattle.vet_entries.specs.declared.peer_settings.PeerSettings.{PeerSettings}
 use Rattle.vet_files.specs.declared.config_file.ConfigContent.{ConfigContent}
 use Rattle.vet_files.specs.declared.found.Found.{Found}
-use Rattle.vet_files.specs.declared.listing.Listing.TheVariants as listing
+use Rattle.vet_files.specs.declared.write.sections.Listing.TheVariants as listing
 use Rattle.vet_files.specs.Audits.{entries_of, or_none}
 use Rattle.vet_files.specs.Config.{config_file_told, exemption_told, new_key, next_peer, next_policy, peer_told, peers_told, policies_told, policy_told, settings_told, vet_version_told}
 use Rattle.vet_files.specs.EntryTables.{is_listed}
@@ -47,21 +48,28 @@ abbrev AppendsPeers : Found (List PeerSettings) → List ℕ → Found (List Pee
 AppendsPeers = Appends peer_name (HasOther peer_name) Any
 
 abbrev OneNamed : List ℕ → Found (Option PeerSettings) → Type 0
-OneNamed name more = All (λ p. peer_name p ≡ name) (option_to_list more.content) × AreApart (HasOther peer_name) (option_to_list more.content)
+OneNamed name more = All (λ p. peer_name p ≡ name) (option_to_list more.content)
+    × AreApart (HasOther peer_name) (option_to_list more.content)
 
 peer-named : (name path : List ℕ) (ms : Members) → IfOk (peer_told name path ms) (OneNamed name)
 peer-named name path ms =
     bind-gives (OneNamed name) (required texts path (codes "url") ms) _ (λ url.
     bind-gives (OneNamed name) (optional package_names path (codes "exclude") ms) _ (λ exclude.
     bind-gives (OneNamed name) (optional criteria_map path (codes "criteria-map") ms) _ (λ mapped.
-    let peer : PeerSettings = record { name = name; url = url; exclude = or_none exclude; map = or_no_map mapped } in
-    (All-cons (λ p. peer_name p ≡ name) peer [] refl (All-nil (λ p. peer_name p ≡ name)), (All-nil (HasOther peer_name peer), tt)))))
+    let peer : PeerSettings = record { name = name; url = url; exclude = or_none exclude; map = or_no_map mapped } in (
+      All-cons (λ p. peer_name p ≡ name) peer [] refl (All-nil (λ p. peer_name p ≡ name)),
+      (All-nil (HasOther peer_name peer), tt),
+    ))))
 
-next_peer-appends : (found : Found (List PeerSettings)) (name : List ℕ) (d : Data) → IfOk (next_peer found name d) (AppendsPeers found name)
+next_peer-appends : (found : Found (List PeerSettings)) (name : List ℕ) (d : Data)
+    → IfOk (next_peer found name d) (AppendsPeers found name)
 next_peer-appends found name d =
-    cond_both (is_name name) (settings_told name d >>= (λ more. Ok (onto found (listed more)))) (Err (fault (codes "imports") name)) (λ r. IfOk r (AppendsPeers found name))
+    cond_both (is_name name) (settings_told name d >>= (λ more. Ok (onto found (listed more))))
+    (Err (fault (codes "imports") name)) (λ r. IfOk r (AppendsPeers found name))
     (λ _. bind-keeps (OneNamed name) (AppendsPeers found name) (settings_told name d) _
-    (bind-gives (OneNamed name) (found_or (fault (codes "imports") name) (as_table d)) (peer_told name (path_below (codes "imports") name)) (λ ms. peer-named name (path_below (codes "imports") name) ms))
+    (bind-gives (OneNamed name) (found_or (fault (codes "imports") name) (as_table d))
+    (peer_told name (path_below (codes "imports") name))
+    (λ ms. peer-named name (path_below (codes "imports") name) ms))
     (λ more named. (option_to_list more.content, (refl, (named.0, (named.1, λ k d l. tt))))))
     (λ _. tt)
 
@@ -70,19 +78,26 @@ NamedApart = Holds (HasOther peer_name) Any
 
 peers-named : (ms : Members) → Rising ms → IfOk (peers_told ms) NamedApart
 peers-named ms rise =
-    bind-keeps Rising NamedApart (table_at (codes "top") (codes "imports") ms) (each_member next_peer nothing) (table_at-rises (codes "top") (codes "imports") ms rise)
-    (λ inner inner_rise. walk-apart peer_name (HasOther peer_name) Any (other-name peer_name) next_peer (λ found name d _. next_peer-appends found name d) inner inner_rise)
+    bind-keeps Rising NamedApart (table_at (codes "top") (codes "imports") ms) (each_member next_peer nothing)
+    (table_at-rises (codes "top") (codes "imports") ms rise)
+    (λ inner inner_rise. walk-apart peer_name (HasOther peer_name) Any (other-name peer_name) next_peer
+    (λ found name d _. next_peer-appends found name d) inner inner_rise)
 
 -- ---- policies
 
 abbrev InKeyOrder : Found (List KeyedPolicy) → Type 0
 InKeyOrder found = IsInKeyOrder found.content
 
-next_policy-keeps : (found : Found (List KeyedPolicy)) (text : List ℕ) (d : Data) → InKeyOrder found → IfOk (next_policy found text d) InKeyOrder
+next_policy-keeps : (found : Found (List KeyedPolicy)) (text : List ℕ) (d : Data) → InKeyOrder found
+    → IfOk (next_policy found text d) InKeyOrder
 next_policy-keeps found text d up =
-    bind-gives InKeyOrder (found_or (fault (codes "policy") text) (read_key text) >>= new_key text found.content) _ (λ key.
-    bind-gives InKeyOrder (found_or (fault (codes "policy") text) (as_table d) >>= policy_told (path_below (codes "policy") text)) _ (λ more.
-    IsByKey-with_item policy_key_cmp policy_key_total policy_key_cmp-IsAntisymmetric key_of found.content (record { key = key; policy = more.content }) up))
+    bind-gives InKeyOrder (found_or (fault (codes "policy") text) (read_key text) >>= new_key text found.content) _
+    (λ key.
+    bind-gives InKeyOrder
+    (found_or (fault (codes "policy") text) (as_table d) >>= policy_told (path_below (codes "policy") text)) _
+    (λ more.
+    IsByKey-with_item policy_key_cmp policy_key_total policy_key_cmp-IsAntisymmetric key_of found.content
+    (record { key = key; policy = more.content }) up))
 
 no-policies : IsInKeyOrder []
 no-policies i j d l m = absurd (omega (arith, m))
@@ -90,7 +105,8 @@ no-policies i j d l m = absurd (omega (arith, m))
 policies-in_order : (ms : Members) → IfOk (policies_told ms) InKeyOrder
 policies-in_order ms =
     let none : Found (List KeyedPolicy) = record { content = []; notices = no_notices } in
-    bind-gives InKeyOrder (table_at (codes "top") (codes "policy") ms) (each_member next_policy none) (λ table. each_member-keeps InKeyOrder next_policy next_policy-keeps none table no-policies)
+    bind-gives InKeyOrder (table_at (codes "top") (codes "policy") ms) (each_member next_policy none)
+    (λ table. each_member-keeps InKeyOrder next_policy next_policy-keeps none table no-policies)
 
 -- ---- the file
 
@@ -106,10 +122,13 @@ config-stands ms rise =
     bind-gives ConfigStands (optional names (codes "top") (codes "default-criteria") ms) _ (λ default.
     bind-keeps NamedApart ConfigStands (peers_told ms) _ (peers-named ms rise) (λ peers named.
     bind-keeps InKeyOrder ConfigStands (policies_told ms) _ (policies-in_order ms) (λ policies up.
-    bind-keeps (StandOnce listing.Exemptions) ConfigStands (entries_of exemption_told (codes "top") [] (codes "exemptions") ms) _
-    (entries-once listing.Exemptions exemption_told exemptions-listed (codes "top") [] (codes "exemptions") ms (rising-at (codes "top") (codes "exemptions") ms rise)) (λ exemptions once. record {
+    bind-keeps (StandOnce listing.Exemptions) ConfigStands
+    (entries_of exemption_told (codes "top") [] (codes "exemptions") ms) _
+    (entries-once listing.Exemptions exemption_told exemptions-listed (codes "top") [] (codes "exemptions") ms
+    (rising-at (codes "top") (codes "exemptions") ms rise)) (λ exemptions once. record {
       named_once = apart-pairs (HasOther peer_name) peers.content named.0;
       by_key = up;
-      kinds = All-weaker (IsOf listing.Exemptions) (λ e. is_own_exemption e ≡ true) own-exemption exemptions.content once.1;
+      kinds = All-weaker (IsOf listing.Exemptions) (λ e. is_own_exemption e ≡ true) own-exemption exemptions.content
+          once.1;
       once = distinct-apart exemptions.content once.0;
     })))))

@@ -14,7 +14,7 @@ use Rattle.vet_entries.specs.declared.publisher_records.PackagePublishers.{Packa
 use Rattle.vet_files.specs.declared.found.Found.{Found}
 use Rattle.vet_files.specs.declared.imports_file.ImportedPeer.{ImportedPeer}
 use Rattle.vet_files.specs.declared.imports_file.ImportsContent.{ImportsContent}
-use Rattle.vet_files.specs.declared.whose.Whose.TheVariants.{Peers}
+use Rattle.vet_files.specs.declared.read.whose.Whose.TheVariants.{Peers}
 use Rattle.vet_files.specs.Field.{fault}
 use Rattle.vet_files.specs.Imports.{imported_at, imported_from, imported_table, imported_told, imports_file_told, next_imported, next_publishers, peer_file_told, publisher_told, publishers_told}
 use Rattle.vet_files.specs.Lists.{listed, nothing, onto, path_below, table_at, tables_of_package}
@@ -36,31 +36,39 @@ package_of p = p.«package»
 -- records in order stay as they are
 in_order-again : (records : List Publisher) → in_order (in_order records) ≡ in_order records
 in_order-again records =
-    in_order-is (in_order records) (in_order records) (record { in_order = (in_order-AreTheRecords records).in_order; same = λ p. (λ h. h, λ h. h) })
+    in_order-is (in_order records) (in_order records)
+    (record { in_order = (in_order-AreTheRecords records).in_order; same = λ p. (λ h. h, λ h. h) })
 
 abbrev AppendsRecords : Found (List PackagePublishers) → List ℕ → Found (List PackagePublishers) → Type 0
 AppendsRecords = Appends package_of (HasOther package_of) HasRecords
 
 any-appended : (name : List ℕ) (records : List Publisher) → in_order records ≡ records
-    → All (λ p. package_of p ≡ name) (with_any name records) × (AreApart (HasOther package_of) (with_any name records) × All HasRecords (with_any name records))
+    → All (λ p. package_of p ≡ name) (with_any name records)
+    × (AreApart (HasOther package_of) (with_any name records) × All HasRecords (with_any name records))
 any-appended name [] still = (All-nil (λ p. package_of p ≡ name), (tt, All-nil HasRecords))
 any-appended name (first ∷ rest) still =
     let held : PackagePublishers = record { «package» = name; publishers = first ∷ rest } in (
       All-cons (λ p. package_of p ≡ name) held [] refl (All-nil (λ p. package_of p ≡ name)),
-      ((All-nil (HasOther package_of held), tt), All-cons HasRecords held [] ((λ none. omega (arith, ap length none)), still) (All-nil HasRecords)),
+      (
+        (All-nil (HasOther package_of held), tt),
+        All-cons HasRecords held [] ((λ none. omega (arith, ap length none)), still) (All-nil HasRecords),
+      ),
     )
 
-next_publishers-appends : (found : Found (List PackagePublishers)) (name : List ℕ) (d : Data) → IfOk (next_publishers found name d) (AppendsRecords found name)
+next_publishers-appends : (found : Found (List PackagePublishers)) (name : List ℕ) (d : Data)
+    → IfOk (next_publishers found name d) (AppendsRecords found name)
 next_publishers-appends found name d =
     bind-gives (AppendsRecords found name) (tables_of_package publisher_told (codes "publisher") name d) _
-    (λ more. let records = in_order more.content in (with_any name records, (refl, any-appended name records (in_order-again more.content))))
+    (λ more. let records = in_order more.content
+    in (with_any name records, (refl, any-appended name records (in_order-again more.content))))
 
 abbrev HavePublished : Found (List PackagePublishers) → Type 0
 HavePublished = Holds (HasOther package_of) HasRecords
 
 publishers-stand : (ms : Members) → Rising ms → IfOk (publishers_told ms) HavePublished
 publishers-stand ms rise =
-    bind-keeps Rising HavePublished (table_at (codes "top") (codes "publisher") ms) (each_member next_publishers nothing) (table_at-rises (codes "top") (codes "publisher") ms rise)
+    bind-keeps Rising HavePublished (table_at (codes "top") (codes "publisher") ms)
+    (each_member next_publishers nothing) (table_at-rises (codes "top") (codes "publisher") ms rise)
     (λ inner inner_rise. walk-apart package_of (HasOther package_of) HasRecords (other-name package_of) next_publishers
     (λ found name d _. next_publishers-appends found name d) inner inner_rise)
 
@@ -80,7 +88,8 @@ OneStands name more =
     let ps : List ImportedPeer = option_to_list more.content in
     All (λ p. peer_name p ≡ name) ps × (AreApart (HasOther peer_name) ps × All IsStanding ps)
 
-imported_from-stands : (name path prefix : List ℕ) (ms : Members) → Rising ms → IfOk (imported_from name path prefix ms) (OneStands name)
+imported_from-stands : (name path prefix : List ℕ) (ms : Members) → Rising ms
+    → IfOk (imported_from name path prefix ms) (OneStands name)
 imported_from-stands name path prefix ms rise =
     bind-keeps PeerStands (OneStands name) (peer_file_told path prefix ms) _ (peer-stands path prefix ms rise)
     (λ more stands. let peer : ImportedPeer = record { name = name; content = more.content } in (
@@ -90,13 +99,18 @@ imported_from-stands name path prefix ms rise =
 
 imported_at-stands : (name : List ℕ) (d : Data) → Rises d → IfOk (imported_at name d) (OneStands name)
 imported_at-stands name d rise =
-    bind-keeps Rising (OneStands name) (found_or (fault (codes "audits") name) (as_table d)) (imported_table name) (as_table-rises (fault (codes "audits") name) d rise)
-    (λ ms inner. imported_from-stands name (path_below (codes "audits") name) (path_below (codes "audits") name ++ codes ".") ms inner)
+    bind-keeps Rising (OneStands name) (found_or (fault (codes "audits") name) (as_table d)) (imported_table name)
+    (as_table-rises (fault (codes "audits") name) d rise)
+    (λ ms inner. imported_from-stands name (path_below (codes "audits") name)
+    (path_below (codes "audits") name ++ codes ".") ms inner)
 
-next_imported-appends : (found : Found (List ImportedPeer)) (name : List ℕ) (d : Data) → Rises d → IfOk (next_imported found name d) (AppendsPeers found name)
+next_imported-appends : (found : Found (List ImportedPeer)) (name : List ℕ) (d : Data) → Rises d
+    → IfOk (next_imported found name d) (AppendsPeers found name)
 next_imported-appends found name d rise =
-    cond_both (is_name name) (imported_at name d >>= (λ more. Ok (onto found (listed more)))) (Err (fault (codes "audits") name)) (λ r. IfOk r (AppendsPeers found name))
-    (λ _. bind-keeps (OneStands name) (AppendsPeers found name) (imported_at name d) _ (imported_at-stands name d rise) (λ more stands. (option_to_list more.content, (refl, stands))))
+    cond_both (is_name name) (imported_at name d >>= (λ more. Ok (onto found (listed more))))
+    (Err (fault (codes "audits") name)) (λ r. IfOk r (AppendsPeers found name))
+    (λ _. bind-keeps (OneStands name) (AppendsPeers found name) (imported_at name d) _ (imported_at-stands name d rise)
+    (λ more stands. (option_to_list more.content, (refl, stands))))
     (λ _. tt)
 
 abbrev AreStanding : Found (List ImportedPeer) → Type 0
@@ -104,8 +118,10 @@ AreStanding = Holds (HasOther peer_name) IsStanding
 
 peers-stand : (ms : Members) → Rising ms → IfOk (imported_told ms) AreStanding
 peers-stand ms rise =
-    bind-keeps Rising AreStanding (table_at (codes "top") (codes "audits") ms) (each_member next_imported nothing) (table_at-rises (codes "top") (codes "audits") ms rise)
-    (λ inner inner_rise. walk-apart peer_name (HasOther peer_name) IsStanding (other-name peer_name) next_imported next_imported-appends inner inner_rise)
+    bind-keeps Rising AreStanding (table_at (codes "top") (codes "audits") ms) (each_member next_imported nothing)
+    (table_at-rises (codes "top") (codes "audits") ms rise)
+    (λ inner inner_rise. walk-apart peer_name (HasOther peer_name) IsStanding (other-name peer_name) next_imported
+    next_imported-appends inner inner_rise)
 
 -- ---- the file
 

@@ -11,7 +11,8 @@ use Rattle.vet_files.specs.Walk.{IsBelow, KeysRise}
 abbrev Entry : Type 0
 Entry = String Global × Value
 
-below : (key : String Global) (es : List Entry) → AllByRecursion (λ other. string_cmp key other ≡ Less) (keys_of es) → IsBelow (string_bytes key) (members_view es)
+below : (key : String Global) (es : List Entry) → AllByRecursion (λ other. string_cmp key other ≡ Less) (keys_of es)
+    → IsBelow (string_bytes key) (members_view es)
 below key [] h = tt
 below key (e ∷ es) h = (h.0, below key es h.1)
 

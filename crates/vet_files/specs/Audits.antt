@@ -24,12 +24,12 @@ use Rattle.vet_files.specs.declared.keys.TableKind.TheVariants as kind
 use Rattle.vet_files.specs.declared.audits_file.AuditsContent.{AuditsContent}
 use Rattle.vet_files.specs.declared.found.Found.{Found}
 use Rattle.vet_files.specs.declared.notices.Notices.{Notices}
-use Rattle.vet_files.specs.declared.subject.Subject.{Subject}
-use Rattle.vet_files.specs.declared.subject.SubjectKey.{SubjectKey}
-use Rattle.vet_files.specs.declared.subject.SubjectKey.TheVariants as key
-use Rattle.vet_files.specs.declared.subject.Subject.TheVariants as subject
-use Rattle.vet_files.specs.declared.whose.Whose.{Whose}
-use Rattle.vet_files.specs.declared.whose.Whose.TheVariants.{Ours, Peers}
+use Rattle.vet_files.specs.declared.read.subject.Subject.{Subject}
+use Rattle.vet_files.specs.declared.read.subject.SubjectKey.{SubjectKey}
+use Rattle.vet_files.specs.declared.read.subject.SubjectKey.TheVariants as key
+use Rattle.vet_files.specs.declared.read.subject.Subject.TheVariants as subject
+use Rattle.vet_files.specs.declared.read.whose.Whose.{Whose}
+use Rattle.vet_files.specs.declared.read.whose.Whose.TheVariants.{Ours, Peers}
 use Rattle.vet_files.specs.Field.{a_day, a_delta, a_flag, a_requirement, a_text, a_user, a_version, fault, names, optional, required, texts}
 use Rattle.vet_files.specs.Keys.{unknown_keys}
 use Rattle.vet_files.specs.Lists.{Reading, each_once, listed, nothing, one, onto, path_below, skipped, table_at, tables_of_package}
@@ -48,7 +48,8 @@ criterion_told name path ms =
     optional a_text path (codes "description") ms >>= λ description.
     optional a_text path (codes "description-url") ms >>= λ url.
     optional names path (codes "implies") ms >>= λ implies.
-    Ok (one (record { name = name; description = description; url = url; implies = or_none implies }) (unknown_keys kind.Criterion ms))
+    Ok (one (record { name = name; description = description; url = url; implies = or_none implies })
+    (unknown_keys kind.Criterion ms))
 
 -- a peer's file may define so many criteria
 abbrev pub room_for_criterion : Whose → ℕ → Told (Unit {0})
@@ -59,19 +60,25 @@ room_for_criterion Peers defined = if nat_lt defined MOST_PEER_CRITERIA then Ok 
 abbrev pub criterion_at : List ℕ → List ℕ → Option Members → Told (Found (Option Criterion))
 criterion_at path name table = found_or (fault path name) table >>= criterion_told name (path_below path name)
 
-abbrev pub further_criterion : Whose → List ℕ → List ℕ → Found (List Criterion) → Option Members → Told (Found (List Criterion))
+abbrev pub further_criterion : Whose → List ℕ → List ℕ → Found (List Criterion) → Option Members
+    → Told (Found (List Criterion))
 further_criterion whose path name found table =
-    room_for_criterion whose (length found.content) >>= λ _. criterion_at path name table >>= λ more. Ok (onto found (listed more))
+    room_for_criterion whose (length found.content) >>= λ _.
+    criterion_at path name table >>= λ more.
+    Ok (onto found (listed more))
 
 -- a table named after a built-in criterion is passed over as a whole
-abbrev pub built_in_criterion : List ℕ → List ℕ → Found (List Criterion) → Option Members → Told (Found (List Criterion))
+abbrev pub built_in_criterion : List ℕ → List ℕ → Found (List Criterion) → Option Members
+    → Told (Found (List Criterion))
 built_in_criterion path name found table =
-    found_or (fault path name) table >>= λ _. Ok (record { content = found.content; notices = together found.notices one_key })
+    found_or (fault path name) table >>= λ _.
+    Ok (record { content = found.content; notices = together found.notices one_key })
 
 abbrev pub next_criterion : Whose → List ℕ → Found (List Criterion) → List ℕ → Data → Told (Found (List Criterion))
 next_criterion whose path found name d =
     if is_name name
-    then (if is_built_in name then built_in_criterion path name found (as_table d) else further_criterion whose path name found (as_table d))
+    then (if is_built_in name then built_in_criterion path name found (as_table d)
+    else further_criterion whose path name found (as_table d))
     else Err (fault path name)
 
 -- ---- audits
@@ -84,7 +91,8 @@ has ms key = is_some (get_member key ms)
 abbrev pub first_key : Members → Option SubjectKey
 first_key ms =
     if has ms (codes "version") then Some key.Version
-    else (if has ms (codes "delta") then Some key.Delta else (if has ms (codes "violation") then Some key.Violation else None))
+    else (if has ms (codes "delta") then Some key.Delta else
+    (if has ms (codes "violation") then Some key.Violation else None))
 
 -- a second of them is a fault, whatever it holds
 abbrev pub absent : List ℕ → List ℕ → Members → Told (Unit {0})
@@ -92,9 +100,17 @@ absent path key ms = if has ms key then Err (fault path key) else Ok tt
 
 abbrev pub subject_told : List ℕ → Members → SubjectKey → Told Subject
 subject_told path ms key.Version =
-    required a_version path (codes "version") ms >>= λ version. absent path (codes "delta") ms >>= λ _. absent path (codes "violation") ms >>= λ _. Ok (subject.Full version)
-subject_told path ms key.Delta = required a_delta path (codes "delta") ms >>= λ delta. absent path (codes "violation") ms >>= λ _. Ok (subject.Delta delta)
-subject_told path ms key.Violation = required a_requirement path (codes "violation") ms >>= λ req. Ok (subject.Violation req)
+    required a_version path (codes "version") ms >>= λ version.
+    absent path (codes "delta") ms >>= λ _.
+    absent path (codes "violation") ms >>= λ _.
+    Ok (subject.Full version)
+subject_told path ms key.Delta =
+    required a_delta path (codes "delta") ms >>= λ delta.
+    absent path (codes "violation") ms >>= λ _.
+    Ok (subject.Delta delta)
+subject_told path ms key.Violation =
+    required a_requirement path (codes "violation") ms >>= λ req.
+    Ok (subject.Violation req)
 
 -- the kind of an audit
 abbrev pub audit_kind : Subject → Audit → Kind
@@ -104,7 +120,8 @@ audit_kind (subject.Violation req) audit = entry.Violation req audit
 
 -- one's own entry
 abbrev pub own_entry : List ℕ → Kind → NameSet → Option (List ℕ) → Entry
-own_entry name what criteria notes = record { source = Own; «package» = name; kind = what; criteria = criteria; notes = notes }
+own_entry name what criteria notes =
+    record { source = Own; «package» = name; kind = what; criteria = criteria; notes = notes }
 
 -- a peer's entry that it keeps to itself
 abbrev pub is_no : Option Data → Bool
@@ -118,13 +135,17 @@ is_withheld Peers ms = is_no (get_member (codes "importable") ms)
 -- the audit of a subject for some criteria: who made it, its notes, and whether others may import it
 abbrev pub audit_of_subject : List ℕ → List ℕ → Members → NameSet → Subject → Told (Found (Option Entry))
 audit_of_subject name path ms criteria what =
-    optional texts path (codes "who") ms >>= λ who. optional a_text path (codes "notes") ms >>= λ notes. optional a_flag path (codes "importable") ms >>= λ importable.
-    Ok (one (own_entry name (audit_kind what (record { who = or_none who; importable = importable })) criteria notes) (unknown_keys kind.Audit ms))
+    optional texts path (codes "who") ms >>= λ who.
+    optional a_text path (codes "notes") ms >>= λ notes.
+    optional a_flag path (codes "importable") ms >>= λ importable.
+    Ok (one (own_entry name (audit_kind what (record { who = or_none who; importable = importable })) criteria notes)
+    (unknown_keys kind.Audit ms))
 
 abbrev pub audit_of : List ℕ → List ℕ → Members → Option SubjectKey → Told (Found (Option Entry))
 audit_of name path ms None = Ok skipped
 audit_of name path ms (Some key) =
-    required names path (codes "criteria") ms >>= λ criteria. subject_told path ms key >>= audit_of_subject name path ms criteria
+    required names path (codes "criteria") ms >>= λ criteria.
+    subject_told path ms key >>= audit_of_subject name path ms criteria
 
 -- an audit of one of the three kinds that isn't withheld
 abbrev pub audit_told : Whose → Reading Entry
@@ -135,18 +156,24 @@ audit_told whose name path ms = if is_withheld whose ms then Ok skipped else aud
 -- the window of a table: its user, its first day and its last
 abbrev pub window_told : List ℕ → Members → Told Window
 window_told path ms =
-    required a_user path (codes "user-id") ms >>= λ user. required a_day path (codes "start") ms >>= λ first. required a_day path (codes "end") ms >>= λ last.
+    required a_user path (codes "user-id") ms >>= λ user.
+    required a_day path (codes "start") ms >>= λ first.
+    required a_day path (codes "end") ms >>= λ last.
     Ok (record { user = user; first = first; last = last })
 
 -- the wildcard audit of a window for some criteria: who vouches, whether it is to be renewed, and its notes
 abbrev pub wildcard_of_window : List ℕ → List ℕ → Members → NameSet → Window → Told (Found (Option Entry))
 wildcard_of_window name path ms criteria window =
-    optional texts path (codes "who") ms >>= λ who. optional a_flag path (codes "renew") ms >>= λ renew. optional a_text path (codes "notes") ms >>= λ notes.
-    Ok (one (own_entry name (entry.Wildcard window (record { who = or_none who; renew = renew })) criteria notes) (unknown_keys kind.Wildcard ms))
+    optional texts path (codes "who") ms >>= λ who.
+    optional a_flag path (codes "renew") ms >>= λ renew.
+    optional a_text path (codes "notes") ms >>= λ notes.
+    Ok (one (own_entry name (entry.Wildcard window (record { who = or_none who; renew = renew })) criteria notes)
+    (unknown_keys kind.Wildcard ms))
 
 abbrev pub wildcard_of : List ℕ → List ℕ → Members → Told (Found (Option Entry))
 wildcard_of name path ms =
-    required names path (codes "criteria") ms >>= λ criteria. window_told path ms >>= wildcard_of_window name path ms criteria
+    required names path (codes "criteria") ms >>= λ criteria.
+    window_told path ms >>= wildcard_of_window name path ms criteria
 
 -- a wildcard audit with a user
 abbrev pub wildcard_told : Reading Entry
@@ -154,7 +181,9 @@ wildcard_told name path ms = if has ms (codes "user-id") then wildcard_of name p
 
 abbrev pub trusted_of : List ℕ → List ℕ → Members → Told (Found (Option Entry))
 trusted_of name path ms =
-    required names path (codes "criteria") ms >>= λ criteria. window_told path ms >>= λ window. optional a_text path (codes "notes") ms >>= λ notes.
+    required names path (codes "criteria") ms >>= λ criteria.
+    window_told path ms >>= λ window.
+    optional a_text path (codes "notes") ms >>= λ notes.
     Ok (one (own_entry name (entry.Trusted window) criteria notes) (unknown_keys kind.Trusted ms))
 
 -- one's own trusted publisher with a user
@@ -169,7 +198,9 @@ trusted_told whose name path ms = if is_trusted whose ms then trusted_of name pa
 
 -- the entries of a package, each once, after those found before
 abbrev pub next_package : Reading Entry → List ℕ → Found (List Entry) → List ℕ → Data → Told (Found (List Entry))
-next_package read path found name d = tables_of_package read path name d >>= λ more. Ok (onto found (each_once distinct more))
+next_package read path found name d =
+    tables_of_package read path name d >>= λ more.
+    Ok (onto found (each_once distinct more))
 
 -- criteria and entries, and all that was passed over
 abbrev pub audits_content : Found (List Criterion) → Found (List Entry) → Notices → Found AuditsContent
@@ -183,24 +214,29 @@ abbrev pub entries_of : Reading Entry → List ℕ → List ℕ → List ℕ →
 entries_of read path prefix key ms = table_at path key ms >>= each_member (next_package read (prefix ++ key)) nothing
 
 abbrev pub criteria_of : Whose → List ℕ → List ℕ → Members → Told (Found (List Criterion))
-criteria_of whose path prefix ms = table_at path (codes "criteria") ms >>= each_member (next_criterion whose (prefix ++ codes "criteria")) nothing
+criteria_of whose path prefix ms = table_at path (codes "criteria") ms >>= each_member
+    (next_criterion whose (prefix ++ codes "criteria")) nothing
 
 -- what an audits file holds that has these criteria, and these entries but for its trusted ones
-abbrev pub trusted_entries_told : Whose → List ℕ → List ℕ → Members → Found (List Criterion) → Found (List Entry) → Told (Found AuditsContent)
+abbrev pub trusted_entries_told : Whose → List ℕ → List ℕ → Members → Found (List Criterion) → Found (List Entry)
+    → Told (Found AuditsContent)
 trusted_entries_told whose path prefix ms criteria entries =
     entries_of (trusted_told whose) path prefix (codes "trusted") ms >>= λ trusted.
     Ok (audits_content criteria (onto entries trusted) (only_keys (unknown_keys kind.AuditsFile ms)))
 
 -- what an audits file holds that has these criteria and audits
-abbrev pub further_entries_told : Whose → List ℕ → List ℕ → Members → Found (List Criterion) → Found (List Entry) → Told (Found AuditsContent)
+abbrev pub further_entries_told : Whose → List ℕ → List ℕ → Members → Found (List Criterion) → Found (List Entry)
+    → Told (Found AuditsContent)
 further_entries_told whose path prefix ms criteria audits =
-    entries_of wildcard_told path prefix (codes "wildcard-audits") ms >>= λ wildcards. trusted_entries_told whose path prefix ms criteria (onto audits wildcards)
+    entries_of wildcard_told path prefix (codes "wildcard-audits") ms >>= λ wildcards.
+    trusted_entries_told whose path prefix ms criteria (onto audits wildcards)
 
 -- what an audits file holds. Its tables stand in one of a path, and their paths begin with a prefix.
 abbrev pub audits_file_told : Whose → List ℕ → List ℕ → Members → Told (Found AuditsContent)
 audits_file_told whose path prefix ms =
     criteria_of whose path prefix ms >>= λ criteria.
-    entries_of (audit_told whose) path prefix (codes "audits") ms >>= λ audits. further_entries_told whose path prefix ms criteria audits
+    entries_of (audit_told whose) path prefix (codes "audits") ms >>= λ audits.
+    further_entries_told whose path prefix ms criteria audits
 
 -- the table of a file: a TOML document in UTF-8
 abbrev pub document_told : List ℕ → Told Members

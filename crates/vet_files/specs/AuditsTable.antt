@@ -6,13 +6,14 @@ use Rattle.vet_base.specs.Names.{NameSet}
 use Rattle.vet_base.specs.declared.criterion.Criterion.{Criterion}
 use Rattle.vet_entries.specs.declared.entry.Entry.{Entry}
 use Rattle.vet_files.specs.declared.audits_file.AuditsContent.{AuditsContent}
-use Rattle.vet_files.specs.declared.listing.Listing.TheVariants.{Audits, Trusted, WildcardAudits}
+use Rattle.vet_files.specs.declared.write.sections.Listing.TheVariants.{Audits, Trusted, WildcardAudits}
 use Rattle.vet_files.specs.EntryTables.{listed_entries, package_lists, some_text}
 use Rattle.vet_files.specs.Tables.{by_name, fields, some_set, unless_empty}
 
 -- a criterion's table
 abbrev pub criterion_fields : Criterion → List (List ℕ × Option Data)
-criterion_fields c = (codes "description", some_text c.description) ∷ (codes "description-url", some_text c.url) ∷ (codes "implies", some_set c.implies) ∷ []
+criterion_fields c = (codes "description", some_text c.description) ∷ (codes "description-url", some_text c.url) ∷
+    (codes "implies", some_set c.implies) ∷ []
 
 abbrev pub criterion_table : Criterion → Members
 criterion_table c = fields (criterion_fields c)

@@ -29,7 +29,8 @@ use Rattle.vet_files.specs.Walk.{each_member}
 -- the version of cargo-vet that the file names
 abbrev pub vet_version_told : Members → Told (Found (Option (List ℕ)))
 vet_version_told ms =
-    table_at (codes "top") (codes "cargo-vet") ms >>= λ table. optional a_text (codes "cargo-vet") (codes "version") table >>= λ version.
+    table_at (codes "top") (codes "cargo-vet") ms >>= λ table.
+    optional a_text (codes "cargo-vet") (codes "version") table >>= λ version.
     Ok (record { content = version; notices = only_keys (unknown_keys kind.CargoVet table) })
 
 -- ---- `imports`
@@ -39,14 +40,17 @@ abbrev pub peer_told : List ℕ → List ℕ → Members → Told (Found (Option
 peer_told name path ms =
     required texts path (codes "url") ms >>= λ url. optional package_names path (codes "exclude") ms >>= λ exclude.
     optional criteria_map path (codes "criteria-map") ms >>= λ mapped.
-    Ok (one (record { name = name; url = url; exclude = or_none exclude; map = or_no_map mapped }) (unknown_keys kind.Peer ms))
+    Ok (one (record { name = name; url = url; exclude = or_none exclude; map = or_no_map mapped })
+    (unknown_keys kind.Peer ms))
 
 abbrev pub settings_told : List ℕ → Data → Told (Found (Option PeerSettings))
-settings_told name d = found_or (fault (codes "imports") name) (as_table d) >>= peer_told name (path_below (codes "imports") name)
+settings_told name d = found_or (fault (codes "imports") name) (as_table d) >>= peer_told name
+    (path_below (codes "imports") name)
 
 -- one more peer
 abbrev pub next_peer : Found (List PeerSettings) → List ℕ → Data → Told (Found (List PeerSettings))
-next_peer found name d = if is_name name then settings_told name d >>= (λ more. Ok (onto found (listed more))) else Err (fault (codes "imports") name)
+next_peer found name d = if is_name name then settings_told name d >>= (λ more. Ok (onto found (listed more))) else Err
+    (fault (codes "imports") name)
 
 abbrev pub peers_told : Members → Told (Found (List PeerSettings))
 peers_told ms = table_at (codes "top") (codes "imports") ms >>= each_member next_peer nothing
@@ -54,18 +58,28 @@ peers_told ms = table_at (codes "top") (codes "imports") ms >>= each_member next
 -- ---- `policy`
 
 -- the policy of a table that says this of its own package: what it says of dependencies, and its notes
-abbrev pub dependency_policy_told : List ℕ → Members → Option Bool → Option NameSet → Option NameSet → Told (Found Policy)
+abbrev pub dependency_policy_told : List ℕ → Members → Option Bool → Option NameSet → Option NameSet
+    → Told (Found Policy)
 dependency_policy_told path ms published criteria dev =
-    optional dependency_criteria path (codes "dependency-criteria") ms >>= λ dependencies. optional a_text path (codes "notes") ms >>= λ notes.
+    optional dependency_criteria path (codes "dependency-criteria") ms >>= λ dependencies.
+    optional a_text path (codes "notes") ms >>= λ notes.
     Ok (record {
-      content = record { audit_as_crates_io = published; criteria = criteria; dev_criteria = dev; dependency_criteria = or_no_dependencies dependencies; notes = notes };
+      content = record {
+        audit_as_crates_io = published;
+        criteria = criteria;
+        dev_criteria = dev;
+        dependency_criteria =
+            or_no_dependencies dependencies;
+        notes = notes;
+      };
       notices = only_keys (unknown_keys kind.Policy ms);
     })
 
 -- the policy of a table
 abbrev pub policy_told : List ℕ → Members → Told (Found Policy)
 policy_told path ms =
-    optional a_flag path (codes "audit-as-crates-io") ms >>= λ published. optional names path (codes "criteria") ms >>= λ criteria.
+    optional a_flag path (codes "audit-as-crates-io") ms >>= λ published.
+    optional names path (codes "criteria") ms >>= λ criteria.
     optional names path (codes "dev-criteria") ms >>= λ dev. dependency_policy_told path ms published criteria dev
 
 -- one more policy, whose key isn't that of an earlier one
@@ -77,10 +91,12 @@ new_key_told text held = found_or (fault (codes "policy") text) (read_key text) 
 
 -- the policy whose table stands at a key
 abbrev pub policy_at : List ℕ → Data → Told (Found Policy)
-policy_at text d = found_or (fault (codes "policy") text) (as_table d) >>= policy_told (path_below (codes "policy") text)
+policy_at text d = found_or (fault (codes "policy") text) (as_table d) >>= policy_told
+    (path_below (codes "policy") text)
 
 abbrev pub policy_onto : Found (List KeyedPolicy) → PolicyKey → Found Policy → Found (List KeyedPolicy)
-policy_onto found key more = record { content = with_policy found.content key more.content; notices = together found.notices more.notices }
+policy_onto found key more =
+    record { content = with_policy found.content key more.content; notices = together found.notices more.notices }
 
 abbrev pub next_policy : Found (List KeyedPolicy) → List ℕ → Data → Told (Found (List KeyedPolicy))
 next_policy found text d =
@@ -97,20 +113,30 @@ policies_told ms = table_at (codes "top") (codes "policy") ms >>= all_policies_t
 
 abbrev pub exemption_told : Reading Entry
 exemption_told name path ms =
-    required a_version path (codes "version") ms >>= λ version. required names path (codes "criteria") ms >>= λ criteria.
+    required a_version path (codes "version") ms >>= λ version.
+    required names path (codes "criteria") ms >>= λ criteria.
     optional a_flag path (codes "suggest") ms >>= λ suggest. optional a_text path (codes "notes") ms >>= λ notes.
     Ok (one (own_entry name (Exemption version suggest) criteria notes) (unknown_keys kind.Exemption ms))
 
 -- ---- the file
 
 -- the lists of a config file, with the rest of its content, and what was passed over in that and among its keys
-abbrev pub config_lists_told : Option (List ℕ) → Option NameSet → Notices → Notices → Members → Told (Found ConfigContent)
+abbrev pub config_lists_told : Option (List ℕ) → Option NameSet → Notices → Notices → Members
+    → Told (Found ConfigContent)
 config_lists_told version default settings keys ms =
     peers_told ms >>= λ peers. policies_told ms >>= λ policies.
     entries_of exemption_told (codes "top") [] (codes "exemptions") ms >>= λ exemptions.
     Ok (record {
-      content = record { vet_version = version; default_criteria = default; peers = peers.content; policies = policies.content; exemptions = exemptions.content };
-      notices = together (together (together settings peers.notices) (together policies.notices exemptions.notices)) keys;
+      content = record {
+        vet_version = version;
+        default_criteria = default;
+        peers = peers.content;
+        policies =
+            policies.content;
+        exemptions = exemptions.content;
+      };
+      notices = together (together (together settings peers.notices) (together policies.notices exemptions.notices))
+          keys;
     })
 
 -- what a config file holds

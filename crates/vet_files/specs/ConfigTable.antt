@@ -12,7 +12,7 @@ use Rattle.vet_entries.specs.CriteriaMap.{NamesByName}
 use Rattle.vet_entries.specs.declared.entry.Entry.{Entry}
 use Rattle.vet_entries.specs.declared.peer_settings.PeerSettings.{PeerSettings}
 use Rattle.vet_files.specs.declared.config_file.ConfigContent.{ConfigContent}
-use Rattle.vet_files.specs.declared.listing.Listing.TheVariants.{Exemptions}
+use Rattle.vet_files.specs.declared.write.sections.Listing.TheVariants.{Exemptions}
 use Rattle.vet_files.specs.EntryTables.{listed_entries, package_lists, some_flag, some_text}
 use Rattle.vet_files.specs.Tables.{by_name, fields, members_from, set_data, some_list, unless_empty}
 
@@ -34,7 +34,8 @@ mapped_table mapped = members_from (map (λ m. (m.0, set_data m.1)) (finite.entr
 -- a peer's settings
 abbrev pub peer_fields : PeerSettings → List (List ℕ × Option Data)
 peer_fields peer =
-    (codes "criteria-map", unless_empty (mapped_table peer.map)) ∷ (codes "exclude", some_list peer.exclude) ∷ (codes "url", Some (set_data peer.url)) ∷ []
+    (codes "criteria-map", unless_empty (mapped_table peer.map)) ∷ (codes "exclude", some_list peer.exclude) ∷
+    (codes "url", Some (set_data peer.url)) ∷ []
 
 abbrev pub peer_table : PeerSettings → Members
 peer_table peer = fields (peer_fields peer)
@@ -52,7 +53,8 @@ dependencies_table items = members_from (map (λ i. (i.«package», set_data i.c
 abbrev pub policy_fields : Policy → List (List ℕ × Option Data)
 policy_fields p =
     (codes "audit-as-crates-io", some_flag p.audit_as_crates_io) ∷ (codes "criteria", optional_set p.criteria)
-    ∷ (codes "dependency-criteria", unless_empty (dependencies_table p.dependency_criteria)) ∷ (codes "dev-criteria", optional_set p.dev_criteria)
+    ∷ (codes "dependency-criteria", unless_empty (dependencies_table p.dependency_criteria)) ∷
+    (codes "dev-criteria", optional_set p.dev_criteria)
     ∷ (codes "notes", some_text p.notes) ∷ []
 
 abbrev pub policy_table : Policy → Members

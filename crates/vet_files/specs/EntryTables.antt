@@ -11,8 +11,8 @@ use Rattle.vet_base.specs.Version.{version_text}
 use Rattle.vet_entries.specs.declared.entry.Entry.{Entry}
 use Rattle.vet_entries.specs.declared.kind.Kind.{Kind}
 use Rattle.vet_entries.specs.declared.kind.Kind.TheVariants.{Full, Delta, Violation, Wildcard, Trusted, Exemption}
-use Rattle.vet_files.specs.declared.listing.Listing.{Listing}
-use Rattle.vet_files.specs.declared.listing.Listing.TheVariants as listing
+use Rattle.vet_files.specs.declared.write.sections.Listing.{Listing}
+use Rattle.vet_files.specs.declared.write.sections.Listing.TheVariants as listing
 use Rattle.vet_files.specs.Tables.{by_name, fields, set_data, some_set}
 
 -- ---- one entry
@@ -30,7 +30,8 @@ entry_fields criteria notes (Full version audit) =
     (codes "criteria", Some criteria) ∷ (codes "importable", some_flag audit.importable) ∷ (codes "notes", notes)
     ∷ (codes "version", Some (string (version_text version))) ∷ (codes "who", some_set audit.who) ∷ []
 entry_fields criteria notes (Delta delta audit) =
-    (codes "criteria", Some criteria) ∷ (codes "delta", Some (string (delta_text delta))) ∷ (codes "importable", some_flag audit.importable)
+    (codes "criteria", Some criteria) ∷ (codes "delta", Some (string (delta_text delta))) ∷
+    (codes "importable", some_flag audit.importable)
     ∷ (codes "notes", notes) ∷ (codes "who", some_set audit.who) ∷ []
 entry_fields criteria notes (Violation req audit) =
     (codes "criteria", Some criteria) ∷ (codes "importable", some_flag audit.importable) ∷ (codes "notes", notes)
@@ -63,7 +64,8 @@ is_listed _ _ = false
 
 -- the entries that stand there, less those of excluded packages, in order
 abbrev pub listed_entries : Listing → NameSet → List Entry → List Entry
-listed_entries which exclude entries = filter (λ e. is_listed which e.kind && not (set.contains exclude e.«package»)) entries
+listed_entries which exclude entries = filter (λ e. is_listed which e.kind && not (set.contains exclude e.«package»))
+    entries
 
 -- the entries of a package, in order
 abbrev pub of_package : List ℕ → List Entry → List Entry

@@ -6,7 +6,7 @@ use Rattle.std.specs.FinSet as set
 use Rattle.std.specs.List.{All, list_all}
 use Rattle.std.specs.Ordering.{nat_cmp}
 use Rattle.std.proofs.Common.{refl}
-use Rattle.vet_base.specs.Criteria.{criterion_code}
+use Rattle.vet_base.specs.Encodings.{criterion_code}
 use Rattle.vet_base.specs.CriteriaChanges.{is_built_in}
 use Rattle.vet_base.specs.Items.{NamedOnce}
 use Rattle.vet_base.specs.Keyed.{IsByKey, all_set, item_of}
@@ -28,7 +28,8 @@ use Rattle.vet_files.specs.declared.config_file.ConfigContent.{ConfigContent}
 use Rattle.vet_files.specs.declared.imports_file.ImportedPeer.{ImportedPeer}
 use Rattle.vet_files.specs.declared.imports_file.ImportsContent.{ImportsContent}
 
--- the criteria of the audits file; its entries and then the exemptions, each once; the peers of the config file and those of
+-- the criteria of the audits file; its entries and then the exemptions, each once; the peers of the config file and
+-- those of
 -- the imports file, by name; the publisher records by package, the policies by key; and what else the config file says
 pub record FilesValue : Type 0 where
   pub criteria : List Criterion
@@ -41,12 +42,24 @@ pub record FilesValue : Type 0 where
   pub default_criteria : Option NameSet
 
 -- it is stored as the tuple of its parts
-abbrev pub files_code : Coded Entry → Coded PeerSettings → Coded ImportedPeer → Coded PackagePublishers → Coded KeyedPolicy → Coded FilesValue
+abbrev pub files_code : Coded Entry → Coded PeerSettings → Coded ImportedPeer → Coded PackagePublishers
+    → Coded KeyedPolicy → Coded FilesValue
 files_code of_entry of_settings of_content of_publishers of_policy =
-    code_by (List Criterion × (List Entry × (List PeerSettings × (List ImportedPeer × (List PackagePublishers × (List KeyedPolicy × (Option (List ℕ) × Option NameSet)))))))
-    (coded× (coded_list criterion_code) (coded× (coded_list of_entry) (coded× (coded_list of_settings) (coded× (coded_list of_content)
-    (coded× (coded_list of_publishers) (coded× (coded_list of_policy) (coded× (coded_option (coded_list coded_ℕ)) (coded_option (set.code (coded_list coded_ℕ))))))))))
-    (λ f. (f.criteria, (f.entries, (f.settings, (f.contents, (f.publishers, (f.policies, (f.vet_version, f.default_criteria))))))))
+    code_by (List Criterion
+    × (List Entry × (List PeerSettings
+    × (List ImportedPeer × (List PackagePublishers × (List KeyedPolicy × (Option (List ℕ) × Option NameSet)))))))
+    (coded× (coded_list criterion_code)
+    (coded× (coded_list of_entry) (coded× (coded_list of_settings) (coded× (coded_list of_content)
+    (coded× (coded_list of_publishers)
+    (coded× (coded_list of_policy)
+    (coded× (coded_option (coded_list coded_ℕ)) (coded_option (set.code (coded_list coded_ℕ))))))))))
+    (λ f. (
+      f.criteria,
+      (
+        f.entries,
+        (f.settings, (f.contents, (f.publishers, (f.policies, (f.vet_version, f.default_criteria))))),
+      ),
+    ))
     (λ p. record {
       criteria = p.0;
       entries = p.1.0;

@@ -1,4 +1,4 @@
--- Policies in the order of a file, and their keys.
+-- Policies in the order of a file, and their keys (ours).
 use Rattle.std.specs.Prelude.{ℕ, ◌≡◌, List, [], ◌∷◌, ◌++◌, Ok}
 use Rattle.std.specs.BTreeSet.{BTreeSet, contains}
 use Rattle.toml.specs.Data.{Data}
@@ -25,4 +25,6 @@ policy_behind found key more = record {
 
 abbrev pub next_gathered : Found (List KeyedPolicy) → List ℕ → Data → Told (Found (List KeyedPolicy))
 next_gathered found text d =
-    new_key_told text (in_key_order found.content) >>= λ key. policy_at text d >>= λ more. Ok (policy_behind found key more)
+    new_key_told text (in_key_order found.content) >>= λ key.
+    policy_at text d >>= λ more.
+    Ok (policy_behind found key more)

@@ -14,7 +14,7 @@ use Rattle.vet_files.specs.declared.found.Found.{Found}
 use Rattle.vet_files.specs.declared.imports_file.ImportedPeer.{ImportedPeer}
 use Rattle.vet_files.specs.declared.imports_file.ImportsContent.{ImportsContent}
 use Rattle.vet_files.specs.declared.keys.TableKind.TheVariants as kind
-use Rattle.vet_files.specs.declared.whose.Whose.TheVariants.{Peers}
+use Rattle.vet_files.specs.declared.read.whose.Whose.TheVariants.{Peers}
 use Rattle.vet_files.specs.Field.{a_day, a_text, a_user, a_version, fault, optional, required}
 use Rattle.vet_files.specs.Keys.{unknown_keys}
 use Rattle.vet_files.specs.Lists.{Reading, each_once, listed, nothing, one, onto, path_below, skipped, table_at, tables_of_package}
@@ -25,9 +25,12 @@ use Rattle.vet_files.specs.Walk.{each_member}
 
 abbrev pub publisher_of : List ℕ → Members → Told (Found (Option Publisher))
 publisher_of path ms =
-    required a_version path (codes "version") ms >>= λ version. required a_day path (codes "when") ms >>= λ day. required a_user path (codes "user-id") ms >>= λ user.
+    required a_version path (codes "version") ms >>= λ version.
+    required a_day path (codes "when") ms >>= λ day.
+    required a_user path (codes "user-id") ms >>= λ user.
     optional a_text path (codes "user-login") ms >>= λ login. optional a_text path (codes "user-name") ms >>= λ name.
-    Ok (one (record { version = version; user = user; day = day; login = login; name = name }) (unknown_keys kind.Publisher ms))
+    Ok (one (record { version = version; user = user; day = day; login = login; name = name })
+    (unknown_keys kind.Publisher ms))
 
 -- a record with a user
 abbrev pub publisher_told : Reading Publisher
@@ -39,7 +42,8 @@ published name found = record { content = with_any name found.content; notices =
 
 abbrev pub next_publishers : Found (List PackagePublishers) → List ℕ → Data → Told (Found (List PackagePublishers))
 next_publishers found name d =
-    tables_of_package publisher_told (codes "publisher") name d >>= λ more. Ok (onto found (published name (each_once in_order more)))
+    tables_of_package publisher_told (codes "publisher") name d >>= λ more.
+    Ok (onto found (published name (each_once in_order more)))
 
 abbrev pub publishers_told : Members → Told (Found (List PackagePublishers))
 publishers_told ms = table_at (codes "top") (codes "publisher") ms >>= each_member next_publishers nothing
@@ -55,25 +59,30 @@ abbrev pub peer_value : AuditsContent → PeerContentValue
 peer_value content = record { criteria = content.criteria; entries = content.entries }
 
 abbrev pub peer_file_told : List ℕ → List ℕ → Members → Told (Found PeerContentValue)
-peer_file_told path prefix ms = audits_file_told Peers path prefix ms >>= λ found. Ok (record { content = peer_value found.content; notices = found.notices })
+peer_file_told path prefix ms =
+    audits_file_told Peers path prefix ms >>= λ found.
+    Ok (record { content = peer_value found.content; notices = found.notices })
 
 -- a peer with its content
 abbrev pub imported : List ℕ → Found PeerContentValue → Found (Option ImportedPeer)
-imported name found = record { content = Some (record { name = name; content = found.content }); notices = found.notices }
+imported name found =
+    record { content = Some (record { name = name; content = found.content }); notices = found.notices }
 
 -- a peer's tables stand in one of a path, and their paths begin with a prefix
 abbrev pub imported_from : List ℕ → List ℕ → List ℕ → Members → Told (Found (Option ImportedPeer))
 imported_from name path prefix ms = peer_file_told path prefix ms >>= λ more. Ok (imported name more)
 
 abbrev pub imported_table : List ℕ → Members → Told (Found (Option ImportedPeer))
-imported_table name ms = imported_from name (path_below (codes "audits") name) (path_below (codes "audits") name ++ codes ".") ms
+imported_table name ms = imported_from name (path_below (codes "audits") name)
+    (path_below (codes "audits") name ++ codes ".") ms
 
 abbrev pub imported_at : List ℕ → Data → Told (Found (Option ImportedPeer))
 imported_at name d = found_or (fault (codes "audits") name) (as_table d) >>= imported_table name
 
 -- one more peer
 abbrev pub next_imported : Found (List ImportedPeer) → List ℕ → Data → Told (Found (List ImportedPeer))
-next_imported found name d = if is_name name then imported_at name d >>= (λ more. Ok (onto found (listed more))) else Err (fault (codes "audits") name)
+next_imported found name d = if is_name name then imported_at name d >>= (λ more. Ok (onto found (listed more))) else
+    Err (fault (codes "audits") name)
 
 abbrev pub imported_told : Members → Told (Found (List ImportedPeer))
 imported_told ms = table_at (codes "top") (codes "audits") ms >>= each_member next_imported nothing

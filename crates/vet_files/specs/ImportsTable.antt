@@ -22,7 +22,8 @@ use Rattle.vet_files.specs.Tables.{by_name, fields, unless_empty}
 -- a publisher record
 abbrev pub publisher_fields : Publisher → List (List ℕ × Option Data)
 publisher_fields p =
-    (codes "user-id", Some (integer (pos p.user))) ∷ (codes "user-login", some_text p.login) ∷ (codes "user-name", some_text p.name)
+    (codes "user-id", Some (integer (pos p.user))) ∷ (codes "user-login", some_text p.login) ∷
+    (codes "user-name", some_text p.name)
     ∷ (codes "version", Some (string (version_text p.version))) ∷ (codes "when", Some (string (day_text p.day))) ∷ []
 
 abbrev pub publisher_table : Publisher → Members
@@ -44,7 +45,8 @@ excluded_of (s ∷ rest) name = if bytes_eq name s.name then s.exclude else excl
 
 -- what was imported from a peer, less the entries of excluded packages
 abbrev pub imported_peer_table : List PeerSettings → ImportedPeer → Members
-imported_peer_table settings peer = audits_file_table (excluded_of settings peer.name) peer.content.criteria peer.content.entries
+imported_peer_table settings peer = audits_file_table (excluded_of settings peer.name) peer.content.criteria
+    peer.content.entries
 
 abbrev pub imported_peers_table : List PeerSettings → List ImportedPeer → Members
 imported_peers_table settings peers = by_name (map (λ p. (p.name, table (imported_peer_table settings p))) peers)

@@ -1,4 +1,4 @@
--- The list that stands at a key.
+-- The list that stands at a key (ours).
 use Rattle.std.specs.Prelude.{ℕ, List, Option, Some}
 use Rattle.toml.specs.Data.{Data, array, Items, no_items, Members, get_member}
 

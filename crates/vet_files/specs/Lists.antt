@@ -62,9 +62,12 @@ Reading A = List ℕ → List ℕ → Members → Told (Found (Option A))
 -- one more table of a package's list
 abbrev pub next_table : {A : Type 0} → Reading A → List ℕ → List ℕ → Found (List A) → ℕ → Data → Told (Found (List A))
 next_table read path name found place d =
-    found_or (fault path name) (as_table d) >>= read name (path_in_list path name place) >>= λ more. Ok (onto found (listed more))
+    found_or (fault path name) (as_table d) >>= read name (path_in_list path name place) >>= λ more.
+    Ok (onto found (listed more))
 
 -- the tables of a package: a list of them at the package's name
 abbrev pub tables_of_package : {A : Type 0} → Reading A → List ℕ → List ℕ → Data → Told (Found (List A))
 tables_of_package read path name d =
-    if is_package_name name then found_or (fault path name) (as_array d) >>= each_item (next_table read path name) nothing 0 else Err (fault path name)
+    if is_package_name name
+    then found_or (fault path name) (as_array d) >>= each_item (next_table read path name) nothing 0
+    else Err (fault path name)

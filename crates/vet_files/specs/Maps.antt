@@ -16,10 +16,12 @@ use Rattle.vet_files.specs.Walk.{each_member}
 
 -- one more criterion, and the names at it
 abbrev pub next_mapped : List ℕ → NamesByName → List ℕ → Data → Told NamesByName
-next_mapped path found name d = if is_name name then names path name d >>= (λ criteria. Ok (map.insert found name criteria)) else Err (fault path name)
+next_mapped path found name d = if is_name name then names path name d >>=
+    (λ criteria. Ok (map.insert found name criteria)) else Err (fault path name)
 
 abbrev pub criteria_map : List ℕ → List ℕ → Data → Told NamesByName
-criteria_map path key d = found_or (fault path key) (as_table d) >>= each_member (next_mapped (path_below path key)) map.empty
+criteria_map path key d = found_or (fault path key) (as_table d) >>= each_member (next_mapped (path_below path key))
+    map.empty
 
 -- a map that isn't there is one without items
 abbrev pub or_no_map : Option NamesByName → NamesByName
@@ -28,10 +30,12 @@ or_no_map o = option_map_or (λ m. m) o map.empty
 -- ---- from the names of dependencies
 
 abbrev pub next_dependency : List ℕ → List DependencyItem → List ℕ → Data → Told (List DependencyItem)
-next_dependency path found name d = if is_package_name name then names path name d >>= (λ criteria. Ok (with_criteria found name criteria)) else Err (fault path name)
+next_dependency path found name d = if is_package_name name then names path name d >>=
+    (λ criteria. Ok (with_criteria found name criteria)) else Err (fault path name)
 
 abbrev pub dependency_criteria : List ℕ → List ℕ → Data → Told (List DependencyItem)
-dependency_criteria path key d = found_or (fault path key) (as_table d) >>= each_member (next_dependency (path_below path key)) []
+dependency_criteria path key d = found_or (fault path key) (as_table d) >>= each_member
+    (next_dependency (path_below path key)) []
 
 abbrev pub or_no_dependencies : Option (List DependencyItem) → List DependencyItem
 or_no_dependencies o = option_map_or (λ m. m) o []

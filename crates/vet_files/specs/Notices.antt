@@ -1,4 +1,4 @@
--- What a reader passed over.
+-- What a reader passed over (ours).
 use Rattle.std.specs.Prelude.{ℕ, ◌+◌}
 use Rattle.vet_files.specs.declared.notices.Notices.{Notices}
 

@@ -1,4 +1,4 @@
--- Publisher records in order, each once.
+-- Publisher records in order, each once (ours).
 use Rattle.std.specs.Prelude.{List, [], ◌∷◌}
 use Rattle.std.specs.Ordering.{match_ordering}
 use Rattle.vet_entries.specs.declared.publisher.Publisher.{Publisher}

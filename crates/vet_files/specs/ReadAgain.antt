@@ -1,4 +1,4 @@
--- What is written is read again as what it was written of.
+-- What is written is read again as what it was written of (ours).
 use Rattle.std.specs.Prelude.{ℕ, ◌≡◌, Bool, true, List, Some, Ok}
 use Rattle.std.specs.FinSet as set
 use Rattle.std.specs.List.{All}
@@ -21,9 +21,9 @@ use Rattle.vet_files.specs.declared.config_file.ConfigContent.{ConfigContent}
 use Rattle.vet_files.specs.declared.found.Found.{Found}
 use Rattle.vet_files.specs.declared.imports_file.ImportedPeer.{ImportedPeer}
 use Rattle.vet_files.specs.declared.imports_file.ImportsContent.{ImportsContent}
-use Rattle.vet_files.specs.declared.listing.Listing.TheVariants as listing
-use Rattle.vet_files.specs.declared.whose.Whose.{Whose}
-use Rattle.vet_files.specs.declared.whose.Whose.TheVariants.{Ours, Peers}
+use Rattle.vet_files.specs.declared.write.sections.Listing.TheVariants as listing
+use Rattle.vet_files.specs.declared.read.whose.Whose.{Whose}
+use Rattle.vet_files.specs.declared.read.whose.Whose.TheVariants.{Ours, Peers}
 use Rattle.vet_files.specs.Audits.{audit_told, criterion_told, trusted_told, wildcard_told}
 use Rattle.vet_files.specs.AuditsTable.{criterion_table}
 use Rattle.vet_files.specs.Config.{exemption_told, peer_told, policy_told}
@@ -42,7 +42,8 @@ IsReadAs told d x = (path key : List ℕ) → told path key d ≡ Ok x
 
 -- a text is read as a content that is the same as one, with nothing passed over
 abbrev pub GivesBack : {C : Type 0} → (List ℕ → Told (Found C)) → (C → Type 0) → List ℕ → Type 0
-GivesBack {C} told IsSame text = (found : C) × ((told text ≡ Ok (record { content = found; notices = no_notices })) × IsSame found)
+GivesBack {C} told IsSame text = (found : C)
+    × ((told text ≡ Ok (record { content = found; notices = no_notices })) × IsSame found)
 
 -- how entries of a kind are read
 abbrev pub reading_of : Whose → Kind → Reading Entry
@@ -74,7 +75,8 @@ pub record ReadsPeer (p : PeerSettings) : Type 0 where
 
 pub record ReadsPolicy (p : KeyedPolicy) : Type 0 where
   pub keyed : read_key (key_text p.key) ≡ Some p.key
-  pub read : (path : List ℕ) → policy_told path (policy_table p.policy) ≡ Ok (record { content = p.policy; notices = no_notices })
+  pub read : (path : List ℕ) → policy_told path (policy_table p.policy)
+      ≡ Ok (record { content = p.policy; notices = no_notices })
 
 pub record ReadsPublisher (p : Publisher) : Type 0 where
   pub read : (name path : List ℕ) → publisher_told name path (publisher_table p) ≡ Ok (one p 0)

@@ -1,4 +1,4 @@
--- What the readers can give, in any order, and when two contents are the same as sets.
+-- What the readers can give, in any order, and when two contents are the same as sets (ours).
 use Rattle.std.specs.Prelude.{◌≡◌, ◌≤◌, ◌&&◌, not, Bool, true, false, List, [], filter, length}
 use Rattle.std.specs.FinSet as set
 use Rattle.std.specs.List.{All}
@@ -21,9 +21,9 @@ use Rattle.vet_files.specs.declared.audits_file.AuditsContent.{AuditsContent}
 use Rattle.vet_files.specs.declared.config_file.ConfigContent.{ConfigContent}
 use Rattle.vet_files.specs.declared.imports_file.ImportedPeer.{ImportedPeer}
 use Rattle.vet_files.specs.declared.imports_file.ImportsContent.{ImportsContent}
-use Rattle.vet_files.specs.declared.listing.Listing.TheVariants.{Exemptions}
-use Rattle.vet_files.specs.declared.whose.Whose.{Whose}
-use Rattle.vet_files.specs.declared.whose.Whose.TheVariants.{Ours, Peers}
+use Rattle.vet_files.specs.declared.write.sections.Listing.TheVariants.{Exemptions}
+use Rattle.vet_files.specs.declared.read.whose.Whose.{Whose}
+use Rattle.vet_files.specs.declared.read.whose.Whose.TheVariants.{Ours, Peers}
 
 -- ---- audits files
 

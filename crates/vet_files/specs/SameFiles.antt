@@ -25,5 +25,6 @@ SameLists i j = SameItems i.peers j.peers × SameItems i.publishers j.publishers
 -- files whose lists are the same as sets hold the same
 abbrev pub SameListsAreSame : Type 0
 SameListsAreSame =
-    (a b : AuditsContent) (c d : ConfigContent) (i j : ImportsContent) → IsConfig c → IsConfig d → IsImports i → IsImports j
+    (a b : AuditsContent) (c d : ConfigContent) (i j : ImportsContent) → IsConfig c → IsConfig d → IsImports i
+    → IsImports j
     → SameAudits a b → SameConfig c d → SameLists i j → SameFiles (files_of a c i) (files_of b d j)

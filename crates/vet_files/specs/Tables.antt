@@ -25,7 +25,8 @@ fields (f ∷ rest) = at_key f.0 f.1 (fields rest)
 -- the table with this value at a key, in the order of the keys' bytes
 abbrev pub put_member : List ℕ → Data → Members → Members
 put_member key d no_members = member key d no_members
-put_member key d (member k e rest) = by_order (slice_cmp nat_cmp key k) (member key d (member k e rest)) (member k d rest) (member k e (put_member key d rest))
+put_member key d (member k e rest) = by_order (slice_cmp nat_cmp key k) (member key d (member k e rest))
+    (member k d rest) (member k e (put_member key d rest))
 
 -- where there is a value
 abbrev pub with_key : Members → List ℕ → Option Data → Members

@@ -14,25 +14,23 @@ ghost use Rattle.vet_files.specs.Lists.{RisesAt, each_once, table_at};
 ghost use Rattle.vet_files.specs.ReadAgain.{GivesBack};
 ghost use Rattle.vet_files.specs.SameContent.{CanStand, IsAudits, SameAudits};
 
-use crate::audits_table::audits_file_table;
-use crate::criteria::ReadCriteria;
-use crate::entries::ReadAudits;
-use crate::field::{fault, value_at};
 use crate::found::Found;
 use crate::keys::{TableKind, unknown_keys};
 use crate::listed::Listed;
-use crate::lists::{ReadTable, tables_of_package};
-use crate::notices::Notices;
-use crate::print::print;
-use crate::walk::{ReadMember, each_member};
-use crate::whose::Whose;
-use crate::windows::{ReadTrusted, ReadWildcards};
-use std::alloc::{AllocError, Global};
-use toml::{Table, Value};
+use crate::read::criteria::ReadCriteria;
+use crate::read::document::{joined, read_document, table_at};
+use crate::read::entries::ReadAudits;
+use crate::read::package_entries::read_entries;
+use crate::read::walk::{ReadMember, each_member};
+use crate::read::whose::Whose;
+use crate::read::windows::{ReadTrusted, ReadWildcards};
+use crate::write::audits_table::audits_file_table;
+use crate::write::print::print;
+use std::alloc::Global;
+use toml::Table;
 use vet_base::criterion::Criterion;
 use vet_base::package_names::PackageNames;
 use vet_base::refusal::Refusal;
-use vet_entries::distinct::distinct;
 use vet_entries::entry::Entry;
 
 /// What an audits file holds: criteria in the order of their names' bytes, and entries in the order of
@@ -64,7 +62,8 @@ pub fn read_audits(alloc: Global, bytes: &[u8]) -> Result<Found<AuditsContent>, 
 /// Refused for want of memory alone.
 pub fn write_audits(alloc: Global, content: &AuditsContent) -> Result<String, Refusal>
     ensures table { IfOk result (λ s. parse_document (string_bytes s) ≡ Some (audits_table content.now)) }
-    ensures read { IfOk result (λ s. IsAudits content.now → GivesBack audits_told (SameAudits content.now) (string_bytes s)) }
+    ensures read { IfOk result (λ s.
+        IsAudits content.now → GivesBack audits_told (SameAudits content.now) (string_bytes s)) }
     ensures memory { IfErr result (λ e. e ≡ Refusal.NoMemory) }
 {
     let none = PackageNames::new(alloc);
@@ -72,22 +71,6 @@ pub fn write_audits(alloc: Global, content: &AuditsContent) -> Result<String, Re
     let entries = content.entries.as_slice();
     let file = audits_file_table(alloc, &none, criteria, entries)?;
     print(alloc, &file)
-}
-
-/// The table of a file.
-pub(crate) fn read_document(alloc: Global, bytes: &[u8]) -> Result<Table, Refusal>
-    ensures { Gives (λ table. table_view table) (document_told bytes.now) result }
-{
-    match toml::table_from_slice(alloc, bytes) {
-        Ok(file) => Ok(file),
-        Err(error) => {
-            if error.is_memory() {
-                Err(Refusal::NoMemory)
-            } else {
-                Err(Refusal::TomlRefused)
-            }
-        }
-    }
 }
 
 /// What an audits file holds, whose tables stand in one of this path and whose tables' paths begin with this
@@ -161,24 +144,6 @@ fn read_trusted_entries(
     })
 }
 
-/// The table at a key, where there is one.
-pub(crate) fn table_at<'a>(
-    alloc: Global,
-    path: &str,
-    file: &'a Table,
-    key: &str,
-) -> Result<Option<&'a Table>, Refusal>
-    ensures { Gives (λ o. option_map_or (λ t. table_view t.now) o no_members) (table_at path.now key.now (table_view file.now)) result }
-{
-    let Some(value) = value_at(file, key) else {
-        return Ok(None);
-    };
-    match value.as_table() {
-        Some(table) => Ok(Some(table)),
-        None => Err(fault(alloc, path, key)),
-    }
-}
-
 /// The criteria of an audits file.
 fn read_criteria(
     alloc: Global,
@@ -199,73 +164,4 @@ fn read_criteria(
         path: path.as_str(),
     };
     each_member(alloc, &reader, Found::nothing(alloc), table)
-}
-
-/// The path of a table: what its file's paths begin with, and its key.
-fn joined(alloc: Global, prefix: &str, key: &str) -> Result<String, AllocError>
-    ensures { IfOk result (λ s. string_bytes s ≡ prefix.now ++ key.now) }
-{
-    format!(in alloc; "{prefix}{key}")
-}
-
-/// The entries of a file's table of lists by package.
-pub(crate) fn read_entries<R: ReadTable<Item = Entry>>(
-    alloc: Global,
-    reader: &R,
-    path: &str,
-    prefix: &str,
-    key: &str,
-    file: &Table,
-) -> Result<Found<Listed<Entry>>, Refusal>
-    ensures told { Gives (λ f. f)
-        (entries_of (R.told reader.now) path.now prefix.now key.now (table_view file.now)) result }
-    ensures rises { IfOk result (λ _. RisesAt path.now key.now (table_view file.now)) }
-{
-    let Some(table) = table_at(alloc, path, file, key)? else {
-        return Ok(Found::nothing(alloc));
-    };
-    let path = joined(alloc, prefix, key)?;
-    let packages = ReadPackages {
-        reader,
-        path: path.as_str(),
-    };
-    each_member(alloc, &packages, Found::nothing(alloc), table)
-}
-
-/// Reads the entries of a table's packages, one after the other.
-#[derive(Drop)]
-struct ReadPackages<'a, R: ReadTable<Item = Entry>> {
-    reader: &'a R,
-    path: &'a str,
-}
-
-impl<R: ReadTable<Item = Entry>> ReadMember for ReadPackages<'_, R> {
-    type Found = Found<Listed<Entry>>;
-
-    ghost told = { λ r. next_package (R.told r.reader.now) r.path.now };
-
-    fn read(
-        &self,
-        alloc: Global,
-        found: Found<Listed<Entry>>,
-        key: &str,
-        value: &Value,
-    ) -> Result<Found<Listed<Entry>>, Refusal> {
-        let more = tables_of_package(alloc, self.reader, self.path, key, value)?;
-        let more = each_once(alloc, more)?;
-        Ok(found.onto(more)?)
-    }
-}
-
-/// Each entry once; those that equal an earlier one are counted.
-fn each_once(alloc: Global, found: Found<Listed<Entry>>) -> Result<Found<Listed<Entry>>, AllocError>
-    ensures { IfOk result (λ f. f ≡ each_once distinct found) }
-{
-    let read = found.content.len();
-    let content = Listed::of(distinct(alloc, found.content.into_vec())?);
-    let doubles = read - content.len();
-    Ok(Found {
-        notices: found.notices.and(Notices::doubles(doubles))?,
-        content,
-    })
 }

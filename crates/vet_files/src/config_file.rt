@@ -9,18 +9,19 @@ ghost use Rattle.vet_files.specs.Notices.{together};
 ghost use Rattle.vet_files.specs.ReadAgain.{GivesBack};
 ghost use Rattle.vet_files.specs.SameContent.{IsConfig, SameConfig};
 
-use crate::audits_file::{read_document, read_entries, table_at};
-use crate::config_table::config_table;
-use crate::entries::own_entry;
 use crate::field::{optional, required};
 use crate::found::Found;
 use crate::keys::{TableKind, unknown_keys};
 use crate::listed::Listed;
-use crate::lists::ReadTable;
 use crate::notices::Notices;
-use crate::peers::read_peers;
-use crate::policies::read_policies;
-use crate::print::print;
+use crate::read::document::{read_document, table_at};
+use crate::read::entries::own_entry;
+use crate::read::package_entries::read_entries;
+use crate::read::package_tables::ReadTable;
+use crate::read::peers::read_peers;
+use crate::read::policies::read_policies;
+use crate::write::config_table::config_table;
+use crate::write::print::print;
 use std::alloc::Global;
 use toml::Table;
 use vet_base::name::PackageName;
@@ -64,7 +65,8 @@ pub fn read_config(alloc: Global, bytes: &[u8]) -> Result<Found<ConfigContent>, 
 /// Refused for want of memory alone.
 pub fn write_config(alloc: Global, content: &ConfigContent) -> Result<String, Refusal>
     ensures table { IfOk result (λ s. parse_document (string_bytes s) ≡ Some (config_table content.now)) }
-    ensures read { IfOk result (λ s. IsConfig content.now → GivesBack config_told (SameConfig content.now) (string_bytes s)) }
+    ensures read { IfOk result (λ s.
+        IsConfig content.now → GivesBack config_told (SameConfig content.now) (string_bytes s)) }
     ensures memory { IfErr result (λ e. e ≡ Refusal.NoMemory) }
 {
     let file = config_table(alloc, content)?;
@@ -111,7 +113,8 @@ fn fill_lists(
     keys: Notices,
 ) -> Result<Notices, Refusal>
     ensures { Gives (λ notices. record { content = content.new; notices = notices })
-        (config_lists_told content.old.vet_version content.old.default_criteria settings keys (table_view file.now)) result }
+        (config_lists_told content.old.vet_version content.old.default_criteria settings keys
+        (table_view file.now)) result }
 {
     let peers = read_peers(alloc, file)?;
     content.peers = peers.content;

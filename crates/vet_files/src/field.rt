@@ -11,6 +11,9 @@ ghost use Rattle.vet_base.specs.Version.{read_version, version_text};
 ghost use Rattle.vet_files.specs.Field.{a_day, a_delta, a_reading, a_flag, a_name, a_package, a_requirement, a_text, a_user, a_version, day_of, day_of_date, fault, local_date, optional, required, user_of};
 ghost use Rattle.vet_files.specs.ReadAgain.{IsReadAs};
 
+pub(crate) mod maps;
+pub(crate) mod sets;
+
 use std::alloc::{AllocError, Global};
 use toml::value::Datetime;
 use toml::{Table, Value};

@@ -7,19 +7,20 @@ ghost use Rattle.vet_files.specs.Imports.{imported_at, imported_from, imported_t
 ghost use Rattle.vet_files.specs.ImportsTable.{imports_table};
 ghost use Rattle.vet_files.specs.ReadAgain.{GivesBack};
 ghost use Rattle.vet_files.specs.SameContent.{CanStand, IsImports, SameImports};
-ghost use Rattle.vet_files.specs.declared.whose.Whose.TheVariants.{Peers};
+ghost use Rattle.vet_files.specs.declared.read.whose.Whose.TheVariants.{Peers};
 
-use crate::audits_file::{AuditsContent, read_audits_file, read_document, table_at};
+use crate::audits_file::{AuditsContent, read_audits_file};
 use crate::field::fault;
 use crate::found::Found;
-use crate::imports_table::imports_table;
 use crate::keys::{TableKind, unknown_keys};
 use crate::listed::Listed;
-use crate::lists::path_below;
-use crate::print::print;
-use crate::publishers::read_publishers;
-use crate::walk::{ReadMember, each_member};
-use crate::whose::Whose;
+use crate::read::document::{read_document, table_at};
+use crate::read::package_tables::path_below;
+use crate::read::publishers::read_publishers;
+use crate::read::walk::{ReadMember, each_member};
+use crate::read::whose::Whose;
+use crate::write::imports_table::imports_table;
+use crate::write::print::print;
 use std::alloc::Global;
 use toml::{Table, Value};
 use vet_base::keyed::HasKey;

@@ -11,5 +11,7 @@ returns-clause-stands c =
     let criteria = c.in_ok-criteria.ensures in
     let audits = c.in_ok-audits.ensures in
     let others = c.read_further_entries.ensures in
-    let told : Gives (λ f. f) (audits_file_told c.args.whose path c.args.prefix.now ms) c.read_further_entries.result = rw (criteria.told, audits.told) others.told in
-    file-answered c.args.whose path c.args.prefix.now ms c.read_further_entries.result criteria.rises audits.rises others.rises told
+    let told : Gives (λ f. f) (audits_file_told c.args.whose path c.args.prefix.now ms) c.read_further_entries.result =
+    rw (criteria.told, audits.told) others.told in
+    file-answered c.args.whose path c.args.prefix.now ms c.read_further_entries.result criteria.rises audits.rises
+    others.rises told

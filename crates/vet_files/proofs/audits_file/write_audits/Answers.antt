@@ -24,4 +24,5 @@ returns-clause-read c =
     let content = c.args.content.now in
     let reads : ReadsAudits set.empty content.criteria content.entries = search (rules) in
     ok_then _ (λ s. IsAudits content → GivesBack audits_told (SameAudits content) (string_bytes s)) c.print.result
-    (λ s back stands. audits_back content (string_bytes s) reads stands (rw (shape c) at back (audits_depth content))) c.print.ensures.read
+    (λ s back stands. audits_back content (string_bytes s) reads stands (rw (shape c) at back (audits_depth content)))
+    c.print.ensures.read

@@ -18,4 +18,5 @@ pub returns-clause-read : goal.returns-clause-read
 returns-clause-read c =
     let content = c.args.content.now in
     ok_then _ (λ s. IsConfig content → GivesBack config_told (SameConfig content) (string_bytes s)) c.print.result
-    (λ s back stands. config_back content (string_bytes s) c.in_ok-file.ensures.read stands (rw c.in_ok-file.ensures.table at back (config_depth content))) c.print.ensures.read
+    (λ s back stands. config_back content (string_bytes s) c.in_ok-file.ensures.read stands
+    (rw c.in_ok-file.ensures.table at back (config_depth content))) c.print.ensures.read

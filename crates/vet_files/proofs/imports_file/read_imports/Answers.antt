@@ -11,4 +11,5 @@ pub returns-clause-stands : goal.returns-clause-stands
 returns-clause-stands c =
     let ms = table_view c.in_ok-file.file in
     answered ImportsStand (imports_file_told ms) c.read_imports_file.result
-    (imports-stand ms (IfOk-at_ok Rising c.in_ok-file.ensures (file-rises c.args.bytes.now))) c.read_imports_file.ensures
+    (imports-stand ms (IfOk-at_ok Rising c.in_ok-file.ensures (file-rises c.args.bytes.now)))
+    c.read_imports_file.ensures

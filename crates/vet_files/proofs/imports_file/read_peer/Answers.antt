@@ -11,4 +11,5 @@ pub returns-clause-stands : goal.returns-clause-stands
 returns-clause-stands c =
     let ms = table_view c.in_ok-file.file in
     answered PeerStands (peer_file_told (codes "top") [] ms) c.read_peer_file.result
-    (peer-stands (codes "top") [] ms (IfOk-at_ok Rising c.in_ok-file.ensures (file-rises c.args.bytes.now))) c.read_peer_file.ensures
+    (peer-stands (codes "top") [] ms (IfOk-at_ok Rising c.in_ok-file.ensures (file-rises c.args.bytes.now)))
+    c.read_peer_file.ensures

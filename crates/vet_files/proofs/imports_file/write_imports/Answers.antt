@@ -19,5 +19,7 @@ pub returns-clause-read : goal.returns-clause-read
 returns-clause-read c =
     let settings = c.args.settings.now in
     let content = c.args.content.now in
-    ok_then _ (λ s. IsImports content → GivesBack imports_told (SameImports settings content) (string_bytes s)) c.print.result
-    (λ s back stands. imports_back settings content (string_bytes s) c.in_ok-file.ensures.read stands (rw c.in_ok-file.ensures.table at back (imports_depth settings content))) c.print.ensures.read
+    ok_then _ (λ s. IsImports content → GivesBack imports_told (SameImports settings content) (string_bytes s))
+    c.print.result
+    (λ s back stands. imports_back settings content (string_bytes s) c.in_ok-file.ensures.read stands
+    (rw c.in_ok-file.ensures.table at back (imports_depth settings content))) c.print.ensures.read

@@ -33,4 +33,5 @@ invariant_of-result c =
       vet_version = c.args.config.vet_version;
       default_criteria = c.args.config.default_criteria;
     } in
-    subst IsFiles (sym is) (files-stand c.args.audits c.args.config c.args.imports c.requires.audits c.requires.config c.requires.imports)
+    subst IsFiles (sym is) (files-stand c.args.audits c.args.config c.args.imports c.requires.audits c.requires.config
+    c.requires.imports)

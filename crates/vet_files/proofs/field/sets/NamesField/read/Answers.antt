@@ -1,0 +1,17 @@
+use Rattle.std.proofs.lemmas.Result.{err_from_is_err_and}
+use Rattle.toml.specs.View.{view}
+use Rattle.vet_files.specs.Field.{a_name}
+use Rattle.vet_files.proofs.Gathered.{as_set, one_or_list-seen}
+use Rattle.vet_files.proofs.Walks.{given-seen, refused-seen}
+use Rattle.vet_files.proofs.field.sets.NamesField.read.Goals as goal
+
+pub returns-in_err-names : goal.returns-in_err-names
+returns-in_err-names c =
+    let passed = err_from_is_err_and c.from_residual.result c.from_residual.ensures.1 in
+    rw (passed.1, passed.2)
+    (refused-seen as_set _ _ _ (one_or_list-seen a_name c.args.path.now c.args.key.now (view c.args.value.now))
+    c.in_err-names.ensures)
+
+pub returns : goal.returns
+returns c = given-seen as_set _ _ _ _ (one_or_list-seen a_name c.args.path.now c.args.key.now (view c.args.value.now))
+    c.in_ok-names.ensures c.in_ok-of.ensures

@@ -1,0 +1,146 @@
+//! The criteria of an audits file.
+ghost use Rattle.std.specs.Prelude.{◌≡◌, IfOk, string_bytes};
+ghost use Rattle.toml.specs.Data.{as_table};
+ghost use Rattle.toml.specs.View.{table_view, view};
+ghost use Rattle.vet_base.specs.Gives.{Gives};
+ghost use Rattle.vet_files.specs.Audits.{built_in_criterion, criterion_at, criterion_told, further_criterion, next_criterion, room_for_criterion};
+ghost use Rattle.vet_files.specs.Lists.{path_below};
+
+use crate::field::{fault, optional};
+use crate::found::Found;
+use crate::keys::{TableKind, unknown_keys};
+use crate::listed::Listed;
+use crate::notices::Notices;
+use crate::read::package_tables::path_below;
+use crate::read::walk::ReadMember;
+use crate::read::whose::Whose;
+use std::alloc::Global;
+use toml::{Table, Value};
+use vet_base::criteria_table::is_built_in;
+use vet_base::criterion::Criterion;
+use vet_base::limits::MOST_PEER_CRITERIA;
+use vet_base::name::Name;
+use vet_base::names::Names;
+use vet_base::refusal::{Limit, Refusal};
+
+/// Reads the criteria of a file, one after the other.
+#[derive(Drop)]
+pub(crate) struct ReadCriteria<'a> {
+    pub(crate) whose: Whose,
+    pub(crate) path: &'a str,
+}
+
+impl ReadMember for ReadCriteria<'_> {
+    type Found = Found<Listed<Criterion>>;
+
+    ghost told = { λ r. next_criterion r.whose r.path.now };
+
+    fn read(
+        &self,
+        alloc: Global,
+        found: Found<Listed<Criterion>>,
+        key: &str,
+        value: &Value,
+    ) -> Result<Found<Listed<Criterion>>, Refusal> {
+        let Some(name) = Name::read(alloc, key)? else {
+            return Err(fault(alloc, self.path, key));
+        };
+        if is_built_in(&name) {
+            return self.pass_over(alloc, found, key, value);
+        }
+        self.read_further(alloc, found, name, value)
+    }
+}
+
+impl ReadCriteria<'_> {
+    /// Counts the table of a built-in criterion as a whole.
+    fn pass_over(
+        &self,
+        alloc: Global,
+        found: Found<Listed<Criterion>>,
+        key: &str,
+        value: &Value,
+    ) -> Result<Found<Listed<Criterion>>, Refusal>
+        ensures { Gives (λ f. f)
+            (built_in_criterion self.now.path.now key.now found (as_table (view value.now))) result }
+    {
+        if value.as_table().is_none() {
+            return Err(fault(alloc, self.path, key));
+        }
+        Ok(Found {
+            content: found.content,
+            notices: found.notices.and(Notices::key())?,
+        })
+    }
+
+    /// Goes on with a criterion that is none of the built-in ones.
+    fn read_further(
+        &self,
+        alloc: Global,
+        found: Found<Listed<Criterion>>,
+        name: Name,
+        value: &Value,
+    ) -> Result<Found<Listed<Criterion>>, Refusal>
+        ensures { Gives (λ f. f)
+            (further_criterion self.now.whose self.now.path.now name found (as_table (view value.now))) result }
+    {
+        check_room(self.whose, found.content.len())?;
+        let more = read_criterion_at(alloc, self.path, name, value)?;
+        Ok(found.with(more)?)
+    }
+}
+
+/// Refuses one criterion more than a peer's file may define.
+fn check_room(whose: Whose, defined: usize) -> Result<(), Refusal>
+    ensures { result ≡ room_for_criterion whose defined }
+{
+    match whose {
+        Whose::Ours => Ok(()),
+        Whose::Peers => {
+            if defined >= MOST_PEER_CRITERIA {
+                return Err(Refusal::TooLarge(Limit::PeerCriteria));
+            }
+            Ok(())
+        }
+    }
+}
+
+/// The criterion whose table stands at a name.
+fn read_criterion_at(
+    alloc: Global,
+    path: &str,
+    name: Name,
+    value: &Value,
+) -> Result<Found<Option<Criterion>>, Refusal>
+    ensures { Gives (λ f. f) (criterion_at path.now name (as_table (view value.now))) result }
+{
+    let Some(table) = value.as_table() else {
+        return Err(fault(alloc, path, name.as_str()));
+    };
+    let below = path_below(alloc, path, name.as_str())?;
+    read_criterion(alloc, name, below.as_str(), table)
+}
+
+/// The criterion of a table.
+fn read_criterion(
+    alloc: Global,
+    name: Name,
+    path: &str,
+    table: &Table,
+) -> Result<Found<Option<Criterion>>, Refusal>
+    ensures { Gives (λ f. f) (criterion_told name path.now (table_view table.now)) result }
+{
+    let notices = unknown_keys(TableKind::Criterion, table)?;
+    let description = optional(alloc, path, table, "description")?;
+    let url = optional(alloc, path, table, "description-url")?;
+    let implies: Option<Names> = optional(alloc, path, table, "implies")?;
+    Ok(Found {
+        notices,
+        content: Some(Criterion {
+            name,
+            description,
+            url,
+            implies: implies.unwrap_or(Names::new(alloc)),
+        }),
+    })
+}

@@ -1,0 +1,55 @@
+//! What each of the three readers begins with: the table of a file, and the tables in it.
+ghost use Rattle.std.specs.Prelude.{◌≡◌, ◌++◌, IfOk, string_bytes};
+ghost use Rattle.std.specs.Option.{option_map_or};
+ghost use Rattle.toml.specs.Data.{no_members};
+ghost use Rattle.toml.specs.View.{table_view};
+ghost use Rattle.vet_base.specs.Gives.{Gives};
+ghost use Rattle.vet_files.specs.Audits.{document_told};
+ghost use Rattle.vet_files.specs.Lists.{table_at};
+
+use crate::field::{fault, value_at};
+use std::alloc::{AllocError, Global};
+use toml::Table;
+use vet_base::refusal::Refusal;
+
+/// The table of a file.
+pub(crate) fn read_document(alloc: Global, bytes: &[u8]) -> Result<Table, Refusal>
+    ensures { Gives (λ table. table_view table) (document_told bytes.now) result }
+{
+    match toml::table_from_slice(alloc, bytes) {
+        Ok(file) => Ok(file),
+        Err(error) => {
+            if error.is_memory() {
+                Err(Refusal::NoMemory)
+            } else {
+                Err(Refusal::TomlRefused)
+            }
+        }
+    }
+}
+
+/// The table at a key, where there is one.
+pub(crate) fn table_at<'a>(
+    alloc: Global,
+    path: &str,
+    file: &'a Table,
+    key: &str,
+) -> Result<Option<&'a Table>, Refusal>
+    ensures { Gives (λ o. option_map_or (λ t. table_view t.now) o no_members)
+        (table_at path.now key.now (table_view file.now)) result }
+{
+    let Some(value) = value_at(file, key) else {
+        return Ok(None);
+    };
+    match value.as_table() {
+        Some(table) => Ok(Some(table)),
+        None => Err(fault(alloc, path, key)),
+    }
+}
+
+/// The path of a table: what its file's paths begin with, and its key.
+pub(crate) fn joined(alloc: Global, prefix: &str, key: &str) -> Result<String, AllocError>
+    ensures { IfOk result (λ s. string_bytes s ≡ prefix.now ++ key.now) }
+{
+    format!(in alloc; "{prefix}{key}")
+}

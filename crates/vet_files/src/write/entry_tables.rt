@@ -1,0 +1,157 @@
+//! The tables in which entries are written.
+ghost use Rattle.std.specs.Prelude.{◌≡◌, true, codes, IfOk, Some};
+ghost use Rattle.toml.specs.Data.{no_members};
+ghost use Rattle.toml.specs.View.{table_view};
+ghost use Rattle.vet_base.specs.Name.{is_package_name};
+ghost use Rattle.vet_files.specs.EntryTables.{entry_table};
+ghost use Rattle.vet_files.specs.Field.{names};
+ghost use Rattle.vet_files.specs.OfKind.{of_kind};
+ghost use Rattle.vet_files.specs.ReadAgain.{IsReadAs, ReadsEntry};
+ghost use Rattle.vet_files.specs.Tables.{set_data, with_key};
+
+use crate::write::put::{put, put_some};
+use crate::write::put_sets::put_texts;
+use std::alloc::{AllocError, Global};
+use toml::Table;
+use vet_base::delta::Delta;
+use vet_base::req::Req;
+use vet_base::version::VetVersion;
+use vet_entries::entry::Entry;
+use vet_entries::kind::{Audit, Grant, Kind, Window};
+
+/// The table of an entry.
+pub(crate) fn entry_table(alloc: Global, entry: &Entry) -> Result<Table, AllocError>
+    ensures table { IfOk result (λ t. table_view t ≡ entry_table entry.now) }
+    ensures read { IfOk result (λ t. ReadsEntry entry.now) }
+{
+    match &entry.kind {
+        Kind::Full(version, audit) => full_table(alloc, entry, version, audit),
+        Kind::Delta(delta, audit) => delta_table(alloc, entry, delta, audit),
+        Kind::Violation(req, audit) => violation_table(alloc, entry, req, audit),
+        Kind::Wildcard(window, grant) => wildcard_table(alloc, entry, window, grant),
+        Kind::Trusted(window) => trusted_table(alloc, entry, window),
+        Kind::Exemption { version, suggest } => exemption_table(alloc, entry, version, *suggest),
+    }
+}
+
+/// A table with an entry's criteria, which stand in front of all else.
+fn with_criteria(alloc: Global, entry: &Entry) -> Result<Table, AllocError>
+    ensures put { IfOk result (λ t. table_view t
+        ≡ with_key no_members (codes "criteria") (Some (set_data entry.now.criteria))) }
+    ensures read { IfOk result (λ t. IsReadAs names (set_data entry.now.criteria) entry.now.criteria) }
+    ensures named { is_package_name entry.now.«package» ≡ true }
+{
+    // Called for its clause that this is a name: no other would be read again.
+    let _ = entry.package.as_str();
+    let mut table = Table::new(alloc);
+    put(alloc, &mut table, "criteria", &entry.criteria)?;
+    Ok(table)
+}
+
+/// The table of an audit in full.
+fn full_table(
+    alloc: Global,
+    entry: &Entry,
+    version: &VetVersion,
+    audit: &Audit,
+) -> Result<Table, AllocError>
+    ensures table { IfOk result (λ t. table_view t
+        ≡ entry_table (of_kind entry.now (Kind.Full version.now audit.now))) }
+    ensures read { IfOk result (λ t. ReadsEntry (of_kind entry.now (Kind.Full version.now audit.now))) }
+{
+    let mut table = with_criteria(alloc, entry)?;
+    put_some(alloc, &mut table, "importable", audit.importable.as_ref())?;
+    put_some(alloc, &mut table, "notes", entry.notes.as_ref())?;
+    put(alloc, &mut table, "version", version)?;
+    put_texts(alloc, &mut table, "who", &audit.who)?;
+    Ok(table)
+}
+
+/// The table of an audit of a change.
+fn delta_table(
+    alloc: Global,
+    entry: &Entry,
+    delta: &Delta,
+    audit: &Audit,
+) -> Result<Table, AllocError>
+    ensures table { IfOk result (λ t. table_view t ≡ entry_table (of_kind entry.now (Kind.Delta delta.now audit.now))) }
+    ensures read { IfOk result (λ t. ReadsEntry (of_kind entry.now (Kind.Delta delta.now audit.now))) }
+{
+    let mut table = with_criteria(alloc, entry)?;
+    put(alloc, &mut table, "delta", delta)?;
+    put_some(alloc, &mut table, "importable", audit.importable.as_ref())?;
+    put_some(alloc, &mut table, "notes", entry.notes.as_ref())?;
+    put_texts(alloc, &mut table, "who", &audit.who)?;
+    Ok(table)
+}
+
+/// The table of a violation.
+fn violation_table(
+    alloc: Global,
+    entry: &Entry,
+    req: &Req,
+    audit: &Audit,
+) -> Result<Table, AllocError>
+    ensures table { IfOk result (λ t. table_view t
+        ≡ entry_table (of_kind entry.now (Kind.Violation req.now audit.now))) }
+    ensures read { IfOk result (λ t. ReadsEntry (of_kind entry.now (Kind.Violation req.now audit.now))) }
+{
+    let mut table = with_criteria(alloc, entry)?;
+    put_some(alloc, &mut table, "importable", audit.importable.as_ref())?;
+    put_some(alloc, &mut table, "notes", entry.notes.as_ref())?;
+    put(alloc, &mut table, "violation", req)?;
+    put_texts(alloc, &mut table, "who", &audit.who)?;
+    Ok(table)
+}
+
+/// The table of a wildcard audit.
+fn wildcard_table(
+    alloc: Global,
+    entry: &Entry,
+    window: &Window,
+    grant: &Grant,
+) -> Result<Table, AllocError>
+    ensures table { IfOk result (λ t. table_view t
+        ≡ entry_table (of_kind entry.now (Kind.Wildcard window.now grant.now))) }
+    ensures read { IfOk result (λ t. ReadsEntry (of_kind entry.now (Kind.Wildcard window.now grant.now))) }
+{
+    let mut table = with_criteria(alloc, entry)?;
+    put(alloc, &mut table, "end", &window.last)?;
+    put_some(alloc, &mut table, "notes", entry.notes.as_ref())?;
+    put_some(alloc, &mut table, "renew", grant.renew.as_ref())?;
+    put(alloc, &mut table, "start", &window.first)?;
+    put(alloc, &mut table, "user-id", &window.user)?;
+    put_texts(alloc, &mut table, "who", &grant.who)?;
+    Ok(table)
+}
+
+/// The table of a trusted publisher.
+fn trusted_table(alloc: Global, entry: &Entry, window: &Window) -> Result<Table, AllocError>
+    ensures table { IfOk result (λ t. table_view t ≡ entry_table (of_kind entry.now (Kind.Trusted window.now))) }
+    ensures read { IfOk result (λ t. ReadsEntry (of_kind entry.now (Kind.Trusted window.now))) }
+{
+    let mut table = with_criteria(alloc, entry)?;
+    put(alloc, &mut table, "end", &window.last)?;
+    put_some(alloc, &mut table, "notes", entry.notes.as_ref())?;
+    put(alloc, &mut table, "start", &window.first)?;
+    put(alloc, &mut table, "user-id", &window.user)?;
+    Ok(table)
+}
+
+/// The table of an exemption.
+fn exemption_table(
+    alloc: Global,
+    entry: &Entry,
+    version: &VetVersion,
+    suggest: Option<bool>,
+) -> Result<Table, AllocError>
+    ensures table { IfOk result (λ t. table_view t
+        ≡ entry_table (of_kind entry.now (Kind.Exemption version.now suggest))) }
+    ensures read { IfOk result (λ t. ReadsEntry (of_kind entry.now (Kind.Exemption version.now suggest))) }
+{
+    let mut table = with_criteria(alloc, entry)?;
+    put_some(alloc, &mut table, "notes", entry.notes.as_ref())?;
+    put_some(alloc, &mut table, "suggest", suggest.as_ref())?;
+    put(alloc, &mut table, "version", version)?;
+    Ok(table)
+}
