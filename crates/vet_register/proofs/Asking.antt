@@ -16,7 +16,8 @@ use Rattle.vet_entries.specs.declared.facts.Edit.{Edit}
 use Rattle.vet_entries.specs.Facts as facts
 use Rattle.vet_entries.specs.PublisherRecords.{IsByName, records_of, records_total, with_records}
 use Rattle.vet_entries.specs.Publishers as Publishers
-use Rattle.vet_entries.specs.Publishers.{publishers_eq, publishers_eq-Decides}
+use Rattle.vet_entries.specs.Publishers.{publishers_eq}
+use Rattle.vet_entries.specs.PublishersLaws.{publishers_eq-Decides}
 use Rattle.vet_register.specs.declared.change.Prepared.{Prepared}
 use Rattle.vet_register.specs.declared.command.Action.{Action}
 use Rattle.vet_register.specs.declared.command.Action.TheVariants.{RemoveCriterion, SetCriterion, SetPublishers}

@@ -24,7 +24,8 @@ use Rattle.vet_entries.specs.declared.entry.Entry.{Entry}
 use Rattle.vet_entries.specs.declared.entry.Source.TheVariants.{Own}
 use Rattle.vet_entries.specs.declared.facts.HeldEntry.{HeldEntry}
 use Rattle.vet_entries.specs.declared.held_peer.HeldPeer.{HeldPeer}
-use Rattle.vet_entries.specs.Entry.{entry_eq, entry_eq-Decides, own}
+use Rattle.vet_entries.specs.Entry.{entry_eq, own}
+use Rattle.vet_entries.specs.EntryLaws.{entry_eq-Decides}
 use Rattle.vet_entries.specs.Facts.{Facts, entries_of_peers, entries_total}
 use Rattle.vet_entries.specs.HeldPeer.{holding_or_none, imported, peer_of, with_content_of, without_peer}
 use Rattle.vet_entries.specs.ImportLaws.{AllDiffer}

@@ -15,7 +15,8 @@ use Rattle.vet_base.proofs.Telling.{all_known, not_refused, then_told}
 use Rattle.vet_demand.specs.declared.policy_key.PolicyKey.{PolicyKey}
 use Rattle.vet_demand.specs.NamedProject.{project_name}
 use Rattle.vet_demand.specs.Policies.{key_of}
-use Rattle.vet_demand.specs.PolicyKey.{policy_key_cmp, policy_key_cmp-IsAntisymmetric, policy_key_total}
+use Rattle.vet_demand.specs.PolicyKey.{policy_key_cmp}
+use Rattle.vet_demand.specs.PolicyKeyLaws.{policy_key_cmp-IsAntisymmetric, policy_key_total}
 use Rattle.vet_demand.specs.PolicyNames.{names_in}
 use Rattle.vet_demand.proofs.Naming.{known_by_fewer, known_by_more, known_with, known_without}
 use Rattle.vet_entries.specs.declared.entry.Entry.{Entry}

@@ -17,7 +17,8 @@ use Rattle.std.proofs.lemmas.Option.{same_Some}
 use Rattle.vet_base.specs.declared.criterion.Criterion.{Criterion}
 use Rattle.vet_base.specs.Criteria.{Criteria, IsTable}
 use Rattle.vet_base.specs.CriteriaChanges.{is_built_in}
-use Rattle.vet_base.specs.Criterion.{criterion_eq, criterion_eq-Decides}
+use Rattle.vet_base.specs.Criterion.{criterion_eq}
+use Rattle.vet_base.specs.CriterionLaws.{criterion_eq-Decides}
 use Rattle.vet_base.specs.Defined.{defined}
 use Rattle.vet_base.specs.FurtherCriteria.{further, is_further}
 use Rattle.vet_base.specs.Items.{IsIn, NamedOnce, SameItems}
@@ -27,22 +28,25 @@ use Rattle.vet_base.proofs.Closing.{entry_found, found_entry}
 use Rattle.vet_base.proofs.DefinitionLaws.{same_definitions}
 use Rattle.vet_base.proofs.FurtherLaws.{further_are_defined}
 use Rattle.vet_base.proofs.ItemLemmas.{all_in, any_in, filter_in, in_all, in_any, in_filter, in_map, map_in, no_longer}
-use Rattle.vet_base.proofs.KeyedLemmas.{equal, item_at, same_items}
+use Rattle.vet_base.proofs.KeyedLemmas.{item_at, same_items}
+use Rattle.vet_base.proofs.Comparisons.{equal}
 use Rattle.vet_base.proofs.KeyedParts.{item_found}
 use Rattle.vet_base.proofs.Rising.{R, only_equal}
 use Rattle.vet_base.proofs.Tables.{rising_keys}
-use Rattle.vet_demand.specs.Policies.{policies_eq-Decides}
+use Rattle.vet_demand.specs.PoliciesLaws.{policies_eq-Decides}
 use Rattle.vet_entries.specs.declared.entry.Entry.{Entry}
 use Rattle.vet_entries.specs.declared.entry.Source.{Source}
 use Rattle.vet_entries.specs.declared.entry.Source.TheVariants.{Own}
 use Rattle.vet_entries.specs.declared.facts.HeldEntry.{HeldEntry}
 use Rattle.vet_entries.specs.declared.held_peer.HeldPeer.{HeldPeer}
 use Rattle.vet_entries.specs.declared.peer_settings.PeerSettings.{PeerSettings}
-use Rattle.vet_entries.specs.Entry.{entry_eq, entry_eq-Decides}
+use Rattle.vet_entries.specs.Entry.{entry_eq}
+use Rattle.vet_entries.specs.EntryLaws.{entry_eq-Decides}
 use Rattle.vet_entries.specs.HeldPeer.{comes_again, peer_name, peer_of}
 use Rattle.vet_entries.specs.Import.{same_content}
-use Rattle.vet_entries.specs.PeerSettings.{settings_eq, settings_eq-Decides, settings_name}
-use Rattle.vet_entries.specs.PublisherRecords.{package_eq-Decides}
+use Rattle.vet_entries.specs.PeerSettings.{settings_eq, settings_name}
+use Rattle.vet_entries.specs.PeerSettingsLaws.{settings_eq-Decides}
+use Rattle.vet_entries.specs.PublisherRecordsLaws.{package_eq-Decides}
 use Rattle.vet_entries.specs.Replaced as replaced
 use Rattle.vet_entries.specs.Replaced.{as_of, same_entries}
 use Rattle.vet_entries.specs.ReplacedLaws.{entries_of}
@@ -53,7 +57,7 @@ use Rattle.vet_register.specs.Held.{HeldValue}
 use Rattle.vet_register.specs.RepeatedFiles.{SayWhatIsHeld, SaysWhatIsHeld}
 use Rattle.vet_register.specs.Replacing.{tool_of_files}
 use Rattle.vet_register.specs.Sound.{ArePeers, IsSoundHeld, IsSoundPeer}
-use Rattle.vet_register.specs.ToolSettings.{tool_eq-Decides}
+use Rattle.vet_register.specs.ToolSettingsLaws.{tool_eq-Decides}
 use Rattle.vet_register.proofs.FilesEffects.{content_readable}
 use Rattle.vet_register.proofs.FurtherCriteria.{named_once, none_built_in}
 use Rattle.vet_register.proofs.Lists.{AllPairs-map}

@@ -14,7 +14,7 @@ use Rattle.vet_base.specs.CriteriaChanges.{remove_rules}
 use Rattle.vet_base.specs.Day.{DayValue}
 use Rattle.vet_base.specs.Gives.{refuse_if, ◌>>=◌}
 use Rattle.vet_base.specs.VersionOrder.{version_eq}
-use Rattle.vet_base.specs.NameLaws.{any-members}
+use Rattle.vet_base.specs.NamesLaws.{any-members}
 use Rattle.vet_base.specs.Names.{NameSet, members}
 use Rattle.std.specs.FinSet as set
 use Rattle.vet_base.proofs.KeyedParts.{All-with_item, All-without_item, item_found}

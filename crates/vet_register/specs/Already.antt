@@ -33,11 +33,13 @@ is_held criteria c = if is_built_in c.name then false else option_eq criterion_e
 
 -- whether the settings of a peer are held as they are
 abbrev pub has_settings : List HeldPeer → PeerSettings → Bool
-has_settings peers settings = option_map_or (λ (p : HeldPeer). settings_eq p.settings settings) (peer_of peers settings.name) false
+has_settings peers settings =
+    option_map_or (λ (p : HeldPeer). settings_eq p.settings settings) (peer_of peers settings.name) false
 
 -- whether a peer is held with a content: the same criteria and the same entries, in whatever order
 abbrev pub has_content : List HeldPeer → List ℕ → PeerContentValue → Bool
-has_content peers name content = option_map_or (λ (p : HeldPeer). same_content name p.content content) (peer_of peers name) false
+has_content peers name content =
+    option_map_or (λ (p : HeldPeer). same_content name p.content content) (peer_of peers name) false
 
 -- whether a policy is held as it is, and a project
 abbrev pub has_policy : List KeyedPolicy → KeyedPolicy → Bool
@@ -51,15 +53,19 @@ has_project projects p = option_map_or (λ held. named_project_eq held p) (proje
 -- whether some criteria are those held beside the built-in ones: each is held, and there are as many
 abbrev pub has_criteria : Criteria → List Criterion → Bool
 has_criteria criteria listed =
-    (length listed == length (filter (λ n. not (is_built_in n)) (table.keys criteria))) && list_all (is_held criteria) listed
+    (length listed == length (filter (λ n. not (is_built_in n)) (table.keys criteria)))
+        && list_all (is_held criteria) listed
 
 -- whether a peer is held with these settings, and with what an imports file says of it
 abbrev pub has_peer : List HeldPeer → List ImportedPeer → PeerSettings → Bool
-has_peer peers contents settings = has_settings peers settings && has_content peers settings.name (content_for contents settings.name)
+has_peer peers contents settings =
+    has_settings peers settings && has_content peers settings.name (content_for contents settings.name)
 
--- whether the peers of files are those held: each is held, and there are as many; and whether no other is in the imports file
+-- whether the peers of files are those held: each is held, and there are as many; and whether no other is in the
+-- imports file
 abbrev pub has_peers : List HeldPeer → FilesValue → Bool
-has_peers peers f = (length f.settings == length peers) && (list_all (has_peer peers f.contents) f.settings && each_is_set f)
+has_peers peers f =
+    (length f.settings == length peers) && (list_all (has_peer peers f.contents) f.settings && each_is_set f)
 
 -- whether the lists of files are held: publisher records, policies, and what is said to the tool alone
 abbrev pub has_lists : HeldValue → FilesValue → Bool

@@ -27,9 +27,11 @@ if_new facts (Some entry) = unless_held (number_of facts.entries entry) entry
 abbrev pub added_by : State → DeskCommand → Option Entry
 added_by s command = if_new s.held.facts (entry_of s.desk command)
 
--- the number of the entry of the review that a command finishes: that under which an equal one is held, or else the next
+-- the number of the entry of the review that a command finishes: that under which an equal one is held, or else the
+-- next
 abbrev pub entry_number : State → DeskCommand → Option ℕ
-entry_number s command = option_map (λ e. unwrap_or (number_of s.held.facts.entries e) s.next_entry) (entry_of s.desk command)
+entry_number s command =
+    option_map (λ e. unwrap_or (number_of s.held.facts.entries e) s.next_entry) (entry_of s.desk command)
 
 -- the number that a command is told: that of the review that it opens, or of the entry of the one that it finishes
 abbrev pub number_told : State → DeskCommand → Option ℕ

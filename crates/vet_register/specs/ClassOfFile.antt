@@ -1,4 +1,4 @@
--- The class of a pair where one audits file is all that is held, or the first fault.
+-- The class of a pair where one audits file is all that is held, or the first fault (ours).
 use Rattle.std.specs.Prelude.{◌≡◌, ℕ, Bool, List, [], Option, Some, None, Ok, Err, if◌then◌else◌, length, nat_lt}
 use Rattle.std.specs.FinMap as map
 use Rattle.vet_base.specs.CriteriaChanges.{known}
@@ -25,15 +25,19 @@ unknown_in known name = if known name then None else Some name
 
 -- the least name that isn't known, of a word, of what a file's criteria imply and of its entries' criteria
 abbrev pub unknown_name : (List ℕ → Bool) → List ℕ → AuditsContent → Option (List ℕ)
-unknown_name known word content = unknown_of_entries known (lesser (unknown_in known word) (least_undefined known content.criteria)) content.entries
+unknown_name known word content =
+    unknown_of_entries known (lesser (unknown_in known word) (least_undefined known content.criteria)) content.entries
 
 -- there are not too many criteria, and each that is named is known
 abbrev pub checked : List ℕ → AuditsContent → Told (Unit {0})
-checked word content = counted (defined content.criteria) >>= λ _. known (unknown_name (map.contains_key (defined content.criteria)) word content)
+checked word content =
+    counted (defined content.criteria) >>= λ _.
+    known (unknown_name (map.contains_key (defined content.criteria)) word content)
 
 -- all that is held, where this is the file's content
 abbrev pub facts_of : AuditsContent → Facts
-facts_of content = record { criteria = defined content.criteria; entries = numbered 1 content.entries; peers = []; publishers = [] }
+facts_of content =
+    record { criteria = defined content.criteria; entries = numbered 1 content.entries; peers = []; publishers = [] }
 
 -- the class of a pair by a file's content
 abbrev pub class_in : AuditsContent → Pair → Told Class
@@ -41,7 +45,9 @@ class_in content p = checked p.criterion content >>= λ _. Ok (class_of_pair (fa
 
 -- the content of a file that isn't too long
 abbrev pub content_told : List ℕ → Told AuditsContent
-content_told file = if nat_lt MOST_INPUT_BYTES (length file) then Err (TooLarge Input) else audits_told file >>= λ found. Ok found.content
+content_told file =
+    if nat_lt MOST_INPUT_BYTES (length file) then Err (TooLarge Input)
+    else audits_told file >>= λ found. Ok found.content
 
 -- the pair that three words name
 abbrev pub pair_told : List ℕ → List ℕ → List ℕ → Told Pair

@@ -23,8 +23,8 @@ use Rattle.vet_register.specs.declared.held.HeldEdit.TheVariants as edit
 use Rattle.vet_register.specs.ToolSettings.{no_settings}
 use Rattle.vet_register.specs.declared.tool_settings.ToolSettings.{ToolSettings}
 
--- facts of packages, policies in the order of their keys, projects in the order of their names, and what a config file says
--- to the tool alone
+-- facts of packages, policies in the order of their keys, projects in the order of their names, and what a config file
+-- says to the tool alone
 pub record HeldValue : Type 0 where
   pub facts : Facts
   pub policies : List KeyedPolicy
@@ -71,7 +71,8 @@ edited (edit.Facts change) held = record held { facts = facts.edited change held
 edited (edit.Policies change) held = record held { policies = keyed.edited change held.policies }
 edited (edit.Projects change) held = record held { projects = keyed.edited change held.projects }
 edited edit.Nothing held = held
-edited (edit.Files files) held = record held { facts = files.facts.content; policies = files.policies.items; settings = files.settings }
+edited (edit.Files files) held =
+    record held { facts = files.facts.content; policies = files.policies.items; settings = files.settings }
 
 -- for how much more there is room
 pub record HeldRoom : Type 0 where
@@ -110,7 +111,8 @@ Fits (edit.Files files) held = Unit {0}
 
 -- where there is room for something in the old, there is in the new
 abbrev pub HoldsRoomOf : HeldRoom → HeldRoom → Type 0
-HoldsRoomOf old new = facts.HoldsRoomOf old.facts new.facts × ((old.policies ≤ new.policies) × (old.projects ≤ new.projects))
+HoldsRoomOf old new =
+    facts.HoldsRoomOf old.facts new.facts × ((old.policies ≤ new.policies) × (old.projects ≤ new.projects))
 
 -- whether the demand stays by an edit, whatever is held
 abbrev pub keeps_demand : HeldEdit → Bool
@@ -130,7 +132,9 @@ room_after (edit.Files files) room = record room { facts = files.facts.room; pol
 
 -- an edit that fits still does where the same is held, and no room is lost
 abbrev pub HeldEditsFit : Type 0
-HeldEditsFit = (e : HeldEdit) (held : HeldValue) (old new : HeldRoom) → HoldsRoomOf old new → Fits e (held_with held old) → Fits e (held_with held new)
+HeldEditsFit =
+    (e : HeldEdit) (held : HeldValue) (old new : HeldRoom)
+    → HoldsRoomOf old new → Fits e (held_with held old) → Fits e (held_with held new)
 
 -- no room is lost where nothing happens
 abbrev pub HeldRoomItself : Type 0

@@ -47,8 +47,8 @@ audits_of facts = record { criteria = further facts.criteria; entries = filter i
 abbrev pub settings_of : Facts → List PeerSettings
 settings_of facts = map (λ (p : HeldPeer). p.settings) facts.peers
 
--- what a config file of the register holds: what it says to the tool alone, how peers are imported, the policies, and own
--- exemptions
+-- what a config file of the register holds: what it says to the tool alone, how peers are imported, the policies, and
+-- own exemptions
 abbrev pub config_of : HeldValue → ConfigContent
 config_of held = record {
   vet_version = held.settings.vet_version;

@@ -13,13 +13,17 @@ use Rattle.vet_register.specs.State.{State}
 use Rattle.vet_register.specs.Verdict.{judged}
 
 -- an import is accepted, and this is how its content stands to what is held of the peer
-pub record IsAccepted (s : State) (day : DayValue) (name : List ℕ) (content : PeerContentValue) (c : ComparisonValue) : Type 0 where
+pub record IsAccepted (s : State) (day : DayValue) (name : List ℕ) (content : PeerContentValue) (c : ComparisonValue)
+    : Type 0 where
   pub told : judged s day (ImportPeer name content) ≡ Ok Accepted
   pub held : IsHeld name s.held.facts
   pub compared : c ≡ compared name (held_of s.held.facts name) content
 
--- the answer is what is judged, with how the content stands to what is held where that is accepted; or memory is wanting
-abbrev pub IsJudgedImport : State → DayValue → List ℕ → PeerContentValue → Result (Option ComparisonValue) Refusal → Type 0
+-- the answer is what is judged, with how the content stands to what is held where that is accepted; or memory is
+-- wanting
+abbrev pub IsJudgedImport : State → DayValue → List ℕ → PeerContentValue → Result (Option ComparisonValue) Refusal
+    → Type 0
 IsJudgedImport s day name content answer = MatchResult answer
-    (λ found. MatchOption found (judged s day (ImportPeer name content) ≡ Ok (Already None)) (IsAccepted s day name content))
+    (λ found.
+        MatchOption found (judged s day (ImportPeer name content) ≡ Ok (Already None)) (IsAccepted s day name content))
     (λ e. (e ≡ NoMemory) ⊎ (judged s day (ImportPeer name content) ≡ Err e))

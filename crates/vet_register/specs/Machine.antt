@@ -1,5 +1,6 @@
 -- One step of the machine: what an accepted command makes of a state (ours).
-use Rattle.std.specs.Prelude.{ℕ, ◌+◌, ◌++◌, not, Bool, true, false, List, [], ◌∷◌, Option, Some, None, if◌then◌else◌, length, filter, map}
+use Rattle.std.specs.Prelude.{ℕ, ◌+◌, ◌++◌, not, Bool, true, false, List, [], ◌∷◌, Option, Some, None, if◌then◌else◌}
+use Rattle.std.specs.Prelude.{length, filter, map}
 use Rattle.std.specs.Option.{option_map_or}
 use Rattle.std.specs.FinMap as table
 use Rattle.vet_base.specs.Day.{DayValue}
@@ -7,7 +8,8 @@ use Rattle.vet_desk.specs.Desk.{DeskState, desk_after}
 use Rattle.vet_entries.specs.declared.entry.Entry.{Entry}
 use Rattle.vet_entries.specs.Entry.{own}
 use Rattle.vet_entries.specs.Facts.{Facts}
-use Rattle.vet_entries.specs.HeldPeer.{holding_or_none, imported, new_entries, peer_of, with_content, with_settings, without_peer}
+use Rattle.vet_entries.specs.HeldPeer.{holding_or_none, imported, new_entries, peer_of, with_content, with_settings}
+use Rattle.vet_entries.specs.HeldPeer.{without_peer}
 use Rattle.vet_entries.specs.Holding.{HoldingValue}
 use Rattle.vet_entries.specs.Numbered.{has_number}
 use Rattle.vet_entries.specs.PublisherRecords.{with_records}
@@ -20,7 +22,10 @@ use Rattle.vet_graph.specs.declared.touched.Touched.TheVariants as touched
 use Rattle.vet_graph.specs.Moves.{moves_between}
 use Rattle.vet_graph.specs.Standing.{counts_of}
 use Rattle.vet_register.specs.declared.command.Action.{Action}
-use Rattle.vet_register.specs.declared.command.Action.TheVariants.{SetCriterion, RemoveCriterion, AddEntry, DropEntry, SetPeer, DropPeer, ImportPeer, SetPublishers, SetPolicy, DropPolicy, LoadProject, DropProject, ReplaceFiles, Desk, ClosePeriod}
+use Rattle.vet_register.specs.declared.command.Action.TheVariants.{SetCriterion, RemoveCriterion, AddEntry, DropEntry}
+use Rattle.vet_register.specs.declared.command.Action.TheVariants.{SetPeer, DropPeer, ImportPeer, SetPublishers}
+use Rattle.vet_register.specs.declared.command.Action.TheVariants.{SetPolicy, DropPolicy, LoadProject, DropProject}
+use Rattle.vet_register.specs.declared.command.Action.TheVariants.{ReplaceFiles, Desk, ClosePeriod}
 use Rattle.vet_register.specs.declared.command.Command.{Command}
 use Rattle.vet_register.specs.declared.command.Outcome.{Outcome}
 use Rattle.vet_register.specs.declared.command.Outcome.TheVariants.{Done}
@@ -45,7 +50,8 @@ held_of facts name = holding_or_none (peer_of facts.peers name)
 -- the facts with an own entry more, of this number, if there is one
 abbrev pub with_entry : ℕ → Option Entry → Facts → Facts
 with_entry number None facts = facts
-with_entry number (Some entry) facts = record facts { entries = facts.entries ++ (record { number = number; entry = own entry }) ∷ [] }
+with_entry number (Some entry) facts =
+    record facts { entries = facts.entries ++ (record { number = number; entry = own entry }) ∷ [] }
 
 -- the effect of a command in a state on the facts of packages
 abbrev pub effect : State → Action → Facts → Facts
@@ -55,7 +61,8 @@ effect s (AddEntry entry) facts = with_entry s.next_entry (Some entry) facts
 effect s (DropEntry n) facts = record facts { entries = filter (λ h. not (has_number n h)) facts.entries }
 effect s (SetPeer settings) facts = record facts { peers = with_settings settings facts.peers }
 effect s (DropPeer name) facts = record facts { peers = without_peer name facts.peers }
-effect s (ImportPeer name content) facts = record facts { peers = with_content name (imported name s.next_entry content (held_of facts name)) facts.peers }
+effect s (ImportPeer name content) facts =
+    record facts { peers = with_content name (imported name s.next_entry content (held_of facts name)) facts.peers }
 effect s (SetPublishers name records) facts = record facts { publishers = with_records name records facts.publishers }
 effect s (SetPolicy policy) facts = facts
 effect s (DropPolicy key) facts = facts
@@ -109,18 +116,19 @@ moves_of s action = moves_between (standing s) (standing_in (held_after s action
 abbrev pub touched_by : State → Action → Touched
 touched_by s action = touched.All
 
--- the number that a command is told: that of the entry that it makes, of a review that it opens, or of the entry of one that
--- it finishes; an import tells none, nor do files
+-- the number that a command is told: that of the entry that it makes, of a review that it opens, or of the entry of one
+-- that it finishes; an import tells none, nor do files
 abbrev pub number_given : State → Action → Option ℕ
 number_given s (AddEntry entry) = Some s.next_entry
 number_given s (Desk command) = number_told s command
 number_given s _ = None
 
--- how many numbers of entries a command gives: one to an entry that is added, and one to each that is new in an import or in
--- files
+-- how many numbers of entries a command gives: one to an entry that is added, and one to each that is new in an import
+-- or in files
 abbrev pub numbers_given : State → Action → ℕ
 numbers_given s (AddEntry entry) = 1
-numbers_given s (ImportPeer name content) = length (new_entries name (held_of s.held.facts name).entries content.entries)
+numbers_given s (ImportPeer name content) =
+    length (new_entries name (held_of s.held.facts name).entries content.entries)
 numbers_given s (ReplaceFiles files) = new_of_files s.held.facts files
 numbers_given s (Desk command) = option_map_or (λ _. 1) (added_by s command) 0
 numbers_given s _ = 0

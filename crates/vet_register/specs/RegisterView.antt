@@ -1,19 +1,14 @@
--- What a register is seen as, and what was prepared for it. This module alone of the machine's knows of room and keepers.
-use Rattle.std.specs.Prelude.{◌≡◌, ◌⊎◌, ℕ, ◌≤◌, Bool, true, false, List, Option, Some, None, is_some, Result, Ok, Err, MatchResult}
-use Rattle.std.specs.Coded.{Coded, code_by, coded×, coded_list, coded_ℕ}
-use Rattle.std.proofs.Common.{refl}
+-- What a register is seen as, and what was prepared for it (ours). This module alone of the machine's knows of room and
+-- keepers.
+use Rattle.std.specs.Prelude.{◌≡◌, ◌⊎◌, ℕ, ◌≤◌, Bool, true, false, List, Option, Some, None, is_some, Result, Ok, Err}
+use Rattle.std.specs.Prelude.{MatchResult}
 use Rattle.vet_base.specs.Day.{DayValue}
 use Rattle.vet_base.specs.Gives.{Refuses, Told}
 use Rattle.vet_base.specs.declared.refusal.Refusal.{Refusal}
 use Rattle.vet_base.specs.declared.refusal.Refusal.TheVariants.{NoMemory}
 use Rattle.vet_demand.specs.declared.pair.Pair.{Pair}
-use Rattle.vet_base.specs.Keyed.{KeyedRoom, keyed_code}
-use Rattle.vet_demand.specs.declared.policies.KeyedPolicy.{KeyedPolicy}
-use Rattle.vet_demand.specs.declared.project.NamedProject.{NamedProject}
 use Rattle.vet_desk.specs.declared.command.DeskCommand.{DeskCommand}
 use Rattle.vet_desk.specs.DeskView.{DeskRoom, DeskView, IsDeskChange, KeepsDeskChanges, entry_in}
-use Rattle.vet_entries.specs.Facts.{FactsRoom}
-use Rattle.vet_graph.specs.declared.standing.Counts.{Counts}
 use Rattle.vet_graph.specs.Keeping.{Keeping}
 use Rattle.vet_register.specs.declared.change.Change.{Change}
 use Rattle.vet_register.specs.declared.change.DeskEdit.{DeskEdit}
@@ -26,11 +21,9 @@ use Rattle.vet_register.specs.declared.command.Command.{Command}
 use Rattle.vet_register.specs.declared.edits.Asked.{Asked}
 use Rattle.vet_register.specs.declared.edits.Asked.TheVariants as asked
 use Rattle.vet_register.specs.declared.edits.Effect.{Effect}
-use Rattle.vet_register.specs.declared.moves.RecordedMove.{RecordedMove}
 use Rattle.vet_register.specs.declared.verdict.Answer.{Answer}
 use Rattle.vet_register.specs.declared.verdict.Answer.TheVariants.{Already, Accepted}
 use Rattle.vet_register.specs.declared.held.Held.{Held}
-use Rattle.vet_register.specs.declared.tool_settings.ToolSettings.{ToolSettings}
 use Rattle.vet_register.specs.AtDesk.{entry_number, number_told}
 use Rattle.vet_register.specs.Changes.{FitsMoves, changed, demand_by, desk_edited}
 use Rattle.vet_register.specs.Held.{Fits, HeldRoom, HeldValue, HoldsRoomOf, demand_in, edited, held_with, standing_in}
@@ -62,9 +55,11 @@ desk_room r = record { content = r.state.desk; room = r.room.desk }
 -- no room is lost, so that what was prepared before can still be installed
 abbrev pub KeepsRoom : {K : Type 0} → RegisterView K → RegisterView K → Type 0
 KeepsRoom old new =
-    HoldsRoomOf old.room.held new.room.held × ((old.room.moves ≤ new.room.moves) × KeepsDeskChanges (desk_room old) (desk_room new))
+    HoldsRoomOf old.room.held new.room.held
+        × ((old.room.moves ≤ new.room.moves) × KeepsDeskChanges (desk_room old) (desk_room new))
 
--- an edit of a desk was prepared by it, which still holds the room for it, and has the number of an entry where it has an entry
+-- an edit of a desk was prepared by it, which still holds the room for it, and has the number of an entry where it has
+-- an entry
 pub record IsDeskEdit (d : DeskView) (e : DeskEdit) : Type 0 where
   pub day : DayValue
   pub command : DeskCommand
@@ -79,14 +74,15 @@ HoldsDesk (Some e) d = IsDeskEdit d e
 -- a keeper has kept what is held and demanded, its standing is that of these, and this is the demand
 abbrev pub HasKept : {K U : Type 0} → Keeping K U → K → List Pair → HeldValue → Type 0
 HasKept keeping keeper demand held =
-    keeping.keeps keeper held.facts (demand_in held) × ((keeping.standing keeper ≡ standing_in held) × (demand ≡ demand_in held))
+    keeping.keeps keeper held.facts (demand_in held)
+        × ((keeping.standing keeper ≡ standing_in held) × (demand ≡ demand_in held))
 
 -- each update that was ready still is
 abbrev pub KeepsReady : {K U : Type 0} → Keeping K U → RegisterView K → RegisterView K → Type 0
 KeepsReady {K} {U} keeping old new = (u : U) → keeping.is_ready old.keeper u → keeping.is_ready new.keeper u
 
--- a change is that of a command in a state, which accepts it: it leads to the next state, which is sound, with the demand
--- there, and its update to the standing there
+-- a change is that of a command in a state, which accepts it: it leads to the next state, which is sound, with the
+-- demand there, and its update to the standing there
 pub record IsStep {K U : Type 0} (keeping : Keeping K U) (s : State) (c : Command) (change : Change K U) : Type 0 where
   pub accepts : verdict s c ≡ Ok Accepted
   pub becomes : changed change s ≡ next s c
@@ -98,7 +94,8 @@ pub record IsStep {K U : Type 0} (keeping : Keeping K U) (s : State) (c : Comman
   pub outcome : change.outcome ≡ outcome_of s c
 
 -- this register prepared the change for the command on this state, and it and its keeper still hold the room for it
-pub record IsPrepared {K U : Type 0} (keeping : Keeping K U) (r : RegisterView K) (c : Command) (change : Change K U) : Type 0 where
+pub record IsPrepared {K U : Type 0} (keeping : Keeping K U) (r : RegisterView K) (c : Command) (change : Change K U)
+    : Type 0 where
   pub step : IsStep keeping r.state c change
   pub fits : Fits change.edit (held_room r)
   pub desk : HoldsDesk change.desk (desk_room r)
@@ -107,7 +104,8 @@ pub record IsPrepared {K U : Type 0} (keeping : Keeping K U) (r : RegisterView K
 
 -- what was prepared on the old register is prepared on the new one
 abbrev pub KeepsPrepared : {K U : Type 0} → Keeping K U → RegisterView K → RegisterView K → Type 0
-KeepsPrepared {K} {U} keeping old new = (c : Command) (change : Change K U) → IsPrepared keeping old c change → IsPrepared keeping new c change
+KeepsPrepared {K} {U} keeping old new =
+    (c : Command) (change : Change K U) → IsPrepared keeping old c change → IsPrepared keeping new c change
 
 -- what an answer tells
 abbrev pub answer_of : {K U : Type 0} → Prepared K U → Answer
@@ -141,7 +139,8 @@ pub record IsEffect {K : Type 0} (r : RegisterView K) (day : DayValue) (action :
   pub holds : HoldsDesk e.desk (desk_room r)
 
 -- an effect is that of a command to the desk which changes this there
-pub record IsDeskEffect {K : Type 0} (r : RegisterView K) (command : DeskCommand) (change : DeskChange) (e : Effect) : Type 0 where
+pub record IsDeskEffect {K : Type 0} (r : RegisterView K) (command : DeskCommand) (change : DeskChange) (e : Effect)
+    : Type 0 where
   pub held : edited e.edit r.state.held ≡ held_after r.state (Desk command)
   pub desk : e.desk ≡ Some (record { change = change; entry = entry_number r.state command })
   pub number : e.number ≡ number_told r.state command
@@ -160,51 +159,12 @@ AsksExactly r day action (Ok (Already number)) answer = answer ≡ Ok (asked.Alr
 AsksExactly r day action (Ok Accepted) answer = MatchResult answer (IsEffectOf r day action) (λ e. e ≡ NoMemory)
 
 -- or else memory is wanting, where a comparison wants it
-abbrev pub AsksBy : {K : Type 0} → Bool → RegisterView K → DayValue → Action → Told Answer → Result Asked Refusal → Type 0
+abbrev pub AsksBy : {K : Type 0} → Bool → RegisterView K → DayValue → Action → Told Answer → Result Asked Refusal
+    → Type 0
 AsksBy false r day action told answer = AsksExactly r day action told answer
 AsksBy true r day action told answer = (answer ≡ Err NoMemory) ⊎ AsksExactly r day action told answer
 
 -- the answer to an action in a state, where the register has room for its effect
-abbrev pub Asks : {K : Type 0} → State → RegisterView K → DayValue → Action → Told Answer → Result Asked Refusal → Type 0
+abbrev pub Asks : {K : Type 0} → State → RegisterView K → DayValue → Action → Told Answer → Result Asked Refusal
+    → Type 0
 Asks s r day action told answer = AsksBy (wants_memory s action) r day action told answer
-
--- a register is stored as the tuple of its keeper, the parts of its state, and its rooms
-abbrev pub register_code : {K : Type 0} → Coded K → Coded FactsRoom → Coded KeyedPolicy → Coded NamedProject → Coded ToolSettings → Coded DeskView → Coded Counts → Coded RecordedMove → Coded (RegisterView K)
-register_code {K} keeper_code facts_code policy_code project_code settings_code desk_code counts_code move_code =
-    code_by (K × (DeskView × (FactsRoom × (KeyedRoom KeyedPolicy × (KeyedRoom NamedProject × (ToolSettings × (ℕ × (ℕ × (ℕ × (Counts × (List RecordedMove × ℕ)))))))))))
-    (coded× keeper_code (coded× desk_code (coded× facts_code (coded× (keyed_code policy_code) (coded× (keyed_code project_code)
-    (coded× settings_code (coded× coded_ℕ (coded× coded_ℕ (coded× coded_ℕ (coded× counts_code (coded× (coded_list move_code) coded_ℕ)))))))))))
-    (λ r. (
-      r.keeper,
-      (
-        desk_room r,
-        (
-          (held_room r).facts,
-          (
-            (held_room r).policies,
-            (
-              (held_room r).projects,
-              (r.state.held.settings, (r.state.step, (r.state.next_entry, (r.state.moves_limit, (r.state.first, (r.state.moves, r.room.moves)))))),
-            ),
-          ),
-        ),
-      ),
-    ))
-    (λ p. record {
-      keeper = p.0;
-      state = record {
-        held = record { facts = p.1.1.0.content; policies = p.1.1.1.0.items; projects = p.1.1.1.1.0.items; settings = p.1.1.1.1.1.0 };
-        desk = p.1.0.content;
-        step = p.1.1.1.1.1.1.0;
-        next_entry = p.1.1.1.1.1.1.1.0;
-        moves_limit = p.1.1.1.1.1.1.1.1.0;
-        first = p.1.1.1.1.1.1.1.1.1.0;
-        moves = p.1.1.1.1.1.1.1.1.1.1.0;
-      };
-      room = record {
-        held = record { facts = p.1.1.0.room; policies = p.1.1.1.0.room; projects = p.1.1.1.1.0.room };
-        desk = p.1.0.room;
-        moves = p.1.1.1.1.1.1.1.1.1.1.1;
-      };
-    })
-    (λ _. refl)

@@ -31,7 +31,8 @@ replace_on day files = record { day = day; action = ReplaceFiles files }
 abbrev pub SaysWhatIsHeld : List ImportedPeer → HeldPeer → Type 0
 SaysWhatIsHeld contents peer =
     SameItems (content_for contents peer.settings.name).criteria (further peer.content.table)
-    × SameItems (as_peers peer.settings.name (content_for contents peer.settings.name).entries) (entries_of peer.content.entries)
+    × SameItems (as_peers peer.settings.name (content_for contents peer.settings.name).entries)
+        (entries_of peer.content.entries)
 
 -- files say what is held, each list in whatever order, and nothing else
 pub record SayWhatIsHeld (held : HeldValue) (f : FilesValue) : Type 0 where
@@ -47,7 +48,8 @@ pub record SayWhatIsHeld (held : HeldValue) (f : FilesValue) : Type 0 where
 -- files are told so just where they say what is held
 abbrev pub HeldFilesAreAlready : Type 0
 HeldFilesAreAlready =
-    (s : State) (day : DayValue) (f : FilesValue) → IsSound s → IsFiles f → ChangesNothing s (replace_on day f) ↔ SayWhatIsHeld s.held f
+    (s : State) (day : DayValue) (f : FilesValue) → IsSound s → IsFiles f
+    → ChangesNothing s (replace_on day f) ↔ SayWhatIsHeld s.held f
 
 -- two contents are the same as sets
 abbrev pub SameContents : PeerContentValue → PeerContentValue → Type 0

@@ -29,14 +29,16 @@ ChangesNothing s c = (verdict s c ≡ Ok (Already None)) × (after s c ≡ s)
 -- an import from a held peer is told so just where the criteria and the entries are those held of it, in whatever order
 abbrev pub HeldContentIsAlready : Type 0
 HeldContentIsAlready =
-    (s : State) (day : DayValue) (name : List ℕ) (content : PeerContentValue) (peer : HeldPeer) (criteria : List Criterion)
+    (s : State) (day : DayValue) (name : List ℕ) (content : PeerContentValue) (peer : HeldPeer)
+    (criteria : List Criterion)
     → IsPeerContent content.criteria content.entries
     → peer_of s.held.facts.peers name ≡ Some peer
     → peer.content.table ≡ defined criteria
     → NamedOnce (λ (c : Criterion). c.name) criteria
     → All (λ c. is_built_in c.name ≡ false) criteria
     → ChangesNothing s (import_on day name content)
-    ↔ (SameItems content.criteria criteria × SameItems (as_peers name content.entries) (entries_of peer.content.entries))
+    ↔ (SameItems content.criteria criteria
+        × SameItems (as_peers name content.entries) (entries_of peer.content.entries))
 
 -- after an import, an import of the same criteria and the same entries, in whatever order, changes nothing
 abbrev pub RepeatedImportIsAlready : Type 0

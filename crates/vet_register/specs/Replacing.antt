@@ -21,7 +21,8 @@ held_of_peer peers settings = holding_or_none (peer_of peers settings.name)
 -- how many entries of a peer are new
 abbrev pub new_of_peer : List HeldPeer → List ImportedPeer → PeerSettings → ℕ
 new_of_peer peers contents settings =
-    length (new_entries settings.name (held_of_peer peers settings).entries (content_for contents settings.name).entries)
+    length
+        (new_entries settings.name (held_of_peer peers settings).entries (content_for contents settings.name).entries)
 
 -- a peer after, where this is the next number: these settings, and what the imports file says of it
 abbrev pub peer_after : ℕ → List HeldPeer → List ImportedPeer → PeerSettings → HeldPeer
@@ -30,11 +31,13 @@ peer_after next peers contents settings = record {
   content = imported settings.name next (content_for contents settings.name) (held_of_peer peers settings);
 }
 
--- the peers after, where this is the next number: the new entries of each are numbered behind those of the peers before it
+-- the peers after, where this is the next number: the new entries of each are numbered behind those of the peers before
+-- it
 abbrev pub peers_after : ℕ → List HeldPeer → List ImportedPeer → List PeerSettings → List HeldPeer
 peers_after next peers contents [] = []
 peers_after next peers contents (settings ∷ rest) =
-    peer_after next peers contents settings ∷ peers_after (next + new_of_peer peers contents settings) peers contents rest
+    peer_after next peers contents settings
+        ∷ peers_after (next + new_of_peer peers contents settings) peers contents rest
 
 -- how many own entries are new, and how many of all sources
 abbrev pub new_own : Facts → FilesValue → ℕ
@@ -43,8 +46,8 @@ new_own facts f = length (new_of Own facts.entries f.entries)
 abbrev pub new_of_files : Facts → FilesValue → ℕ
 new_of_files facts f = new_own facts f + sum_by (new_of_peer facts.peers f.contents) f.settings
 
--- the facts of packages after, where this is the next number: new entries are numbered in the order of reading, one's own
--- before those of peers
+-- the facts of packages after, where this is the next number: new entries are numbered in the order of reading, one's
+-- own before those of peers
 abbrev pub facts_of_files : ℕ → FilesValue → Facts → Facts
 facts_of_files next f facts = record {
   criteria = defined f.criteria;
@@ -66,4 +69,5 @@ entries_of_files f = length f.entries + sum_by (count_of_peer f.contents) f.sett
 
 -- how the content of a peer stands to what is held of it
 abbrev pub compared_peer : List HeldPeer → List ImportedPeer → PeerSettings → ComparisonValue
-compared_peer peers contents settings = compared settings.name (held_of_peer peers settings) (content_for contents settings.name)
+compared_peer peers contents settings =
+    compared settings.name (held_of_peer peers settings) (content_for contents settings.name)

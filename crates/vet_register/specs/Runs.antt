@@ -31,12 +31,14 @@ left s c (Err e) = s
 abbrev pub after : State → Command → State
 after s c = left s c (verdict s c)
 
--- a command was answered in one state, and left the other: it was told its verdict, or met a want of memory and changed nothing
+-- a command was answered in one state, and left the other: it was told its verdict, or met a want of memory and changed
+-- nothing
 abbrev pub IsTurn : State → Command → Result Outcome Refusal → State → Type 0
 IsTurn s c answer end = ((answer ≡ told s c) × (end ≡ after s c)) ⊎ ((answer ≡ Err NoMemory) × (end ≡ s))
 
 -- commands were answered in their order, each in the state that those before it left
 abbrev pub AreTurns : State → List Command → List (Result Outcome Refusal) → State → Type 0
 AreTurns s [] [] end = end ≡ s
-AreTurns s (c ∷ commands) (answer ∷ answers) end = (mid : State) × (IsTurn s c answer mid × AreTurns mid commands answers end)
+AreTurns s (c ∷ commands) (answer ∷ answers) end =
+    (mid : State) × (IsTurn s c answer mid × AreTurns mid commands answers end)
 AreTurns s _ _ end = ⊥

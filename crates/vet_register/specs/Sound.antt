@@ -4,7 +4,8 @@ use Rattle.std.specs.List.{All, AllPairs, list_any}
 use Rattle.std.specs.Ordering.{nat_cmp}
 use Rattle.std.specs.Cmp.Lexicographic.{slice_cmp}
 use Rattle.std.specs.declared.cmp.Ordering.TheVariants.{Less}
-use Rattle.vet_base.specs.declared.limits.TheConstants.{MOST_ENTRIES, MOST_MOVES, MOST_PEERS, MOST_POLICIES, MOST_PROJECTS, MOST_PUBLISHERS, LAST_STEP, LAST_NUMBER}
+use Rattle.vet_base.specs.declared.limits.TheConstants.{MOST_ENTRIES, MOST_MOVES, MOST_PEERS, MOST_POLICIES}
+use Rattle.vet_base.specs.declared.limits.TheConstants.{MOST_PROJECTS, MOST_PUBLISHERS, LAST_STEP, LAST_NUMBER}
 use Rattle.vet_base.specs.Criteria.{Criteria, IsTable}
 use Rattle.vet_demand.specs.declared.policies.KeyedPolicy.{KeyedPolicy}
 use Rattle.vet_demand.specs.declared.project.NamedProject.{NamedProject}
@@ -100,8 +101,8 @@ pub record ArePublishers (publishers : List PackagePublishers) : Type 0 where
   pub in_order : All (λ held. Publishers.IsInOrder held.publishers) publishers
   pub few : records_total publishers ≤ MOST_PUBLISHERS
 
--- the criteria are a table, and own entries and targets of maps name no others; own entries, peers and publisher records are
--- sound; no number stands in two sources, and all entries are within the limit
+-- the criteria are a table, and own entries and targets of maps name no others; own entries, peers and publisher
+-- records are sound; no number stands in two sources, and all entries are within the limit
 pub record AreSound (facts : Facts) (next : ℕ) : Type 0 where
   pub criteria : IsTable facts.criteria
   pub known : AreKnown facts
@@ -111,7 +112,8 @@ pub record AreSound (facts : Facts) (next : ℕ) : Type 0 where
   pub few : entries_total facts ≤ MOST_ENTRIES
   pub publishers : ArePublishers facts.publishers
 
--- policies stand in the order of their keys, no key twice, name no criteria but those of the table, and are within the limit
+-- policies stand in the order of their keys, no key twice, name no criteria but those of the table, and are within the
+-- limit
 pub record ArePolicies (criteria : Criteria) (policies : List KeyedPolicy) : Type 0 where
   pub by_key : IsInKeyOrder policies
   pub known : PoliciesAreKnown criteria policies
@@ -128,8 +130,8 @@ pub record IsSoundHeld (held : HeldValue) (next : ℕ) : Type 0 where
   pub policies : ArePolicies held.facts.criteria held.policies
   pub projects : AreProjects held.projects
 
--- the desk is sound; reviews that aren't closed name no criteria but those of the table, and the number of a finished one's
--- entry lies below the next one
+-- the desk is sound; reviews that aren't closed name no criteria but those of the table, and the number of a finished
+-- one's entry lies below the next one
 pub record IsSoundAtDesk (criteria : Criteria) (d : DeskState) (next : ℕ) : Type 0 where
   pub desk : IsSoundDesk d
   pub known : AreKnownTo criteria d.reviews

@@ -8,8 +8,8 @@ use Rattle.vet_graph.specs.declared.standing.Stand.{Stand}
 use Rattle.vet_register.specs.declared.moves.RecordedMove.{RecordedMove}
 use Rattle.vet_register.specs.Held.{HeldValue, demand_in, nothing_held, standing_in}
 
--- what is held, the desk, how many commands were accepted, the next entry's number, the most moves, the first counts, the
--- moves
+-- what is held, the desk, how many commands were accepted, the next entry's number, the most moves, the first counts,
+-- the moves
 pub record State : Type 0 where
   pub held : HeldValue
   pub desk : DeskState

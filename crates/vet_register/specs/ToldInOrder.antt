@@ -1,5 +1,5 @@
--- Which of two faults of a command to the desk is told (ours): limits of steps and numbers that no list of commands reaches
--- are told in their place too.
+-- Which of two faults of a command to the desk is told (ours): limits of steps and numbers that no list of commands
+-- reaches are told in their place too.
 use Rattle.std.specs.Prelude.{◌≡◌, ℕ, List, Ok, Err}
 use Rattle.vet_base.specs.Day.{DayValue}
 use Rattle.vet_base.specs.Gives.{◌>>=◌}
@@ -16,16 +16,20 @@ use Rattle.vet_register.specs.Verdict.{judged, step_limit}
 
 -- of a review that is opened: too many reviews before the step
 abbrev pub ReviewsBeforeStep : Type 0
-ReviewsBeforeStep = (s : State) (day : DayValue) (name : List ℕ) (version : VersionValue) (criteria : NameSet) (e : Refusal)
+ReviewsBeforeStep =
+    (s : State) (day : DayValue) (name : List ℕ) (version : VersionValue) (criteria : NameSet) (e : Refusal)
     → review_limit s.desk ≡ Err e → judged s day (Desk (OpenReview name version criteria)) ≡ Err e
 
 -- the step before the number of a review, and before what it refers to
 abbrev pub StepBeforeNumber : Type 0
-StepBeforeNumber = (s : State) (day : DayValue) (name : List ℕ) (version : VersionValue) (criteria : NameSet) (e : Refusal)
-    → review_limit s.desk ≡ Ok tt → step_limit s ≡ Err e → judged s day (Desk (OpenReview name version criteria)) ≡ Err e
+StepBeforeNumber =
+    (s : State) (day : DayValue) (name : List ℕ) (version : VersionValue) (criteria : NameSet) (e : Refusal)
+    → review_limit s.desk ≡ Ok tt → step_limit s ≡ Err e
+    → judged s day (Desk (OpenReview name version criteria)) ≡ Err e
 
 abbrev pub NumberBeforeCriteria : Type 0
-NumberBeforeCriteria = (s : State) (day : DayValue) (name : List ℕ) (version : VersionValue) (criteria : NameSet) (e : Refusal)
+NumberBeforeCriteria =
+    (s : State) (day : DayValue) (name : List ℕ) (version : VersionValue) (criteria : NameSet) (e : Refusal)
     → review_limit s.desk ≡ Ok tt → step_limit s ≡ Ok tt → review_number_limit s.desk ≡ Err e
     → judged s day (Desk (OpenReview name version criteria)) ≡ Err e
 

@@ -1,14 +1,19 @@
 -- What a command is told in a state (ours): the first that holds of: it is held already; a limit; what it refers to is
 -- not held; a rule; its moves do not fit; it is accepted.
-use Rattle.std.specs.Prelude.{ℕ, ◌+◌, ◌&&◌, ◌||◌, not, nat_lt, Bool, true, false, is_none, is_ok, List, Option, Some, None, Ok, if◌then◌else◌, length, option_map, ◌+ℤ◌, pos}
+use Rattle.std.specs.Prelude.{ℕ, ◌+◌, ◌&&◌, ◌||◌, not, nat_lt, Bool, true, false, is_none, is_ok, List, Option, Some}
+use Rattle.std.specs.Prelude.{None, Ok, if◌then◌else◌, length, option_map, ◌+ℤ◌, pos}
 use Rattle.std.specs.List.{list_any}
 use Rattle.std.specs.Ordering.{int_cmp, is_lt}
 use Rattle.std.specs.FinMap as table
-use Rattle.vet_base.specs.declared.limits.TheConstants.{MOST_ENTRIES, MOST_PEERS, MOST_POLICIES, MOST_PROJECTS, MOST_PUBLISHERS, MOST_WINDOW_DAYS, LAST_STEP, LAST_NUMBER}
+use Rattle.vet_base.specs.declared.limits.TheConstants.{MOST_ENTRIES, MOST_PEERS, MOST_POLICIES, MOST_PROJECTS}
+use Rattle.vet_base.specs.declared.limits.TheConstants.{MOST_PUBLISHERS, MOST_WINDOW_DAYS, LAST_STEP, LAST_NUMBER}
 use Rattle.vet_base.specs.declared.refusal.Limit.TheVariants as limit
-use Rattle.vet_base.specs.declared.refusal.Refusal.TheVariants.{CriterionInUse, UnknownEntry, UnknownPeer, UnknownPolicy, UnknownProject, EmptyWindow, WindowTooLong, TooLarge, MovesFull}
+use Rattle.vet_base.specs.declared.refusal.Refusal.TheVariants.{CriterionInUse, UnknownEntry, UnknownPeer}
+use Rattle.vet_base.specs.declared.refusal.Refusal.TheVariants.{UnknownPolicy, UnknownProject, EmptyWindow}
+use Rattle.vet_base.specs.declared.refusal.Refusal.TheVariants.{WindowTooLong, TooLarge, MovesFull}
 use Rattle.vet_base.specs.Criteria.{least_unknown}
-use Rattle.vet_base.specs.CriteriaChanges.{known, remove_references, remove_rules, set_limits, set_references, set_rules}
+use Rattle.vet_base.specs.CriteriaChanges.{known, remove_references, remove_rules, set_limits, set_references}
+use Rattle.vet_base.specs.CriteriaChanges.{set_rules}
 use Rattle.vet_base.specs.Day.{DayValue, day_cmp, day_number}
 use Rattle.vet_base.specs.Defined.{defined}
 use Rattle.vet_base.specs.Gives.{Told, refuse_if, ◌>>=◌}
@@ -30,7 +35,10 @@ use Rattle.vet_entries.specs.PublisherRecords.{records_of, records_total, with_r
 use Rattle.vet_entries.specs.Publishers.{publishers_eq}
 use Rattle.vet_files.specs.FilesContent.{FilesValue, each_is_set}
 use Rattle.vet_register.specs.declared.command.Action.{Action}
-use Rattle.vet_register.specs.declared.command.Action.TheVariants.{SetCriterion, RemoveCriterion, AddEntry, DropEntry, SetPeer, DropPeer, ImportPeer, SetPublishers, SetPolicy, DropPolicy, LoadProject, DropProject, ReplaceFiles, Desk, ClosePeriod}
+use Rattle.vet_register.specs.declared.command.Action.TheVariants.{SetCriterion, RemoveCriterion, AddEntry, DropEntry}
+use Rattle.vet_register.specs.declared.command.Action.TheVariants.{SetPeer, DropPeer, ImportPeer, SetPublishers}
+use Rattle.vet_register.specs.declared.command.Action.TheVariants.{SetPolicy, DropPolicy, LoadProject, DropProject}
+use Rattle.vet_register.specs.declared.command.Action.TheVariants.{ReplaceFiles, Desk, ClosePeriod}
 use Rattle.vet_register.specs.declared.command.Command.{Command}
 use Rattle.vet_register.specs.declared.verdict.Answer.{Answer}
 use Rattle.vet_register.specs.declared.verdict.Answer.TheVariants.{Already, Accepted}
@@ -48,7 +56,8 @@ held_as s (SetCriterion c) = if is_held s.held.facts.criteria c then Some None e
 held_as s (AddEntry entry) = option_map (λ n. Some n) (number_of s.held.facts.entries entry)
 held_as s (SetPeer settings) = if has_settings s.held.facts.peers settings then Some None else None
 held_as s (ImportPeer name content) = if has_content s.held.facts.peers name content then Some None else None
-held_as s (SetPublishers name records) = if publishers_eq (records_of s.held.facts.publishers name) records then Some None else None
+held_as s (SetPublishers name records) =
+    if publishers_eq (records_of s.held.facts.publishers name) records then Some None else None
 held_as s (SetPolicy policy) = if has_policy s.held.policies policy then Some None else None
 held_as s (LoadProject project) = if has_project s.held.projects project then Some None else None
 held_as s (ReplaceFiles files) = if has_files s.held files then Some None else None
@@ -73,24 +82,35 @@ entries_beside facts name = length facts.entries + entries_of_peers (without_pee
 
 -- the limits of an import of so many entries, so many of them new
 abbrev pub import_limits : State → List ℕ → ℕ → ℕ → Told (Unit {0})
-import_limits s name count new = entry_limit (entries_beside s.held.facts name + count) >>= λ _. step_limit s >>= λ _. number_limit s new
+import_limits s name count new =
+    entry_limit (entries_beside s.held.facts name + count) >>= λ _. step_limit s >>= λ _. number_limit s new
 
 -- one peer more, if it is a new one, is not too many
 abbrev pub peer_limit : State → List ℕ → Told (Unit {0})
-peer_limit s name = refuse_if (is_none (peer_of s.held.facts.peers name) && nat_lt MOST_PEERS (length s.held.facts.peers + 1)) (TooLarge limit.Peers)
+peer_limit s name =
+    refuse_if
+        (is_none (peer_of s.held.facts.peers name) && nat_lt MOST_PEERS (length s.held.facts.peers + 1))
+        (TooLarge limit.Peers)
 
 -- with these records for a package there are not too many
 abbrev pub publisher_limit : State → List ℕ → List Publisher → Told (Unit {0})
 publisher_limit s name records =
-    refuse_if (nat_lt MOST_PUBLISHERS (records_total (with_records name records s.held.facts.publishers))) (TooLarge limit.Publishers)
+    refuse_if (nat_lt MOST_PUBLISHERS (records_total (with_records name records s.held.facts.publishers)))
+        (TooLarge limit.Publishers)
 
 -- one policy more, if it is a new one, is not too many
 abbrev pub policy_limit : State → PolicyKey → Told (Unit {0})
-policy_limit s key = refuse_if (is_none (policy_at s.held.policies key) && nat_lt MOST_POLICIES (length s.held.policies + 1)) (TooLarge limit.Policies)
+policy_limit s key =
+    refuse_if
+        (is_none (policy_at s.held.policies key) && nat_lt MOST_POLICIES (length s.held.policies + 1))
+        (TooLarge limit.Policies)
 
 -- nor one project more
 abbrev pub project_limit : State → List ℕ → Told (Unit {0})
-project_limit s name = refuse_if (is_none (project_at s.held.projects name) && nat_lt MOST_PROJECTS (length s.held.projects + 1)) (TooLarge limit.Projects)
+project_limit s name =
+    refuse_if
+        (is_none (project_at s.held.projects name) && nat_lt MOST_PROJECTS (length s.held.projects + 1))
+        (TooLarge limit.Projects)
 
 -- what files hold is not too much: too many criteria come first, then as much as there would be of each thing
 abbrev pub files_limits : State → FilesValue → Told (Unit {0})
@@ -108,24 +128,27 @@ step_before_rules s command = if finishes command then Ok tt else step_limit s
 -- there is a step and, where an own entry is added, room and a number for it
 abbrev pub entry_limits : State → Option Entry → Told (Unit {0})
 entry_limits s None = step_limit s
-entry_limits s (Some entry) = entry_limit (entries_total s.held.facts + 1) >>= λ _. step_limit s >>= λ _. number_limit s 1
+entry_limits s (Some entry) =
+    entry_limit (entries_total s.held.facts + 1) >>= λ _. step_limit s >>= λ _. number_limit s 1
 
 -- the limits of a command that finishes a review, which come after its rules
 abbrev pub limits_after_rules : State → DeskCommand → Told (Unit {0})
 limits_after_rules s command = if finishes command then entry_limits s (added_by s command) else Ok tt
 
--- what is held stays within its limit, and there is a step and, for each new entry, a number; of an import this is asked
--- as if the peer were held
+-- what is held stays within its limit, and there is a step and, for each new entry, a number; of an import this is
+-- asked as if the peer were held
 abbrev pub limits : State → Action → Told (Unit {0})
 limits s (SetCriterion c) = set_limits s.held.facts.criteria c.name >>= λ _. step_limit s
 limits s (AddEntry entry) = entry_limit (entries_total s.held.facts + 1) >>= λ _. step_limit s >>= λ _. number_limit s 1
 limits s (SetPeer settings) = peer_limit s settings.name >>= λ _. step_limit s
-limits s (ImportPeer name content) = import_limits s name (length content.entries) (numbers_given s (ImportPeer name content))
+limits s (ImportPeer name content) =
+    import_limits s name (length content.entries) (numbers_given s (ImportPeer name content))
 limits s (SetPublishers name records) = publisher_limit s name records >>= λ _. step_limit s
 limits s (SetPolicy policy) = policy_limit s policy.key >>= λ _. step_limit s
 limits s (LoadProject project) = project_limit s project.name >>= λ _. step_limit s
 limits s (ReplaceFiles files) = counted (defined files.criteria) >>= λ _. files_limits s files
-limits s (Desk command) = desk_limits s.desk command >>= λ _. step_before_rules s command >>= λ _. desk_number s.desk command
+limits s (Desk command) =
+    desk_limits s.desk command >>= λ _. step_before_rules s command >>= λ _. desk_number s.desk command
 limits s _ = step_limit s
 
 -- a peer of a name is held
@@ -143,7 +166,8 @@ held_project s name = refuse_if (is_none (project_at s.held.projects name)) Unkn
 -- the imports file stands in the config file
 abbrev pub files_references : FilesValue → Told (Unit {0})
 files_references f =
-    known (unknown_of_files (table.contains_key (defined f.criteria)) f) >>= λ _. refuse_if (not (each_is_set f)) UnknownPeer
+    known (unknown_of_files (table.contains_key (defined f.criteria)) f) >>= λ _.
+    refuse_if (not (each_is_set f)) UnknownPeer
 
 -- what a command refers to is held; an entry that is dropped is one's own
 abbrev pub references : State → Action → Told (Unit {0})
@@ -173,7 +197,8 @@ ends_too_late day w = is_lt (int_cmp (day_number day +ℤ pos MOST_WINDOW_DAYS) 
 
 -- a window does not end before it begins, and ends soon enough after the day of the command
 abbrev pub window_rules : DayValue → Window → Told (Unit {0})
-window_rules day w = refuse_if (ends_before_it_begins w) EmptyWindow >>= λ _. refuse_if (ends_too_late day w) WindowTooLong
+window_rules day w =
+    refuse_if (ends_before_it_begins w) EmptyWindow >>= λ _. refuse_if (ends_too_late day w) WindowTooLong
 
 -- only wildcard and trusted entries have a window
 abbrev pub kind_rules : DayValue → Kind → Told (Unit {0})
@@ -183,14 +208,16 @@ kind_rules day _ = Ok tt
 
 -- an own entry, a target of a peer's map or a policy names a criterion, or a review that isn't closed
 abbrev pub is_used : State → List ℕ → Bool
-is_used s name = is_named s.held.facts name || (list_any (policy_names name) s.held.policies || are_open_for s.desk.reviews name)
+is_used s name =
+    is_named s.held.facts name || (list_any (policy_names name) s.held.policies || are_open_for s.desk.reviews name)
 
--- a built-in criterion is neither set nor removed, nor one removed that another implies, or that an own entry, a target of
--- a peer's map, a policy or an open review names; files lack none that an open review names; a window keeps its rules, and
--- a command to the desk those of the desk, by the demand as it stands
+-- a built-in criterion is neither set nor removed, nor one removed that another implies, or that an own entry, a target
+-- of a peer's map, a policy or an open review names; files lack none that an open review names; a window keeps its
+-- rules, and a command to the desk those of the desk, by the demand as it stands
 abbrev pub rules : State → DayValue → Action → Told (Unit {0})
 rules s day (SetCriterion c) = set_rules c.name
-rules s day (RemoveCriterion name) = remove_rules s.held.facts.criteria name >>= λ _. refuse_if (is_used s name) CriterionInUse
+rules s day (RemoveCriterion name) =
+    remove_rules s.held.facts.criteria name >>= λ _. refuse_if (is_used s name) CriterionInUse
 rules s day (AddEntry entry) = kind_rules day entry.kind
 rules s day (ReplaceFiles files) = refuse_if (are_open_beyond (defined files.criteria) s.desk.reviews) CriterionInUse
 rules s day (Desk command) = desk_rules (demanded s) s.desk command >>= λ _. limits_after_rules s command

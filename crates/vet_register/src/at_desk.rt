@@ -13,7 +13,8 @@ ghost use Rattle.vet_entries.specs.Entry.{own};
 ghost use Rattle.vet_register.specs.AtDesk.{finishes, number_told};
 ghost use Rattle.vet_register.specs.Held.{Fits, edited};
 ghost use Rattle.vet_register.specs.RegisterView.{Asks, IsDeskEffect, KeepsRoom, desk_room, held_room};
-ghost use Rattle.vet_register.specs.Verdict.{asked_before, entry_limits, judged, limits_after_rules, step_before_rules, step_limit};
+ghost use Rattle.vet_register.specs.Verdict.{asked_before, entry_limits, judged, limits_after_rules, step_before_rules};
+ghost use Rattle.vet_register.specs.Verdict.{step_limit};
 ghost use Rattle.vet_register.specs.declared.command.Action.TheVariants as action;
 ghost use Rattle.vet_register.specs.declared.held.HeldEdit.TheVariants as edit;
 
@@ -180,10 +181,12 @@ impl<K: Keeper> Register<K> {
         requires { self.old.state.next_entry ≤ LAST_NUMBER }
         ensures held { IfOk result (λ e. edited e.edit self.old.state.held ≡ record self.old.state.held {
           facts = record self.old.state.held.facts {
-            entries = self.old.state.held.facts.entries ++ (record { number = self.old.state.next_entry; entry = own }) ∷ [];
+            entries = self.old.state.held.facts.entries
+                ++ (record { number = self.old.state.next_entry; entry = own }) ∷ [];
           };
         }) }
-        ensures desk { IfOk result (λ e. e.desk ≡ Some (record { change = change; entry = Some self.old.state.next_entry })) }
+        ensures desk { IfOk result
+            (λ e. e.desk ≡ Some (record { change = change; entry = Some self.old.state.next_entry })) }
         ensures number { IfOk result (λ e. e.number ≡ Some self.old.state.next_entry) }
         ensures next_entry { IfOk result (λ e. e.next_entry ≡ self.old.state.next_entry + 1) }
         ensures fits { IfOk result (λ e. Fits e.edit (held_room self.new)) }

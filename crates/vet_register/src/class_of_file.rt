@@ -9,7 +9,8 @@ ghost use Rattle.vet_base.specs.Defined.{defined, table_told};
 ghost use Rattle.vet_base.specs.Gives.{Gives};
 ghost use Rattle.vet_files.specs.declared.audits_file.AuditsContent.{AuditsContent};
 ghost use Rattle.vet_graph.specs.Class.{IsClassOfPair};
-ghost use Rattle.vet_register.specs.ClassOfFile.{IsClassOfFile, checked, class_in, class_told, content_told, facts_of, pair_told, unknown_in, unknown_name};
+ghost use Rattle.vet_register.specs.ClassOfFile.{IsClassOfFile, checked, class_in, class_told, content_told, facts_of};
+ghost use Rattle.vet_register.specs.ClassOfFile.{pair_told, unknown_in, unknown_name};
 ghost use Rattle.vet_register.specs.NamesOfFiles.{unknown_of_entries};
 
 use std::alloc::Global;

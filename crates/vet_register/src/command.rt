@@ -54,8 +54,9 @@ pub enum Action {
     LoadProject(NamedProject),
     /// Drops the project of this name.
     DropProject(PackageName),
-    /// Puts what three files hold in place of all that is held but projects; the desk stays. An entry that was held before, of the same
-    /// source, keeps its number; a peer of the config file that the imports file lacks is held with nothing imported.
+    /// Puts what three files hold in place of all that is held but projects; the desk stays. An entry that was held
+    /// before, of the same source, keeps its number; a peer of the config file that the imports file lacks is held with
+    /// nothing imported.
     ReplaceFiles(FilesContent),
     /// What is asked of the desk. A review that is finished adds an own entry, unless an equal one is held.
     Desk(DeskCommand),

@@ -37,8 +37,8 @@ use vet_entries::publishers::Publishers;
 use vet_files::files_content::FilesContent;
 use vet_graph::keeper::Keeper;
 
-/// Edits of what is held and of the desk, unless that stays; the number that a command is told, and the next number of an
-/// entry after it.
+/// Edits of what is held and of the desk, unless that stays; the number that a command is told, and the next number of
+/// an entry after it.
 #[derive(Drop)]
 pub struct Effect {
     pub(crate) edit: HeldEdit,

@@ -36,7 +36,8 @@ impl Drop for FilesComparison {
 impl FilesComparison {
     /// How many entries are new. Asks that they can be counted.
     pub(crate) fn new_count(&self) -> usize
-        requires { self.now.own.new_count + sum_by (λ (c : ComparisonValue). c.new_count) self.now.peers.items < 2 ^ 64 }
+        requires { self.now.own.new_count
+            + sum_by (λ (c : ComparisonValue). c.new_count) self.now.peers.items < 2 ^ 64 }
         ensures { result ≡ self.now.own.new_count + sum_by (λ (c : ComparisonValue). c.new_count) self.now.peers.items }
     {
         let peers = self.peers.as_slice();
@@ -56,7 +57,8 @@ pub(crate) fn compare_files(
     files: &FilesContent,
 ) -> Result<FilesComparison, Refusal>
     requires own { All (λ h. h.entry.source ≡ Own) facts.now.content.entries }
-    requires peers { (p : PeerSettings) → All (λ h. h.entry.source ≡ Peer p.name) (held_of_peer facts.now.content.peers p).entries }
+    requires peers { (p : PeerSettings)
+        → All (λ h. h.entry.source ≡ Peer p.name) (held_of_peer facts.now.content.peers p).entries }
     ensures ok { IfOk result (IsCompared facts.now.content files.now) }
     ensures memory { IfErr result (λ e. e ≡ Refusal.NoMemory) }
 {
@@ -71,8 +73,10 @@ fn compare_peers(
     facts: &EntryFacts,
     files: &FilesContent,
 ) -> Result<Vec<Comparison>, Refusal>
-    requires { (p : PeerSettings) → All (λ h. h.entry.source ≡ Peer p.name) (held_of_peer facts.now.content.peers p).entries }
-    ensures ok { IfOk result (λ v. v.items ≡ map (compared_peer facts.now.content.peers files.now.contents) files.now.settings) }
+    requires { (p : PeerSettings)
+        → All (λ h. h.entry.source ≡ Peer p.name) (held_of_peer facts.now.content.peers p).entries }
+    ensures ok { IfOk result
+        (λ v. v.items ≡ map (compared_peer facts.now.content.peers files.now.contents) files.now.settings) }
     ensures memory { IfErr result (λ e. e ≡ Refusal.NoMemory) }
 {
     let nothing = Holding::new(alloc)?;

@@ -13,7 +13,8 @@ ghost use Rattle.vet_entries.specs.HeldPeer.{holding_or_none, imported, peer_nam
 ghost use Rattle.vet_entries.specs.Import.{compared};
 ghost use Rattle.vet_entries.specs.PublisherRecords.{records_total};
 ghost use Rattle.vet_entries.specs.declared.peer_settings.PeerSettings.{PeerSettings};
-ghost use Rattle.vet_register.specs.Replacing.{compared_peer, facts_of_files, held_of_peer, new_of_files, new_of_peer, peers_after, tool_of_files};
+ghost use Rattle.vet_register.specs.Replacing.{compared_peer, facts_of_files, held_of_peer, new_of_files, new_of_peer};
+ghost use Rattle.vet_register.specs.Replacing.{peers_after, tool_of_files};
 ghost use Rattle.vet_register.specs.ReplacingFound.{IsCompared};
 
 use crate::class_of_file::defined_table;

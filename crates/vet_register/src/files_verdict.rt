@@ -14,7 +14,8 @@ ghost use Rattle.vet_base.specs.Gives.{Answers, Gives, refuse_if};
 ghost use Rattle.vet_base.specs.declared.refusal.Refusal.TheVariants.{CriterionInUse};
 ghost use Rattle.vet_desk.specs.Review.{are_open_beyond};
 ghost use Rattle.vet_register.specs.Already.{has_criteria, has_files, has_lists, has_peers, has_settings, is_held};
-ghost use Rattle.vet_register.specs.NamesOfFiles.{counted, named_alone, unknown_of_files, unknown_of_policies, unknown_of_targets};
+ghost use Rattle.vet_register.specs.NamesOfFiles.{counted, named_alone, unknown_of_files, unknown_of_policies};
+ghost use Rattle.vet_register.specs.NamesOfFiles.{unknown_of_targets};
 ghost use Rattle.vet_register.specs.Replacing.{compared_peer, entries_of_files, tool_of_files};
 ghost use Rattle.vet_register.specs.ReplacingFound.{AreJudged, IsCompared};
 ghost use Rattle.vet_register.specs.ToolSettings.{tool_eq};
@@ -258,8 +259,10 @@ fn entries_of(files: &FilesContent, name: &Name) -> usize
 fn defined_names(alloc: Global, criteria: &[Criterion]) -> Result<DefinedNames, Refusal>
     requires { All (λ c. is_built_in c.name ≡ false) criteria.now }
     ensures told { Gives (λ d. tt) (counted (defined criteria.now)) result }
-    ensures names { IfOk result (λ d. (n : List ℕ) → set.contains d.names n ≡ map.contains_key (defined criteria.now) n) }
-    ensures table { IfOk result (λ d. (n : List ℕ) → map.contains_key d.table n ≡ map.contains_key (defined criteria.now) n) }
+    ensures names { IfOk result
+        (λ d. (n : List ℕ) → set.contains d.names n ≡ map.contains_key (defined criteria.now) n) }
+    ensures table { IfOk result
+        (λ d. (n : List ℕ) → map.contains_key d.table n ≡ map.contains_key (defined criteria.now) n) }
 {
     let names = CriteriaTable::names_with(alloc, criteria)?;
     if names.len() > MOST_CRITERIA {
@@ -288,7 +291,8 @@ fn without_implied(alloc: Global, criteria: &[Criterion]) -> Result<Vec<Criterio
 // Whether the criteria that files name are known, and the peers of the imports file stand in the config file.
 fn check_references(known: &DefinedNames, files: &FilesContent) -> Result<(), Refusal>
     requires names { (n : List ℕ) → set.contains known.now.names n ≡ map.contains_key (defined files.now.criteria) n }
-    requires table { (n : List ℕ) → map.contains_key known.now.table n ≡ map.contains_key (defined files.now.criteria) n }
+    requires table { (n : List ℕ)
+        → map.contains_key known.now.table n ≡ map.contains_key (defined files.now.criteria) n }
     ensures { Answers (files_references files.now) result }
 {
     check_known(unknown_of_files(known, files))?;
@@ -301,7 +305,8 @@ fn check_references(known: &DefinedNames, files: &FilesContent) -> Result<(), Re
 // The least name of a criterion in files that none has which they define.
 fn unknown_of_files<'f>(known: &DefinedNames, files: &'f FilesContent) -> Option<&'f Name>
     requires names { (n : List ℕ) → set.contains known.now.names n ≡ map.contains_key (defined files.now.criteria) n }
-    requires table { (n : List ℕ) → map.contains_key known.now.table n ≡ map.contains_key (defined files.now.criteria) n }
+    requires table { (n : List ℕ)
+        → map.contains_key known.now.table n ≡ map.contains_key (defined files.now.criteria) n }
     ensures { option_copied result ≡ unknown_of_files (map.contains_key (defined files.now.criteria)) files.now }
 {
     let implied = CriteriaTable::least_undefined(files.criteria(), &known.names);

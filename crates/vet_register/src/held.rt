@@ -1,7 +1,10 @@
 //! All that classes and the demand depend on, and its edits, each of which can be undone.
 ghost use Rattle.std.specs.Prelude.{◌≡◌, IfErr, IfOk, IsTrue, is_some, true};
 ghost use Rattle.vet_base.specs.Criteria.{IsTable};
-ghost use Rattle.vet_register.specs.Held.{Fits, HeldEditsFit, HeldRoomItself, HeldRoomOnward, HeldValue, HoldsRoomOf, content_of, demand_in, edited, keeps_demand, nothing_held, policy_at, project_at, room_after, room_of, with_policy, with_project, without_policy, without_project};
+ghost use Rattle.vet_register.specs.Held.{Fits, HeldEditsFit, HeldRoomItself, HeldRoomOnward, HeldValue, HoldsRoomOf};
+ghost use Rattle.vet_register.specs.Held.{content_of, demand_in, edited, keeps_demand, nothing_held, policy_at};
+ghost use Rattle.vet_register.specs.Held.{project_at, room_after, room_of, with_policy, with_project, without_policy};
+ghost use Rattle.vet_register.specs.Held.{without_project};
 
 use crate::tool_settings::ToolSettings;
 use std::alloc::Global;
@@ -172,7 +175,8 @@ impl Held {
         ensures policies { self.new.policies ≡ files.policies }
         ensures settings { self.new.settings ≡ files.settings }
         ensures projects { self.new.projects ≡ self.old.projects }
-        ensures before { result ≡ record { facts = self.old.facts; policies = self.old.policies; settings = self.old.settings } }
+        ensures before { result
+            ≡ record { facts = self.old.facts; policies = self.old.policies; settings = self.old.settings } }
     {
         FilesHeld {
             facts: std::mem::replace(&mut self.facts, files.facts),

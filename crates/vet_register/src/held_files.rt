@@ -9,7 +9,8 @@ ghost use Rattle.vet_base.specs.FurtherCriteria.{further};
 ghost use Rattle.vet_demand.specs.Policies.{IsInKeyOrder};
 ghost use Rattle.vet_entries.specs.PeerContent.{IsPeerContent};
 ghost use Rattle.vet_files.specs.SameContent.{IsAudits, IsConfig, IsImports};
-ghost use Rattle.vet_register.specs.HeldFiles.{audits_of, config_of, content_of, further_at, imported_of, imports_of, is_audit, is_exemption, settings_of, spoken, unnumbered};
+ghost use Rattle.vet_register.specs.HeldFiles.{audits_of, config_of, content_of, further_at, imported_of, imports_of};
+ghost use Rattle.vet_register.specs.HeldFiles.{is_audit, is_exemption, settings_of, spoken, unnumbered};
 
 use crate::register::Register;
 use std::alloc::{AllocError, Global};

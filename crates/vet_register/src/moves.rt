@@ -6,7 +6,7 @@ ghost use Rattle.vet_register.specs.Machine.{recorded};
 use std::alloc::Global;
 use vet_base::day::Day;
 use vet_base::refusal::Refusal;
-pub use vet_graph::moves::Move;
+use vet_graph::moves::Move;
 use vet_graph::standing::Counts;
 
 /// A move, with the step and the day of the command that made it.

@@ -6,8 +6,8 @@
 //! A command goes in two calls, so that a caller can write down in between what it changes. `prepare` does all that
 //! can fail: it judges the command (`verdict`), makes the edit that it asks for (`edits`), has the keeper plan the
 //! standing after it, and takes room for all that will be added. The state stays. `install` makes the change, takes
-//! no memory and can't fail. A change that isn't installed is let go. What is asked of the review desk goes the same two
-//! ways there (`at_desk`).
+//! no memory and can't fail. A change that isn't installed is let go. What is asked of the review desk goes the same
+//! two ways there (`at_desk`).
 //!
 //! To plan (`plan`), the register makes the edit, finds the demand, asks the keeper, and makes the edit that undoes it,
 //! whether or not there was memory. So what is held is never copied, and the edit that comes back is the one that
@@ -39,7 +39,8 @@ ghost use Rattle.vet_graph.specs.Standing.{class_in, counts_of, total_of};
 ghost use Rattle.vet_graph.specs.StandingOf.{StandsAt};
 ghost use Rattle.vet_register.specs.Changes.{demand_by, desk_edited};
 ghost use Rattle.vet_register.specs.Machine.{CommandValue, next};
-ghost use Rattle.vet_register.specs.RegisterView.{HoldsDesk, IsAnswer, IsExact, IsPrepared, KeepsPrepared, KeepsReady, KeepsRoom, answer_of};
+ghost use Rattle.vet_register.specs.RegisterView.{HoldsDesk, IsAnswer, IsExact, IsPrepared, KeepsPrepared, KeepsReady};
+ghost use Rattle.vet_register.specs.RegisterView.{KeepsRoom, answer_of};
 ghost use Rattle.vet_register.specs.Runs.{AreTurns, IsTurn};
 ghost use Rattle.vet_register.specs.Sound.{IsSound};
 ghost use Rattle.vet_register.specs.State.{demanded, standing, start};
@@ -59,7 +60,7 @@ use vet_base::name::{Name, PackageName};
 use vet_base::refusal::Refusal;
 use vet_base::version::VetVersion;
 use vet_demand::demand::Demand;
-use vet_demand::demand_of::{demand_is_least, nothing_is_demanded};
+use vet_demand::laws::{demand_is_least, nothing_is_demanded};
 use vet_demand::pair::Pair;
 use vet_demand::policies::KeyedPolicy;
 use vet_demand::project::NamedProject;
@@ -93,15 +94,16 @@ pub struct Register<K: Keeper> {
 impl<K: Keeper> Model for Register<K> {
     ghost use Rattle.std.specs.Prelude.{◌-◌, vec_len, vec_capacity};
     ghost use Rattle.vet_register.specs.Held.{content_of, room_of};
-    ghost use Rattle.vet_register.specs.RegisterView.{HasKept, RegisterView, register_code};
+    ghost use Rattle.vet_register.specs.Encodings.{register_code};
+    ghost use Rattle.vet_register.specs.RegisterView.{HasKept, RegisterView};
     ghost use Rattle.vet_register.specs.Sound.{IsSound};
-    ghost use Rattle.vet_entries.specs.Facts.{facts_room_code};
+    ghost use Rattle.vet_entries.specs.FactsEncodings.{facts_room_code};
     ghost use Rattle.vet_entries.specs.contracts.facts.HeldEntry as entry;
     ghost use Rattle.vet_entries.specs.contracts.held_peer.HeldPeer as peer;
     ghost use Rattle.vet_entries.specs.contracts.publisher_records.PackagePublishers as listed;
     ghost use Rattle.vet_demand.specs.contracts.policies.KeyedPolicy as policy;
     ghost use Rattle.vet_demand.specs.contracts.project.NamedProject as project;
-    ghost use Rattle.vet_desk.specs.DeskView.{desk_code};
+    ghost use Rattle.vet_desk.specs.Encodings.{desk_code};
     ghost use Rattle.vet_desk.specs.contracts.review.Review as review;
     ghost use Rattle.vet_graph.specs.contracts.standing.Counts as counts;
     ghost use Rattle.vet_register.specs.contracts.tool_settings.ToolSettings as settings;
@@ -109,7 +111,10 @@ impl<K: Keeper> Model for Register<K> {
 
     ghost Value = { RegisterView K };
 
-    ghost coded = { register_code K.code (facts_room_code entry.the_row.coded peer.the_row.coded listed.the_row.coded) policy.the_row.coded project.the_row.coded settings.the_row.coded (desk_code review.the_row.coded) counts.the_row.coded recorded.the_row.coded };
+    ghost coded = { register_code K.code
+        (facts_room_code entry.the_row.coded peer.the_row.coded listed.the_row.coded)
+        policy.the_row.coded project.the_row.coded settings.the_row.coded (desk_code review.the_row.coded)
+        counts.the_row.coded recorded.the_row.coded };
 
     ghost view = { λ r. record {
       state = record {

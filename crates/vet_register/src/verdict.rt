@@ -13,7 +13,10 @@ ghost use Rattle.vet_entries.specs.Numbered.{place_of};
 ghost use Rattle.vet_register.specs.declared.command.Action.TheVariants as action;
 ghost use Rattle.vet_register.specs.Importing.{IsJudgedImport};
 ghost use Rattle.vet_register.specs.Already.{has_policy, has_project, has_settings, is_held};
-ghost use Rattle.vet_register.specs.Verdict.{checked, entries_beside, entry_limit, held_peer, held_policy, held_project, import_limits, is_used, judged, kind_rules, number_limit, peer_limit, policy_limit, project_limit, publisher_limit, step_limit, window_rules};
+ghost use Rattle.vet_register.specs.Verdict.{checked, entries_beside, entry_limit, held_peer, held_policy};
+ghost use Rattle.vet_register.specs.Verdict.{held_project, import_limits, is_used, judged, kind_rules, number_limit};
+ghost use Rattle.vet_register.specs.Verdict.{peer_limit, policy_limit, project_limit, publisher_limit, step_limit};
+ghost use Rattle.vet_register.specs.Verdict.{window_rules};
 
 use crate::register::Register;
 use std::alloc::Global;

@@ -1,5 +1,5 @@
 use Rattle.vet_register.proofs.Orders.{period_asks_for_step}
-use Rattle.vet_register.proofs.told_in_order.a_period_asks_for_its_step.Goals as goal
+use Rattle.vet_register.proofs.laws.a_period_asks_for_its_step.Goals as goal
 
 pub returns : goal.returns
 returns c = period_asks_for_step

@@ -1,5 +1,5 @@
 use Rattle.vet_register.proofs.Orders.{held_before_step, number_before_criteria, reviews_before_step, step_before_number}
-use Rattle.vet_register.proofs.told_in_order.reviews_are_told_in_order.Goals as goal
+use Rattle.vet_register.proofs.laws.reviews_are_told_in_order.Goals as goal
 
 pub returns-clause-reviews : goal.returns-clause-reviews
 returns-clause-reviews c = reviews_before_step

@@ -1,0 +1,46 @@
+//! What holds of the verdicts, for callers to cite: each law is a function that does nothing.
+//!
+//! **An import is told that its content is held already just where the criteria and the entries are those held of
+//! the peer, in whatever order; so after an import the same content changes nothing. So it is with three files: they
+//! change nothing just where they say what is held, each list in whatever order.**
+//!
+//! **A review that is opened is told of too many reviews, then of the step, then of its number, and then of what it
+//! refers to; one that is finished, first of what it refers to. A period that is closed is asked for its step alone.**
+ghost use Rattle.vet_register.specs.RepeatedFiles.{HeldFilesAreAlready, RepeatedFilesAreAlready};
+ghost use Rattle.vet_register.specs.Repeats.{HeldContentIsAlready, RepeatedImportIsAlready};
+ghost use Rattle.vet_register.specs.ToldInOrder.{FinishedIsHeldBeforeStep, NumberBeforeCriteria, PeriodAsksForStep};
+ghost use Rattle.vet_register.specs.ToldInOrder.{ReviewsBeforeStep, StepBeforeNumber};
+
+/// An import from a held peer changes nothing just where its criteria and its entries are those held, in whatever
+/// order.
+pub fn held_content_is_already()
+    ensures { HeldContentIsAlready }
+{}
+
+/// After an import, an import of the same criteria and the same entries, in whatever order, changes nothing.
+pub fn repeated_import_is_already()
+    ensures { RepeatedImportIsAlready }
+{}
+
+/// Files change nothing just where they say what is held, each list in whatever order, and nothing else but projects.
+pub fn held_files_are_already()
+    ensures { HeldFilesAreAlready }
+{}
+
+/// After files were put in place, files that say the same, each list in whatever order, change nothing.
+pub fn repeated_files_are_already()
+    ensures { RepeatedFilesAreAlready }
+{}
+
+/// Faults of a review that is opened, or finished, are told in this order.
+pub fn reviews_are_told_in_order()
+    ensures reviews { ReviewsBeforeStep }
+    ensures step { StepBeforeNumber }
+    ensures number { NumberBeforeCriteria }
+    ensures finished { FinishedIsHeldBeforeStep }
+{}
+
+/// A period that is closed can meet the limit of steps alone.
+pub fn a_period_asks_for_its_step()
+    ensures { PeriodAsksForStep }
+{}
