@@ -1,6 +1,6 @@
 -- From what a run ensures of what was asked to what its words ask for.
-use Rattle.std.proofs.Common.{◌≡◌, ◌≢◌, ◌⊎◌, inl, inr, ℕ, List, Option, Some, None, Result, Ok, Err, IfOk, IfErr, refl, sym, subst, ◌∙◌}
-use Rattle.std.specs.Prelude.{option_map}
+use Rattle.std.proofs.Common.{◌≡◌, ◌≢◌, ◌⊎◌, inl, inr, ℕ, List, Option, Some, None, Result, Ok, Err, IfOk, IfErr, refl}
+use Rattle.std.proofs.Common.{sym, subst, ◌∙◌}
 use Rattle.clap.specs.Words.{kind_of}
 use Rattle.clap.specs.declared.error.Error.{Error}
 use Rattle.clap.specs.declared.error.kind.ErrorKind.TheVariants.{OutOfMemory}
@@ -10,21 +10,19 @@ use Rattle.vetd.specs.declared.asked.Asked.{Asked}
 use Rattle.vetd.specs.declared.io_fault.IoFault.{IoFault}
 use Rattle.vetd.specs.declared.io_fault.IoFault.TheVariants.{Input, Output, Endless, NoMemory}
 
--- words that ask for nothing mean nothing
-pub none_asked : {A B : Type 0} (f : A → B) (given : Option A) → given ≢ None → option_map f given ≢ None
-none_asked f None other none = absurd (other refl)
-none_asked f (Some a) other none = cc
-
 module _ (meant : Option Telling) where
   -- what was asked is what is meant, but for want of memory
   same_asked : (asked : Result Asked Error) (r : Result ℕ IoFault) → IfOk asked (λ a. meant ≡ Some (line_told a))
-      → IfErr asked (λ error. kind_of error ≢ OutOfMemory → meant ≡ None) → IfErr asked (λ error. kind_of error ≡ OutOfMemory → r ≡ Err NoMemory)
+      → IfErr asked (λ error. kind_of error ≢ OutOfMemory → meant ≡ None)
+      → IfErr asked (λ error. kind_of error ≡ OutOfMemory → r ≡ Err NoMemory)
       → r ≢ Err NoMemory → telling_of asked ≡ meant
   same_asked (Ok a) r found refused memory other = sym found
   same_asked (Err error) r found refused memory other = sym (refused (λ want. other (memory want)))
 
-  pub says_meant : (known : Option (List ℕ)) (asked : Result Asked Error) (r : Result ℕ IoFault) (out out' errors errors' : Option (List ℕ))
-      → IfOk asked (λ a. meant ≡ Some (line_told a)) → IfErr asked (λ error. kind_of error ≢ OutOfMemory → meant ≡ None)
+  pub says_meant : (known : Option (List ℕ)) (asked : Result Asked Error) (r : Result ℕ IoFault)
+      (out out' errors errors' : Option (List ℕ))
+      → IfOk asked (λ a. meant ≡ Some (line_told a))
+      → IfErr asked (λ error. kind_of error ≢ OutOfMemory → meant ≡ None)
       → IfErr asked (λ error. kind_of error ≡ OutOfMemory → r ≡ Err NoMemory)
       → IfOk r (λ status. Answers known (telling_of asked) (λ answer. Says answer status out out' errors errors'))
       → IfOk r (λ status. Answers known meant (λ answer. Says answer status out out' errors errors'))
@@ -33,28 +31,39 @@ module _ (meant : Option Telling) where
       subst (λ (m : Option Telling). Answers known m (λ answer. Says answer status out out' errors errors'))
       (same_asked asked (Ok status) found refused memory (λ bad. cc)) says
 
-  pub stops_meant : (known : Option (List ℕ)) (asked : Result Asked Error) (r : Result ℕ IoFault) (out out' errors errors' : Option (List ℕ))
-      → IfOk asked (λ a. meant ≡ Some (line_told a)) → IfErr asked (λ error. kind_of error ≢ OutOfMemory → meant ≡ None)
+  pub stops_meant : (known : Option (List ℕ)) (asked : Result Asked Error) (r : Result ℕ IoFault)
+      (out out' errors errors' : Option (List ℕ))
+      → IfOk asked (λ a. meant ≡ Some (line_told a))
+      → IfErr asked (λ error. kind_of error ≢ OutOfMemory → meant ≡ None)
       → IfErr asked (λ error. kind_of error ≡ OutOfMemory → r ≡ Err NoMemory)
-      → IfErr r (λ fault. fault ≡ Output → Answers known (telling_of asked) (λ answer. Stops answer out out' errors errors'))
+      → IfErr r (λ fault. fault ≡ Output
+      → Answers known (telling_of asked) (λ answer. Stops answer out out' errors errors'))
       → IfErr r (λ fault. fault ≡ Output → Answers known meant (λ answer. Stops answer out out' errors errors'))
   stops_meant known asked (Ok status) out out' errors errors' found refused memory stops = tt
   stops_meant known asked (Err fault) out out' errors errors' found refused memory stops = λ output.
       subst (λ (m : Option Telling). Answers known m (λ answer. Stops answer out out' errors errors'))
-      (same_asked asked (Err fault) found refused memory (λ bad. let two : Output ≡ NoMemory = cc in cc)) (stops output)
+      (same_asked asked (Err fault) found refused memory (λ bad. let two : Output ≡ NoMemory = cc in cc))
+      (stops output)
 
   -- what holds where clap told an error holds where nothing is meant
-  pub of_nothing : (P : Type 0) (asked : Result Asked Error) → IfOk asked (λ a. meant ≡ Some (line_told a)) → meant ≡ None → IfErr asked (λ _. P) → P
+  pub of_nothing : (P : Type 0) (asked : Result Asked Error) → IfOk asked (λ a. meant ≡ Some (line_told a))
+      → meant ≡ None → IfErr asked (λ _. P) → P
   of_nothing P (Ok a) found none holds = let two : Some (line_told a) ≡ None = sym found ∙ none in cc
   of_nothing P (Err error) found none holds = holds
 
   -- with no read left, what is meant is not answered
-  pub spent_meant : (asked : Result Asked Error) (r : Result ℕ IoFault) → IfErr asked (λ error. kind_of error ≢ OutOfMemory → meant ≡ None)
-      → IfErr asked (λ error. kind_of error ≡ OutOfMemory → r ≡ Err NoMemory) → IfOk asked (λ _. r ≡ Err Endless) → meant ≢ None
+  pub spent_meant : (asked : Result Asked Error) (r : Result ℕ IoFault)
+      → IfErr asked (λ error. kind_of error ≢ OutOfMemory → meant ≡ None)
+      → IfErr asked (λ error. kind_of error ≡ OutOfMemory → r ≡ Err NoMemory) → IfOk asked (λ _. r ≡ Err Endless)
+      → meant ≢ None
       → (r ≡ Err Endless) ⊎ (r ≡ Err NoMemory)
   spent_meant (Ok a) r refused memory spent other = inl spent
-  spent_meant (Err error) (Ok status) refused memory spent other = absurd (other (refused (λ want. let two = memory want in cc)))
-  spent_meant (Err error) (Err Input) refused memory spent other = absurd (other (refused (λ want. let two = memory want in cc)))
-  spent_meant (Err error) (Err Output) refused memory spent other = absurd (other (refused (λ want. let two = memory want in cc)))
-  spent_meant (Err error) (Err Endless) refused memory spent other = absurd (other (refused (λ want. let two = memory want in cc)))
+  spent_meant (Err error) (Ok status) refused memory spent other =
+      absurd (other (refused (λ want. let two = memory want in cc)))
+  spent_meant (Err error) (Err Input) refused memory spent other =
+      absurd (other (refused (λ want. let two = memory want in cc)))
+  spent_meant (Err error) (Err Output) refused memory spent other =
+      absurd (other (refused (λ want. let two = memory want in cc)))
+  spent_meant (Err error) (Err Endless) refused memory spent other =
+      absurd (other (refused (λ want. let two = memory want in cc)))
   spent_meant (Err error) (Err NoMemory) refused memory spent other = inr refl

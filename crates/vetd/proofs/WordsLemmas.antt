@@ -1,5 +1,6 @@
 -- What the words give, by clap's answer.
-use Rattle.std.proofs.Common.{◌≡◌, ◌≢◌, ◌⊎◌, inl, inr, List, [], ◌∷◌, Option, None, Result, Ok, Err, IfOk, IfErr, true, refl, ap, sym, subst, ◌∙◌}
+use Rattle.std.proofs.Common.{◌≡◌, ◌≢◌, ◌⊎◌, inl, inr, List, [], ◌∷◌, Option, None, Result, Ok, Err, IfOk, IfErr, true}
+use Rattle.std.proofs.Common.{refl, ap, sym, subst, ◌∙◌}
 use Rattle.clap.specs.Walk.{Row, Text}
 use Rattle.clap.specs.Kinds.{FailsBy, HasKind, IsAmong, Kinds}
 use Rattle.clap.specs.Faults.{fault_of, is_simple_and_free}
@@ -20,7 +21,8 @@ simple_and_free : is_simple_and_free top_app ≡ true
 unfolding clap_on_literals
 simple_and_free = refl
 
-given_ok : (name : Text) (words : List Text) → fault_of top_app words ≡ [] → given name words ≡ rows_if_named name (subcommand_of top_app words)
+given_ok : (name : Text) (words : List Text) → fault_of top_app words ≡ []
+    → given name words ≡ rows_if_named name (subcommand_of top_app words)
 unfolding given
 given_ok name words none = ap (λ (ks : Kinds). unless_fault ks (rows_if_named name (subcommand_of top_app words))) none
 
@@ -28,15 +30,19 @@ none_of : (k : ErrorKind) (ks : Kinds) (rows : Option (List Row)) → IsAmong k 
 none_of k [] rows among = absurd among
 none_of k (y ∷ ys) rows among = refl
 
-given_err : (name : Text) (words : List Text) (k : ErrorKind) → (k ≡ OutOfMemory) ⊎ IsAmong k (fault_of top_app words) → k ≢ OutOfMemory
+given_err : (name : Text) (words : List Text) (k : ErrorKind) → (k ≡ OutOfMemory) ⊎ IsAmong k (fault_of top_app words)
+    → k ≢ OutOfMemory
     → given name words ≡ None
 unfolding given
 given_err name words k (inl memory) other = absurd (other memory)
-given_err name words k (inr among) other = none_of k (fault_of top_app words) (rows_if_named name (subcommand_of top_app words)) among
+given_err name words k (inr among) other =
+    none_of k (fault_of top_app words) (rows_if_named name (subcommand_of top_app words)) among
 
 -- what clap's matches give is what the words give
-given_found : {R : Type 0} (name : Text) (app : App) (words : List Text) (subcommand : Option (Text × List Row)) → app ≡ top_app
-    → (is_simple app ≡ true → R × (subcommand ≡ subcommand_of app words)) → (is_simple_and_free app ≡ true → fault_of app words ≡ [])
+given_found : {R : Type 0} (name : Text) (app : App) (words : List Text) (subcommand : Option (Text × List Row))
+    → app ≡ top_app
+    → (is_simple app ≡ true → R × (subcommand ≡ subcommand_of app words))
+    → (is_simple_and_free app ≡ true → fault_of app words ≡ [])
     → given name words ≡ rows_if_named name subcommand
 given_found name app words subcommand app_is met none =
     let same : subcommand ≡ subcommand_of top_app words =
@@ -47,18 +53,22 @@ given_found name app words subcommand app_is met none =
 
 -- where clap refuses the words, they give nothing
 given_refused : (name : Text) (app : App) (words : List Text) (error : Error) → app ≡ top_app
-    → (is_simple_and_free app ≡ true → HasKind (fault_of app words) error) → kind_of error ≢ OutOfMemory → given name words ≡ None
+    → (is_simple_and_free app ≡ true → HasKind (fault_of app words) error) → kind_of error ≢ OutOfMemory
+    → given name words ≡ None
 given_refused name app words error app_is fails other =
     let kind : HasKind (fault_of top_app words) error =
-    subst (λ (a : App). HasKind (fault_of a words) error) app_is (fails (ap is_simple_and_free app_is ∙ simple_and_free)) in
+    subst (λ (a : App). HasKind (fault_of a words) error) app_is
+    (fails (ap is_simple_and_free app_is ∙ simple_and_free)) in
     given_err name words (kind_of error) kind other
 
 -- the same of a parse, for each subcommand
-pub all_found : (app : App) (words : List Text) (r : Result ArgMatches Error) → app ≡ top_app → IfOk r (HasMatchesOf app words)
+pub all_found : (app : App) (words : List Text) (r : Result ArgMatches Error) → app ≡ top_app
+    → IfOk r (HasMatchesOf app words)
     → (is_simple_and_free app ≡ true → FailsBy (fault_of app words) r)
     → IfOk r (λ matches. (name : Text) → given name words ≡ rows_if_named name (subcommand_rows_of matches))
 all_found app words (Err error) app_is met fails = tt
-all_found app words (Ok matches) app_is met fails = λ name. given_found name app words (subcommand_rows_of matches) app_is met fails
+all_found app words (Ok matches) app_is met fails =
+    λ name. given_found name app words (subcommand_rows_of matches) app_is met fails
 
 pub all_refused : (app : App) (words : List Text) (r : Result ArgMatches Error) → app ≡ top_app
     → (is_simple_and_free app ≡ true → FailsBy (fault_of app words) r)

@@ -1,4 +1,4 @@
--- What a run answers: what it writes, and its status.
+-- What a run answers (ours): what it writes, and its status.
 use Rattle.std.specs.Prelude.{◌≡◌, ◌≢◌, ℕ, ◌+◌, List, Option, Some, None, IfSome, take, Ok, Err}
 use Rattle.std.specs.Io.KnownBytes.{Appends, Keeps}
 use Rattle.vet_base.specs.Gives.{Told}

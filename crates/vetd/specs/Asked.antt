@@ -1,4 +1,4 @@
--- What words ask for: the line that is told of a file.
+-- What words ask for (ours): the line that is told of a file.
 use Rattle.std.specs.Prelude.{List, Option, Some, None, Result, Ok, Err, option_map}
 use Rattle.clap.specs.Walk.{Text}
 use Rattle.clap.specs.declared.error.Error.{Error}
@@ -8,6 +8,8 @@ use Rattle.vetd.specs.ReadLine.{read_told}
 use Rattle.vetd.specs.Words.{asked_of, class_given, read_given}
 use Rattle.vetd.specs.declared.asked.Asked.{Asked}
 use Rattle.vetd.specs.declared.asked.Asked.TheVariants.{Class, Read}
+use Rattle.vetd.specs.declared.asked.CommandKind.{CommandKind}
+use Rattle.vetd.specs.declared.asked.CommandKind.TheVariants.{Class as AsClass, Read as AsRead}
 
 -- what is told of a file, command by command
 abbrev pub line_told : Asked → Telling
@@ -26,3 +28,8 @@ class_asked words = option_map class_line_told (class_given words)
 -- what the words of a read command ask for
 abbrev pub read_asked : List Text → Option Telling
 read_asked words = option_map read_told (read_given words)
+
+-- what words ask for that are to be such a command
+abbrev pub asked_by : CommandKind → List Text → Option Telling
+asked_by AsClass words = class_asked words
+asked_by AsRead words = read_asked words

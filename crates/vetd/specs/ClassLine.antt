@@ -1,4 +1,4 @@
--- What `class` prints of an audits file.
+-- What `class` prints of an audits file (ours).
 use Rattle.std.specs.Prelude.{ℕ, List, ◌++◌, Ok, codes}
 use Rattle.vet_base.specs.Gives.{◌>>=◌}
 use Rattle.vet_graph.specs.Class.{class_word}

@@ -1,4 +1,4 @@
--- What is counted of a file, and the line that is printed of it.
+-- What is counted of a file, and the line that is printed of it (ours).
 use Rattle.std.specs.Prelude.{ℕ, List, ◌++◌, codes, length}
 use Rattle.std.specs.Fmt.{decimal}
 use Rattle.std.specs.List.{sum_by}
@@ -11,12 +11,23 @@ use Rattle.vet_files.specs.declared.notices.Notices.{Notices}
 use Rattle.vetd.specs.declared.counts.Counts.{Counts}
 
 abbrev pub counts_of_audits : AuditsContent → Counts
-counts_of_audits content = record { criteria = length content.criteria; entries = length content.entries; publishers = 0; policies = 0; peers = 0 }
+counts_of_audits content = record {
+  criteria = length content.criteria;
+  entries = length content.entries;
+  publishers = 0;
+  policies = 0;
+  peers = 0;
+}
 
 -- exemptions are entries
 abbrev pub counts_of_config : ConfigContent → Counts
-counts_of_config content =
-    record { criteria = 0; entries = length content.exemptions; publishers = 0; policies = length content.policies; peers = length content.peers }
+counts_of_config content = record {
+  criteria = 0;
+  entries = length content.exemptions;
+  publishers = 0;
+  policies = length content.policies;
+  peers = length content.peers;
+}
 
 -- the criteria and the entries of all peers
 abbrev pub criteria_total : List ImportedPeer → ℕ
@@ -49,4 +60,5 @@ notices_text notices = codes "keys " ++ (decimal notices.keys ++ (codes " skippe
 -- the line of a file
 abbrev pub counts_line : Counts → Notices → List ℕ
 counts_line counts notices =
-    codes "read " ++ (entries_text counts ++ (codes " " ++ (settings_text counts ++ (codes " " ++ (notices_text notices ++ codes "\n")))))
+    codes "read " ++ (entries_text counts ++ (codes " " ++ (settings_text counts
+    ++ (codes " " ++ (notices_text notices ++ codes "\n")))))

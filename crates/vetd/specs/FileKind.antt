@@ -1,4 +1,4 @@
--- The words for the kinds of files.
+-- The words for the kinds of files (ours).
 use Rattle.std.specs.Prelude.{ℕ, List, Option, Some, None, codes, if◌then◌else◌}
 use Rattle.std.specs.Str.{bytes_eq}
 use Rattle.vetd.specs.declared.file_kind.FileKind.{FileKind}
@@ -8,4 +8,5 @@ use Rattle.vetd.specs.declared.file_kind.FileKind.TheVariants.{Audits, Config, I
 abbrev pub file_kind : List ℕ → Option FileKind
 file_kind word =
     if bytes_eq word (codes "audits") then Some Audits
-    else (if bytes_eq word (codes "config") then Some Config else (if bytes_eq word (codes "imports") then Some Imports else None))
+    else (if bytes_eq word (codes "config") then Some Config
+    else (if bytes_eq word (codes "imports") then Some Imports else None))

@@ -1,4 +1,4 @@
--- What reads take, and how many are made.
+-- What reads take, and how many are made (ours).
 use Rattle.std.specs.Prelude.{ℕ, ◌≤◌, List, Option, length}
 use Rattle.std.specs.Io.KnownBytes.{Consumes}
 

@@ -1,4 +1,4 @@
--- What is printed of a fault.
+-- What is printed of a fault (ours).
 use Rattle.std.specs.Prelude.{ℕ, List, codes}
 use Rattle.vetd.specs.declared.io_fault.IoFault.{IoFault}
 use Rattle.vetd.specs.declared.io_fault.IoFault.TheVariants.{Input, Output, Endless, NoMemory}

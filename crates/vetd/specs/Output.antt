@@ -1,4 +1,4 @@
--- What a write that failed leaves.
+-- What a write that failed leaves (ours).
 use Rattle.std.specs.Prelude.{ℕ, ◌<◌, List, Option, length, take}
 use Rattle.std.specs.Io.KnownBytes.{Appends}
 

@@ -1,9 +1,7 @@
--- What `read` prints of a file.
-use Rattle.std.specs.Prelude.{Ok, Err, if◌then◌else◌, length, nat_lt}
+-- What `read` prints of a file (ours).
+use Rattle.std.specs.Prelude.{Ok}
+use Rattle.vet_base.specs.Document.{length_told}
 use Rattle.vet_base.specs.Gives.{◌>>=◌}
-use Rattle.vet_base.specs.declared.limits.TheConstants.{MOST_INPUT_BYTES}
-use Rattle.vet_base.specs.declared.refusal.Limit.TheVariants.{Input}
-use Rattle.vet_base.specs.declared.refusal.Refusal.TheVariants.{TooLarge}
 use Rattle.vet_files.specs.Audits.{audits_told}
 use Rattle.vet_files.specs.Config.{config_told}
 use Rattle.vet_files.specs.Imports.{imports_told}
@@ -20,7 +18,8 @@ abbrev pub config_line_told : Telling
 config_line_told file = config_told file >>= λ found. Ok (counts_line (counts_of_config found.content) found.notices)
 
 abbrev pub imports_line_told : Telling
-imports_line_told file = imports_told file >>= λ found. Ok (counts_line (counts_of_imports found.content) found.notices)
+imports_line_told file =
+    imports_told file >>= λ found. Ok (counts_line (counts_of_imports found.content) found.notices)
 
 abbrev pub file_line_told : FileKind → Telling
 file_line_told Audits file = audits_line_told file
@@ -29,4 +28,4 @@ file_line_told Imports file = imports_line_told file
 
 -- the line of a file that isn't too long
 abbrev pub read_told : FileKind → Telling
-read_told kind file = if nat_lt MOST_INPUT_BYTES (length file) then Err (TooLarge Input) else file_line_told kind file
+read_told kind file = length_told file >>= λ _. file_line_told kind file

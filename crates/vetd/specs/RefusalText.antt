@@ -1,9 +1,10 @@
--- What is printed of a refusal.
+-- What is printed of a refusal (ours).
 use Rattle.std.specs.Prelude.{ℕ, List, [], ◌++◌, codes}
 use Rattle.std.specs.Fmt.{decimal}
 use Rattle.vet_base.specs.Refusal.{refusal_number, refusal_name, limit_word}
 use Rattle.vet_base.specs.declared.refusal.Refusal.{Refusal}
-use Rattle.vet_base.specs.declared.refusal.Refusal.TheVariants.{UnknownCriterion, UnknownNode, TwoParties, TooLarge, CsvRefused, FieldRefused}
+use Rattle.vet_base.specs.declared.refusal.Refusal.TheVariants.{UnknownCriterion, UnknownNode, TwoParties, TooLarge}
+use Rattle.vet_base.specs.declared.refusal.Refusal.TheVariants.{CsvRefused, FieldRefused}
 
 -- the details, each after a space
 abbrev pub refusal_details : Refusal → List ℕ

@@ -1,4 +1,4 @@
--- The command line, as clap reads it.
+-- The command line (ours), as clap reads it.
 use Rattle.std.specs.Prelude.{◌≡◌, Bool, List, [], ◌∷◌, Option, Some, None, codes, if◌then◌else◌, true, false}
 use Rattle.std.specs.Prelude.{option_and_then, option_map}
 use Rattle.std.specs.Str.{bytes_eq}
@@ -40,7 +40,11 @@ read_app = with_rule (new_app (codes "read")) (word_rule (codes "KIND"))
 -- the program, whose words come without its own name, before its subcommands
 abbrev pub bare_app : App
 bare_app = record (new_app (codes "vetd")) {
-  top = record ((new_app (codes "vetd")).top) { subcommand_required = true; no_binary_name = true; has_version = true };
+  top = record ((new_app (codes "vetd")).top) {
+    subcommand_required = true;
+    no_binary_name = true;
+    has_version = true;
+  };
 }
 
 -- with its first subcommand

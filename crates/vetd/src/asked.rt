@@ -2,7 +2,7 @@
 ghost use Rattle.std.specs.Prelude.{◌≡◌, ◌≢◌, IfOk, IfErr, map, string_bytes};
 ghost use Rattle.clap.specs.Words.{kind_of};
 ghost use Rattle.vet_base.specs.Gives.{Gives};
-ghost use Rattle.vetd.specs.Asked.{class_asked, line_told, read_asked};
+ghost use Rattle.vetd.specs.Asked.{asked_by, class_asked, line_told, read_asked};
 
 use crate::class_line::class_line;
 use crate::file_kind::FileKind;
@@ -34,8 +34,31 @@ impl Asked<'_> {
     }
 }
 
+/// A command of the program, as which the words of a whole command line are taken. A further command is a row
+/// here, and a row in `asked`.
+#[derive(Clone, Copy)]
+pub enum CommandKind {
+    Class,
+    Read,
+}
+
+impl CommandKind {
+    /// What words ask for that are to be this command. Refused as `class_words` and `read_words` refuse them.
+    pub fn asked<'a, S: AsStr>(self, alloc: Global, words: &'a [S]) -> Result<Asked<'a>, Error>
+        ensures found { IfOk result (λ asked.
+            asked_by self (map S.text words.entry.now) ≡ Some (line_told asked)) }
+        ensures refused { IfErr result (λ error. kind_of error ≢ ErrorKind.OutOfMemory
+            → asked_by self (map S.text words.entry.now) ≡ None) }
+    {
+        match self {
+            CommandKind::Class => asked_class(alloc, words),
+            CommandKind::Read => asked_read(alloc, words),
+        }
+    }
+}
+
 /// What the words of a class command ask for. Refused as `class_words` refuses them.
-pub fn asked_class<'a, S: AsStr>(alloc: Global, words: &'a [S]) -> Result<Asked<'a>, Error>
+fn asked_class<'a, S: AsStr>(alloc: Global, words: &'a [S]) -> Result<Asked<'a>, Error>
     ensures found { IfOk result (λ asked.
         class_asked (map S.text words.entry.now) ≡ Some (line_told asked)) }
     ensures refused { IfErr result (λ error. kind_of error ≢ ErrorKind.OutOfMemory
@@ -45,7 +68,7 @@ pub fn asked_class<'a, S: AsStr>(alloc: Global, words: &'a [S]) -> Result<Asked<
 }
 
 /// What the words of a read command ask for. Refused as `read_words` refuses them.
-pub fn asked_read<S: AsStr>(alloc: Global, words: &[S]) -> Result<Asked<'static>, Error>
+fn asked_read<S: AsStr>(alloc: Global, words: &[S]) -> Result<Asked<'static>, Error>
     ensures found { IfOk result (λ asked. read_asked (map S.text words.now) ≡ Some (line_told asked)) }
     ensures refused { IfErr result (λ error. kind_of error ≢ ErrorKind.OutOfMemory
         → read_asked (map S.text words.now) ≡ None) }

@@ -52,9 +52,10 @@ impl Counts {
     pub fn of_imports(content: &ImportsContent) -> Result<Counts, AllocError>
         ensures { IfOk result (λ counts. counts ≡ counts_of_imports content.now) }
     {
+        let (criteria, entries) = peers_totals(content.peers.as_slice())?;
         Ok(Counts {
-            criteria: criteria_total(content.peers.as_slice())?,
-            entries: entries_total(content.peers.as_slice())?,
+            criteria,
+            entries,
             publishers: records_total(content.publishers.as_slice())?,
             policies: 0,
             peers: content.peers.len() as u64,
@@ -101,26 +102,18 @@ fn notices_text(alloc: Global, notices: Notices) -> Result<String, AllocError>
     format!(in alloc; "keys {keys} skipped {skipped} doubles {doubles}")
 }
 
-/// How many criteria all peers define.
-fn criteria_total(peers: &[ImportedPeer]) -> Result<u64, AllocError>
-    ensures { IfOk result (λ total. total ≡ criteria_total peers.now) }
+/// How many criteria all peers define, and how many entries they have.
+fn peers_totals(peers: &[ImportedPeer]) -> Result<(u64, u64), AllocError>
+    ensures criteria { IfOk result (λ totals. totals.0 ≡ criteria_total peers.now) }
+    ensures entries { IfOk result (λ totals. totals.1 ≡ entries_total peers.now) }
 {
-    let mut total = 0;
+    let mut criteria = 0;
+    let mut entries = 0;
     'peers: for peer in peers {
-        total = sum(total, peer.content.criteria().len() as u64)?;
+        criteria = sum(criteria, peer.content.criteria().len() as u64)?;
+        entries = sum(entries, peer.content.entries().len() as u64)?;
     }
-    Ok(total)
-}
-
-/// How many entries all peers have.
-fn entries_total(peers: &[ImportedPeer]) -> Result<u64, AllocError>
-    ensures { IfOk result (λ total. total ≡ entries_total peers.now) }
-{
-    let mut total = 0;
-    'peers: for peer in peers {
-        total = sum(total, peer.content.entries().len() as u64)?;
-    }
-    Ok(total)
+    Ok((criteria, entries))
 }
 
 /// How many publisher records all packages have.

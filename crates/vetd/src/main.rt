@@ -30,11 +30,13 @@ mod run;
 mod words;
 
 use crate::answer::{EXPLAINED, explain};
+use crate::asked::CommandKind;
 use crate::input::CountedReader;
 use crate::io_fault::IoFault;
-use crate::run::{class_run, read_run};
+use crate::run::command_run;
 use crate::words::{begins_read, not_text};
 use std::alloc::Global;
+use std::convert::AsStr;
 use std::io::Write;
 use std::process::ExitCode;
 use std::rt::Env;
@@ -48,6 +50,15 @@ fn words_after_name<R: Env + AllocGlobal>(rt: &R) -> io::Result<Vec<String>> {
     let mut words = env::args(rt)?;
     let _name = words.next();
     Ok(words.collect(rt.alloc())?)
+}
+
+/// The command as which words are taken, by the first of them.
+fn command_of<S: AsStr>(words: &[S]) -> CommandKind {
+    if begins_read(words) {
+        CommandKind::Read
+    } else {
+        CommandKind::Class
+    }
 }
 
 /// Tells why the words can't be had: there was no memory, or one of them is no text.
@@ -76,15 +87,9 @@ fn fault_status<R: Eprint>(rt: &R, fault: IoFault) -> u8
 fn main(rt: HostRuntime) -> ExitCode {
     let mut reader = CountedReader::new(rt.reader());
     let run = match words_after_name(&rt) {
-        Ok(words) if begins_read(words.as_slice()) => read_run(
+        Ok(words) => command_run(
             rt.alloc(),
-            words.as_slice(),
-            &mut reader,
-            &mut io::writer(&rt),
-            &mut rt.stderr(),
-        ),
-        Ok(words) => class_run(
-            rt.alloc(),
+            command_of(words.as_slice()),
             words.as_slice(),
             &mut reader,
             &mut io::writer(&rt),

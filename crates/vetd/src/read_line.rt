@@ -7,19 +7,18 @@ ghost use Rattle.vetd.specs.ReadLine.{imports_line_told, read_told};
 use crate::counts::Counts;
 use crate::file_kind::FileKind;
 use std::alloc::Global;
-use vet_base::limits::MOST_INPUT_BYTES;
-use vet_base::refusal::{Limit, Refusal};
+use vet_base::document::check_length;
+use vet_base::refusal::Refusal;
 use vet_files::audits_file::read_audits;
 use vet_files::config_file::read_config;
 use vet_files::imports_file::read_imports;
 
-/// The line of a file that isn't too long.
+/// The line of a file. Refused, the first that holds: `TooLarge` of `input` for one of more than 8,388,608
+/// bytes, and what the reader of its kind refuses.
 pub fn read_line(alloc: Global, kind: FileKind, file: &[u8]) -> Result<String, Refusal>
     ensures { Gives string_bytes (read_told kind file.now) result }
 {
-    if file.len() > MOST_INPUT_BYTES {
-        return Err(Refusal::TooLarge(Limit::Input));
-    }
+    check_length(file)?;
     file_line(alloc, kind, file)
 }
 

@@ -35,14 +35,13 @@ fn details(alloc: Global, refusal: &Refusal) -> Result<String, AllocError>
 
 /// The lines by example: a law, since not every refusal can be met in a run of this program.
 pub fn lines_by_example()
-    ensures plain { refusal_line Refusal.BadName ≡ codes "refused 1 BadName\n" }
-    ensures criterion { refusal_line (Refusal.UnknownCriterion (codes "nope"))
-        ≡ codes "refused 6 UnknownCriterion nope\n" }
-    ensures node { refusal_line (Refusal.UnknownNode 12) ≡ codes "refused 16 UnknownNode 12\n" }
-    ensures parties { refusal_line (Refusal.TwoParties 3) ≡ codes "refused 17 TwoParties 3\n" }
-    ensures large { refusal_line (Refusal.TooLarge Limit.Input) ≡ codes "refused 18 TooLarge input\n" }
-    ensures table { refusal_line (Refusal.CsvRefused 4) ≡ codes "refused 27 CsvRefused 4\n" }
-    ensures field { refusal_line (Refusal.FieldRefused (codes "audits.serde[0]") (codes "version"))
-        ≡ codes "refused 28 FieldRefused audits.serde[0] version\n" }
-    ensures memory { refusal_line Refusal.NoMemory ≡ codes "refused 29 NoMemory\n" }
+    ensures { (refusal_line Refusal.BadName ≡ codes "refused 1 BadName\n")
+        × (refusal_line (Refusal.UnknownCriterion (codes "nope")) ≡ codes "refused 6 UnknownCriterion nope\n")
+        × (refusal_line (Refusal.UnknownNode 12) ≡ codes "refused 16 UnknownNode 12\n")
+        × (refusal_line (Refusal.TwoParties 3) ≡ codes "refused 17 TwoParties 3\n")
+        × (refusal_line (Refusal.TooLarge Limit.Input) ≡ codes "refused 18 TooLarge input\n")
+        × (refusal_line (Refusal.CsvRefused 4) ≡ codes "refused 27 CsvRefused 4\n")
+        × (refusal_line (Refusal.FieldRefused (codes "audits.serde[0]") (codes "version"))
+        ≡ codes "refused 28 FieldRefused audits.serde[0] version\n")
+        × (refusal_line Refusal.NoMemory ≡ codes "refused 29 NoMemory\n") }
 {}

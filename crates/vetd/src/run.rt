@@ -4,12 +4,11 @@ ghost use Rattle.std.specs.Io.KnownBytes.{Keeps};
 ghost use Rattle.clap.specs.Words.{kind_of};
 ghost use Rattle.vet_base.specs.declared.limits.TheConstants.{MOST_READS};
 ghost use Rattle.vetd.specs.Answer.{Answers, Says, Stops};
-ghost use Rattle.vetd.specs.Asked.{class_asked, read_asked, telling_of};
+ghost use Rattle.vetd.specs.Asked.{asked_by, telling_of};
 ghost use Rattle.vetd.specs.Input.{TakesAtMost};
-ghost use Rattle.vetd.specs.Words.{class_given, read_given};
 
 use crate::answer::{explain, report};
-use crate::asked::{Asked, asked_class, asked_read};
+use crate::asked::{Asked, CommandKind};
 use crate::input::CountedReader;
 use crate::io_fault::IoFault;
 use clap::Error;
@@ -19,86 +18,46 @@ use std::convert::AsStr;
 use std::io::{Read, Write};
 use vet_base::limits::MOST_INPUT_BYTES;
 
-/// Answers the words of a class command, which come without the program's own name, by the audits file that
-/// the reader gives: the class's word goes to `writer`, and a refusal or clap's text to `errors`. What clap's
-/// text says is left open. At most 8,388,609 bytes are read, by at most 10,000,000 reads.
-///
-/// **A status comes with the whole answer to the words and the input.** Refused: `Input`, `Endless` and
-/// `NoMemory`, where nothing was written, and `Output`, where the front of the answer was.
-pub fn class_run<S: AsStr, R: Read, W: Write, E: Write>(
-    alloc: Global,
-    words: &[S],
-    reader: &mut CountedReader<R>,
-    writer: &mut W,
-    errors: &mut E,
-) -> Result<u8, IoFault>
-    ensures says { IfOk result (λ status. Answers (R.remaining reader.old.source) (class_asked (map S.text words.now))
-        (λ answer. Says answer status (W.contents writer.old) (W.contents writer.new)
-        (E.contents errors.old) (E.contents errors.new))) }
-    ensures part { IfErr result (λ fault. fault ≡ IoFault.Output
-        → Answers (R.remaining reader.old.source) (class_asked (map S.text words.now))
-        (λ answer. Stops answer (W.contents writer.old) (W.contents writer.new)
-        (E.contents errors.old) (E.contents errors.new))) }
-    ensures silent { IfErr result (λ fault. fault ≢ IoFault.Output
-        → Keeps (W.contents writer.old) (W.contents writer.new)
-        × Keeps (E.contents errors.old) (E.contents errors.new)) }
-
-    // No more is read, and nothing where clap refuses the words.
-    ensures bounded { TakesAtMost (MOST_INPUT_BYTES + 1)
-        (R.remaining reader.old.source) (R.remaining reader.new.source) }
-    ensures unread { class_given (map S.text words.now) ≡ None → reader.new ≡ reader.old }
-    ensures unfailing { class_given (map S.text words.now) ≡ None
-        → IfErr result (λ fault. (fault ≢ IoFault.Input) × (fault ≢ IoFault.Endless)) }
-
-    // `Endless` comes when the reads are spent, and where they are, a class is not answered.
-    ensures endless { result ≡ Err IoFault.Endless → reader.new.made ≡ MOST_READS }
-    ensures spent { reader.old.made ≡ MOST_READS → class_given (map S.text words.now) ≢ None
-        → (result ≡ Err IoFault.Endless) ⊎ (result ≡ Err IoFault.NoMemory) }
-{
-    let asked = asked_class(alloc, words);
-    run(alloc, asked, reader, writer, errors)
-}
-
-/// Answers the words of a read command, which come without the program's own name, by the file of their kind
-/// that the reader gives: the line of what it holds goes to `writer`, and a refusal or clap's text to
-/// `errors`. What clap's text says is left open. At most 8,388,609 bytes are read, by at most 10,000,000
-/// reads.
+/// Answers the words of a command, which come without the program's own name, by the file that the reader
+/// gives: what is told of it goes to `writer`, and a refusal or clap's text to `errors`. What clap's text says
+/// is left open. At most 8,388,609 bytes are read, by at most 10,000,000 reads.
 ///
 /// **A status comes with the whole answer to the words and the input.** Told, the first that holds: clap's
-/// text of words that are no `read` command, `TooLarge` of `input` for a file of more than 8,388,608 bytes,
-/// and what the reader of the kind refuses. Refused: `Input`, `Endless` and `NoMemory`, where nothing was
-/// written, and `Output`, where the front of the answer was.
-pub fn read_run<S: AsStr, R: Read, W: Write, E: Write>(
+/// text of words that are no such command, and the command's own refusals. Refused: `Input`, `Endless` and
+/// `NoMemory`, where nothing was written, and `Output`, where the front of the answer was.
+pub fn command_run<S: AsStr, R: Read, W: Write, E: Write>(
     alloc: Global,
+    command: CommandKind,
     words: &[S],
     reader: &mut CountedReader<R>,
     writer: &mut W,
     errors: &mut E,
 ) -> Result<u8, IoFault>
-    ensures says { IfOk result (λ status. Answers (R.remaining reader.old.source) (read_asked (map S.text words.now))
+    ensures says { IfOk result (λ status. Answers (R.remaining reader.old.source)
+        (asked_by command (map S.text words.now))
         (λ answer. Says answer status (W.contents writer.old) (W.contents writer.new)
         (E.contents errors.old) (E.contents errors.new))) }
     ensures part { IfErr result (λ fault. fault ≡ IoFault.Output
-        → Answers (R.remaining reader.old.source) (read_asked (map S.text words.now))
+        → Answers (R.remaining reader.old.source) (asked_by command (map S.text words.now))
         (λ answer. Stops answer (W.contents writer.old) (W.contents writer.new)
         (E.contents errors.old) (E.contents errors.new))) }
     ensures silent { IfErr result (λ fault. fault ≢ IoFault.Output
         → Keeps (W.contents writer.old) (W.contents writer.new)
         × Keeps (E.contents errors.old) (E.contents errors.new)) }
 
-    // No more is read, and nothing where clap refuses the words.
+    // No more is read, and nothing where the words are no such command.
     ensures bounded { TakesAtMost (MOST_INPUT_BYTES + 1)
         (R.remaining reader.old.source) (R.remaining reader.new.source) }
-    ensures unread { read_given (map S.text words.now) ≡ None → reader.new ≡ reader.old }
-    ensures unfailing { read_given (map S.text words.now) ≡ None
+    ensures unread { asked_by command (map S.text words.now) ≡ None → reader.new ≡ reader.old }
+    ensures unfailing { asked_by command (map S.text words.now) ≡ None
         → IfErr result (λ fault. (fault ≢ IoFault.Input) × (fault ≢ IoFault.Endless)) }
 
-    // `Endless` comes when the reads are spent, and where they are, a file is not told of.
+    // `Endless` comes when the reads are spent, and where they are, nothing is told of a file.
     ensures endless { result ≡ Err IoFault.Endless → reader.new.made ≡ MOST_READS }
-    ensures spent { reader.old.made ≡ MOST_READS → read_given (map S.text words.now) ≢ None
+    ensures spent { reader.old.made ≡ MOST_READS → asked_by command (map S.text words.now) ≢ None
         → (result ≡ Err IoFault.Endless) ⊎ (result ≡ Err IoFault.NoMemory) }
 {
-    let asked = asked_read(alloc, words);
+    let asked = command.asked(alloc, words);
     run(alloc, asked, reader, writer, errors)
 }
 

@@ -1,3 +1,4 @@
+-- What was written before a write failed.
 use Rattle.std.proofs.Common.{rules}
 use Rattle.std.proofs.lemmas.List.{take_rest}
 use Rattle.std.proofs.KnownBytes.{Appends-trans}

@@ -1,3 +1,4 @@
+-- The read command is the app of its word.
 use Rattle.clap.specs.Words.{new_app}
 use Rattle.std.proofs.Common.{codes, rules}
 use Rattle.vetd.specs.Words.{IsApp}
@@ -5,5 +6,6 @@ use Rattle.vetd.proofs.words.read_command.Goals as goal
 
 pub returns : goal.returns
 returns c =
-    let bare : IsApp (new_app (codes "read")) c.after_help-command.result = record { is = search rules; own = search rules } in
+    let bare : IsApp (new_app (codes "read")) c.after_help-command.result =
+    record { is = search rules; own = search rules } in
     c.add.ensures _ _ bare c.word.ensures

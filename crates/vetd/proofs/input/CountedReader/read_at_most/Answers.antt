@@ -1,3 +1,4 @@
+-- What was read so far, and what is read with one read more.
 use Rattle.std.proofs.Common.{◌≤◌, ◌++◌, List, ℕ, length, take, arith}
 use Rattle.std.proofs.lemmas.Grind.{common_steps}
 use Rattle.std.proofs.KnownBytes.{Consumes-trans}
