@@ -15,7 +15,7 @@ GIVES_UP = {
     "io": "std::io::Error::from(std::io::ErrorKind::OutOfMemory)",
 }
 # not of the product
-PASSED_OVER = ("trials", "toml_only", "import_times", "demand_times")
+PASSED_OVER = ("trials", "toml_only", "times")
 # a planted program is slow, so that these are reached sooner in it
 LIMITS = {"MOST_ENTRIES": 1_000, "MOST_PUBLISHERS": 1_000, "MOST_POLICIES": 100}
 LOWEST = "vet_base"

@@ -10,12 +10,12 @@
 //!   logins and names.
 //!
 //! Those of policies and projects stand in `demands`, those of the desk in `reviews`, those of peers in `peers`, and
-//! that of files in `replaced`.
+//! that of files in `replaced`. What has one text behind its word is read in `one_text`.
 ghost use Rattle.std.specs.Prelude.{◌≡◌, OnErr};
 
 use crate::demands::demand_action;
 use crate::fault::Fault;
-use crate::line::{one, words_of};
+use crate::line::words_of;
 use std::alloc::Global;
 use vet_base::criterion::Criterion;
 use vet_base::day::Day;
@@ -70,7 +70,11 @@ fn apply<K: Keeper>(
 /// The command of a line. Refused: what the line's texts are refused for, and `NoMemory`.
 pub fn command(alloc: Global, line: &str) -> Result<Command, Fault> {
     let words = words_of(alloc, line)?;
-    let [day, word, texts @ ..] = words.as_slice() else {
+    command_of(alloc, words.as_slice())
+}
+
+fn command_of(alloc: Global, words: &[String]) -> Result<Command, Fault> {
+    let [day, word, texts @ ..] = words else {
         return Err(Fault::NotUnderstood);
     };
     Ok(Command {
@@ -82,9 +86,7 @@ pub fn command(alloc: Global, line: &str) -> Result<Command, Fault> {
 fn action(alloc: Global, word: &str, texts: &[String]) -> Result<Action, Fault> {
     match word {
         "set-criterion" => set_criterion(alloc, texts),
-        "remove-criterion" => remove_criterion(alloc, texts),
         "add-entry" => add_entry(alloc, texts),
-        "drop-entry" => drop_entry(texts),
         "set-publishers" => set_publishers(alloc, texts),
         _ => demand_action(alloc, word, texts),
     }
@@ -102,23 +104,22 @@ fn set_criterion(alloc: Global, texts: &[String]) -> Result<Action, Fault> {
     }))
 }
 
-fn remove_criterion(alloc: Global, texts: &[String]) -> Result<Action, Fault> {
-    Ok(Action::RemoveCriterion(Name::parse(alloc, one(texts)?)?))
-}
-
-fn drop_entry(texts: &[String]) -> Result<Action, Fault> {
-    match one(texts)?.parse::<u64>() {
-        Ok(number) => Ok(Action::DropEntry(number)),
-        Err(_) => Err(Fault::NotUnderstood),
-    }
-}
-
 fn add_entry(alloc: Global, texts: &[String]) -> Result<Action, Fault> {
     let [word, package, parts @ ..] = texts else {
         return Err(Fault::NotUnderstood);
     };
     let package = PackageName::parse(alloc, package.as_str())?;
     let (kind, criteria) = kind(alloc, word.as_str(), parts)?;
+    add_own_entry(alloc, package, kind, criteria)
+}
+
+/// Adds an own entry for the criteria that some texts name, without notes. Refused: `BadName`, and `NoMemory`.
+pub fn add_own_entry(
+    alloc: Global,
+    package: PackageName,
+    kind: Kind,
+    criteria: &[String],
+) -> Result<Action, Fault> {
     Ok(Action::AddEntry(Entry {
         source: Source::Own,
         package,
@@ -209,11 +210,15 @@ fn set_publishers(alloc: Global, texts: &[String]) -> Result<Action, Fault> {
         return Err(Fault::NotUnderstood);
     };
     let package = PackageName::parse(alloc, package.as_str())?;
+    Ok(Action::SetPublishers(package, publishers(alloc, records)?))
+}
+
+fn publishers(alloc: Global, records: &[String]) -> Result<Publishers, Fault> {
     let mut publishers = Vec::new(alloc);
     for text in records {
         publishers.push(publisher(alloc, text.as_str())?)?;
     }
-    Ok(Action::SetPublishers(package, Publishers::of(alloc, publishers)?))
+    Ok(Publishers::of(alloc, publishers)?)
 }
 
 // The record that a text `VERSION,USER,DAY` is.
@@ -245,7 +250,7 @@ fn version(alloc: Global, texts: &[String]) -> Result<(VetVersion, &[String]), F
 pub fn names(alloc: Global, texts: &[String]) -> Result<Names, Refusal> {
     let mut names = Names::new(alloc);
     for text in texts {
-        names.insert(Name::parse(alloc, text.as_str())?)?;
+        add_name(alloc, &mut names, text.as_str())?;
     }
     Ok(names)
 }
@@ -256,8 +261,13 @@ pub fn names_between_commas(alloc: Global, list: &str) -> Result<Names, Refusal>
     let mut names = Names::new(alloc);
     for name in list.split(',') {
         if !name.is_empty() {
-            names.insert(Name::parse(alloc, name)?)?;
+            add_name(alloc, &mut names, name)?;
         }
     }
     Ok(names)
+}
+
+fn add_name(alloc: Global, names: &mut Names, text: &str) -> Result<(), Refusal> {
+    let name = Name::parse(alloc, text)?;
+    Ok(names.insert(name)?)
 }

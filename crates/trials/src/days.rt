@@ -1,18 +1,13 @@
 //! Lines that ask for values of days.
 //!
-//! `day TEXT` tells the day as it is printed, `day-number DAY` its number, and `day-order DAY DAY`
-//! how two compare; `day-of-parts YEAR MONTH DAY` and `plus DAY N` tell a day, or `none`.
+//! `day-number DAY` tells the number of a day, and `day-order DAY DAY` how two compare. `day-of-parts YEAR MONTH DAY`
+//! and `plus DAY N` tell a day, or `none`.
 
 use crate::fault::Fault;
-use crate::line::{one, two};
+use crate::line::two;
 use crate::versions::order_word;
 use std::alloc::Global;
 use vet_base::day::Day;
-
-/// The day that a text is.
-pub fn day(alloc: Global, texts: &[String]) -> Result<String, Fault> {
-    Ok(Day::parse(one(texts)?)?.to_string(alloc)?)
-}
 
 /// How two days compare.
 pub fn day_order(alloc: Global, texts: &[String]) -> Result<String, Fault> {
@@ -24,8 +19,8 @@ pub fn day_order(alloc: Global, texts: &[String]) -> Result<String, Fault> {
 }
 
 /// The number of a day.
-pub fn day_number(alloc: Global, texts: &[String]) -> Result<String, Fault> {
-    Ok(Day::parse(one(texts)?)?.number().to_string(alloc)?)
+pub fn day_number(alloc: Global, text: &str) -> Result<String, Fault> {
+    Ok(Day::parse(text)?.number().to_string(alloc)?)
 }
 
 /// The day of a year, a month and a day of the month.

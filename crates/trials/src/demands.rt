@@ -4,30 +4,17 @@
 //! - `DAY load-project` with the words of a project loads it, and `DAY drop-project NAME` drops it.
 
 use crate::fault::Fault;
-use crate::line::one;
 use crate::policies::keyed_policy;
 use crate::projects::named_project;
 use crate::reviews::desk_action;
 use std::alloc::Global;
-use vet_base::name::PackageName;
-use vet_demand::policy_key::PolicyKey;
 use vet_register::command::Action;
 
 /// What a line of this word asks for. Refused: what its texts are refused for, and `NoMemory`.
 pub fn demand_action(alloc: Global, word: &str, texts: &[String]) -> Result<Action, Fault> {
     match word {
         "set-policy" => Ok(Action::SetPolicy(keyed_policy(alloc, texts)?)),
-        "drop-policy" => drop_policy(alloc, texts),
         "load-project" => Ok(Action::LoadProject(named_project(alloc, texts)?)),
-        "drop-project" => drop_project(alloc, texts),
         _ => desk_action(alloc, word, texts),
     }
-}
-
-fn drop_policy(alloc: Global, texts: &[String]) -> Result<Action, Fault> {
-    Ok(Action::DropPolicy(PolicyKey::parse(alloc, one(texts)?)?))
-}
-
-fn drop_project(alloc: Global, texts: &[String]) -> Result<Action, Fault> {
-    Ok(Action::DropProject(PackageName::parse(alloc, one(texts)?)?))
 }

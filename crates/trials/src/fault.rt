@@ -4,12 +4,20 @@ use std::alloc::{AllocError, AllocFailed};
 use vet_base::refusal::Refusal;
 
 /// Why a line has no answer of its own.
-#[derive(Drop)]
 pub enum Fault {
     /// What it asks for is refused.
     Refused(Refusal),
     /// It is no line of the language.
     NotUnderstood,
+}
+
+impl Drop for Fault {
+    fn drop(self) {
+        match self {
+            Fault::Refused(_) => {}
+            Fault::NotUnderstood => {}
+        }
+    }
 }
 
 impl From<Refusal> for Fault {

@@ -4,13 +4,14 @@
 //! and then of each edge, with the names and versions between which it leads, and its kind.
 
 use crate::held::{print_flag, print_optional_text};
+use crate::projects::{kind_word, party_word};
 use std::io;
 use vet_base::name::Name;
 use vet_base::names::Names;
 use vet_demand::dependency_criteria::DependencyItem;
 use vet_demand::policies::KeyedPolicy;
 use vet_demand::policy::Policy;
-use vet_demand::project::{Edge, EdgeKind, NamedProject, Node, Party, Project};
+use vet_demand::project::{Edge, EdgeKind, NamedProject, Node, Project};
 
 /// Prints some policies.
 pub fn print_policies(rt: &impl Print, policies: &[KeyedPolicy]) -> io::Result<()> {
@@ -92,20 +93,4 @@ fn print_edge(rt: &impl Print, from: &Node, to: &Node, kind: EdgeKind) -> io::Re
         "edge {} {} {} {} {kind}",
         from.package, from.version, to.package, to.version
     )
-}
-
-fn party_word(party: Party) -> &'static str {
-    match party {
-        Party::Root => "root",
-        Party::First => "first",
-        Party::Third => "third",
-    }
-}
-
-fn kind_word(kind: EdgeKind) -> &'static str {
-    match kind {
-        EdgeKind::Normal => "normal",
-        EdgeKind::Build => "build",
-        EdgeKind::Dev => "dev",
-    }
 }

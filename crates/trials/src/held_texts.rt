@@ -7,6 +7,7 @@ use crate::fault::Fault;
 use crate::line::word_of;
 use crate::values::value;
 use std::alloc::Global;
+use vet_base::refusal::Refusal;
 use vet_files::audits_file::write_audits;
 use vet_files::config_file::write_config;
 use vet_files::imports_file::write_imports;
@@ -30,18 +31,23 @@ pub fn line_told<K: Keeper>(
 
 fn audits_file<K: Keeper>(alloc: Global, register: &Register<K>) -> Result<String, Fault> {
     let held = register.held_audits(alloc)?;
-    let text = write_audits(alloc, &held)?;
-    word_of(alloc, text.as_str())
+    word_written(alloc, write_audits(alloc, &held))
 }
 
 fn config_file<K: Keeper>(alloc: Global, register: &Register<K>) -> Result<String, Fault> {
     let held = register.held_config(alloc)?;
-    let text = write_config(alloc, &held)?;
-    word_of(alloc, text.as_str())
+    word_written(alloc, write_config(alloc, &held))
 }
 
 fn imports_file<K: Keeper>(alloc: Global, register: &Register<K>) -> Result<String, Fault> {
     let held = register.held_imports(alloc)?;
-    let text = write_imports(alloc, held.settings.as_slice(), &held.content)?;
-    word_of(alloc, text.as_str())
+    word_written(
+        alloc,
+        write_imports(alloc, held.settings.as_slice(), &held.content),
+    )
+}
+
+// The word that writes a text.
+fn word_written(alloc: Global, text: Result<String, Refusal>) -> Result<String, Fault> {
+    word_of(alloc, text?.as_str())
 }

@@ -36,13 +36,7 @@ pub fn bytes_of(alloc: Global, word: &str) -> Result<Vec<u8>, Fault> {
     if word == "%" {
         return Ok(bytes);
     }
-    let mut parts = word.split('%');
-    if let Some(first) = parts.next() {
-        bytes.extend_from_slice(first.as_bytes())?;
-    }
-    for part in parts {
-        push_escaped(&mut bytes, part.as_bytes())?;
-    }
+    push_parts(&mut bytes, word)?;
     Ok(bytes)
 }
 
@@ -98,6 +92,18 @@ fn text_of(alloc: Global, word: &str) -> Result<String, Fault> {
         Ok(text) => Ok(text),
         Err(_) => Err(Fault::NotUnderstood),
     }
+}
+
+// Adds the bytes that a word's parts write.
+fn push_parts(bytes: &mut Vec<u8>, word: &str) -> Result<(), Fault> {
+    let mut parts = word.split('%');
+    if let Some(first) = parts.next() {
+        bytes.extend_from_slice(first.as_bytes())?;
+    }
+    for part in parts {
+        push_escaped(bytes, part.as_bytes())?;
+    }
+    Ok(())
 }
 
 // Adds the byte that the first two bytes write, and the bytes after them.

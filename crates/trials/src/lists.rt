@@ -9,6 +9,7 @@ ghost use Rattle.vet_base.specs.Keyed.{Fits};
 
 use crate::fault::Fault;
 use std::alloc::Global;
+use std::fmt::Display;
 use vet_base::keyed::{HasKey, Keyed, KeyedEdit};
 use vet_base::name::{Name, PackageName};
 use vet_base::names::Names;
@@ -23,13 +24,13 @@ pub fn names_of(alloc: Global, texts: &[String]) -> Result<String, Fault> {
     for text in texts {
         names.push(Name::parse(alloc, text.as_str())?)?;
     }
-    told_names(alloc, Names::of(alloc, names)?.as_slice())
+    in_brackets(alloc, Names::of(alloc, names)?.as_slice())
 }
 
 /// The set of some packages' names. Refused: `BadName`, and `NoMemory`.
 pub fn packages_of(alloc: Global, texts: &[String]) -> Result<String, Fault> {
     let names = packages(alloc, texts)?;
-    told_packages(alloc, PackageNames::of(alloc, names)?.as_slice())
+    in_brackets(alloc, PackageNames::of(alloc, names)?.as_slice())
 }
 
 /// The set of some texts. Refused: `TooLarge`, and `NoMemory`.
@@ -38,11 +39,7 @@ pub fn texts_of(alloc: Global, texts: &[String]) -> Result<String, Fault> {
     for text in texts {
         items.push(Text::parse(alloc, text.as_str())?)?;
     }
-    let mut told = String::new(alloc);
-    for text in Texts::of(alloc, items)?.as_slice() {
-        push(&mut told, text.as_str())?;
-    }
-    Ok(told)
+    in_brackets(alloc, Texts::of(alloc, items)?.as_slice())
 }
 
 /// What edits leave of a list of names. Refused: `BadName`, and `NoMemory`.
@@ -51,7 +48,7 @@ pub fn edited(alloc: Global, texts: &[String]) -> Result<String, Fault> {
     for text in texts {
         edit(alloc, &mut names, text.as_str())?;
     }
-    told_names(alloc, names.items())
+    in_brackets(alloc, names.items())
 }
 
 /// The packages of a copy of those touched. Refused: `BadName`, and `NoMemory`.
@@ -60,7 +57,7 @@ pub fn touched(alloc: Global, texts: &[String]) -> Result<String, Fault> {
     let touched = Touched::Packages(PackageNames::of(alloc, names)?);
     match &touched.clone()? {
         Touched::All => Err(Fault::NotUnderstood),
-        Touched::Packages(names) => told_packages(alloc, names.as_slice()),
+        Touched::Packages(names) => in_brackets(alloc, names.as_slice()),
     }
 }
 
@@ -100,23 +97,22 @@ fn make_twice<T: HasKey>(items: &mut Keyed<T>, edit: KeyedEdit<T>)
     let _ = items.apply(again);
 }
 
-fn told_names(alloc: Global, names: &[Name]) -> Result<String, Fault> {
+// Some values as they are printed, each in brackets.
+fn in_brackets<T: Display + Drop>(alloc: Global, items: &[T]) -> Result<String, Fault> {
     let mut told = String::new(alloc);
-    for name in names {
-        push(&mut told, name.as_str())?;
+    for item in items {
+        push_printed(alloc, &mut told, item)?;
     }
     Ok(told)
 }
 
-fn told_packages(alloc: Global, names: &[PackageName]) -> Result<String, Fault> {
-    let mut told = String::new(alloc);
-    for name in names {
-        push(&mut told, name.as_str())?;
-    }
-    Ok(told)
+fn push_printed<T: Display>(alloc: Global, told: &mut String, item: &T) -> Result<(), Fault> {
+    let text = item.to_string(alloc)?;
+    push_in_brackets(told, text.as_str())
 }
 
-fn push(told: &mut String, text: &str) -> Result<(), Fault> {
+/// Adds a text in brackets. Refused: `NoMemory`.
+pub fn push_in_brackets(told: &mut String, text: &str) -> Result<(), Fault> {
     told.push_str("[")?;
     told.push_str(text)?;
     told.push_str("]")?;

@@ -27,6 +27,7 @@ mod input;
 mod known;
 mod line;
 mod lists;
+mod one_text;
 mod peers;
 mod policies;
 mod print;
@@ -45,10 +46,10 @@ mod words;
 mod workspace;
 mod written;
 
+use fault::Fault;
 use input::{Input, read_input};
-use print::print_refusal;
 use relay::RelayKeeper;
-use run::{Contents, Ending, run};
+use run::{Contents, Ending, refused, run};
 use std::io;
 use std::process::ExitCode;
 use together::run_together;
@@ -116,6 +117,5 @@ fn run_input<K: Keeper>(rt: &HostRuntime, contents: Contents) -> io::Result<Endi
 }
 
 fn ended_for_memory(rt: &impl Print) -> io::Result<Ending> {
-    print_refusal(rt, &Refusal::NoMemory)?;
-    Ok(Ending::Refused)
+    refused(rt, &Fault::Refused(Refusal::NoMemory))
 }

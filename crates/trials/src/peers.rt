@@ -9,6 +9,7 @@
 use crate::commands::names_between_commas;
 use crate::fault::Fault;
 use crate::line::{one, two};
+use crate::one_text::one_text_action;
 use crate::replaced::replace_files;
 use std::alloc::Global;
 use vet_base::name::{Name, PackageName};
@@ -28,10 +29,9 @@ const NONE: &str = "-";
 pub fn peer_action(alloc: Global, word: &str, texts: &[String]) -> Result<Action, Fault> {
     match word {
         "set-peer" => set_peer(alloc, texts),
-        "drop-peer" => drop_peer(alloc, texts),
         "import-peer" => import_peer(alloc, texts),
         "replace-files" => replace_files(alloc, texts),
-        _ => Err(Fault::NotUnderstood),
+        _ => one_text_action(alloc, word, one(texts)?),
     }
 }
 
@@ -39,16 +39,16 @@ fn set_peer(alloc: Global, texts: &[String]) -> Result<Action, Fault> {
     let [name, urls, excluded, map] = texts else {
         return Err(Fault::NotUnderstood);
     };
-    Ok(Action::SetPeer(PeerSettings {
+    let mut settings = PeerSettings {
         name: Name::parse(alloc, name.as_str())?,
-        url: texts_between_commas(alloc, urls.as_str())?,
-        exclude: packages_between_commas(alloc, excluded.as_str())?,
-        map: criteria_map(alloc, map.as_str())?,
-    }))
-}
-
-fn drop_peer(alloc: Global, texts: &[String]) -> Result<Action, Fault> {
-    Ok(Action::DropPeer(Name::parse(alloc, one(texts)?)?))
+        url: Texts::new(alloc),
+        exclude: PackageNames::new(alloc),
+        map: CriteriaMap::new(alloc),
+    };
+    add_texts(alloc, &mut settings.url, urls.as_str())?;
+    add_packages(alloc, &mut settings.exclude, excluded.as_str())?;
+    add_mapped(alloc, &mut settings.map, map.as_str())?;
+    Ok(Action::SetPeer(settings))
 }
 
 fn import_peer(alloc: Global, texts: &[String]) -> Result<Action, Fault> {
@@ -58,39 +58,43 @@ fn import_peer(alloc: Global, texts: &[String]) -> Result<Action, Fault> {
     Ok(Action::ImportPeer(name, found.content))
 }
 
-fn texts_between_commas(alloc: Global, list: &str) -> Result<Texts, Refusal> {
-    let mut texts = Texts::new(alloc);
+// Adds the texts that stand in a list with commas between them.
+fn add_texts(alloc: Global, texts: &mut Texts, list: &str) -> Result<(), Refusal> {
     if list == NONE {
-        return Ok(texts);
+        return Ok(());
     }
     for text in list.split(',') {
         texts.insert(Text::parse(alloc, text)?)?;
     }
-    Ok(texts)
+    Ok(())
 }
 
-fn packages_between_commas(alloc: Global, list: &str) -> Result<PackageNames, Refusal> {
-    let mut names = PackageNames::new(alloc);
+// Adds the packages that stand in a list with commas between them.
+fn add_packages(alloc: Global, names: &mut PackageNames, list: &str) -> Result<(), Refusal> {
     if list == NONE {
-        return Ok(names);
+        return Ok(());
     }
     for name in list.split(',') {
         names.insert(PackageName::parse(alloc, name)?)?;
     }
-    Ok(names)
+    Ok(())
 }
 
-fn criteria_map(alloc: Global, list: &str) -> Result<CriteriaMap, Fault> {
-    let mut map = CriteriaMap::new(alloc);
+// Adds what stands in a list with semicolons between its items.
+fn add_mapped(alloc: Global, map: &mut CriteriaMap, list: &str) -> Result<(), Fault> {
     if list == NONE {
-        return Ok(map);
+        return Ok(());
     }
     for item in list.split(';') {
-        let Some((name, criteria)) = item.split_once('=') else {
-            return Err(Fault::NotUnderstood);
-        };
-        let name = Name::parse(alloc, name)?;
-        map.insert(name, names_between_commas(alloc, criteria)?)?;
+        add_item(alloc, map, item)?;
     }
-    Ok(map)
+    Ok(())
+}
+
+fn add_item(alloc: Global, map: &mut CriteriaMap, item: &str) -> Result<(), Fault> {
+    let Some((name, criteria)) = item.split_once('=') else {
+        return Err(Fault::NotUnderstood);
+    };
+    let name = Name::parse(alloc, name)?;
+    Ok(map.insert(name, names_between_commas(alloc, criteria)?)?)
 }

@@ -9,6 +9,7 @@ use crate::commands::names_between_commas;
 use crate::fault::Fault;
 use std::alloc::Global;
 use vet_base::name::PackageName;
+use vet_base::refusal::Refusal;
 use vet_base::text::Text;
 use vet_demand::dependency_criteria::DependencyCriteria;
 use vet_demand::policies::KeyedPolicy;
@@ -44,27 +45,45 @@ fn set_part(alloc: Global, policy: &mut Policy, part: &str) -> Result<(), Fault>
         return Err(Fault::NotUnderstood);
     };
     match name {
-        "criteria" => policy.criteria = Some(names_between_commas(alloc, text)?),
-        "dev-criteria" => policy.dev_criteria = Some(names_between_commas(alloc, text)?),
-        "dependency-criteria" => policy.dependency_criteria = dependencies(alloc, text)?,
-        "audit-as-crates-io" => policy.audit_as_crates_io = Some(truth(text)?),
-        "notes" => policy.notes = Some(Text::parse(alloc, text)?),
-        _ => return Err(Fault::NotUnderstood),
+        "criteria" => put(&mut policy.criteria, names_between_commas(alloc, text)),
+        "dev-criteria" => put(&mut policy.dev_criteria, names_between_commas(alloc, text)),
+        "dependency-criteria" => set_dependencies(alloc, policy, text),
+        "audit-as-crates-io" => set_audited(policy, text),
+        "notes" => put(&mut policy.notes, Text::parse(alloc, text)),
+        _ => Err(Fault::NotUnderstood),
+    }
+}
+
+// Puts what was read in the place of what stands there.
+fn put<T: Drop>(place: &mut Option<T>, read: Result<T, Refusal>) -> Result<(), Fault> {
+    *place = Some(read?);
+    Ok(())
+}
+
+fn set_audited(policy: &mut Policy, text: &str) -> Result<(), Fault> {
+    policy.audit_as_crates_io = Some(truth(text)?);
+    Ok(())
+}
+
+// Sets the criteria that a list `PACKAGE=LIST;..` gives by the names of dependencies, and no other ones.
+fn set_dependencies(alloc: Global, policy: &mut Policy, list: &str) -> Result<(), Fault> {
+    policy.dependency_criteria = DependencyCriteria::new(alloc);
+    for item in list.split(';') {
+        add_dependency(alloc, &mut policy.dependency_criteria, item)?;
     }
     Ok(())
 }
 
-// The criteria that a list `PACKAGE=LIST;..` gives by the names of dependencies.
-fn dependencies(alloc: Global, list: &str) -> Result<DependencyCriteria, Fault> {
-    let mut dependencies = DependencyCriteria::new(alloc);
-    for item in list.split(';') {
-        let Some((name, criteria)) = item.split_once('=') else {
-            return Err(Fault::NotUnderstood);
-        };
-        let name = PackageName::parse(alloc, name)?;
-        dependencies.insert(name, names_between_commas(alloc, criteria)?)?;
-    }
-    Ok(dependencies)
+fn add_dependency(
+    alloc: Global,
+    dependencies: &mut DependencyCriteria,
+    item: &str,
+) -> Result<(), Fault> {
+    let Some((name, criteria)) = item.split_once('=') else {
+        return Err(Fault::NotUnderstood);
+    };
+    let name = PackageName::parse(alloc, name)?;
+    Ok(dependencies.insert(name, names_between_commas(alloc, criteria)?)?)
 }
 
 fn truth(text: &str) -> Result<bool, Fault> {

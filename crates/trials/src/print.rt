@@ -8,6 +8,7 @@ use std::io;
 use vet_base::criteria_table::CriteriaTable;
 use vet_base::name::PackageName;
 use vet_base::refusal::Refusal;
+use vet_entries::publisher::Publisher;
 use vet_entries::publisher_records::PackagePublishers;
 use vet_entries::publishers::Publishers;
 use vet_graph::class::Class;
@@ -104,16 +105,24 @@ fn print_publishers(
     records: &Publishers,
 ) -> io::Result<()> {
     for published in records.as_slice() {
-        let user = published.user.number();
-        print!(rt;
-            "publisher {package} {} {user} {}",
-            published.version, published.day
-        )?;
-        print_optional_text(rt, "user-login", &published.login)?;
-        print_optional_text(rt, "user-name", &published.name)?;
-        println!(rt; "")?;
+        print_publisher(rt, package, published)?;
     }
     Ok(())
+}
+
+fn print_publisher(
+    rt: &impl Print,
+    package: &PackageName,
+    published: &Publisher,
+) -> io::Result<()> {
+    let user = published.user.number();
+    print!(rt;
+        "publisher {package} {} {user} {}",
+        published.version, published.day
+    )?;
+    print_optional_text(rt, "user-login", &published.login)?;
+    print_optional_text(rt, "user-name", &published.name)?;
+    println!(rt; "")
 }
 
 // The demanded pairs, each with its class.

@@ -72,7 +72,8 @@ fn push_edge(alloc: Global, told: &mut String, nodes: &[Node], edge: &Edge) -> R
     Ok(())
 }
 
-fn party_word(party: Party) -> &'static str {
+/// The word of a party.
+pub fn party_word(party: Party) -> &'static str {
     match party {
         Party::Root => "root",
         Party::First => "first",
@@ -80,7 +81,8 @@ fn party_word(party: Party) -> &'static str {
     }
 }
 
-fn kind_word(kind: EdgeKind) -> &'static str {
+/// The word of a kind of edges.
+pub fn kind_word(kind: EdgeKind) -> &'static str {
     match kind {
         EdgeKind::Normal => "normal",
         EdgeKind::Build => "build",

@@ -9,7 +9,7 @@
 //!   finished review does;
 //! - `DAY close-period` begins another period.
 
-use crate::commands::names;
+use crate::commands::{add_own_entry, names};
 use crate::fault::Fault;
 use crate::line::two;
 use crate::peers::peer_action;
@@ -19,18 +19,16 @@ use vet_base::name::{Name, PackageName};
 use vet_base::text::Text;
 use vet_base::version::VetVersion;
 use vet_desk::command::{DeskCommand, Reviewed};
-use vet_entries::entry::{Entry, Source};
 use vet_entries::kind::{Audit, Kind};
 use vet_register::command::Action;
 
 /// What a line of this word asks for. Refused: what its texts are refused for, and `NoMemory`.
 pub fn desk_action(alloc: Global, word: &str, texts: &[String]) -> Result<Action, Fault> {
     match word {
-        "add-member" => Ok(Action::Desk(add_member(alloc, texts)?)),
-        "open-review" => Ok(Action::Desk(open_review(alloc, texts)?)),
-        "assign-review" => Ok(Action::Desk(assign_review(alloc, texts)?)),
-        "finish-review" => Ok(Action::Desk(finish_review(alloc, texts)?)),
-        "withdraw-review" => Ok(Action::Desk(withdraw_review(alloc, texts)?)),
+        "open-review" => open_review(alloc, texts),
+        "assign-review" => assign_review(alloc, texts),
+        "finish-review" => finish_review(alloc, texts),
+        "withdraw-review" => withdraw_review(alloc, texts),
         "add-audit" => add_audit(alloc, texts),
         "close-period" => close_period(texts),
         _ => peer_action(alloc, word, texts),
@@ -48,62 +46,56 @@ fn add_audit(alloc: Global, texts: &[String]) -> Result<Action, Fault> {
     let [who, package, version, criteria @ ..] = texts else {
         return Err(Fault::NotUnderstood);
     };
-    let mut audit = Audit::anonymous(alloc);
-    audit.who.insert(Text::parse(alloc, who.as_str())?)?;
+    let audit = audit_by(alloc, who.as_str())?;
     let package = PackageName::parse(alloc, package.as_str())?;
     let version = VetVersion::parse(alloc, version.as_str())?;
-    Ok(Action::AddEntry(Entry {
-        source: Source::Own,
-        package,
-        kind: Kind::Full(version, audit),
-        criteria: names(alloc, criteria)?,
-        notes: None,
-    }))
+    add_own_entry(alloc, package, Kind::Full(version, audit), criteria)
 }
 
-fn add_member(alloc: Global, texts: &[String]) -> Result<DeskCommand, Fault> {
-    let [name] = texts else {
-        return Err(Fault::NotUnderstood);
-    };
-    Ok(DeskCommand::AddMember(Name::parse(alloc, name.as_str())?))
+// The audit that names one who reviewed, and says no more.
+fn audit_by(alloc: Global, who: &str) -> Result<Audit, Fault> {
+    let who = Text::parse(alloc, who)?;
+    let mut audit = Audit::anonymous(alloc);
+    audit.who.insert(who)?;
+    Ok(audit)
 }
 
-fn open_review(alloc: Global, texts: &[String]) -> Result<DeskCommand, Fault> {
+fn open_review(alloc: Global, texts: &[String]) -> Result<Action, Fault> {
     let [package, version, criteria @ ..] = texts else {
         return Err(Fault::NotUnderstood);
     };
-    Ok(DeskCommand::OpenReview {
+    Ok(Action::Desk(DeskCommand::OpenReview {
         package: PackageName::parse(alloc, package.as_str())?,
         version: VetVersion::parse(alloc, version.as_str())?,
         criteria: names(alloc, criteria)?,
-    })
+    }))
 }
 
-fn assign_review(alloc: Global, texts: &[String]) -> Result<DeskCommand, Fault> {
-    let (number, member) = two(texts)?;
-    Ok(DeskCommand::AssignReview {
-        review: review(number)?,
-        member: Name::parse(alloc, member)?,
-    })
+fn assign_review(alloc: Global, texts: &[String]) -> Result<Action, Fault> {
+    let (review, member) = review_and_member(alloc, texts)?;
+    Ok(Action::Desk(DeskCommand::AssignReview { review, member }))
 }
 
-fn finish_review(alloc: Global, texts: &[String]) -> Result<DeskCommand, Fault> {
+fn finish_review(alloc: Global, texts: &[String]) -> Result<Action, Fault> {
     let [number, member, versions @ ..] = texts else {
         return Err(Fault::NotUnderstood);
     };
-    Ok(DeskCommand::FinishReview {
+    Ok(Action::Desk(DeskCommand::FinishReview {
         review: review(number.as_str())?,
         member: Name::parse(alloc, member.as_str())?,
         reviewed: reviewed(alloc, versions)?,
-    })
+    }))
 }
 
-fn withdraw_review(alloc: Global, texts: &[String]) -> Result<DeskCommand, Fault> {
+fn withdraw_review(alloc: Global, texts: &[String]) -> Result<Action, Fault> {
+    let (review, member) = review_and_member(alloc, texts)?;
+    Ok(Action::Desk(DeskCommand::WithdrawReview { review, member }))
+}
+
+// The number of a review, and the member who is named.
+fn review_and_member(alloc: Global, texts: &[String]) -> Result<(u64, Name), Fault> {
     let (number, member) = two(texts)?;
-    Ok(DeskCommand::WithdrawReview {
-        review: review(number)?,
-        member: Name::parse(alloc, member)?,
-    })
+    Ok((review(number)?, Name::parse(alloc, member)?))
 }
 
 // What was reviewed: a version, or what changed from one to another.

@@ -57,10 +57,7 @@ pub fn run<K: Keeper>(
 ) -> io::Result<Ending> {
     match register_of::<K>(alloc, text) {
         Ok(mut register) => run_on(rt, alloc, &mut register, text, contents),
-        Err(refusal) => {
-            print_refusal(rt, &refusal)?;
-            Ok(Ending::Refused)
-        }
+        Err(fault) => refused(rt, &fault),
     }
 }
 
@@ -148,6 +145,12 @@ fn give_command<K: Keeper>(
         }
         Err(fault) => tell_fault(rt, &fault),
     }
+}
+
+/// Prints the refusal with which a run ends.
+pub fn refused(rt: &impl Print, fault: &Fault) -> io::Result<Ending> {
+    tell_fault(rt, fault)?;
+    Ok(Ending::Refused)
 }
 
 /// Prints a refusal; of a line that is not understood nothing.

@@ -3,9 +3,9 @@
 ghost use Rattle.std.specs.Prelude.{◌<◌, ◌≤◌, IfSome};
 ghost use Rattle.vet_base.specs.declared.limits.TheConstants.{MOST_MOVES};
 
+use crate::fault::Fault;
 use std::alloc::Global;
 use vet_base::limits::MOST_MOVES;
-use vet_base::refusal::Refusal;
 use vet_graph::keeper::Keeper;
 use vet_register::register::Register;
 
@@ -15,8 +15,8 @@ pub fn is_setting(line: &str) -> bool {
 }
 
 /// The register with which an example begins. Refused: `NoMemory`.
-pub fn register_of<K: Keeper>(alloc: Global, text: &str) -> Result<Register<K>, Refusal> {
-    Register::new(alloc, limit_of(text))
+pub fn register_of<K: Keeper>(alloc: Global, text: &str) -> Result<Register<K>, Fault> {
+    Ok(Register::new(alloc, limit_of(text))?)
 }
 
 fn limit_of(text: &str) -> usize

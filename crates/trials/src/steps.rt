@@ -62,14 +62,28 @@ fn told_steps(alloc: Global, table: &CriteriaTable, steps: &[Step]) -> Result<St
 
 fn told_step(alloc: Global, table: &CriteriaTable, step: &Step) -> Result<String, Fault> {
     let mut told = origin(alloc, &step.origin)?;
-    let target = step.target.to_string(alloc)?;
-    push_behind(&mut told, " ", target.as_str())?;
-    push_behind(&mut told, " ", if step.exempt { "exempt" } else { "-" })?;
-    let criteria = told_criteria(alloc, table, &step.criteria)?;
-    if !criteria.is_empty() {
-        push_behind(&mut told, " ", criteria.as_str())?;
-    }
+    push_target(alloc, &mut told, step)?;
+    push_criteria(alloc, &mut told, table, step)?;
     Ok(told)
+}
+
+fn push_target(alloc: Global, told: &mut String, step: &Step) -> Result<(), Fault> {
+    let target = step.target.to_string(alloc)?;
+    push_behind(told, " ", target.as_str())?;
+    push_behind(told, " ", if step.exempt { "exempt" } else { "-" })
+}
+
+fn push_criteria(
+    alloc: Global,
+    told: &mut String,
+    table: &CriteriaTable,
+    step: &Step,
+) -> Result<(), Fault> {
+    let criteria = told_criteria(alloc, table, &step.criteria)?;
+    if criteria.is_empty() {
+        return Ok(());
+    }
+    push_behind(told, " ", criteria.as_str())
 }
 
 fn origin(alloc: Global, origin: &Option<VetVersion>) -> Result<String, Fault> {

@@ -8,6 +8,7 @@
 use crate::commands::names_between_commas;
 use crate::fault::Fault;
 use crate::line::two;
+use crate::lists::push_in_brackets;
 use crate::print::class_word;
 use std::alloc::Global;
 use vet_base::criteria_table::CriteriaTable;
@@ -63,9 +64,7 @@ fn criterion(alloc: Global, text: &str) -> Result<Criterion, Fault> {
 fn told_table(alloc: Global, table: &CriteriaTable) -> Result<String, Fault> {
     let mut told = String::new(alloc);
     for name in table.names() {
-        told.push_str("[")?;
-        told.push_str(name.as_str())?;
-        told.push_str("]")?;
+        push_in_brackets(&mut told, name.as_str())?;
     }
     Ok(told)
 }

@@ -4,7 +4,7 @@ use crate::commands::command;
 use crate::fault::Fault;
 use crate::line::is_command;
 use crate::print::{print_contents, print_outcome, print_refusal};
-use crate::run::{Ending, Told, tell_fault};
+use crate::run::{Ending, Told, refused, tell_fault};
 use crate::setting::register_of;
 use std::alloc::Global;
 use std::io;
@@ -18,10 +18,7 @@ use vet_register::register::Register;
 pub fn run_together<K: Keeper>(rt: &impl Print, alloc: Global, text: &str) -> io::Result<Ending> {
     match register_of::<K>(alloc, text) {
         Ok(mut register) => run_on(rt, alloc, &mut register, text),
-        Err(refusal) => {
-            print_refusal(rt, &refusal)?;
-            Ok(Ending::Refused)
-        }
+        Err(fault) => refused(rt, &fault),
     }
 }
 
@@ -33,9 +30,20 @@ fn run_on<K: Keeper>(
     text: &str,
 ) -> io::Result<Ending> {
     let mut commands = Vec::new(alloc);
-    let ending = give_lists(rt, alloc, register, &mut commands, text)?;
-    give_list(rt, alloc, register, commands.as_slice())?;
+    let ending = give_commands(rt, alloc, register, &mut commands, text)?;
     print_contents(rt, register)?;
+    Ok(ending)
+}
+
+fn give_commands<K: Keeper>(
+    rt: &impl Print,
+    alloc: Global,
+    register: &mut Register<K>,
+    commands: &mut Vec<Command>,
+    text: &str,
+) -> io::Result<Ending> {
+    let ending = give_lists(rt, alloc, register, commands, text)?;
+    give_list(rt, alloc, register, commands.as_slice())?;
     Ok(ending)
 }
 
@@ -98,10 +106,22 @@ fn give_list<K: Keeper>(
     register: &mut Register<K>,
     commands: &[Command],
 ) -> io::Result<()> {
-    match register.run_all(alloc, commands) {
+    match answers_of(alloc, register, commands) {
         Ok(answers) => print_answers(rt, answers.as_slice()),
-        Err(refusal) => print_refusal(rt, &refusal),
+        Err(fault) => {
+            tell_fault(rt, &fault)?;
+            Ok(())
+        }
     }
+}
+
+// What a list is told. Refused: `NoMemory`.
+fn answers_of<K: Keeper>(
+    alloc: Global,
+    register: &mut Register<K>,
+    commands: &[Command],
+) -> Result<Vec<Result<Outcome, Refusal>>, Fault> {
+    Ok(register.run_all(alloc, commands)?)
 }
 
 fn print_answers(rt: &impl Print, answers: &[Result<Outcome, Refusal>]) -> io::Result<()> {

@@ -13,9 +13,8 @@ use crate::fault::Fault;
 use crate::known::check_policies;
 use crate::line::{is_remark, one, words_of};
 use crate::policies::keyed_policy;
-use crate::print::print_refusal;
 use crate::projects::named_project;
-use crate::run::{Ending, Told, tell_fault};
+use crate::run::{Ending, Told, refused, tell_fault};
 use std::alloc::Global;
 use std::io;
 use vet_base::criteria_table::CriteriaTable;
@@ -50,10 +49,7 @@ impl Drop for Workspace {
 pub fn run_workspace(rt: &impl Print, alloc: Global, text: &str) -> io::Result<Ending> {
     match Workspace::new(alloc) {
         Ok(mut workspace) => give_all(rt, alloc, &mut workspace, text),
-        Err(refusal) => {
-            print_refusal(rt, &refusal)?;
-            Ok(Ending::Refused)
-        }
+        Err(fault) => refused(rt, &fault),
     }
 }
 
@@ -91,7 +87,7 @@ fn give_demand(rt: &impl Print, alloc: Global, workspace: &Workspace) -> io::Res
             print_demand(rt, &demand)?;
             Ok(Told::Answer)
         }
-        Err(refusal) => tell_fault(rt, &Fault::Refused(refusal)),
+        Err(fault) => tell_fault(rt, &fault),
     }
 }
 
@@ -105,14 +101,18 @@ fn print_demand(rt: &impl Print, demand: &Demand) -> io::Result<()> {
 
 fn set(alloc: Global, workspace: &mut Workspace, line: &str) -> Result<(), Fault> {
     let words = words_of(alloc, line)?;
-    let [word, texts @ ..] = words.as_slice() else {
+    set_by(alloc, workspace, words.as_slice())
+}
+
+fn set_by(alloc: Global, workspace: &mut Workspace, words: &[String]) -> Result<(), Fault> {
+    let [word, texts @ ..] = words else {
         return Err(Fault::NotUnderstood);
     };
     match word.as_str() {
         "set-criterion" => set_criterion(alloc, workspace, texts),
-        "set-policy" => Ok(workspace.policies.insert(keyed_policy(alloc, texts)?)?),
+        "set-policy" => set_policy(alloc, workspace, texts),
         "drop-policy" => drop_policy(alloc, workspace, texts),
-        "load-project" => Ok(workspace.projects.insert(named_project(alloc, texts)?)?),
+        "load-project" => load_project(alloc, workspace, texts),
         "drop-project" => drop_project(alloc, workspace, texts),
         "anew" => begin_anew(alloc, workspace, texts),
         _ => Err(Fault::NotUnderstood),
@@ -130,6 +130,16 @@ fn set_criterion(alloc: Global, workspace: &mut Workspace, texts: &[String]) -> 
         implies: names(alloc, implied)?,
     })?;
     Ok(())
+}
+
+fn set_policy(alloc: Global, workspace: &mut Workspace, texts: &[String]) -> Result<(), Fault> {
+    let policy = keyed_policy(alloc, texts)?;
+    Ok(workspace.policies.insert(policy)?)
+}
+
+fn load_project(alloc: Global, workspace: &mut Workspace, texts: &[String]) -> Result<(), Fault> {
+    let project = named_project(alloc, texts)?;
+    Ok(workspace.projects.insert(project)?)
 }
 
 fn drop_policy(alloc: Global, workspace: &mut Workspace, texts: &[String]) -> Result<(), Fault> {
@@ -158,7 +168,7 @@ fn begin_anew(alloc: Global, workspace: &mut Workspace, texts: &[String]) -> Res
 
 impl Workspace {
     // Nothing but the built-in criteria.
-    fn new(alloc: Global) -> Result<Workspace, Refusal> {
+    fn new(alloc: Global) -> Result<Workspace, Fault> {
         Ok(Workspace {
             criteria: CriteriaTable::new(alloc)?,
             policies: Keyed::new(alloc),
@@ -167,8 +177,8 @@ impl Workspace {
     }
 
     // What its projects demand. Refused: `UnknownCriterion` that a policy names, and `NoMemory`.
-    fn demand(&self, alloc: Global) -> Result<Demand, Refusal> {
+    fn demand(&self, alloc: Global) -> Result<Demand, Fault> {
         check_policies(&self.criteria, self.policies.items())?;
-        demand(alloc, self.projects.items(), &self.policies, &self.criteria)
+        Ok(demand(alloc, self.projects.items(), &self.policies, &self.criteria)?)
     }
 }

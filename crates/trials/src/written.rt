@@ -5,12 +5,14 @@
 //! what the file holds, as the word that writes it; how much that text holds and what is passed over in it; and
 //! `same` where what it holds is written as the same text again, else `other`.
 //!
-//! `written-project TABLE` has the text of a dependency table, and tells the table that is written of the project which it
-//! states, as the word that writes it, and `same` where that is read as the same project, else `other`.
+//! `written-project TABLE` has the text of a dependency table, and tells the table that is written of the project which
+//! it states, as the word that writes it, and `same` where that is read as the same project, else `other`.
 
 use crate::fault::Fault;
-use crate::line::{one, two, word_of};
+use crate::line::{two, word_of};
 use std::alloc::Global;
+use vet_base::refusal::Refusal;
+use vet_demand::project::Project;
 use vet_demand::table_reader::read_project;
 use vet_demand::table_writer::write_project;
 use vet_entries::peer_settings::PeerSettings;
@@ -41,15 +43,15 @@ impl Drop for Written {
 }
 
 /// What is written of an audits file. Refused: what the file is refused for, and `NoMemory`.
-pub fn written_audits(alloc: Global, texts: &[String]) -> Result<String, Fault> {
-    let first = write_audits_of(alloc, one(texts)?.as_bytes())?;
+pub fn written_audits(alloc: Global, text: &str) -> Result<String, Fault> {
+    let first = write_audits_of(alloc, text.as_bytes())?;
     let second = write_audits_of(alloc, first.text.as_bytes())?;
     told(alloc, &first, &second)
 }
 
 /// What is written of a config file. Refused: what the file is refused for, and `NoMemory`.
-pub fn written_config(alloc: Global, texts: &[String]) -> Result<String, Fault> {
-    let first = write_config_of(alloc, one(texts)?.as_bytes())?;
+pub fn written_config(alloc: Global, text: &str) -> Result<String, Fault> {
+    let first = write_config_of(alloc, text.as_bytes())?;
     let second = write_config_of(alloc, first.text.as_bytes())?;
     told(alloc, &first, &second)
 }
@@ -63,12 +65,20 @@ pub fn written_imports(alloc: Global, texts: &[String]) -> Result<String, Fault>
 }
 
 /// What is written of the project of a dependency table. Refused: what the table is refused for, and `NoMemory`.
-pub fn written_project(alloc: Global, texts: &[String]) -> Result<String, Fault> {
-    let project = read_project(alloc, one(texts)?.as_bytes())?;
+pub fn written_project(alloc: Global, text: &str) -> Result<String, Fault> {
+    let project = read_project(alloc, text.as_bytes())?;
     let text = write_project(alloc, &project)?;
-    let again = read_project(alloc, text.as_bytes())?;
-    let word = word_of(alloc, text.as_str())?;
-    let compared = if again == project { "same" } else { "other" };
+    project_told(alloc, &project, text.as_str())
+}
+
+// What a project is told that was written as a text.
+fn project_told(alloc: Global, project: &Project, text: &str) -> Result<String, Fault> {
+    let compared = if read_project(alloc, text.as_bytes())? == *project {
+        "same"
+    } else {
+        "other"
+    };
+    let word = word_of(alloc, text)?;
     Ok(format!(in alloc; "{word} {compared}")?)
 }
 
@@ -98,36 +108,24 @@ fn audits_written(
 }
 
 fn write_config_of(alloc: Global, bytes: &[u8]) -> Result<Written, Fault> {
-    let found = read_config(alloc, bytes)?;
-    let notices = found.notices;
-    let content = with_copied_policies(found.content)?;
-    let content = with_copied_lists(alloc, content)?;
-    config_written(alloc, &content, notices)
+    let mut found = read_config(alloc, bytes)?;
+    copied_config_written(alloc, &mut found.content, found.notices)
 }
 
-// The same with a copy of the policies in their place, so that what is written tells of copies too.
-fn with_copied_policies(content: ConfigContent) -> Result<ConfigContent, Fault> {
-    let policies = content.policies.clone()?;
-    Ok(ConfigContent {
-        vet_version: content.vet_version,
-        default_criteria: content.default_criteria,
-        peers: content.peers,
-        policies,
-        exemptions: content.exemptions,
-    })
+// Writes a content with copies in place of its lists, so that what is written tells of copies too.
+fn copied_config_written(
+    alloc: Global,
+    content: &mut ConfigContent,
+    notices: Notices,
+) -> Result<Written, Fault> {
+    content.policies = content.policies.clone()?;
+    content.peers = copy_of(alloc, &content.peers)?;
+    content.exemptions = copy_of(alloc, &content.exemptions)?;
+    config_written(alloc, content, notices)
 }
 
-// The same with copies of the peers' settings and the exemptions in their place.
-fn with_copied_lists(alloc: Global, content: ConfigContent) -> Result<ConfigContent, Fault> {
-    let peers = Listed::of(content.peers.as_slice().to_vec(alloc)?);
-    let exemptions = Listed::of(content.exemptions.as_slice().to_vec(alloc)?);
-    Ok(ConfigContent {
-        vet_version: content.vet_version,
-        default_criteria: content.default_criteria,
-        peers,
-        policies: content.policies,
-        exemptions,
-    })
+fn copy_of<T: Clone + Drop>(alloc: Global, items: &Listed<T>) -> Result<Listed<T>, Refusal> {
+    Ok(Listed::of(items.as_slice().to_vec(alloc)?))
 }
 
 fn config_written(
@@ -150,22 +148,22 @@ fn write_imports_of(
     settings: &[PeerSettings],
     bytes: &[u8],
 ) -> Result<Written, Fault> {
-    let found = read_imports(alloc, bytes)?;
-    let notices = found.notices;
-    let content = with_copied_records(alloc, found.content)?;
-    Ok(Written {
-        notices,
-        held: held_of_imports(alloc, &content)?,
-        text: write_imports(alloc, settings, &content)?,
-    })
+    let mut found = read_imports(alloc, bytes)?;
+    copied_imports_written(alloc, settings, &mut found.content, found.notices)
 }
 
-// The same with a copy of the publisher records in their place.
-fn with_copied_records(alloc: Global, content: ImportsContent) -> Result<ImportsContent, Fault> {
-    let publishers = Listed::of(content.publishers.as_slice().to_vec(alloc)?);
-    Ok(ImportsContent {
-        publishers,
-        peers: content.peers,
+// Writes a content with a copy in place of the publisher records.
+fn copied_imports_written(
+    alloc: Global,
+    settings: &[PeerSettings],
+    content: &mut ImportsContent,
+    notices: Notices,
+) -> Result<Written, Fault> {
+    content.publishers = copy_of(alloc, &content.publishers)?;
+    Ok(Written {
+        notices,
+        held: held_of_imports(alloc, content)?,
+        text: write_imports(alloc, settings, content)?,
     })
 }
 

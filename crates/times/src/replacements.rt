@@ -1,6 +1,6 @@
 //! The rounds in which files replace what is held.
 
-use crate::clock::timed;
+use crate::clock::{done, timed_once};
 use crate::commands::{load_table, replace_files, set_criterion};
 use crate::fault::Fault;
 use crate::files::{FileTexts, files_of, read_timed, tables_before};
@@ -25,7 +25,7 @@ pub fn run_replacements(rt: &HostRuntime, rounds: usize, text: &str) -> Result<(
 fn register_of(alloc: Global, tables: &str) -> Result<Register<PlainKeeper>, Fault> {
     let mut register = Register::new(alloc, MOST_MOVES)?;
     for (place, table) in tables.split(BETWEEN_FILES).enumerate() {
-        register.run(alloc, &load_table(alloc, place, table)?)?;
+        done(alloc, &mut register, load_table(alloc, place, table))?;
     }
     Ok(register)
 }
@@ -36,7 +36,7 @@ fn run_round(
     files: &[FileTexts<'_>],
 ) -> Result<(), Fault> {
     replace_all(rt, register, files)?;
-    timed(rt, register, "plan", &set_criterion(rt.alloc())?)
+    timed_once(rt, register, "plan", set_criterion(rt.alloc()))
 }
 
 fn replace_all(
@@ -46,7 +46,7 @@ fn replace_all(
 ) -> Result<(), Fault> {
     for texts in files {
         let content = read_timed(rt, *texts)?;
-        timed(rt, register, "replace", &replace_files(content)?)?;
+        timed_once(rt, register, "replace", replace_files(content))?;
     }
     Ok(())
 }

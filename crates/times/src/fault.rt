@@ -5,14 +5,23 @@ use std::io;
 use vet_base::refusal::Refusal;
 
 /// Why a run ends before its end.
-#[derive(Drop)]
 pub enum Fault {
-    /// The word is no number.
+    /// The words, or the parts of standard input, are not understood.
     Words,
     /// A stream or the clock failed.
     Stream,
     /// Something was refused.
     Refused(Refusal),
+}
+
+impl Drop for Fault {
+    fn drop(self) {
+        match self {
+            Fault::Words => {}
+            Fault::Stream => {}
+            Fault::Refused(_) => {}
+        }
+    }
 }
 
 impl From<io::Error> for Fault {

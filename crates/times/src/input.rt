@@ -10,12 +10,6 @@ use vet_files::imports_file::read_peer;
 /// What stands between two files.
 pub const BETWEEN_FILES: &str = "\n---\n";
 
-/// The word by which replacements are timed.
-const REPLACE: &str = "replace";
-
-/// The word by which commands to the review desk are timed.
-const DESK: &str = "desk";
-
 /// What is to be timed, and how much of it.
 #[derive(Clone, Copy)]
 pub enum Task {
@@ -25,6 +19,8 @@ pub enum Task {
     Replacements(usize),
     /// So many rounds of commands to the review desk.
     Desk(Reviews),
+    /// So many rounds of finding a demand.
+    Demands(usize),
 }
 
 /// How much is to be timed of imports.
@@ -49,25 +45,30 @@ pub struct Reviews {
 pub fn read_task(rt: &HostRuntime) -> Result<Task, Fault> {
     let mut words = env::args(rt)?;
     let _name = words.next();
-    let Some(first) = words.next() else {
+    let Some(task) = words.next() else {
         return Err(Fault::Words);
     };
-    if first.as_str() == REPLACE {
-        return Ok(Task::Replacements(number(words.next())?));
-    }
-    if first.as_str() == DESK {
-        return Ok(Task::Desk(Reviews {
-            count: number(words.next())?,
-            rounds: number(words.next())?,
-        }));
-    }
-    Ok(Task::Imports(Sizes {
-        rounds: number(Some(first))?,
-        own: number(words.next())?,
-    }))
+    let (first, second) = (words.next(), words.next());
+    task_of(task.as_str(), &first, &second)
 }
 
-fn number(word: Option<String>) -> Result<usize, Fault> {
+fn task_of(task: &str, first: &Option<String>, second: &Option<String>) -> Result<Task, Fault> {
+    match task {
+        "imports" => Ok(Task::Imports(Sizes {
+            rounds: number(first)?,
+            own: number(second)?,
+        })),
+        "replace" => Ok(Task::Replacements(number(first)?)),
+        "desk" => Ok(Task::Desk(Reviews {
+            count: number(first)?,
+            rounds: number(second)?,
+        })),
+        "demand" => Ok(Task::Demands(number(first)?)),
+        _ => Err(Fault::Words),
+    }
+}
+
+fn number(word: &Option<String>) -> Result<usize, Fault> {
     let Some(word) = word else {
         return Err(Fault::Words);
     };
@@ -88,8 +89,11 @@ pub fn read_text(rt: &HostRuntime) -> Result<String, Fault> {
 pub fn contents_of(alloc: Global, text: &str) -> Result<Vec<PeerContent>, Fault> {
     let mut contents = Vec::new(alloc);
     for file in text.split(BETWEEN_FILES) {
-        let found = read_peer(alloc, file.as_bytes())?;
-        contents.push(found.content)?;
+        contents.push(content_of(alloc, file)?)?;
     }
     Ok(contents)
+}
+
+fn content_of(alloc: Global, file: &str) -> Result<PeerContent, Fault> {
+    Ok(read_peer(alloc, file.as_bytes())?.content)
 }

@@ -1,11 +1,12 @@
-//! Times imports into a register, files that replace what it holds, and commands to its review desk, by the clock: a
-//! program of benches, no part of the product.
+//! Times imports into a register, files that replace what it holds, commands to its review desk, and what projects
+//! demand, by the clock: a program of benches, no part of the product.
 //!
-//! Two numbers have imports timed. Standard input holds audits files of a peer, each after the one before it and a
-//! line `---` between two. They are read, and a register is made of a project's demand and own entries. Then in each
-//! round the peer is set, each file is imported in turn, another peer is set, an entry is added, and the peer is
-//! dropped. The first number says how many rounds there are; with none the files are read and no register is made. The
-//! second says how many demanded pairs and own entries there are. Of each file `read COUNT` is printed.
+//! The word `imports` and two numbers have imports timed. Standard input holds audits files of a peer, each after the
+//! one before it and a line `---` between two. They are read, and a register is made of a project's demand and own
+//! entries. Then in each round the peer is set, each file is imported in turn, another peer is set, an entry is added,
+//! and the peer is dropped. The first number says how many rounds there are; with none the files are read and no
+//! register is made. The second says how many demanded pairs and own entries there are. Of each file `read COUNT` is
+//! printed.
 //!
 //! The word `replace` and a number of rounds have replacements timed. Standard input holds parts, a line `===` between
 //! two; within a part a line `---` stands between two texts. The first part is dependency tables, and a register is
@@ -19,33 +20,41 @@
 //! finished by a delta; one is withdrawn; a peer is set; and a criterion is removed. In the end `reviews COUNT` is
 //! printed: how many there are.
 //!
+//! The word `demand` and a number of rounds have a demand timed. Standard input holds an audits file, whose criteria
+//! are taken, a config file, whose policies are taken, and dependency tables, a line `---` between two. Of each table
+//! a line `read NODES EDGES` is printed, and then of each round `demand NANOSECONDS PAIRS`.
+//!
 //! Of each command of a round a line is printed of what it is, its nanoseconds and its outcome. The status is 1 where
 //! anything is refused or fails, and 2 where the words or the parts are not understood.
 #![tactic(auto)]
 
 mod clock;
 mod commands;
+mod demand_rounds;
 mod desk_rounds;
 mod fault;
 mod files;
+mod import_rounds;
 mod input;
+mod known;
 mod project;
 mod replacements;
 mod reviews;
-mod rounds;
+mod workspace;
 
+use demand_rounds::run_demands;
 use desk_rounds::run_reviews;
 use fault::Fault;
-use input::{Task, contents_of, read_task, read_text};
+use import_rounds::run_imports;
+use input::{Task, read_task, read_text};
 use replacements::run_replacements;
-use rounds::run;
 use std::process::ExitCode;
 
 /// The status of a run of words that aren't understood.
 const NOT_UNDERSTOOD: u8 = 2;
 
 fn main(rt: HostRuntime) -> ExitCode {
-    match run_whole(&rt) {
+    match &run_whole(&rt) {
         Ok(()) => ExitCode::SUCCESS,
         Err(Fault::Words) => ExitCode::from(NOT_UNDERSTOOD),
         Err(_) => ExitCode::FAILURE,
@@ -56,8 +65,9 @@ fn run_whole(rt: &HostRuntime) -> Result<(), Fault> {
     let task = read_task(rt)?;
     let text = read_text(rt)?;
     match task {
-        Task::Imports(sizes) => run(rt, sizes, contents_of(rt.alloc(), text.as_str())?),
+        Task::Imports(sizes) => run_imports(rt, sizes, text.as_str()),
         Task::Replacements(rounds) => run_replacements(rt, rounds, text.as_str()),
         Task::Desk(reviews) => run_reviews(rt, reviews),
+        Task::Demands(rounds) => run_demands(rt, rounds, text.as_str()),
     }
 }

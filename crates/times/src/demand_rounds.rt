@@ -1,20 +1,31 @@
-//! The rounds, and the time of each.
+//! The rounds in which what projects demand is found.
 
 use crate::fault::Fault;
-use crate::input::Workspace;
 use crate::known::check_policies;
+use crate::workspace::{Workspace, workspace_of};
 use std::time::Instant;
 use vet_demand::demand_of::demand;
+use vet_demand::project::NamedProject;
 
-/// Tells how much each project has, and times what they demand.
-pub fn run(rt: &HostRuntime, rounds: usize, workspace: &Workspace) -> Result<(), Fault> {
-    for named in workspace.projects.items() {
+/// Tells how much each project of a text has, and times what they demand.
+pub fn run_demands(rt: &HostRuntime, rounds: usize, text: &str) -> Result<(), Fault> {
+    let workspace = workspace_of(rt.alloc(), text)?;
+    run_rounds(rt, rounds, &workspace)
+}
+
+fn run_rounds(rt: &HostRuntime, rounds: usize, workspace: &Workspace) -> Result<(), Fault> {
+    print_sizes(rt, workspace.projects.items())?;
+    for _round in 0..rounds {
+        run_round(rt, workspace)?;
+    }
+    Ok(())
+}
+
+fn print_sizes(rt: &HostRuntime, projects: &[NamedProject]) -> Result<(), Fault> {
+    for named in projects {
         let nodes = named.project.nodes().len();
         let edges = named.project.edges().len();
         println!(rt; "read {nodes} {edges}")?;
-    }
-    for _round in 0..rounds {
-        run_round(rt, workspace)?;
     }
     Ok(())
 }

@@ -2,8 +2,8 @@ use Rattle.std.proofs.Common.{sym, ap, ◌∙◌, subst}
 use Rattle.std.proofs.lemmas.List.{take_all}
 use Rattle.std.specs.Option.{option_copied}
 use Rattle.vet_demand.specs.DemandOf.{PoliciesAreKnown}
-use Rattle.demand_times.proofs.KnownPolicies.{known_more}
-use Rattle.demand_times.proofs.known.check_policies.Goals as goal
+use Rattle.times.proofs.KnownPolicies.{known_more}
+use Rattle.times.proofs.known.check_policies.Goals as goal
 
 pub policies-preserved : goal.policies-preserved
 policies-preserved c =

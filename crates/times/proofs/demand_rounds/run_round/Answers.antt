@@ -1,6 +1,6 @@
 use Rattle.std.proofs.Common.{subst}
 use Rattle.vet_demand.specs.DemandOf.{PoliciesAreKnown}
-use Rattle.demand_times.proofs.rounds.run_round.Goals as goal
+use Rattle.times.proofs.demand_rounds.run_round.Goals as goal
 
 pub demand-requires : goal.demand-requires
 demand-requires c = record {

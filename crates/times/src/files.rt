@@ -3,7 +3,8 @@
 use crate::fault::Fault;
 use crate::input::BETWEEN_FILES;
 use std::alloc::Global;
-use std::time::Instant;
+use std::io;
+use std::time::{Duration, Instant};
 use vet_files::audits_file::read_audits;
 use vet_files::config_file::read_config;
 use vet_files::files_content::FilesContent;
@@ -56,15 +57,26 @@ fn three_of(part: &str) -> Result<FileTexts<'_>, Fault> {
 pub fn read_timed(rt: &HostRuntime, texts: FileTexts<'_>) -> Result<FilesContent, Fault> {
     let alloc = rt.alloc();
     let begun = Instant::now(rt)?;
+    // the largest value comes last, as each that was read is dropped where the next one is refused
     let audits = read_audits(alloc, texts.audits.as_bytes())?;
-    let config = read_config(alloc, texts.config.as_bytes())?;
     let imports = read_imports(alloc, texts.imports.as_bytes())?;
+    let config = read_config(alloc, texts.config.as_bytes())?;
     let read = begun.elapsed(rt)?.as_nanos();
     let files = FilesContent::of(alloc, audits.content, config.content, imports.content)?;
-    let whole = begun.elapsed(rt)?.as_nanos();
-    let count = entries_of(&files);
-    println!(rt; "read {count} {read} {whole}")?;
+    print_read(rt, &files, read, begun.elapsed(rt))?;
     Ok(files)
+}
+
+fn print_read(
+    rt: &HostRuntime,
+    files: &FilesContent,
+    read: u128,
+    whole: io::Result<Duration>,
+) -> Result<(), Fault> {
+    let whole = whole?.as_nanos();
+    let count = entries_of(files);
+    println!(rt; "read {count} {read} {whole}")?;
+    Ok(())
 }
 
 // How many entries files hold, those of all peers together.

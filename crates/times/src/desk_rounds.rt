@@ -5,7 +5,7 @@
 //! round there are as many as were asked for. The entry that a round adds is dropped, so that no round has more to plan
 //! than another.
 
-use crate::clock::timed;
+use crate::clock::{done, timed_once};
 use crate::commands::{drop_entry, load_project, remove_criterion, set_criterion, set_other_peer};
 use crate::fault::Fault;
 use crate::input::Reviews;
@@ -58,13 +58,22 @@ fn waiting_from(round: usize, apart: usize) -> usize {
 // A register at whose desk so many reviews were opened, all of the one pair that is demanded.
 fn register_of(alloc: Global, opened: usize) -> Result<Register<PlainKeeper>, Fault> {
     let mut register = Register::new(alloc, MOST_MOVES)?;
-    register.run(alloc, &load_project(alloc, DEMANDED)?)?;
-    register.run(alloc, &add_member(alloc)?)?;
-    for place in 0..opened {
-        register.run(alloc, &open_review(alloc)?)?;
-        change_state(alloc, &mut register, place)?;
-    }
+    open_reviews(alloc, &mut register, opened)?;
     Ok(register)
+}
+
+fn open_reviews(
+    alloc: Global,
+    register: &mut Register<PlainKeeper>,
+    opened: usize,
+) -> Result<(), Fault> {
+    done(alloc, register, load_project(alloc, DEMANDED))?;
+    done(alloc, register, add_member(alloc))?;
+    for place in 0..opened {
+        done(alloc, register, open_review(alloc))?;
+        change_state(alloc, register, place)?;
+    }
+    Ok(())
 }
 
 // Of four reviews in a row the first waits on.
@@ -74,17 +83,21 @@ fn change_state(
     place: usize,
 ) -> Result<(), Fault> {
     let review = number_at(place);
-    let turn = place % IN_A_ROW;
-    if turn == 1 || turn == 2 {
-        register.run(alloc, &assign_review(alloc, review)?)?;
+    match place % IN_A_ROW {
+        1 => done(alloc, register, assign_review(alloc, review)),
+        2 => assign_and_finish(alloc, register, review),
+        3 => done(alloc, register, withdraw_review(alloc, review)),
+        _ => Ok(()),
     }
-    if turn == 2 {
-        register.run(alloc, &finish_in_full(alloc, review)?)?;
-    }
-    if turn == 3 {
-        register.run(alloc, &withdraw_review(alloc, review)?)?;
-    }
-    Ok(())
+}
+
+fn assign_and_finish(
+    alloc: Global,
+    register: &mut Register<PlainKeeper>,
+    review: u64,
+) -> Result<(), Fault> {
+    done(alloc, register, assign_review(alloc, review))?;
+    done(alloc, register, finish_in_full(alloc, review))
 }
 
 // The commands of a round, of three reviews that wait, from the one at this place on.
@@ -94,34 +107,67 @@ fn run_round(
     round: usize,
     place: usize,
 ) -> Result<(), Fault> {
-    let alloc = rt.alloc();
     let first = number_at(place);
     let second = first.saturating_add(BETWEEN_WAITING);
     let third = second.saturating_add(BETWEEN_WAITING);
-    timed(rt, register, "open", &open_review(alloc)?)?;
-    timed(rt, register, "assign", &assign_review(alloc, first)?)?;
-    timed(rt, register, "finish-held", &finish_in_full(alloc, first)?)?;
-    timed(rt, register, "assign", &assign_review(alloc, second)?)?;
-    timed(
+    run_held(rt, register, first)?;
+    run_other(rt, register, second, third, round)?;
+    drop_last_entry(rt.alloc(), register)?;
+    run_beside(rt, register, round)
+}
+
+// Opens a review, and finishes another one by an entry that is held.
+fn run_held(
+    rt: &HostRuntime,
+    register: &mut Register<PlainKeeper>,
+    review: u64,
+) -> Result<(), Fault> {
+    let alloc = rt.alloc();
+    timed_once(rt, register, "open", open_review(alloc))?;
+    timed_once(rt, register, "assign", assign_review(alloc, review))?;
+    timed_once(rt, register, "finish-held", finish_in_full(alloc, review))
+}
+
+// Finishes a review by an entry that is added, and withdraws another one.
+fn run_other(
+    rt: &HostRuntime,
+    register: &mut Register<PlainKeeper>,
+    finished: u64,
+    withdrawn: u64,
+    round: usize,
+) -> Result<(), Fault> {
+    let alloc = rt.alloc();
+    timed_once(rt, register, "assign", assign_review(alloc, finished))?;
+    timed_once(
         rt,
         register,
         "finish",
-        &finish_by_delta(alloc, second, round)?,
+        finish_by_delta(alloc, finished, round),
     )?;
-    timed(rt, register, "withdraw", &withdraw_review(alloc, third)?)?;
-    drop_last_entry(alloc, register)?;
-    timed(rt, register, "plan", &set_other_peer(alloc, round, 0)?)?;
-    register.run(alloc, &set_criterion(alloc)?)?;
-    timed(rt, register, "remove", &remove_criterion(alloc)?)
+    timed_once(rt, register, "withdraw", withdraw_review(alloc, withdrawn))
+}
+
+// The commands of a round that are not the desk's.
+fn run_beside(
+    rt: &HostRuntime,
+    register: &mut Register<PlainKeeper>,
+    round: usize,
+) -> Result<(), Fault> {
+    let alloc = rt.alloc();
+    timed_once(rt, register, "plan", set_other_peer(alloc, round, 0))?;
+    done(alloc, register, set_criterion(alloc))?;
+    timed_once(rt, register, "remove", remove_criterion(alloc))
 }
 
 // Drops the entry that was added last.
 fn drop_last_entry(alloc: Global, register: &mut Register<PlainKeeper>) -> Result<(), Fault> {
-    if let Some(held) = register.entries().last() {
-        let dropped = drop_entry(held.number)?;
-        register.run(alloc, &dropped)?;
+    match register.entries().last() {
+        Some(held) => {
+            let dropped = drop_entry(held.number);
+            done(alloc, register, dropped)
+        }
+        None => Ok(()),
     }
-    Ok(())
 }
 
 // The number of the review at a place.
