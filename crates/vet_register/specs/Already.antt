@@ -54,7 +54,7 @@ has_project projects p = option_map_or (λ held. named_project_eq held p) (proje
 abbrev pub has_criteria : Criteria → List Criterion → Bool
 has_criteria criteria listed =
     (length listed == length (filter (λ n. not (is_built_in n)) (table.keys criteria)))
-        && list_all (is_held criteria) listed
+    && list_all (is_held criteria) listed
 
 -- whether a peer is held with these settings, and with what an imports file says of it
 abbrev pub has_peer : List HeldPeer → List ImportedPeer → PeerSettings → Bool

@@ -25,5 +25,5 @@ abbrev pub IsJudgedImport : State → DayValue → List ℕ → PeerContentValue
     → Type 0
 IsJudgedImport s day name content answer = MatchResult answer
     (λ found.
-        MatchOption found (judged s day (ImportPeer name content) ≡ Ok (Already None)) (IsAccepted s day name content))
+    MatchOption found (judged s day (ImportPeer name content) ≡ Ok (Already None)) (IsAccepted s day name content))
     (λ e. (e ≡ NoMemory) ⊎ (judged s day (ImportPeer name content) ≡ Err e))

@@ -41,8 +41,8 @@ unknown_of_targets known least peers = fold (λ least p. or_unknown known least 
 abbrev pub unknown_of_files : (List ℕ → Bool) → FilesValue → Option (List ℕ)
 unknown_of_files known f =
     unknown_of_targets known
-        (unknown_of_policies known (unknown_of_entries known (least_undefined known f.criteria) f.entries) f.policies)
-        f.settings
+    (unknown_of_policies known (unknown_of_entries known (least_undefined known f.criteria) f.entries) f.policies)
+    f.settings
 
 -- a criterion that says nothing but its name
 abbrev pub named_alone : Criterion → Criterion

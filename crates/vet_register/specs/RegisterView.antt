@@ -56,7 +56,7 @@ desk_room r = record { content = r.state.desk; room = r.room.desk }
 abbrev pub KeepsRoom : {K : Type 0} → RegisterView K → RegisterView K → Type 0
 KeepsRoom old new =
     HoldsRoomOf old.room.held new.room.held
-        × ((old.room.moves ≤ new.room.moves) × KeepsDeskChanges (desk_room old) (desk_room new))
+    × ((old.room.moves ≤ new.room.moves) × KeepsDeskChanges (desk_room old) (desk_room new))
 
 -- an edit of a desk was prepared by it, which still holds the room for it, and has the number of an entry where it has
 -- an entry
@@ -75,7 +75,7 @@ HoldsDesk (Some e) d = IsDeskEdit d e
 abbrev pub HasKept : {K U : Type 0} → Keeping K U → K → List Pair → HeldValue → Type 0
 HasKept keeping keeper demand held =
     keeping.keeps keeper held.facts (demand_in held)
-        × ((keeping.standing keeper ≡ standing_in held) × (demand ≡ demand_in held))
+    × ((keeping.standing keeper ≡ standing_in held) × (demand ≡ demand_in held))
 
 -- each update that was ready still is
 abbrev pub KeepsReady : {K U : Type 0} → Keeping K U → RegisterView K → RegisterView K → Type 0

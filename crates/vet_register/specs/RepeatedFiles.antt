@@ -32,7 +32,7 @@ abbrev pub SaysWhatIsHeld : List ImportedPeer → HeldPeer → Type 0
 SaysWhatIsHeld contents peer =
     SameItems (content_for contents peer.settings.name).criteria (further peer.content.table)
     × SameItems (as_peers peer.settings.name (content_for contents peer.settings.name).entries)
-        (entries_of peer.content.entries)
+    (entries_of peer.content.entries)
 
 -- files say what is held, each list in whatever order, and nothing else
 pub record SayWhatIsHeld (held : HeldValue) (f : FilesValue) : Type 0 where

@@ -38,7 +38,7 @@ HeldContentIsAlready =
     → All (λ c. is_built_in c.name ≡ false) criteria
     → ChangesNothing s (import_on day name content)
     ↔ (SameItems content.criteria criteria
-        × SameItems (as_peers name content.entries) (entries_of peer.content.entries))
+    × SameItems (as_peers name content.entries) (entries_of peer.content.entries))
 
 -- after an import, an import of the same criteria and the same entries, in whatever order, changes nothing
 abbrev pub RepeatedImportIsAlready : Type 0

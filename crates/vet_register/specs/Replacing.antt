@@ -22,7 +22,7 @@ held_of_peer peers settings = holding_or_none (peer_of peers settings.name)
 abbrev pub new_of_peer : List HeldPeer → List ImportedPeer → PeerSettings → ℕ
 new_of_peer peers contents settings =
     length
-        (new_entries settings.name (held_of_peer peers settings).entries (content_for contents settings.name).entries)
+    (new_entries settings.name (held_of_peer peers settings).entries (content_for contents settings.name).entries)
 
 -- a peer after, where this is the next number: these settings, and what the imports file says of it
 abbrev pub peer_after : ℕ → List HeldPeer → List ImportedPeer → PeerSettings → HeldPeer
@@ -37,7 +37,7 @@ abbrev pub peers_after : ℕ → List HeldPeer → List ImportedPeer → List Pe
 peers_after next peers contents [] = []
 peers_after next peers contents (settings ∷ rest) =
     peer_after next peers contents settings
-        ∷ peers_after (next + new_of_peer peers contents settings) peers contents rest
+    ∷ peers_after (next + new_of_peer peers contents settings) peers contents rest
 
 -- how many own entries are new, and how many of all sources
 abbrev pub new_own : Facts → FilesValue → ℕ

@@ -18,5 +18,5 @@ tool_eq-Decides a b =
     λ i. record { vet_version = v i; default_criteria = d i }))
     (λ e. (ap (λ (s : ToolSettings). s.vet_version) e, ap (λ (s : ToolSettings). s.default_criteria) e))
     (Decides-and _ _
-        (options_decide bytes_decides a.vet_version b.vet_version)
-        (options_decide same_names-Decides a.default_criteria b.default_criteria))
+    (options_decide bytes_decides a.vet_version b.vet_version)
+    (options_decide same_names-Decides a.default_criteria b.default_criteria))

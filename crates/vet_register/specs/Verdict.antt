@@ -89,28 +89,28 @@ import_limits s name count new =
 abbrev pub peer_limit : State → List ℕ → Told (Unit {0})
 peer_limit s name =
     refuse_if
-        (is_none (peer_of s.held.facts.peers name) && nat_lt MOST_PEERS (length s.held.facts.peers + 1))
-        (TooLarge limit.Peers)
+    (is_none (peer_of s.held.facts.peers name) && nat_lt MOST_PEERS (length s.held.facts.peers + 1))
+    (TooLarge limit.Peers)
 
 -- with these records for a package there are not too many
 abbrev pub publisher_limit : State → List ℕ → List Publisher → Told (Unit {0})
 publisher_limit s name records =
     refuse_if (nat_lt MOST_PUBLISHERS (records_total (with_records name records s.held.facts.publishers)))
-        (TooLarge limit.Publishers)
+    (TooLarge limit.Publishers)
 
 -- one policy more, if it is a new one, is not too many
 abbrev pub policy_limit : State → PolicyKey → Told (Unit {0})
 policy_limit s key =
     refuse_if
-        (is_none (policy_at s.held.policies key) && nat_lt MOST_POLICIES (length s.held.policies + 1))
-        (TooLarge limit.Policies)
+    (is_none (policy_at s.held.policies key) && nat_lt MOST_POLICIES (length s.held.policies + 1))
+    (TooLarge limit.Policies)
 
 -- nor one project more
 abbrev pub project_limit : State → List ℕ → Told (Unit {0})
 project_limit s name =
     refuse_if
-        (is_none (project_at s.held.projects name) && nat_lt MOST_PROJECTS (length s.held.projects + 1))
-        (TooLarge limit.Projects)
+    (is_none (project_at s.held.projects name) && nat_lt MOST_PROJECTS (length s.held.projects + 1))
+    (TooLarge limit.Projects)
 
 -- what files hold is not too much: too many criteria come first, then as much as there would be of each thing
 abbrev pub files_limits : State → FilesValue → Told (Unit {0})
