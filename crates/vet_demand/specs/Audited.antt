@@ -8,6 +8,7 @@ use Rattle.std.specs.declared.cmp.Ordering.{Ordering}
 use Rattle.std.specs.declared.cmp.Ordering.TheVariants.{Less, Equal, Greater}
 use Rattle.vet_base.specs.Criteria.{Criteria}
 use Rattle.vet_base.specs.CriteriaSet.{Places}
+use Rattle.vet_base.specs.Words.{Name}
 use Rattle.vet_demand.specs.Collected.{IsDemandedBefore, IsPairOf}
 use Rattle.vet_demand.specs.DemandOf.{IsDemanded, IsDemandedBy}
 use Rattle.vet_demand.specs.Project.{ProjectValue, node_cmp}
@@ -43,7 +44,7 @@ abbrev pub AreInAuditedOrder : List AuditedNode → Type 0
 AreInAuditedOrder audited = AllPairs (λ a b. audited_cmp a b ≡ Less) audited
 
 -- a pair is of one of these nodes and of one of these names, which the node needs
-abbrev pub IsAsked : List (List ℕ) → List AuditedNode → Pair → Type 0
+abbrev pub IsAsked : List Name → List AuditedNode → Pair → Type 0
 IsAsked names audited q = (a : AuditedNode) × Contains audited a × IsPairOf a.node names a.needs (length names) q
 
 -- exactly the pairs that projects demand are asked for
@@ -71,7 +72,7 @@ pub record AreAuditedBefore (policies : List KeyedPolicy) (criteria : Criteria) 
 -- one list asks for just what two do
 pub record AreMerged (first second all : List AuditedNode) : Type 0 where
   pub in_order : AreInAuditedOrder all
-  pub same : (names : List (List ℕ)) (q : Pair) → IsAsked names all q ↔ (IsAsked names first q ⊎ IsAsked names second q)
+  pub same : (names : List Name) (q : Pair) → IsAsked names all q ↔ (IsAsked names first q ⊎ IsAsked names second q)
 
 -- all of one list come before those of another from a place on
 abbrev pub AreBefore : List AuditedNode → List AuditedNode → ℕ → Type 0
@@ -84,7 +85,7 @@ pub record IsMerging (first second : List AuditedNode) (i j : ℕ) (all : List A
   pub in_order : AreInAuditedOrder all
   pub first_left : AreBefore all first i
   pub second_left : AreBefore all second j
-  pub same : (names : List (List ℕ)) (q : Pair) → IsAsked names all q
+  pub same : (names : List Name) (q : Pair) → IsAsked names all q
       ↔ (IsAsked names (take i first) q ⊎ IsAsked names (take j second) q)
 
 -- how the nodes at two places compare, where a list past its end gives way

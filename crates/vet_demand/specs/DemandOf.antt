@@ -6,6 +6,7 @@ use Rattle.std.specs.List.{All, Contains, flat_map, range_with_len}
 use Rattle.std.specs.BTreeSet.{insert_key}
 use Rattle.vet_base.specs.Criteria.{Criteria, IsTable}
 use Rattle.vet_base.specs.Names.{NameSet}
+use Rattle.vet_base.specs.Words.{Name}
 use Rattle.vet_demand.specs.Needs.{IsNeeded, is_needed, node_at}
 use Rattle.vet_demand.specs.Pair.{IsInOrder, pair_cmp}
 use Rattle.vet_demand.specs.Passed.{policy_for}
@@ -33,7 +34,7 @@ abbrev pub is_audited_node : List KeyedPolicy → Node → Bool
 is_audited_node policies node = is_audited node.party (policy_for policies node)
 
 -- the pair of a node and a criterion
-abbrev pub pair_of : Node → List ℕ → Pair
+abbrev pub pair_of : Node → Name → Pair
 pair_of node c = record { «package» = node.«package»; version = node.version; criterion = c }
 
 -- a pair is demanded: some project has an audited node that needs the criterion
@@ -61,7 +62,7 @@ pub record IsLeastDemand (projects : List NamedProject) (policies : List KeyedPo
 
 -- all criteria of a list are in the table, if there is a list
 abbrev pub NamesAreKnown : Criteria → Option NameSet → Type 0
-NamesAreKnown criteria names = (list : NameSet) → names ≡ Some list → (c : List ℕ) → set.contains list c ≡ true
+NamesAreKnown criteria names = (list : NameSet) → names ≡ Some list → (c : Name) → set.contains list c ≡ true
     → map.contains_key criteria c ≡ true
 
 -- each criterion that a policy names is in the table

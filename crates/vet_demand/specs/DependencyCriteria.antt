@@ -4,10 +4,11 @@ use Rattle.std.specs.Ordering.{nat_cmp}
 use Rattle.std.specs.Cmp.Lexicographic.{pointwise, slice_cmp}
 use Rattle.vet_base.specs.Names.{NameSet, same_names}
 use Rattle.vet_base.specs.Keyed.{IsByKey, item_of, with_item}
+use Rattle.vet_base.specs.Words.{Name}
 use Rattle.vet_demand.specs.declared.dependency_criteria.DependencyItem.{DependencyItem}
 
 -- the name at which an item stands
-abbrev pub item_name : DependencyItem → List ℕ
+abbrev pub item_name : DependencyItem → Name
 item_name i = i.«package»
 
 -- each item's name comes before those after it
@@ -15,22 +16,22 @@ abbrev pub IsByPackage : List DependencyItem → Type 0
 IsByPackage items = IsByKey (slice_cmp nat_cmp) item_name items
 
 -- the criteria at a name
-abbrev pub criteria_for : List DependencyItem → List ℕ → Option NameSet
+abbrev pub criteria_for : List DependencyItem → Name → Option NameSet
 criteria_for items name = option_map (λ i. i.criteria) (item_of (slice_cmp nat_cmp) item_name items name)
 
 -- the items of lesser names, then these criteria at this name, then the items of greater names
-abbrev pub with_criteria : List DependencyItem → List ℕ → NameSet → List DependencyItem
+abbrev pub with_criteria : List DependencyItem → Name → NameSet → List DependencyItem
 with_criteria items name criteria =
     with_item (slice_cmp nat_cmp) item_name items (record { «package» = name; criteria = criteria })
 
 -- criteria are found at the name at which they were set, and at each other name what was found there stays
 abbrev pub SetCriteriaAreFound : Type 0
-SetCriteriaAreFound = (items : List DependencyItem) (name : List ℕ) (criteria : NameSet)
+SetCriteriaAreFound = (items : List DependencyItem) (name : Name) (criteria : NameSet)
     → criteria_for (with_criteria items name criteria) name ≡ Some criteria
 
 abbrev pub OtherCriteriaStay : Type 0
 OtherCriteriaStay =
-    (items : List DependencyItem) (name other : List ℕ) (criteria : NameSet) → (other ≡ name → ⊥)
+    (items : List DependencyItem) (name other : Name) (criteria : NameSet) → (other ≡ name → ⊥)
     → criteria_for (with_criteria items name criteria) other ≡ criteria_for items other
 
 -- the same name with the same criteria

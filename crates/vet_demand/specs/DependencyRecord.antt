@@ -9,6 +9,7 @@ use Rattle.std.specs.declared.cmp.Ordering.{Ordering}
 use Rattle.csv.specs.Records.{field_at}
 use Rattle.vet_base.specs.Name.{read_package_name}
 use Rattle.vet_base.specs.Version.{VersionValue, read_version}
+use Rattle.vet_base.specs.Words.{Text}
 use Rattle.vet_demand.specs.Project.{node_cmp}
 use Rattle.vet_demand.specs.declared.dependency_record.DependencyRecord.{DependencyRecord}
 use Rattle.vet_demand.specs.declared.dependency_record.DependencyRecord.TheVariants.{NodeRecord, EdgeRecord}
@@ -23,40 +24,40 @@ use Rattle.vet_demand.specs.declared.project.Party.TheVariants.{Root, First, Thi
 -- ---- fields
 
 -- the field at a place, and no byte where there is none
-abbrev pub field : List (List ℕ) → ℕ → List ℕ
+abbrev pub field : List Text → ℕ → Text
 field fields place = unwrap_or (field_at fields place) []
 
-abbrev pub is_word : List (List ℕ) → ℕ → List ℕ → Bool
+abbrev pub is_word : List Text → ℕ → Text → Bool
 is_word fields place word = bytes_eq (field fields place) word
 
-abbrev pub has_five : List (List ℕ) → Bool
+abbrev pub has_five : List Text → Bool
 has_five fields = length fields == 5
 
 -- the record that stands first
-abbrev pub is_header : List (List ℕ) → Bool
+abbrev pub is_header : List Text → Bool
 is_header fields =
     has_five fields && is_word fields 0 (codes "what") && is_word fields 1 (codes "n") && is_word fields 2 (codes "p")
     && is_word fields 3 (codes "q") && is_word fields 4 (codes "r")
 
 -- a number in 1 to 9 digits
-abbrev pub is_number : List ℕ → Bool
+abbrev pub is_number : Text → Bool
 is_number text = nat_le 1 (length text) && nat_le (length text) 9 && list_all is_ascii_digit text
 
-abbrev pub read_number : List ℕ → Option ℕ
+abbrev pub read_number : Text → Option ℕ
 read_number text = if is_number text then Some (digits_value 10 text) else None
 
 -- a version, in a field that is text
-abbrev pub read_version_field : List ℕ → Option VersionValue
+abbrev pub read_version_field : Text → Option VersionValue
 read_version_field bytes = if is_utf8 bytes then read_version bytes else None
 
-abbrev pub read_party : List ℕ → Option Party
+abbrev pub read_party : Text → Option Party
 read_party word =
     if bytes_eq word (codes "root") then Some Root
     else if bytes_eq word (codes "first") then Some First
     else if bytes_eq word (codes "third") then Some Third
     else None
 
-abbrev pub read_kind : List ℕ → Option EdgeKind
+abbrev pub read_kind : Text → Option EdgeKind
 read_kind word =
     if bytes_eq word (codes "normal") then Some Normal
     else if bytes_eq word (codes "build") then Some Build
@@ -66,33 +67,33 @@ read_kind word =
 -- ---- records
 
 -- the node that the last three fields state
-abbrev pub node_stated : List (List ℕ) → Option Node
+abbrev pub node_stated : List Text → Option Node
 node_stated fields =
     option_and_then (λ name. option_and_then (λ version. option_map
     (λ party. record { «package» = name; version = version; party = party })
     (read_party (field fields 4))) (read_version_field (field fields 3))) (read_package_name (field fields 2))
 
 -- the record of a node: its number, then the node
-abbrev pub node_record : List (List ℕ) → Option DependencyRecord
+abbrev pub node_record : List Text → Option DependencyRecord
 node_record fields =
     option_and_then (λ number. option_map (λ node. NodeRecord (record { number = number; node = node }))
     (node_stated fields)) (read_number (field fields 1))
 
 -- the edge that the middle three fields state, between the numbers of nodes
-abbrev pub edge_stated : List (List ℕ) → Option Edge
+abbrev pub edge_stated : List Text → Option Edge
 edge_stated fields =
     option_and_then (λ from. option_and_then (λ to. option_map (λ kind. record { from = from; to = to; kind = kind })
     (read_kind (field fields 3))) (read_number (field fields 2))) (read_number (field fields 1))
 
 -- the record of an edge, whose last field is empty
-abbrev pub edge_record : ℕ → List (List ℕ) → Option DependencyRecord
+abbrev pub edge_record : ℕ → List Text → Option DependencyRecord
 edge_record number fields =
     if is_word fields 4 []
     then option_map (λ edge. EdgeRecord (record { record_number = number; edge = edge })) (edge_stated fields)
     else None
 
 -- what the record of this number states, if it has the form of a node or of an edge
-abbrev pub record_stated : ℕ → List (List ℕ) → Option DependencyRecord
+abbrev pub record_stated : ℕ → List Text → Option DependencyRecord
 record_stated number fields =
     if has_five fields && is_word fields 0 (codes "node") then node_record fields
     else if has_five fields && is_word fields 0 (codes "edge") then edge_record number fields

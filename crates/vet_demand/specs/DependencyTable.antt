@@ -6,6 +6,7 @@ use Rattle.std.specs.Ordering.{is_eq}
 use Rattle.std.specs.BTreeSet.{insert_key}
 use Rattle.csv.specs.Reading.{default_config, records, strip_bom}
 use Rattle.vet_base.specs.Gives.{Told, found_or, refuse_if, ◌>>=◌}
+use Rattle.vet_base.specs.Words.{Bytes, Text}
 use Rattle.vet_base.specs.declared.limits.TheConstants.{MOST_NODES, MOST_EDGES}
 use Rattle.vet_base.specs.declared.refusal.Limit.TheVariants.{Nodes, Edges}
 use Rattle.vet_base.specs.declared.refusal.Refusal.TheVariants.{CsvRefused, TooLarge, TwoParties, UnknownNode}
@@ -70,13 +71,13 @@ record_told number s (NodeRecord n) = node_told number s.nodes n
 record_told number s (EdgeRecord e) = edge_told s.edges e
 
 -- what is stated with the fields of this record, or its first fault
-abbrev pub fields_told : ℕ → StatedValue → List (List ℕ) → Told StatedValue
+abbrev pub fields_told : ℕ → StatedValue → List Text → Told StatedValue
 fields_told number s fields =
     found_or (CsvRefused number) (record_stated number fields)
     >>= (λ found. record_told number s found >>= (λ _. Ok (with_record s found)))
 
 -- what is stated with these records, the first of them of this number, or the first fault
-abbrev pub records_told : ℕ → StatedValue → List (List (List ℕ)) → Told StatedValue
+abbrev pub records_told : ℕ → StatedValue → List (List Text) → Told StatedValue
 records_told number s [] = Ok s
 records_told number s (fields ∷ rest) = fields_told number s fields >>= (λ more. records_told (number + 1) more rest)
 
@@ -115,15 +116,15 @@ stated_told s =
     >>= (λ edges. Ok (record { nodes = map (λ n. n.node) s.nodes; edges = edges }))
 
 -- what the records of a table state, or their first fault
-abbrev pub table_told : List (List (List ℕ)) → Told StatedValue
+abbrev pub table_told : List (List Text) → Told StatedValue
 table_told [] = Err (CsvRefused 1)
 table_told (header ∷ rows) = refuse_if (not (is_header header)) (CsvRefused 1)
     >>= (λ _. records_told 2 nothing_stated rows)
 
 -- the project that they state, or the first fault of all
-abbrev pub project_told : List (List (List ℕ)) → Told ProjectValue
+abbrev pub project_told : List (List Text) → Told ProjectValue
 project_told rows = table_told rows >>= stated_told
 
 -- the records of some bytes, the first of which may be a byte order mark
-abbrev pub project_of_bytes : List ℕ → Told ProjectValue
+abbrev pub project_of_bytes : Bytes → Told ProjectValue
 project_of_bytes bytes = project_told (records default_config (strip_bom bytes))

@@ -1,11 +1,12 @@
 -- Projects by name (ours).
 use Rattle.std.specs.Prelude.{ℕ, ◌&&◌, nat_eq, Bool, List}
 use Rattle.std.specs.Cmp.Lexicographic.{pointwise}
+use Rattle.vet_base.specs.Words.{Name}
 use Rattle.vet_demand.specs.declared.project.NamedProject.{NamedProject}
 use Rattle.vet_demand.specs.Project.{project_eq}
 
 -- the name at which a project stands
-abbrev pub project_name : NamedProject → List ℕ
+abbrev pub project_name : NamedProject → Name
 project_name p = p.name
 
 -- the same name with the same project

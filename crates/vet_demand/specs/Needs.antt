@@ -5,6 +5,7 @@ use Rattle.std.specs.List.{Contains, list_any, range_with_len}
 use Rattle.std.specs.Option.{option_map_or}
 use Rattle.vet_base.specs.Criteria.{Criteria, closure_of}
 use Rattle.vet_base.specs.Names.{NameSet}
+use Rattle.vet_base.specs.Words.{Name}
 use Rattle.vet_demand.specs.Passed.{own_criteria, passed_criteria, policy_for, takes}
 use Rattle.vet_demand.specs.Project.{ProjectValue}
 use Rattle.vet_demand.specs.declared.policies.KeyedPolicy.{KeyedPolicy}
@@ -34,12 +35,12 @@ passed_by policies nodes e =
     (node_at nodes e.to).«package»
 
 -- whether some criteria imply a criterion in the end, or have it
-abbrev pub covers : Criteria → List ℕ → NameSet → Bool
+abbrev pub covers : Criteria → Name → NameSet → Bool
 covers criteria c names = set.contains (closure_of criteria names) c
 
 -- at which places a criterion is needed: where it is by itself, where an edge passes a list that covers it, and where
 -- an edge passes what its node needs, from a place where it is needed
-pub data IsNeeded (policies : List KeyedPolicy) (criteria : Criteria) (project : ProjectValue) (c : List ℕ) : ℕ
+pub data IsNeeded (policies : List KeyedPolicy) (criteria : Criteria) (project : ProjectValue) (c : Name) : ℕ
     → Type 0 where
   own : {v : ℕ} → v < length project.nodes → covers criteria c (own_at policies project.nodes v) ≡ true
       → IsNeeded policies criteria project c v
@@ -62,13 +63,13 @@ abbrev pub passes_on : List KeyedPolicy → List Node → Edge → Bool
 passes_on policies nodes e = takes_at policies nodes e.to && is_none (passed_by policies nodes e)
 
 -- whether an edge passes a list that covers a criterion
-abbrev pub passes_listed : List KeyedPolicy → Criteria → List Node → List ℕ → Edge → Bool
+abbrev pub passes_listed : List KeyedPolicy → Criteria → List Node → Name → Edge → Bool
 passes_listed policies criteria nodes c e =
     takes_at policies nodes e.to && option_map_or (covers criteria c) (passed_by policies nodes e) false
 
 -- whether a criterion is needed at a place: edges that pass on needs lead there from a place where it is so by itself,
 -- or from one to which an edge passes it
-abbrev pub is_needed : List KeyedPolicy → Criteria → ProjectValue → List ℕ → ℕ → Bool
+abbrev pub is_needed : List KeyedPolicy → Criteria → ProjectValue → Name → ℕ → Bool
 is_needed policies criteria project c v =
     let on = filter (passes_on policies project.nodes) project.edges in
     list_any (λ u. covers criteria c (own_at policies project.nodes u) && leads on u v)
@@ -78,5 +79,5 @@ is_needed policies criteria project c v =
 -- the function tells the least needs
 abbrev pub NeedsAreLeast : Type 0
 NeedsAreLeast =
-    (policies : List KeyedPolicy) (criteria : Criteria) (project : ProjectValue) (c : List ℕ) (v : ℕ)
+    (policies : List KeyedPolicy) (criteria : Criteria) (project : ProjectValue) (c : Name) (v : ℕ)
     → (is_needed policies criteria project c v ≡ true) ↔ IsNeeded policies criteria project c v

@@ -2,6 +2,7 @@
 use Rattle.std.specs.Prelude.{ℕ, ◌≡◌, ◌<◌, ◌↔◌, List, [], ◌∷◌, Option, Some, None, IsSome, get_or, length, map}
 use Rattle.std.specs.List.{All, Contains, flat_map}
 use Rattle.std.specs.List.Sorted.{IsPermutation}
+use Rattle.vet_base.specs.Words.{Text}
 use Rattle.vet_demand.specs.DependencyRecord.{record_stated}
 use Rattle.vet_demand.specs.declared.dependency_record.DependencyRecord.{DependencyRecord}
 use Rattle.vet_demand.specs.declared.dependency_record.DependencyRecord.TheVariants.{NodeRecord, EdgeRecord}
@@ -21,10 +22,10 @@ edge_of (Some (EdgeRecord s)) = s.edge ∷ []
 edge_of None = []
 
 -- the nodes that records state, and the edges, in the order of the records
-abbrev pub nodes_in : List (List (List ℕ)) → List NumberedNode
+abbrev pub nodes_in : List (List Text) → List NumberedNode
 nodes_in = flat_map (λ fields. node_of (record_stated 0 fields))
 
-abbrev pub edges_in : List (List (List ℕ)) → List Edge
+abbrev pub edges_in : List (List Text) → List Edge
 edges_in = flat_map (λ fields. edge_of (record_stated 0 fields))
 
 -- ---- other numbers
@@ -39,7 +40,7 @@ renamed rename e = record { from = rename e.from; to = rename e.to; kind = e.kin
 
 -- The other records state the same nodes and edges by new numbers, in any order. Each node stands there once, and its
 -- number is how many stand before it. Equal edges stand there however often.
-pub record AreRenumbered (rename : ℕ → ℕ) (rows others : List (List (List ℕ))) : Type 0 where
+pub record AreRenumbered (rename : ℕ → ℕ) (rows others : List (List Text)) : Type 0 where
   pub apart : (j k : ℕ) → rename j ≡ rename k → j ≡ k
   pub formed : All (λ fields. IsSome (record_stated 0 fields)) others
   pub counted : (k : ℕ) (d : NumberedNode) → k < length (nodes_in others) → (get_or (nodes_in others) k d).number ≡ k

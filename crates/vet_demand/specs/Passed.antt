@@ -4,6 +4,7 @@ use Rattle.std.specs.FinSet as set
 use Rattle.std.specs.Option.{option_or}
 use Rattle.vet_base.specs.Criteria.{safe_to_deploy, safe_to_run}
 use Rattle.vet_base.specs.Names.{NameSet}
+use Rattle.vet_base.specs.Words.{Name}
 use Rattle.vet_demand.specs.DependencyCriteria.{criteria_for}
 use Rattle.vet_demand.specs.Policies.{policy_of}
 use Rattle.vet_demand.specs.declared.policies.KeyedPolicy.{KeyedPolicy}
@@ -32,7 +33,7 @@ settled_criteria First policy = named_criteria policy
 settled_criteria Third policy = None
 
 -- one name alone
-abbrev pub only : List ℕ → NameSet
+abbrev pub only : Name → NameSet
 only n = set.insert set.empty n
 
 -- what a node needs by itself, where its policy doesn't say
@@ -50,7 +51,7 @@ abbrev pub takes : Party → Option Policy → Bool
 takes party policy = is_none (settled_criteria party policy)
 
 -- the criteria that a policy lists for dependencies of a name
-abbrev pub listed_criteria : Option Policy → List ℕ → Option NameSet
+abbrev pub listed_criteria : Option Policy → Name → Option NameSet
 listed_criteria None name = None
 listed_criteria (Some p) name = criteria_for p.dependency_criteria name
 
@@ -60,13 +61,13 @@ dev_criteria None = only safe_to_run
 dev_criteria (Some p) = unwrap_or p.dev_criteria (only safe_to_run)
 
 -- what is passed along a dev edge
-abbrev pub dev_passed : Party → Option Policy → List ℕ → NameSet
+abbrev pub dev_passed : Party → Option Policy → Name → NameSet
 dev_passed Root policy name = unwrap_or (listed_criteria policy name) (dev_criteria policy)
 dev_passed First policy name = unwrap_or (listed_criteria policy name) (dev_criteria policy)
 dev_passed Third policy name = set.empty
 
 -- what is passed along an edge to a name; none: what the node needs where the edge starts
-abbrev pub passed_criteria : EdgeKind → Party → Option Policy → List ℕ → Option NameSet
+abbrev pub passed_criteria : EdgeKind → Party → Option Policy → Name → Option NameSet
 passed_criteria Normal party policy name = listed_criteria policy name
 passed_criteria Build party policy name = listed_criteria policy name
 passed_criteria Dev party policy name = Some (dev_passed party policy name)

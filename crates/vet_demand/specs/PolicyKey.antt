@@ -10,6 +10,7 @@ use Rattle.vet_base.specs.Gives.{Told, found_or, ◌>>=◌}
 use Rattle.vet_base.specs.Name.{read_package_name}
 use Rattle.vet_base.specs.Version.{VersionValue, read_version, version_text}
 use Rattle.vet_base.specs.VersionOrder.{version_cmp}
+use Rattle.vet_base.specs.Words.{Name, Text}
 use Rattle.vet_base.specs.declared.refusal.Refusal.TheVariants.{BadName, BadVersion}
 use Rattle.vet_demand.specs.declared.policy_key.PolicyKey.{PolicyKey}
 
@@ -20,30 +21,30 @@ abbrev pub is_colon : ℕ → Bool
 is_colon b = b == 58
 
 -- the key of a package
-abbrev pub plain_key : List ℕ → Told PolicyKey
+abbrev pub plain_key : Text → Told PolicyKey
 plain_key text = found_or BadName (read_package_name text) >>= (λ n. Ok (record { «package» = n; version = None }))
 
 -- the key of one version of a package
-abbrev pub versioned_key : List ℕ → List ℕ → Told PolicyKey
+abbrev pub versioned_key : Name → Text → Told PolicyKey
 versioned_key name rest = found_or BadName (read_package_name name)
     >>= (λ n. found_or BadVersion (read_version rest) >>= (λ v. Ok (record { «package» = n; version = Some v })))
 
 -- the key that a text is, or its refusal
-abbrev pub key_told : List ℕ → Told PolicyKey
+abbrev pub key_told : Text → Told PolicyKey
 key_told text =
     if position_or_len is_colon text == length text then plain_key text
     else versioned_key (before_first is_colon text) (after_first is_colon text)
 
 -- the key that a text is, if it is one
-abbrev pub read_key : List ℕ → Option PolicyKey
+abbrev pub read_key : Text → Option PolicyKey
 read_key text = result_ok (key_told text)
 
 -- the text of a key
-abbrev pub key_version_text : Option VersionValue → List ℕ
+abbrev pub key_version_text : Option VersionValue → Text
 key_version_text None = []
 key_version_text (Some v) = 58 ∷ version_text v
 
-abbrev pub key_text : PolicyKey → List ℕ
+abbrev pub key_text : PolicyKey → Text
 key_text k = k.«package» ++ key_version_text k.version
 
 -- ---- the order

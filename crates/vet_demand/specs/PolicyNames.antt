@@ -6,6 +6,7 @@ use Rattle.std.specs.List.{list_any}
 use Rattle.vet_base.specs.Criteria.{Criteria, least_unknown}
 use Rattle.vet_base.specs.Keyed.{with_item, without_item}
 use Rattle.vet_base.specs.Names.{NameSet}
+use Rattle.vet_base.specs.Words.{Name}
 use Rattle.vet_base.specs.declared.criterion.Criterion.{Criterion}
 use Rattle.vet_demand.specs.DemandOf.{PoliciesAreKnown}
 use Rattle.vet_demand.specs.Policies.{key_of}
@@ -30,7 +31,7 @@ names_in p = set.union (set.union (names_listed p.criteria) (names_listed p.dev_
     (names_passed p.dependency_criteria)
 
 -- whether a policy names a criterion
-abbrev pub policy_names : List ℕ → KeyedPolicy → Bool
+abbrev pub policy_names : Name → KeyedPolicy → Bool
 policy_names name k = set.contains (names_in k.policy) name
 
 -- policies stay known where one is set that names only known criteria
@@ -49,12 +50,12 @@ KnownWithoutDropped =
 -- where a criterion is set
 abbrev pub KnownByMoreCriteria : Type 0
 KnownByMoreCriteria =
-    (criteria : Criteria) (policies : List KeyedPolicy) (name : List ℕ) (c : Criterion)
+    (criteria : Criteria) (policies : List KeyedPolicy) (name : Name) (c : Criterion)
     → PoliciesAreKnown criteria policies
     → PoliciesAreKnown (map.insert criteria name c) policies
 
 -- and where one is removed that none of them names
 abbrev pub KnownByFewerCriteria : Type 0
 KnownByFewerCriteria =
-    (criteria : Criteria) (policies : List KeyedPolicy) (name : List ℕ) → list_any (policy_names name) policies ≡ false
+    (criteria : Criteria) (policies : List KeyedPolicy) (name : Name) → list_any (policy_names name) policies ≡ false
     → PoliciesAreKnown criteria policies → PoliciesAreKnown (map.remove criteria name) policies

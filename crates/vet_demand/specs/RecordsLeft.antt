@@ -7,18 +7,19 @@ use Rattle.csv.specs.declared.error.ErrorKind.TheVariants as kind
 use Rattle.csv.specs.declared.parser.State.{State}
 use Rattle.csv.specs.declared.reader.Reader.{Reader}
 use Rattle.csv.specs.declared.reader.Trim.TheVariants as trim
+use Rattle.vet_base.specs.Words.{Bytes, Text}
 use Rattle.vet_base.specs.declared.refusal.Refusal.{Refusal}
 use Rattle.vet_base.specs.declared.refusal.Refusal.TheVariants.{CsvRefused, NoMemory}
 
 -- a reader of bytes in memory, and the bytes that it has yet to take
 abbrev pub BytesReader : Type 0
-BytesReader = Reader (Bor (List ℕ))
+BytesReader = Reader (Bor Bytes)
 
-abbrev pub bytes_ahead : Bor (List ℕ) → Option (List ℕ)
+abbrev pub bytes_ahead : Bor Bytes → Option Bytes
 bytes_ahead s = Some s.now
 
 -- a reader in this state with these bytes left, which gives one record at a time, of any number of fields
-pub record IsReading (reader : BytesReader) (state : State) (left : List ℕ) : Type 0 where
+pub record IsReading (reader : BytesReader) (state : State) (left : Bytes) : Type 0 where
   pub untrimmed : reader_trim reader ≡ trim.None
   pub ready : Ready reader
   pub plain : reader_config reader ≡ default_config
@@ -27,14 +28,14 @@ pub record IsReading (reader : BytesReader) (state : State) (left : List ℕ) : 
   pub now : reader_state reader ≡ state
 
 -- the records that are left, if they are at most so many
-abbrev pub RecordsLeft : BytesReader → ℕ → List (List (List ℕ)) → Type 0
-RecordsLeft reader most rows = (state : State) × (left : List ℕ) × IsReading reader state left
+abbrev pub RecordsLeft : BytesReader → ℕ → List (List Text) → Type 0
+RecordsLeft reader most rows = (state : State) × (left : Bytes) × IsReading reader state left
     × (records_from default_config most state left ≡ rows)
 
 -- there was no record, or these are the fields of the first, and the others are left
-abbrev pub FirstIs : Bool → List (List ℕ) → BytesReader → ℕ → List (List (List ℕ)) → Type 0
+abbrev pub FirstIs : Bool → List Text → BytesReader → ℕ → List (List Text) → Type 0
 FirstIs false fields reader most rows = rows ≡ []
-FirstIs true fields reader most rows = (rest : List (List (List ℕ))) × (rows ≡ fields ∷ rest)
+FirstIs true fields reader most rows = (rest : List (List Text)) × (rows ≡ fields ∷ rest)
     × RecordsLeft reader most rest
 
 -- what stands for an error of the reader at the record of this number

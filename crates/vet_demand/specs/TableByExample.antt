@@ -1,6 +1,7 @@
 -- A project and its dependency table, by example (ours).
 use Rattle.std.specs.Prelude.{ℕ, List, [], ◌∷◌, ◌++◌, None, codes}
 use Rattle.vet_base.specs.Version.{VersionValue}
+use Rattle.vet_base.specs.Words.{Bytes}
 use Rattle.vet_demand.specs.Project.{ProjectValue}
 use Rattle.vet_demand.specs.declared.project.EdgeKind.TheVariants.{Normal, Dev}
 use Rattle.vet_demand.specs.declared.project.Party.TheVariants.{Root, Third}
@@ -21,7 +22,7 @@ example_project = record {
   edges = record { from = 0; to = 2; kind = Normal } ∷ record { from = 1; to = 0; kind = Dev } ∷ [];
 }
 
-abbrev pub example_table : List ℕ
+abbrev pub example_table : Bytes
 example_table =
     codes "what,n,p,q,r\n"
     ++ codes "node,0,a,1.0.0,third\n"
@@ -31,7 +32,7 @@ example_table =
     ++ codes "edge,1,0,dev,\n"
 
 -- the same by other numbers: an edge stands twice, and a number, a field and ends of lines are spelled otherwise
-abbrev pub other_table : List ℕ
+abbrev pub other_table : Bytes
 other_table =
     codes "what,n,p,q,r\n"
     ++ codes "node,0,app,0.1.0,root\n"

@@ -7,6 +7,7 @@ use Rattle.vet_base.specs.Day.{DayValue}
 use Rattle.vet_base.specs.Keyed.{item_of, with_item}
 use Rattle.vet_base.specs.Names.{NameSet}
 use Rattle.vet_base.specs.Version.{VersionValue}
+use Rattle.vet_base.specs.Words.{Name}
 use Rattle.vet_entries.specs.declared.entry.Entry.{Entry}
 use Rattle.vet_entries.specs.declared.entry.Source.TheVariants.{Own}
 use Rattle.vet_entries.specs.declared.kind.Audit.{Audit}
@@ -26,7 +27,7 @@ DeskCommandValue = DeskCommand
 
 -- the members in the order of their names, the reviews in the order of their numbers, and the next review's number
 pub record DeskState : Type 0 where
-  pub members : List (List ℕ)
+  pub members : List Name
   pub reviews : List Review
   pub next_review : ℕ
 
@@ -35,30 +36,30 @@ abbrev pub empty_desk : DeskState
 empty_desk = record { members = []; reviews = []; next_review = 1 }
 
 -- each name is its own key
-abbrev pub own_name : List ℕ → List ℕ
+abbrev pub own_name : Name → Name
 own_name name = name
 
 -- a name is that of a member
-abbrev pub is_member : List (List ℕ) → List ℕ → Bool
+abbrev pub is_member : List Name → Name → Bool
 is_member members name = is_some (item_of (slice_cmp nat_cmp) own_name members name)
 
 -- the members, and one of this name
-abbrev pub with_member : List ℕ → List (List ℕ) → List (List ℕ)
+abbrev pub with_member : Name → List Name → List Name
 with_member name members = with_item (slice_cmp nat_cmp) own_name members name
 
 -- ---- the entry of a finished review
 
 -- one member reviewed, and nothing is said of imports
-abbrev pub audit_by : List ℕ → Audit
+abbrev pub audit_by : Name → Audit
 audit_by member = record { who = set.insert set.empty member; importable = None }
 
 -- what the entry says of the package
-abbrev pub kind_by : List ℕ → Reviewed → Kind
+abbrev pub kind_by : Name → Reviewed → Kind
 kind_by member (Version v) = kind.Full v (audit_by member)
 kind_by member (Delta d) = kind.Delta d (audit_by member)
 
 -- the own entry that finishes a review: of its package and criteria, without notes
-abbrev pub entry_by : List ℕ → Reviewed → Review → Entry
+abbrev pub entry_by : Name → Reviewed → Review → Entry
 entry_by member reviewed review = record {
   source = Own;
   «package» = review.«package»;
@@ -75,7 +76,7 @@ entry_of d _ = None
 -- ---- the effect of a command
 
 -- a review that nobody has begun
-abbrev pub new_review : ℕ → DayValue → List ℕ → VersionValue → NameSet → Review
+abbrev pub new_review : ℕ → DayValue → Name → VersionValue → NameSet → Review
 new_review number day name version criteria = record {
   number = number;
   «package» = name;

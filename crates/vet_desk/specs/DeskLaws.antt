@@ -4,6 +4,7 @@ use Rattle.std.specs.FinSet as set
 use Rattle.vet_base.specs.Criteria.{Criteria, least_unknown}
 use Rattle.vet_base.specs.Day.{DayValue}
 use Rattle.vet_base.specs.Names.{NameSet}
+use Rattle.vet_base.specs.Words.{Name}
 use Rattle.vet_demand.specs.declared.pair.Pair.{Pair}
 use Rattle.vet_desk.specs.declared.command.DeskCommand.{DeskCommand}
 use Rattle.vet_desk.specs.declared.command.Reviewed.{Reviewed}
@@ -19,10 +20,10 @@ use Rattle.vet_desk.specs.SoundDesk.{AreKnownTo, HaveEntriesGiven, IsSoundDesk}
 
 -- who is added is a member, and who was one still is
 abbrev pub MemberIsAdded : Type 0
-MemberIsAdded = (name : List ℕ) (members : List (List ℕ)) → is_member (with_member name members) name ≡ true
+MemberIsAdded = (name : Name) (members : List Name) → is_member (with_member name members) name ≡ true
 
 abbrev pub MembersStay : Type 0
-MembersStay = (name other : List ℕ) (members : List (List ℕ)) → (other ≡ name → ⊥)
+MembersStay = (name other : Name) (members : List Name) → (other ≡ name → ⊥)
     → is_member (with_member name members) other ≡ is_member members other
 
 -- the review of a number comes into another state, and nothing else of it changes
@@ -41,16 +42,16 @@ OtherReviewsStay = (n m : ℕ) (state : ReviewState) (reviews : List Review) →
 -- a review is open where it waits, or is somebody's
 abbrev pub OpenWaitsOrIsAssigned : Type 0
 OpenWaitsOrIsAssigned = (r : Review) → (still_open r ≡ Ok tt)
-    ↔ ((r.state ≡ Waiting) ⊎ ((member : List ℕ) × (r.state ≡ Assigned member)))
+    ↔ ((r.state ≡ Waiting) ⊎ ((member : Name) × (r.state ≡ Assigned member)))
 
 -- only the member to whom it is assigned finishes it, and only for its version
 abbrev pub OnlyItsMemberFinishes : Type 0
-OnlyItsMemberFinishes = (member : List ℕ) (reviewed : Reviewed) (r : Review)
+OnlyItsMemberFinishes = (member : Name) (reviewed : Reviewed) (r : Review)
     → (finish_rules member reviewed r ≡ Ok tt) ↔ ((r.state ≡ Assigned member) × (target_of reviewed ≡ r.version))
 
 -- any member withdraws one that waits, and else only the member to whom it is assigned
 abbrev pub WaitingOrOwnIsWithdrawn : Type 0
-WaitingOrOwnIsWithdrawn = (member : List ℕ) (r : Review) → (withdraw_rules member r ≡ Ok tt)
+WaitingOrOwnIsWithdrawn = (member : Name) (r : Review) → (withdraw_rules member r ≡ Ok tt)
     ↔ ((r.state ≡ Waiting) ⊎ (r.state ≡ Assigned member))
 
 -- ---- what stays so
@@ -70,7 +71,7 @@ OpenCriteriaStayKnown = (criteria : Criteria) (demand : List Pair) (d : DeskStat
 
 -- so it does where a criterion goes that none of them names
 abbrev pub UnnamedCriterionMayGo : Type 0
-UnnamedCriterionMayGo = (criteria other : Criteria) (name : List ℕ) (reviews : List Review)
+UnnamedCriterionMayGo = (criteria other : Criteria) (name : Name) (reviews : List Review)
     → ((names : NameSet) → set.contains names name ≡ false → least_unknown criteria names ≡ None
     → least_unknown other names ≡ None)
     → are_open_for reviews name ≡ false → AreKnownTo criteria reviews → AreKnownTo other reviews

@@ -3,6 +3,7 @@
 use Rattle.std.specs.Prelude.{ℕ, ◌+◌, ◌==◌, ◌&&◌, not, nat_lt, Bool, true, false, is_none, List, Option, Some, None, Ok, length}
 use Rattle.std.specs.List.{list_all, list_any}
 use Rattle.std.specs.Option.{option_map_or}
+use Rattle.vet_base.specs.Words.{Name}
 use Rattle.vet_base.specs.declared.limits.TheConstants.{LAST_NUMBER, MOST_MEMBERS, MOST_REVIEWS}
 use Rattle.vet_base.specs.declared.refusal.Limit.TheVariants as limit
 use Rattle.vet_base.specs.declared.refusal.Refusal.TheVariants.{NotDemanded, NotYours, ReviewClosed, TooLarge, UnknownMember, UnknownReview, WrongTarget}
@@ -25,7 +26,7 @@ use Rattle.vet_desk.specs.Desk.{DeskState, is_member}
 use Rattle.vet_desk.specs.Review.{is_anothers, is_assigned_to, is_closed, review_of}
 
 -- whether the review of a number is assigned to a member
-abbrev pub is_assigned_review : List Review → ℕ → List ℕ → Bool
+abbrev pub is_assigned_review : List Review → ℕ → Name → Bool
 is_assigned_review reviews n member = option_map_or (λ (r : Review). is_assigned_to member r.state)
     (review_of reviews n) false
 
@@ -59,7 +60,7 @@ desk_number d (OpenReview name version criteria) = review_number_limit d
 desk_number d _ = Ok tt
 
 -- a member and a review are held
-abbrev pub both_held : DeskState → ℕ → List ℕ → Told (Unit {0})
+abbrev pub both_held : DeskState → ℕ → Name → Told (Unit {0})
 both_held d n member =
     refuse_if (not (is_member d.members member)) UnknownMember
     >>= λ _. refuse_if (is_none (review_of d.reviews n)) UnknownReview
@@ -73,17 +74,17 @@ desk_references criteria d (FinishReview n member reviewed) = both_held d n memb
 desk_references criteria d (WithdrawReview n member) = both_held d n member
 
 -- a version of a package is demanded for a criterion
-abbrev pub is_demanded : List Pair → List ℕ → VersionValue → List ℕ → Bool
+abbrev pub is_demanded : List Pair → Name → VersionValue → Name → Bool
 is_demanded demand name version criterion =
     list_any (pair_eq (record { «package» = name; version = version; criterion = criterion })) demand
 
 -- it is for each of some criteria, and there are some
-abbrev pub are_demanded : List Pair → List ℕ → VersionValue → NameSet → Bool
+abbrev pub are_demanded : List Pair → Name → VersionValue → NameSet → Bool
 are_demanded demand name version criteria =
     not (length (members criteria) == 0) && list_all (is_demanded demand name version) (members criteria)
 
 -- only what is demanded is reviewed
-abbrev pub wanted_rules : List Pair → List ℕ → VersionValue → NameSet → Told (Unit {0})
+abbrev pub wanted_rules : List Pair → Name → VersionValue → NameSet → Told (Unit {0})
 wanted_rules demand name version criteria = refuse_if (not (are_demanded demand name version criteria)) NotDemanded
 
 -- the version that was reviewed: that to which a delta leads
@@ -96,13 +97,13 @@ abbrev pub still_open : Review → Told (Unit {0})
 still_open r = refuse_if (is_closed r.state) ReviewClosed
 
 -- it is finished by the member to whom it is assigned, for its version
-abbrev pub finish_rules : List ℕ → Reviewed → Review → Told (Unit {0})
+abbrev pub finish_rules : Name → Reviewed → Review → Told (Unit {0})
 finish_rules member reviewed r =
     still_open r >>= λ _. refuse_if (not (is_assigned_to member r.state)) NotYours
     >>= λ _. refuse_if (not (version_eq (target_of reviewed) r.version)) WrongTarget
 
 -- it is withdrawn by any member, but not from another to whom it is assigned
-abbrev pub withdraw_rules : List ℕ → Review → Told (Unit {0})
+abbrev pub withdraw_rules : Name → Review → Told (Unit {0})
 withdraw_rules member r = still_open r >>= λ _. refuse_if (is_anothers member r.state) NotYours
 
 -- what is asked of a review, if there is one

@@ -4,6 +4,7 @@ use Rattle.std.specs.Coded.{Coded, code_by, coded×, coded_list, coded_ℕ}
 use Rattle.std.specs.Ordering.{nat_cmp}
 use Rattle.std.specs.Cmp.Lexicographic.{slice_cmp}
 use Rattle.std.proofs.Common.{refl}
+use Rattle.vet_base.specs.Words.{Name}
 use Rattle.vet_base.specs.declared.limits.TheConstants.{LAST_NUMBER, MOST_MEMBERS, MOST_REVIEWS}
 use Rattle.vet_base.specs.declared.refusal.Refusal.{Refusal}
 use Rattle.vet_base.specs.declared.refusal.Refusal.TheVariants.{NoMemory}
@@ -38,7 +39,7 @@ pub record DeskView : Type 0 where
   pub room : DeskRoom
 
 -- the members, and for how many more there is room
-abbrev pub members_room : DeskView → KeyedRoom (List ℕ)
+abbrev pub members_room : DeskView → KeyedRoom Name
 members_room d = record { items = d.content.members; room = d.room.members }
 
 -- ---- changes

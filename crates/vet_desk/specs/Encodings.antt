@@ -4,6 +4,7 @@ use Rattle.std.specs.Coded.{Coded, code_by, coded×, coded_list, coded_ℕ}
 use Rattle.std.specs.Ordering.{nat_cmp}
 use Rattle.std.specs.Cmp.Lexicographic.{slice_cmp}
 use Rattle.std.proofs.Common.{refl}
+use Rattle.vet_base.specs.Words.{Name}
 use Rattle.vet_base.specs.declared.limits.TheConstants.{LAST_NUMBER, MOST_MEMBERS, MOST_REVIEWS}
 use Rattle.vet_base.specs.declared.refusal.Refusal.{Refusal}
 use Rattle.vet_base.specs.declared.refusal.Refusal.TheVariants.{NoMemory}
@@ -31,7 +32,7 @@ use Rattle.vet_desk.specs.DeskView.{DeskRoom, DeskView, members_room, with_state
 -- a desk is stored as the tuple of its parts and rooms
 abbrev pub desk_code : Coded Review → Coded DeskView
 desk_code review_code =
-    code_by (List (List ℕ) × (List Review × (ℕ × (ℕ × ℕ))))
+    code_by (List Name × (List Review × (ℕ × (ℕ × ℕ))))
     (coded× (coded_list (coded_list coded_ℕ))
     (coded× (coded_list review_code) (coded× coded_ℕ (coded× coded_ℕ coded_ℕ))))
     (λ d. (d.content.members, (d.content.reviews, (d.content.next_review, (d.room.members, d.room.reviews)))))

@@ -6,6 +6,7 @@ use Rattle.std.specs.List.{list_any}
 use Rattle.std.specs.Str.{bytes_eq}
 use Rattle.vet_base.specs.Criteria.{Criteria, least_unknown}
 use Rattle.vet_base.specs.Keyed.{item_of, with_item}
+use Rattle.vet_base.specs.Words.{Name}
 use Rattle.vet_desk.specs.declared.review.Review.{Review}
 use Rattle.vet_desk.specs.declared.review.ReviewState.{ReviewState}
 use Rattle.vet_desk.specs.declared.review.ReviewState.TheVariants.{Waiting, Assigned, Finished, Withdrawn}
@@ -18,12 +19,12 @@ is_closed (Finished entry) = true
 is_closed Withdrawn = true
 
 -- a review is assigned to a member
-abbrev pub is_assigned_to : List ℕ → ReviewState → Bool
+abbrev pub is_assigned_to : Name → ReviewState → Bool
 is_assigned_to name (Assigned member) = bytes_eq member name
 is_assigned_to name _ = false
 
 -- a review is assigned to another than a member
-abbrev pub is_anothers : List ℕ → ReviewState → Bool
+abbrev pub is_anothers : Name → ReviewState → Bool
 is_anothers name (Assigned member) = not (bytes_eq member name)
 is_anothers name _ = false
 
@@ -53,11 +54,11 @@ abbrev pub with_state : ℕ → ReviewState → List Review → List Review
 with_state n state reviews = with_state_of (review_of reviews n) state reviews
 
 -- a review that is not closed names a criterion
-abbrev pub is_open_for : List ℕ → Review → Bool
+abbrev pub is_open_for : Name → Review → Bool
 is_open_for name review = not (is_closed review.state) && set.contains review.criteria name
 
 -- one of some reviews that is not closed names a criterion
-abbrev pub are_open_for : List Review → List ℕ → Bool
+abbrev pub are_open_for : List Review → Name → Bool
 are_open_for reviews name = list_any (is_open_for name) reviews
 
 -- a review that is not closed names a criterion that a table lacks

@@ -3,6 +3,7 @@ use Rattle.std.specs.Prelude.{◌≡◌, ℕ, ◌+◌, ◌<◌, ◌≤◌, true,
 use Rattle.std.specs.List.{All}
 use Rattle.std.specs.Ordering.{nat_cmp}
 use Rattle.std.specs.Cmp.Lexicographic.{slice_cmp}
+use Rattle.vet_base.specs.Words.{Name}
 use Rattle.vet_base.specs.declared.limits.TheConstants.{LAST_NUMBER, MOST_MEMBERS, MOST_REVIEWS}
 use Rattle.vet_base.specs.Criteria.{Criteria, least_unknown}
 use Rattle.vet_base.specs.Keyed.{IsByKey}
@@ -13,11 +14,11 @@ use Rattle.vet_desk.specs.Desk.{DeskState, is_member, own_name}
 use Rattle.vet_desk.specs.Review.{is_closed, review_number}
 
 -- whoever a review is assigned to is a member
-abbrev pub IsByMember : List (List ℕ) → ReviewState → Type 0
+abbrev pub IsByMember : List Name → ReviewState → Type 0
 IsByMember members (Assigned member) = is_member members member ≡ true
 IsByMember members _ = Unit {0}
 
-abbrev pub HasMember : List (List ℕ) → Review → Type 0
+abbrev pub HasMember : List Name → Review → Type 0
 HasMember members review = IsByMember members review.state
 
 -- a review's number lies below the next one
@@ -25,12 +26,12 @@ abbrev pub IsNumberGiven : ℕ → Review → Type 0
 IsNumberGiven next review = review.number < next
 
 -- members stand in the order of their names, no name twice, and within the limit
-pub record AreMembers (members : List (List ℕ)) : Type 0 where
+pub record AreMembers (members : List Name) : Type 0 where
   pub by_name : IsByKey (slice_cmp nat_cmp) own_name members
   pub few : length members ≤ MOST_MEMBERS
 
 -- the numbers of reviews rise, below the next one; an assigned one is a member's; and they are within the limit
-pub record AreReviews (members : List (List ℕ)) (reviews : List Review) (next : ℕ) : Type 0 where
+pub record AreReviews (members : List Name) (reviews : List Review) (next : ℕ) : Type 0 where
   pub numbers_rise : IsByKey nat_cmp review_number reviews
   pub numbers_given : All (IsNumberGiven next) reviews
   pub by_members : All (HasMember members) reviews

@@ -7,10 +7,11 @@ use Rattle.std.specs.Cmp.Lexicographic.{slice_cmp}
 use Rattle.std.specs.Str.{bytes_eq}
 use Rattle.std.specs.declared.cmp.Ordering.{Ordering}
 use Rattle.std.specs.declared.cmp.Ordering.TheVariants.{Less, Equal, Greater}
+use Rattle.vet_base.specs.Words.{Name}
 use Rattle.vet_entries.specs.declared.facts.HeldEntry.{HeldEntry}
 
 -- an entry is of a package
-abbrev pub is_of : List ℕ → HeldEntry → Bool
+abbrev pub is_of : Name → HeldEntry → Bool
 is_of name held = bytes_eq held.entry.«package» name
 
 -- entries, and for how many more there is room
@@ -23,23 +24,23 @@ abbrev pub lesser : ℕ → ℕ → ℕ
 lesser a b = a - (a - b)
 
 -- how the package of the entry at a place stands to a name; where there is no entry, as one behind all
-abbrev pub stand : List HeldEntry → List ℕ → ℕ → Ordering
+abbrev pub stand : List HeldEntry → Name → ℕ → Ordering
 stand [] name place = Greater
 stand (held ∷ entries) name zero = slice_cmp nat_cmp held.entry.«package» name
 stand (held ∷ entries) name (suc place) = stand entries name place
 
 -- the package of the entry at a place; where there is no entry, no text
-abbrev pub package_at : List HeldEntry → ℕ → List ℕ
+abbrev pub package_at : List HeldEntry → ℕ → Name
 package_at [] place = []
 package_at (held ∷ entries) zero = held.entry.«package»
 package_at (held ∷ entries) (suc place) = package_at entries place
 
 -- the entry at a place is of a package
-abbrev pub is_at : List HeldEntry → List ℕ → ℕ → Bool
+abbrev pub is_at : List HeldEntry → Name → ℕ → Bool
 is_at entries name place = is_eq (stand entries name place)
 
 -- the places of a package's entries, in rising order
-abbrev pub places_of : List HeldEntry → List ℕ → List ℕ
+abbrev pub places_of : List HeldEntry → Name → List ℕ
 places_of entries name = filter (is_at entries name) (range_with_len 0 (length entries))
 
 -- the entries at some places
@@ -48,13 +49,13 @@ gathered entries places = filter_map (slice_get entries) places
 
 -- each place of the entries once, in the order of packages and, within a package, in rising order
 pub record IsByPackage (entries : List HeldEntry) (order : List ℕ) : Type 0 where
-  pub rising : (name : List ℕ) → IsNonDecreasingBy (λ place. ordering_index (stand entries name place)) order
-  pub same : (name : List ℕ) → filter (is_at entries name) order ≡ places_of entries name
+  pub rising : (name : Name) → IsNonDecreasingBy (λ place. ordering_index (stand entries name place)) order
+  pub same : (name : Name) → filter (is_at entries name) order ≡ places_of entries name
   pub within : All (λ place. place < length entries) order
   pub long : length order ≡ length entries
 
 -- the places of a package stand from low up to high
-pub record IsRange (entries : List HeldEntry) (name : List ℕ) (order : List ℕ) (low high : ℕ) : Type 0 where
+pub record IsRange (entries : List HeldEntry) (name : Name) (order : List ℕ) (low high : ℕ) : Type 0 where
   pub ordered : low ≤ high
   pub inside : high ≤ length order
   pub lower : All (λ place. stand entries name place ≡ Less) (take low order)
@@ -62,7 +63,7 @@ pub record IsRange (entries : List HeldEntry) (name : List ℕ) (order : List �
   pub upper : All (λ place. stand entries name place ≡ Greater) (drop high order)
 
 -- a place of a package's entry belongs at a slot of the order
-pub record IsSlot (entries : List HeldEntry) (name : List ℕ) (place : ℕ) (order : List ℕ) (slot : ℕ) : Type 0 where
+pub record IsSlot (entries : List HeldEntry) (name : Name) (place : ℕ) (order : List ℕ) (slot : ℕ) : Type 0 where
   pub inside : slot ≤ length order
   pub front : All (λ other. ordering_index (stand entries name other) ≤ 1) (take slot order)
   pub back : All (λ other. 1 ≤ ordering_index (stand entries name other)) (drop slot order)

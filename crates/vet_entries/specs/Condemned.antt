@@ -5,6 +5,7 @@ use Rattle.vet_base.specs.Criteria.{Criteria, leading_to, leads_to, placed}
 use Rattle.vet_base.specs.CriteriaSet.{Places, has}
 use Rattle.vet_base.specs.Req.{req_matches}
 use Rattle.vet_base.specs.Version.{VersionValue}
+use Rattle.vet_base.specs.Words.{Name}
 use Rattle.vet_entries.specs.declared.kind.Kind.{Kind}
 use Rattle.vet_entries.specs.declared.condemned.Violation.{Violation}
 use Rattle.vet_entries.specs.declared.kind.Kind.TheVariants.{Violation as Violated}
@@ -37,7 +38,7 @@ abbrev pub violation_in : Criteria → SourcedEntry → List Violation
 violation_in table e = violation_of table (violated table e) e.held.entry.kind
 
 -- the violations of a package: one's own, then those of each peer
-abbrev pub violations_of : Facts → List ℕ → List Violation
+abbrev pub violations_of : Facts → Name → List Violation
 violations_of facts name = flat_map (violation_in facts.criteria) (entries_of facts name)
 
 -- one of some violations condemns a version for the criterion at a place
@@ -45,10 +46,10 @@ abbrev pub condemned_by : List Violation → ℕ → VersionValue → Bool
 condemned_by violations c v = list_any (λ w. req_matches w.requirement v.parts && has c w.criteria) violations
 
 -- some entry of a package condemns a version for the criterion at a place
-abbrev pub is_condemned : Facts → List ℕ → ℕ → VersionValue → Bool
+abbrev pub is_condemned : Facts → Name → ℕ → VersionValue → Bool
 is_condemned facts name c v = list_any (condemns facts.criteria v c) (entries_of facts name)
 
 -- a package's violations condemn just what its entries do
 abbrev pub ViolationsCondemn : Type 0
-ViolationsCondemn = (facts : Facts) (name : List ℕ) (c : ℕ) (v : VersionValue)
+ViolationsCondemn = (facts : Facts) (name : Name) (c : ℕ) (v : VersionValue)
     → condemned_by (violations_of facts name) c v ≡ is_condemned facts name c v

@@ -5,17 +5,18 @@ use Rattle.std.specs.Cmp.Lexicographic.{pointwise, slice_cmp}
 use Rattle.std.specs.FinMap as map
 use Rattle.std.specs.Str.{bytes_eq}
 use Rattle.vet_base.specs.Names.{NameSet, same_names}
+use Rattle.vet_base.specs.Words.{Name}
 use Rattle.vet_entries.specs.declared.criteria_map.MappedCriterion.{MappedCriterion}
 
 -- the name at which an item stands
-abbrev pub mapped_name : MappedCriterion → List ℕ
+abbrev pub mapped_name : MappedCriterion → Name
 mapped_name m = m.name
 
 -- the items' names, and the items as entries of a map
-abbrev pub names_of : List MappedCriterion → List (List ℕ)
+abbrev pub names_of : List MappedCriterion → List Name
 names_of items = mapped (λ m. m.name) items
 
-abbrev pub by_name : List MappedCriterion → List (List ℕ × NameSet)
+abbrev pub by_name : List MappedCriterion → List (Name × NameSet)
 by_name items = mapped (λ m. (m.name, m.criteria)) items
 
 -- names to sets of names, in the order of the names' bytes
@@ -27,7 +28,7 @@ abbrev pub mapped_eq : MappedCriterion → MappedCriterion → Bool
 mapped_eq a b = bytes_eq a.name b.name && same_names a.criteria b.criteria
 
 -- whether two entries of a map are the same
-abbrev pub pair_eq : List ℕ × NameSet → List ℕ × NameSet → Bool
+abbrev pub pair_eq : Name × NameSet → Name × NameSet → Bool
 pair_eq a b = bytes_eq a.0 b.0 && same_names a.1 b.1
 
 -- whether two maps are the same

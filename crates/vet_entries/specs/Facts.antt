@@ -5,6 +5,7 @@ use Rattle.std.specs.FinSet as set
 use Rattle.std.specs.Ordering.{nat_cmp}
 use Rattle.std.specs.Cmp.Lexicographic.{slice_cmp}
 use Rattle.vet_base.specs.Criteria.{Criteria, built_in_criteria}
+use Rattle.vet_base.specs.Words.{Name}
 use Rattle.vet_entries.specs.declared.facts.Edit.{Edit}
 use Rattle.vet_entries.specs.declared.facts.Edit.TheVariants as edit
 use Rattle.vet_entries.specs.declared.facts.HeldEntry.{HeldEntry}
@@ -57,15 +58,15 @@ abbrev pub entries_total : Facts → ℕ
 entries_total facts = length facts.entries + entries_of_peers facts.peers
 
 -- an entry names a criterion
-abbrev pub is_named_by : List ℕ → HeldEntry → Bool
+abbrev pub is_named_by : Name → HeldEntry → Bool
 is_named_by name held = set.contains held.entry.criteria name
 
 -- the map of a peer leads to a criterion
-abbrev pub is_target_of : List ℕ → HeldPeer → Bool
+abbrev pub is_target_of : Name → HeldPeer → Bool
 is_target_of name peer = set.contains (targets peer.settings.map) name
 
 -- one's own entries or the map of a peer name a criterion; the words of peers don't count
-abbrev pub is_named : Facts → List ℕ → Bool
+abbrev pub is_named : Facts → Name → Bool
 is_named facts name = list_any (is_named_by name) facts.entries || list_any (is_target_of name) facts.peers
 
 -- ---- edits
@@ -91,7 +92,7 @@ keeps_criteria (edit.Content name content) = true
 keeps_criteria (edit.Publishers change) = true
 
 -- a peer of a name is held
-abbrev pub IsHeld : List ℕ → Facts → Type 0
+abbrev pub IsHeld : Name → Facts → Type 0
 IsHeld name facts = is_some (peer_of facts.peers name) ≡ true
 
 -- an edit can be made, and takes no memory

@@ -4,6 +4,7 @@ use Rattle.std.specs.Ordering.{nat_cmp}
 use Rattle.std.specs.Cmp.Lexicographic.{slice_cmp}
 use Rattle.vet_base.specs.Defined.{defined}
 use Rattle.vet_base.specs.Keyed.{item_of, with_item, without_item}
+use Rattle.vet_base.specs.Words.{Name}
 use Rattle.vet_entries.specs.declared.entry.Entry.{Entry}
 use Rattle.vet_entries.specs.declared.entry.Source.TheVariants.{Peer}
 use Rattle.vet_entries.specs.declared.facts.HeldEntry.{HeldEntry}
@@ -15,11 +16,11 @@ use Rattle.vet_entries.specs.Replaced.{as_of, entries_after, new_of}
 pub use Rattle.vet_entries.specs.Replaced.{comes_again, is_new}
 
 -- the name of a peer
-abbrev pub peer_name : HeldPeer → List ℕ
+abbrev pub peer_name : HeldPeer → Name
 peer_name peer = peer.settings.name
 
 -- the peer of a name, if it is held
-abbrev pub peer_of : List HeldPeer → List ℕ → Option HeldPeer
+abbrev pub peer_of : List HeldPeer → Name → Option HeldPeer
 peer_of peers name = item_of (slice_cmp nat_cmp) peer_name peers name
 
 -- a peer put in place of the one of its name, or among the others
@@ -27,7 +28,7 @@ abbrev pub with_peer : HeldPeer → List HeldPeer → List HeldPeer
 with_peer peer peers = with_item (slice_cmp nat_cmp) peer_name peers peer
 
 -- the peers but that of a name
-abbrev pub without_peer : List ℕ → List HeldPeer → List HeldPeer
+abbrev pub without_peer : Name → List HeldPeer → List HeldPeer
 without_peer name peers = without_item (slice_cmp nat_cmp) peer_name peers name
 
 -- what is held of a peer, if it is: of a new one, nothing
@@ -45,25 +46,25 @@ abbrev pub with_content_of : Option HeldPeer → HoldingValue → List HeldPeer 
 with_content_of None content peers = peers
 with_content_of (Some peer) content peers = with_peer (record peer { content = content }) peers
 
-abbrev pub with_content : List ℕ → HoldingValue → List HeldPeer → List HeldPeer
+abbrev pub with_content : Name → HoldingValue → List HeldPeer → List HeldPeer
 with_content name content peers = with_content_of (peer_of peers name) content peers
 
 -- ---- imports
 
 -- entries as those of a peer
-abbrev pub as_peers : List ℕ → List Entry → List Entry
+abbrev pub as_peers : Name → List Entry → List Entry
 as_peers name entries = as_of (Peer name) entries
 
 -- those of some entries of a peer that are not held, in the order of reading
-abbrev pub new_entries : List ℕ → List HeldEntry → List Entry → List Entry
+abbrev pub new_entries : Name → List HeldEntry → List Entry → List Entry
 new_entries name held entries = new_of (Peer name) held entries
 
 -- the entries after an import, where this is the next number
-abbrev pub entries_after_import : List ℕ → ℕ → List HeldEntry → List Entry → List HeldEntry
+abbrev pub entries_after_import : Name → ℕ → List HeldEntry → List Entry → List HeldEntry
 entries_after_import name next held entries = entries_after (Peer name) next held entries
 
 -- what is held of a peer after an import
-abbrev pub imported : List ℕ → ℕ → PeerContentValue → HoldingValue → HoldingValue
+abbrev pub imported : Name → ℕ → PeerContentValue → HoldingValue → HoldingValue
 imported name next content held = record {
   table = defined content.criteria;
   entries = entries_after_import name next held.entries content.entries;

@@ -3,6 +3,7 @@ use Rattle.std.specs.Prelude.{ℕ, ◌&&◌, Bool, List, length, map}
 use Rattle.std.specs.List.{list_all}
 use Rattle.vet_base.specs.Defined.{defined}
 use Rattle.vet_base.specs.Definitions.{criteria_eq}
+use Rattle.vet_base.specs.Words.{Name}
 use Rattle.vet_entries.specs.declared.entry.Entry.{Entry}
 use Rattle.vet_entries.specs.declared.entry.Source.TheVariants.{Own}
 use Rattle.vet_entries.specs.declared.facts.HeldEntry.{HeldEntry}
@@ -13,7 +14,7 @@ use Rattle.vet_entries.specs.Replaced.{as_of, comes_again, is_held, is_new, new_
 
 -- a content is the one held of a peer: each held entry is among its entries, each of these, as the peer's, is held, and
 -- the criteria are the same
-abbrev pub same_content : List ℕ → HoldingValue → PeerContentValue → Bool
+abbrev pub same_content : Name → HoldingValue → PeerContentValue → Bool
 same_content name held content =
     list_all (comes_again (as_peers name content.entries)) held.entries
     && (list_all (is_held held.entries) (as_peers name content.entries) && criteria_eq (defined content.criteria)
@@ -27,7 +28,7 @@ pub record ComparisonValue : Type 0 where
   pub is_same : Bool
 
 -- how a content stands to what is held of a peer
-abbrev pub compared : List ℕ → HoldingValue → PeerContentValue → ComparisonValue
+abbrev pub compared : Name → HoldingValue → PeerContentValue → ComparisonValue
 compared name held content = record {
   again = map (comes_again (as_peers name content.entries)) held.entries;
   fresh = map (is_new held.entries) (as_peers name content.entries);

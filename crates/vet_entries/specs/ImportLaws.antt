@@ -1,6 +1,7 @@
 -- What an import leaves, and when nothing changes (ours).
 use Rattle.std.specs.Prelude.{ℕ, ◌≡◌, ◌↔◌, ◌<◌, ◌≤◌, ◌+◌, ◌⊎◌, true, false, List, length}
 use Rattle.std.specs.List.{All}
+use Rattle.vet_base.specs.Words.{Name}
 use Rattle.vet_base.specs.declared.criterion.Criterion.{Criterion}
 use Rattle.vet_base.specs.CriteriaChanges.{is_built_in}
 use Rattle.vet_base.specs.Defined.{defined}
@@ -18,7 +19,7 @@ pub use Rattle.vet_entries.specs.ReplacedLaws.{AllDiffer, entries_of}
 -- where the numbers rise below the next one, they still do after an import, below the next one after it
 abbrev pub ImportKeepsOrder : Type 0
 ImportKeepsOrder =
-    (name : List ℕ) (next : ℕ) (held : List HeldEntry) (entries : List Entry)
+    (name : Name) (next : ℕ) (held : List HeldEntry) (entries : List Entry)
     → AreByNumber held
     → All (λ h. h.number < next) held
     → AreByNumber (entries_after_import name next held entries)
@@ -27,20 +28,20 @@ ImportKeepsOrder =
 -- each entry after an import was held with its number, or has a new number
 abbrev pub ImportKeepsNumbers : Type 0
 ImportKeepsNumbers =
-    (name : List ℕ) (next : ℕ) (held : List HeldEntry) (entries : List Entry)
+    (name : Name) (next : ℕ) (held : List HeldEntry) (entries : List Entry)
     → All (λ h. IsIn h held ⊎ (next ≤ h.number)) (entries_after_import name next held entries)
 
 -- each entry after an import is one of the content, as the peer's
 abbrev pub ImportTakesEntries : Type 0
 ImportTakesEntries =
-    (name : List ℕ) (next : ℕ) (held : List HeldEntry) (entries : List Entry)
+    (name : Name) (next : ℕ) (held : List HeldEntry) (entries : List Entry)
     → All (λ h. IsIn h.entry (as_peers name entries) × (h.entry.source ≡ Peer name))
     (entries_after_import name next held entries)
 
 -- after an import each entry of the content is held, nothing else, and each once: so there are as many
 abbrev pub ImportHoldsEachOnce : Type 0
 ImportHoldsEachOnce =
-    (name : List ℕ) (next : ℕ) (held : List HeldEntry) (content : PeerContentValue)
+    (name : Name) (next : ℕ) (held : List HeldEntry) (content : PeerContentValue)
     → IsPeerContent content.criteria content.entries
     → AllDiffer held
     → AllDiffer (entries_after_import name next held content.entries)
@@ -49,14 +50,14 @@ ImportHoldsEachOnce =
 -- what is held after an import is the content: the same entries, as the peer's, and its criteria
 abbrev pub ImportHoldsItsContent : Type 0
 ImportHoldsItsContent =
-    (name : List ℕ) (next : ℕ) (held : HoldingValue) (content : PeerContentValue)
+    (name : Name) (next : ℕ) (held : HoldingValue) (content : PeerContentValue)
     → SameItems (as_peers name content.entries) (entries_of (imported name next content held).entries)
     × ((imported name next content held).table ≡ defined content.criteria)
 
 -- a content is the one held just where it has the same criteria and the same entries, in whatever order
 abbrev pub SameItemsAreSame : Type 0
 SameItemsAreSame =
-    (name : List ℕ) (held : HoldingValue) (content : PeerContentValue) (criteria : List Criterion)
+    (name : Name) (held : HoldingValue) (content : PeerContentValue) (criteria : List Criterion)
     → IsPeerContent content.criteria content.entries
     → held.table ≡ defined criteria
     → NamedOnce (λ (c : Criterion). c.name) criteria

@@ -6,6 +6,7 @@ use Rattle.vet_base.specs.Closures.{AreClosures}
 use Rattle.vet_base.specs.Criteria.{Criteria, closure_of, implied_by, place_of, placed}
 use Rattle.vet_base.specs.CriteriaSet.{Places}
 use Rattle.vet_base.specs.Names.{NameSet, members}
+use Rattle.vet_base.specs.Words.{Name}
 use Rattle.vet_entries.specs.declared.held_peer.HeldPeer.{HeldPeer}
 use Rattle.vet_entries.specs.declared.local_criteria.LocalCriteria.{LocalCriteria}
 use Rattle.vet_entries.specs.declared.local_criteria.PeerWords.{PeerWords}
@@ -14,26 +15,26 @@ use Rattle.vet_entries.specs.CriteriaMap.{NamesByName}
 use Rattle.vet_entries.specs.Mapped.{mapped, mapped_name}
 
 -- what a name stands for, if a table lacks it
-abbrev pub mapped_beyond : Criteria → NamesByName → List ℕ → NameSet
+abbrev pub mapped_beyond : Criteria → NamesByName → Name → NameSet
 mapped_beyond defined m name = if map.contains_key defined name then set.empty else mapped_name m name
 
-abbrev pub all_beyond : Criteria → NamesByName → List (List ℕ) → NameSet
+abbrev pub all_beyond : Criteria → NamesByName → List Name → NameSet
 all_beyond defined m [] = set.empty
 all_beyond defined m (name ∷ rest) = set.union (mapped_beyond defined m name) (all_beyond defined m rest)
 
 -- what a criterion of a peer stands for, and the names that it implies and the peer doesn't define
-abbrev pub direct : Criteria → NamesByName → List ℕ → NameSet
+abbrev pub direct : Criteria → NamesByName → Name → NameSet
 direct defined m name = set.union (mapped_name m name) (all_beyond defined m (members (implied_by defined name)))
 
 -- what a name of a peer stands for with all that it implies there, not yet closed in one's own table
-abbrev pub stands_for : Criteria → HeldPeer → List ℕ → Places
+abbrev pub stands_for : Criteria → HeldPeer → Name → Places
 stands_for table peer name =
     placed table (mapped peer.settings.map (closure_of peer.content.table (set.insert set.empty name)))
 
 -- at the place of each criterion of a peer is what it stands for
 abbrev pub AreWords : Criteria → HeldPeer → PeerWords → Type 0
 AreWords table peer words =
-    (name : List ℕ) (p : ℕ) → place_of peer.content.table name ≡ Some p
+    (name : Name) (p : ℕ) → place_of peer.content.table name ≡ Some p
     → slice_index_or words.stands p set.empty ≡ stands_for table peer name
 
 -- the closures of one's own table, and the words of each peer

@@ -6,18 +6,19 @@ use Rattle.std.specs.FinMap as map
 use Rattle.std.specs.FinSet as set
 use Rattle.vet_base.specs.CriteriaChanges.{is_built_in}
 use Rattle.vet_base.specs.Names.{NameSet, members}
+use Rattle.vet_base.specs.Words.{Name}
 use Rattle.vet_entries.specs.CriteriaMap.{NamesByName}
 
 -- what a name that the map doesn't list stands for: a built-in one for itself, any other for nothing
-abbrev pub unlisted : List ℕ → NameSet
+abbrev pub unlisted : Name → NameSet
 unlisted name = if is_built_in name then set.insert set.empty name else set.empty
 
 -- what a name of a peer stands for: what the map lists at it, if it does
-abbrev pub mapped_name : NamesByName → List ℕ → NameSet
+abbrev pub mapped_name : NamesByName → Name → NameSet
 mapped_name m name = option_map_or (λ criteria. criteria) (map.get m name) (unlisted name)
 
 -- what some names stand for: all that one of them stands for
-abbrev pub all_mapped : NamesByName → List (List ℕ) → NameSet
+abbrev pub all_mapped : NamesByName → List Name → NameSet
 all_mapped m [] = set.empty
 all_mapped m (name ∷ rest) = set.union (mapped_name m name) (all_mapped m rest)
 
@@ -25,7 +26,7 @@ abbrev pub mapped : NamesByName → NameSet → NameSet
 mapped m names = all_mapped m (members names)
 
 -- all that a map lists
-abbrev pub all_targets : List (List ℕ × NameSet) → NameSet
+abbrev pub all_targets : List (Name × NameSet) → NameSet
 all_targets [] = set.empty
 all_targets (item ∷ rest) = set.union item.1 (all_targets rest)
 

@@ -2,11 +2,12 @@
 use Rattle.std.specs.Prelude.{ℕ, ◌&&◌, Bool, List}
 use Rattle.std.specs.Str.{bytes_eq}
 use Rattle.vet_base.specs.Names.{same_names}
+use Rattle.vet_base.specs.Words.{Name}
 use Rattle.vet_entries.specs.declared.peer_settings.PeerSettings.{PeerSettings}
 use Rattle.vet_entries.specs.CriteriaMap.{map_eq}
 
 -- the name of the peer
-abbrev pub settings_name : PeerSettings → List ℕ
+abbrev pub settings_name : PeerSettings → Name
 settings_name settings = settings.name
 
 -- the same peer, urls, excluded packages and criteria

@@ -6,6 +6,7 @@ use Rattle.std.specs.Cmp.Lexicographic.{slice_cmp}
 use Rattle.std.specs.declared.cmp.Ordering.{Ordering}
 use Rattle.vet_base.specs.Day.{DayValue, day_cmp}
 use Rattle.vet_base.specs.VersionOrder.{version_cmp}
+use Rattle.vet_base.specs.Words.{Text}
 use Rattle.vet_entries.specs.declared.publisher.Publisher.{Publisher}
 
 -- by year, then by month, then by day of the month
@@ -17,7 +18,7 @@ abbrev pub calendar_cmp : DayValue → DayValue → Ordering
 calendar_cmp = then_cmp day_cmp parts_cmp
 
 -- by bytes, where no text stands before one
-abbrev pub text_cmp : Option (List ℕ) → Option (List ℕ) → Ordering
+abbrev pub text_cmp : Option Text → Option Text → Ordering
 text_cmp = option_cmp (slice_cmp nat_cmp)
 
 -- by version, then by day, user, login and name

@@ -12,6 +12,7 @@ use Rattle.vet_base.specs.DayLaws.{day_total}
 use Rattle.vet_base.specs.OrderLaws.{then_first, then_second}
 use Rattle.vet_base.specs.VersionOrder.{version_cmp}
 use Rattle.vet_base.specs.VersionOrderLaws.{version_total, version_cmp-IsAntisymmetric}
+use Rattle.vet_base.specs.Words.{Text}
 use Rattle.vet_entries.specs.declared.publisher.Publisher.{Publisher}
 use Rattle.vet_entries.specs.Publisher.{parts_cmp, calendar_cmp, text_cmp, publisher_cmp, publisher_eq}
 
@@ -41,11 +42,11 @@ calendar_cmp-IsAntisymmetric a b e =
     (nat_cmp-IsAntisymmetric _ _ (then_first _ _ more))
     (nat_cmp-IsAntisymmetric _ _ (then_second (nat_cmp a.month b.month) _ more))
 
-text_tied : (a b : Option (List ℕ)) → text_cmp a b ≡ Equal → a ≡ b
+text_tied : (a b : Option Text) → text_cmp a b ≡ Equal → a ≡ b
 text_tied None None e = refl
 text_tied None (Some y) e = cc e
 text_tied (Some x) None e = cc e
-text_tied (Some x) (Some y) e = ap (λ (t : List ℕ). Some t) (slice_cmp-IsAntisymmetric nat_cmp-IsAntisymmetric x y e)
+text_tied (Some x) (Some y) e = ap (λ (t : Text). Some t) (slice_cmp-IsAntisymmetric nat_cmp-IsAntisymmetric x y e)
 
 same_publisher : (p q : Publisher) → p.version ≡ q.version → p.user ≡ q.user → p.day ≡ q.day → p.login ≡ q.login
     → p.name ≡ q.name → p ≡ q

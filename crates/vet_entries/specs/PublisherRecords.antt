@@ -5,13 +5,14 @@ use Rattle.std.specs.Ordering.{nat_cmp}
 use Rattle.std.specs.Cmp.Lexicographic.{slice_cmp}
 use Rattle.std.specs.Str.{bytes_eq}
 use Rattle.vet_base.specs.Keyed.{Fits, IsByKey, KeyedRoom, edited, item_of, with_item, without_item}
+use Rattle.vet_base.specs.Words.{Name}
 use Rattle.vet_base.specs.declared.keyed.KeyedEdit.{KeyedEdit}
 use Rattle.vet_entries.specs.declared.publisher.Publisher.{Publisher}
 use Rattle.vet_entries.specs.declared.publisher_records.PackagePublishers.{PackagePublishers}
 use Rattle.vet_entries.specs.Publishers.{publishers_eq}
 
 -- the name at which a package's records stand
-abbrev pub package_of : PackagePublishers → List ℕ
+abbrev pub package_of : PackagePublishers → Name
 package_of held = held.«package»
 
 -- a package has records
@@ -24,7 +25,7 @@ pub record IsByName (packages : List PackagePublishers) : Type 0 where
   pub filled : All HasAny packages
 
 -- a package is among them
-abbrev pub HasPackage : List PackagePublishers → List ℕ → Type 0
+abbrev pub HasPackage : List PackagePublishers → Name → Type 0
 HasPackage packages name = IsTrue (is_some (item_of (slice_cmp nat_cmp) package_of packages name))
 
 -- the records of a package, if there is one
@@ -33,16 +34,16 @@ records_held None = []
 records_held (Some held) = held.publishers
 
 -- the records of the package with a name
-abbrev pub records_of : List PackagePublishers → List ℕ → List Publisher
+abbrev pub records_of : List PackagePublishers → Name → List Publisher
 records_of packages name = records_held (item_of (slice_cmp nat_cmp) package_of packages name)
 
 -- a package with records, and nothing where there are none
-abbrev pub with_any : List ℕ → List Publisher → List PackagePublishers
+abbrev pub with_any : Name → List Publisher → List PackagePublishers
 with_any name [] = []
 with_any name (first ∷ rest) = (record { «package» = name; publishers = first ∷ rest }) ∷ []
 
 -- the packages with these records of this one, which is not among them where there are none
-abbrev pub with_records : List ℕ → List Publisher → List PackagePublishers → List PackagePublishers
+abbrev pub with_records : Name → List Publisher → List PackagePublishers → List PackagePublishers
 with_records name [] packages = without_item (slice_cmp nat_cmp) package_of packages name
 with_records name (first ∷ rest) packages = with_item (slice_cmp nat_cmp) package_of packages
     (record { «package» = name; publishers = first ∷ rest })

@@ -6,6 +6,7 @@ use Rattle.std.specs.Ordering.{is_le}
 use Rattle.vet_base.specs.CriteriaSet.{Places}
 use Rattle.vet_base.specs.Criteria.{Criteria, least_unknown}
 use Rattle.vet_base.specs.Day.{day_cmp}
+use Rattle.vet_base.specs.Words.{Name}
 use Rattle.vet_base.specs.declared.delta.Delta.{Delta}
 use Rattle.vet_base.specs.Version.{VersionValue}
 use Rattle.vet_entries.specs.declared.facts.HeldEntry.{HeldEntry}
@@ -54,16 +55,16 @@ pub record SourcedEntry : Type 0 where
   pub held : HeldEntry
 
 -- the entries of a package from some that are held, as those of a peer or as one's own
-abbrev pub sourced : Option HeldPeer → List ℕ → List HeldEntry → List SourcedEntry
+abbrev pub sourced : Option HeldPeer → Name → List HeldEntry → List SourcedEntry
 sourced peer name entries = map (λ h. record { peer = peer; held = h }) (filter (is_of name) entries)
 
 -- the entries of a package that are taken from a peer: of an excluded package none
-abbrev pub taken_from : List ℕ → HeldPeer → List SourcedEntry
+abbrev pub taken_from : Name → HeldPeer → List SourcedEntry
 taken_from name peer = if set.contains peer.settings.exclude name then [] else sourced (Some peer) name
     peer.content.entries
 
 -- the entries of a package: one's own, then those of each peer
-abbrev pub entries_of : Facts → List ℕ → List SourcedEntry
+abbrev pub entries_of : Facts → Name → List SourcedEntry
 entries_of facts name = sourced None name facts.entries ++ flat_map (taken_from name) facts.peers
 
 -- an item among some in the order of their numbers, before others of its number
@@ -81,7 +82,7 @@ abbrev pub entry_steps : Criteria → List Publisher → SourcedEntry → List S
 entry_steps table records e = kind_steps (local_criteria table e.peer e.held.entry.criteria) records e.held.entry.kind
 
 -- the steps of a package, by the numbers of the entries
-abbrev pub steps_of : Facts → List ℕ → List Step
+abbrev pub steps_of : Facts → Name → List Step
 steps_of facts name =
     flat_map (entry_steps facts.criteria (records_of facts.publishers name))
     (by_number (λ (e : SourcedEntry). e.held.number) (entries_of facts name))

@@ -9,6 +9,7 @@ use Rattle.vet_base.specs.CriteriaChanges.{is_built_in}
 use Rattle.vet_base.specs.Gives.{Told, found_or, ◌>>=◌}
 use Rattle.vet_base.specs.Name.{is_name}
 use Rattle.vet_base.specs.Names.{NameSet}
+use Rattle.vet_base.specs.Words.{Bytes, Key, Name, Path, Text}
 use Rattle.vet_base.specs.declared.criterion.Criterion.{Criterion}
 use Rattle.vet_base.specs.declared.limits.TheConstants.{MOST_PEER_CRITERIA}
 use Rattle.vet_base.specs.declared.refusal.Limit.TheVariants.{PeerCriteria}
@@ -43,7 +44,7 @@ or_none o = option_map_or (λ s. s) o set.empty
 -- ---- criteria
 
 -- the criterion of a table: its description, its url, and what it implies
-abbrev pub criterion_told : List ℕ → List ℕ → Members → Told (Found (Option Criterion))
+abbrev pub criterion_told : Name → Path → Members → Told (Found (Option Criterion))
 criterion_told name path ms =
     optional a_text path (codes "description") ms >>= λ description.
     optional a_text path (codes "description-url") ms >>= λ url.
@@ -57,10 +58,10 @@ room_for_criterion Ours defined = Ok tt
 room_for_criterion Peers defined = if nat_lt defined MOST_PEER_CRITERIA then Ok tt else Err (TooLarge PeerCriteria)
 
 -- the criterion whose table stands at a name
-abbrev pub criterion_at : List ℕ → List ℕ → Option Members → Told (Found (Option Criterion))
+abbrev pub criterion_at : Path → Name → Option Members → Told (Found (Option Criterion))
 criterion_at path name table = found_or (fault path name) table >>= criterion_told name (path_below path name)
 
-abbrev pub further_criterion : Whose → List ℕ → List ℕ → Found (List Criterion) → Option Members
+abbrev pub further_criterion : Whose → Path → Name → Found (List Criterion) → Option Members
     → Told (Found (List Criterion))
 further_criterion whose path name found table =
     room_for_criterion whose (length found.content) >>= λ _.
@@ -68,13 +69,13 @@ further_criterion whose path name found table =
     Ok (onto found (listed more))
 
 -- a table named after a built-in criterion is passed over as a whole
-abbrev pub built_in_criterion : List ℕ → List ℕ → Found (List Criterion) → Option Members
+abbrev pub built_in_criterion : Path → Name → Found (List Criterion) → Option Members
     → Told (Found (List Criterion))
 built_in_criterion path name found table =
     found_or (fault path name) table >>= λ _.
     Ok (record { content = found.content; notices = together found.notices one_key })
 
-abbrev pub next_criterion : Whose → List ℕ → Found (List Criterion) → List ℕ → Data → Told (Found (List Criterion))
+abbrev pub next_criterion : Whose → Path → Found (List Criterion) → Name → Data → Told (Found (List Criterion))
 next_criterion whose path found name d =
     if is_name name
     then (if is_built_in name then built_in_criterion path name found (as_table d)
@@ -84,7 +85,7 @@ next_criterion whose path found name d =
 -- ---- audits
 
 -- whether something stands at a key
-abbrev pub has : Members → List ℕ → Bool
+abbrev pub has : Members → Key → Bool
 has ms key = is_some (get_member key ms)
 
 -- the first of the three keys that say what was audited
@@ -95,10 +96,10 @@ first_key ms =
     (if has ms (codes "violation") then Some key.Violation else None))
 
 -- a second of them is a fault, whatever it holds
-abbrev pub absent : List ℕ → List ℕ → Members → Told (Unit {0})
+abbrev pub absent : Path → Key → Members → Told (Unit {0})
 absent path key ms = if has ms key then Err (fault path key) else Ok tt
 
-abbrev pub subject_told : List ℕ → Members → SubjectKey → Told Subject
+abbrev pub subject_told : Path → Members → SubjectKey → Told Subject
 subject_told path ms key.Version =
     required a_version path (codes "version") ms >>= λ version.
     absent path (codes "delta") ms >>= λ _.
@@ -119,7 +120,7 @@ audit_kind (subject.Delta delta) audit = entry.Delta delta audit
 audit_kind (subject.Violation req) audit = entry.Violation req audit
 
 -- one's own entry
-abbrev pub own_entry : List ℕ → Kind → NameSet → Option (List ℕ) → Entry
+abbrev pub own_entry : Name → Kind → NameSet → Option Text → Entry
 own_entry name what criteria notes =
     record { source = Own; «package» = name; kind = what; criteria = criteria; notes = notes }
 
@@ -133,7 +134,7 @@ is_withheld Ours ms = false
 is_withheld Peers ms = is_no (get_member (codes "importable") ms)
 
 -- the audit of a subject for some criteria: who made it, its notes, and whether others may import it
-abbrev pub audit_of_subject : List ℕ → List ℕ → Members → NameSet → Subject → Told (Found (Option Entry))
+abbrev pub audit_of_subject : Name → Path → Members → NameSet → Subject → Told (Found (Option Entry))
 audit_of_subject name path ms criteria what =
     optional texts path (codes "who") ms >>= λ who.
     optional a_text path (codes "notes") ms >>= λ notes.
@@ -141,7 +142,7 @@ audit_of_subject name path ms criteria what =
     Ok (one (own_entry name (audit_kind what (record { who = or_none who; importable = importable })) criteria notes)
     (unknown_keys kind.Audit ms))
 
-abbrev pub audit_of : List ℕ → List ℕ → Members → Option SubjectKey → Told (Found (Option Entry))
+abbrev pub audit_of : Name → Path → Members → Option SubjectKey → Told (Found (Option Entry))
 audit_of name path ms None = Ok skipped
 audit_of name path ms (Some key) =
     required names path (codes "criteria") ms >>= λ criteria.
@@ -154,7 +155,7 @@ audit_told whose name path ms = if is_withheld whose ms then Ok skipped else aud
 -- ---- windows
 
 -- the window of a table: its user, its first day and its last
-abbrev pub window_told : List ℕ → Members → Told Window
+abbrev pub window_told : Path → Members → Told Window
 window_told path ms =
     required a_user path (codes "user-id") ms >>= λ user.
     required a_day path (codes "start") ms >>= λ first.
@@ -162,7 +163,7 @@ window_told path ms =
     Ok (record { user = user; first = first; last = last })
 
 -- the wildcard audit of a window for some criteria: who vouches, whether it is to be renewed, and its notes
-abbrev pub wildcard_of_window : List ℕ → List ℕ → Members → NameSet → Window → Told (Found (Option Entry))
+abbrev pub wildcard_of_window : Name → Path → Members → NameSet → Window → Told (Found (Option Entry))
 wildcard_of_window name path ms criteria window =
     optional texts path (codes "who") ms >>= λ who.
     optional a_flag path (codes "renew") ms >>= λ renew.
@@ -170,7 +171,7 @@ wildcard_of_window name path ms criteria window =
     Ok (one (own_entry name (entry.Wildcard window (record { who = or_none who; renew = renew })) criteria notes)
     (unknown_keys kind.Wildcard ms))
 
-abbrev pub wildcard_of : List ℕ → List ℕ → Members → Told (Found (Option Entry))
+abbrev pub wildcard_of : Name → Path → Members → Told (Found (Option Entry))
 wildcard_of name path ms =
     required names path (codes "criteria") ms >>= λ criteria.
     window_told path ms >>= wildcard_of_window name path ms criteria
@@ -179,7 +180,7 @@ wildcard_of name path ms =
 abbrev pub wildcard_told : Reading Entry
 wildcard_told name path ms = if has ms (codes "user-id") then wildcard_of name path ms else Ok skipped
 
-abbrev pub trusted_of : List ℕ → List ℕ → Members → Told (Found (Option Entry))
+abbrev pub trusted_of : Name → Path → Members → Told (Found (Option Entry))
 trusted_of name path ms =
     required names path (codes "criteria") ms >>= λ criteria.
     window_told path ms >>= λ window.
@@ -197,7 +198,7 @@ trusted_told whose name path ms = if is_trusted whose ms then trusted_of name pa
 -- ---- the file
 
 -- the entries of a package, each once, after those found before
-abbrev pub next_package : Reading Entry → List ℕ → Found (List Entry) → List ℕ → Data → Told (Found (List Entry))
+abbrev pub next_package : Reading Entry → Path → Found (List Entry) → Name → Data → Told (Found (List Entry))
 next_package read path found name d =
     tables_of_package read path name d >>= λ more.
     Ok (onto found (each_once distinct more))
@@ -210,38 +211,38 @@ audits_content criteria entries keys = record {
 }
 
 -- the entries of all packages of a file's table of lists
-abbrev pub entries_of : Reading Entry → List ℕ → List ℕ → List ℕ → Members → Told (Found (List Entry))
+abbrev pub entries_of : Reading Entry → Path → Path → Key → Members → Told (Found (List Entry))
 entries_of read path prefix key ms = table_at path key ms >>= each_member (next_package read (prefix ++ key)) nothing
 
-abbrev pub criteria_of : Whose → List ℕ → List ℕ → Members → Told (Found (List Criterion))
+abbrev pub criteria_of : Whose → Path → Path → Members → Told (Found (List Criterion))
 criteria_of whose path prefix ms = table_at path (codes "criteria") ms >>= each_member
     (next_criterion whose (prefix ++ codes "criteria")) nothing
 
 -- what an audits file holds that has these criteria, and these entries but for its trusted ones
-abbrev pub trusted_entries_told : Whose → List ℕ → List ℕ → Members → Found (List Criterion) → Found (List Entry)
+abbrev pub trusted_entries_told : Whose → Path → Path → Members → Found (List Criterion) → Found (List Entry)
     → Told (Found AuditsContent)
 trusted_entries_told whose path prefix ms criteria entries =
     entries_of (trusted_told whose) path prefix (codes "trusted") ms >>= λ trusted.
     Ok (audits_content criteria (onto entries trusted) (only_keys (unknown_keys kind.AuditsFile ms)))
 
 -- what an audits file holds that has these criteria and audits
-abbrev pub further_entries_told : Whose → List ℕ → List ℕ → Members → Found (List Criterion) → Found (List Entry)
+abbrev pub further_entries_told : Whose → Path → Path → Members → Found (List Criterion) → Found (List Entry)
     → Told (Found AuditsContent)
 further_entries_told whose path prefix ms criteria audits =
     entries_of wildcard_told path prefix (codes "wildcard-audits") ms >>= λ wildcards.
     trusted_entries_told whose path prefix ms criteria (onto audits wildcards)
 
 -- what an audits file holds. Its tables stand in one of a path, and their paths begin with a prefix.
-abbrev pub audits_file_told : Whose → List ℕ → List ℕ → Members → Told (Found AuditsContent)
+abbrev pub audits_file_told : Whose → Path → Path → Members → Told (Found AuditsContent)
 audits_file_told whose path prefix ms =
     criteria_of whose path prefix ms >>= λ criteria.
     entries_of (audit_told whose) path prefix (codes "audits") ms >>= λ audits.
     further_entries_told whose path prefix ms criteria audits
 
 -- the table of a file: a TOML document in UTF-8
-abbrev pub document_told : List ℕ → Told Members
+abbrev pub document_told : Bytes → Told Members
 document_told bytes = found_or TomlRefused (if is_utf8 bytes then parse_document bytes else None)
 
 -- the content of an audits file
-abbrev pub audits_told : List ℕ → Told (Found AuditsContent)
+abbrev pub audits_told : Bytes → Told (Found AuditsContent)
 audits_told bytes = document_told bytes >>= audits_file_told Ours (codes "top") []

@@ -3,6 +3,7 @@ use Rattle.std.specs.Prelude.{ℕ, List, [], ◌∷◌, codes, Option, Some, map
 use Rattle.std.specs.FinSet as set
 use Rattle.toml.specs.Data.{Data, table, Members}
 use Rattle.vet_base.specs.Names.{NameSet}
+use Rattle.vet_base.specs.Words.{Key}
 use Rattle.vet_base.specs.declared.criterion.Criterion.{Criterion}
 use Rattle.vet_entries.specs.declared.entry.Entry.{Entry}
 use Rattle.vet_files.specs.declared.audits_file.AuditsContent.{AuditsContent}
@@ -11,7 +12,7 @@ use Rattle.vet_files.specs.EntryTables.{listed_entries, package_lists, some_text
 use Rattle.vet_files.specs.Tables.{by_name, fields, some_set, unless_empty}
 
 -- a criterion's table
-abbrev pub criterion_fields : Criterion → List (List ℕ × Option Data)
+abbrev pub criterion_fields : Criterion → List (Key × Option Data)
 criterion_fields c = (codes "description", some_text c.description) ∷ (codes "description-url", some_text c.url) ∷
     (codes "implies", some_set c.implies) ∷ []
 
@@ -23,7 +24,7 @@ abbrev pub criteria_table : List Criterion → Members
 criteria_table criteria = by_name (map (λ c. (c.name, table (criterion_table c))) criteria)
 
 -- criteria and entries, less the entries of excluded packages. The table `audits` is there even where it is empty.
-abbrev pub audits_file_fields : NameSet → List Criterion → List Entry → List (List ℕ × Option Data)
+abbrev pub audits_file_fields : NameSet → List Criterion → List Entry → List (Key × Option Data)
 audits_file_fields exclude criteria entries =
     (codes "audits", Some (table (package_lists (listed_entries Audits exclude entries))))
     ∷ (codes "criteria", unless_empty (criteria_table criteria))

@@ -4,6 +4,7 @@ use Rattle.toml.specs.Data.{Data, Members, as_table}
 use Rattle.vet_base.specs.Gives.{Told, found_or, ◌>>=◌}
 use Rattle.vet_base.specs.Name.{is_name}
 use Rattle.vet_base.specs.Names.{NameSet}
+use Rattle.vet_base.specs.Words.{Bytes, Name, Path, Text}
 use Rattle.vet_demand.specs.Policies.{has_policy, with_policy}
 use Rattle.vet_demand.specs.PolicyKey.{read_key}
 use Rattle.vet_demand.specs.declared.policies.KeyedPolicy.{KeyedPolicy}
@@ -27,7 +28,7 @@ use Rattle.vet_files.specs.Walk.{each_member}
 -- ---- `[cargo-vet]`
 
 -- the version of cargo-vet that the file names
-abbrev pub vet_version_told : Members → Told (Found (Option (List ℕ)))
+abbrev pub vet_version_told : Members → Told (Found (Option Text))
 vet_version_told ms =
     table_at (codes "top") (codes "cargo-vet") ms >>= λ table.
     optional a_text (codes "cargo-vet") (codes "version") table >>= λ version.
@@ -36,19 +37,19 @@ vet_version_told ms =
 -- ---- `imports`
 
 -- the settings of a peer: its urls, the packages that aren't taken from it, and its map
-abbrev pub peer_told : List ℕ → List ℕ → Members → Told (Found (Option PeerSettings))
+abbrev pub peer_told : Name → Path → Members → Told (Found (Option PeerSettings))
 peer_told name path ms =
     required texts path (codes "url") ms >>= λ url. optional package_names path (codes "exclude") ms >>= λ exclude.
     optional criteria_map path (codes "criteria-map") ms >>= λ mapped.
     Ok (one (record { name = name; url = url; exclude = or_none exclude; map = or_no_map mapped })
     (unknown_keys kind.Peer ms))
 
-abbrev pub settings_told : List ℕ → Data → Told (Found (Option PeerSettings))
+abbrev pub settings_told : Name → Data → Told (Found (Option PeerSettings))
 settings_told name d = found_or (fault (codes "imports") name) (as_table d) >>= peer_told name
     (path_below (codes "imports") name)
 
 -- one more peer
-abbrev pub next_peer : Found (List PeerSettings) → List ℕ → Data → Told (Found (List PeerSettings))
+abbrev pub next_peer : Found (List PeerSettings) → Name → Data → Told (Found (List PeerSettings))
 next_peer found name d = if is_name name then settings_told name d >>= (λ more. Ok (onto found (listed more))) else Err
     (fault (codes "imports") name)
 
@@ -58,7 +59,7 @@ peers_told ms = table_at (codes "top") (codes "imports") ms >>= each_member next
 -- ---- `policy`
 
 -- the policy of a table that says this of its own package: what it says of dependencies, and its notes
-abbrev pub dependency_policy_told : List ℕ → Members → Option Bool → Option NameSet → Option NameSet
+abbrev pub dependency_policy_told : Path → Members → Option Bool → Option NameSet → Option NameSet
     → Told (Found Policy)
 dependency_policy_told path ms published criteria dev =
     optional dependency_criteria path (codes "dependency-criteria") ms >>= λ dependencies.
@@ -76,21 +77,21 @@ dependency_policy_told path ms published criteria dev =
     })
 
 -- the policy of a table
-abbrev pub policy_told : List ℕ → Members → Told (Found Policy)
+abbrev pub policy_told : Path → Members → Told (Found Policy)
 policy_told path ms =
     optional a_flag path (codes "audit-as-crates-io") ms >>= λ published.
     optional names path (codes "criteria") ms >>= λ criteria.
     optional names path (codes "dev-criteria") ms >>= λ dev. dependency_policy_told path ms published criteria dev
 
 -- one more policy, whose key isn't that of an earlier one
-abbrev pub new_key : List ℕ → List KeyedPolicy → PolicyKey → Told PolicyKey
+abbrev pub new_key : Text → List KeyedPolicy → PolicyKey → Told PolicyKey
 new_key text held key = if has_policy held key then Err (fault (codes "policy") text) else Ok key
 
-abbrev pub new_key_told : List ℕ → List KeyedPolicy → Told PolicyKey
+abbrev pub new_key_told : Text → List KeyedPolicy → Told PolicyKey
 new_key_told text held = found_or (fault (codes "policy") text) (read_key text) >>= new_key text held
 
 -- the policy whose table stands at a key
-abbrev pub policy_at : List ℕ → Data → Told (Found Policy)
+abbrev pub policy_at : Text → Data → Told (Found Policy)
 policy_at text d = found_or (fault (codes "policy") text) (as_table d) >>= policy_told
     (path_below (codes "policy") text)
 
@@ -98,7 +99,7 @@ abbrev pub policy_onto : Found (List KeyedPolicy) → PolicyKey → Found Policy
 policy_onto found key more =
     record { content = with_policy found.content key more.content; notices = together found.notices more.notices }
 
-abbrev pub next_policy : Found (List KeyedPolicy) → List ℕ → Data → Told (Found (List KeyedPolicy))
+abbrev pub next_policy : Found (List KeyedPolicy) → Text → Data → Told (Found (List KeyedPolicy))
 next_policy found text d =
     new_key_told text found.content >>= λ key. policy_at text d >>= λ more. Ok (policy_onto found key more)
 
@@ -121,7 +122,7 @@ exemption_told name path ms =
 -- ---- the file
 
 -- the lists of a config file, with the rest of its content, and what was passed over in that and among its keys
-abbrev pub config_lists_told : Option (List ℕ) → Option NameSet → Notices → Notices → Members
+abbrev pub config_lists_told : Option Text → Option NameSet → Notices → Notices → Members
     → Told (Found ConfigContent)
 config_lists_told version default settings keys ms =
     peers_told ms >>= λ peers. policies_told ms >>= λ policies.
@@ -146,5 +147,5 @@ config_file_told ms =
     config_lists_told version.content default version.notices (only_keys (unknown_keys kind.ConfigFile ms)) ms
 
 -- the content of a config file
-abbrev pub config_told : List ℕ → Told (Found ConfigContent)
+abbrev pub config_told : Bytes → Told (Found ConfigContent)
 config_told bytes = document_told bytes >>= config_file_told

@@ -4,6 +4,7 @@ use Rattle.std.specs.FinMap as finite
 use Rattle.std.specs.FinSet as set
 use Rattle.toml.specs.Data.{Data, string, table, Members}
 use Rattle.vet_base.specs.Names.{NameSet}
+use Rattle.vet_base.specs.Words.{Key, Text}
 use Rattle.vet_demand.specs.PolicyKey.{key_text}
 use Rattle.vet_demand.specs.declared.dependency_criteria.DependencyItem.{DependencyItem}
 use Rattle.vet_demand.specs.declared.policies.KeyedPolicy.{KeyedPolicy}
@@ -22,7 +23,7 @@ optional_set = option_map set_data
 
 -- ---- `[cargo-vet]`
 
-abbrev pub cargo_vet_table : List ℕ → Members
+abbrev pub cargo_vet_table : Text → Members
 cargo_vet_table version = fields ((codes "version", Some (string version)) ∷ [])
 
 -- ---- `imports`
@@ -32,7 +33,7 @@ abbrev pub mapped_table : NamesByName → Members
 mapped_table mapped = members_from (map (λ m. (m.0, set_data m.1)) (finite.entries mapped))
 
 -- a peer's settings
-abbrev pub peer_fields : PeerSettings → List (List ℕ × Option Data)
+abbrev pub peer_fields : PeerSettings → List (Key × Option Data)
 peer_fields peer =
     (codes "criteria-map", unless_empty (mapped_table peer.map)) ∷ (codes "exclude", some_list peer.exclude) ∷
     (codes "url", Some (set_data peer.url)) ∷ []
@@ -50,7 +51,7 @@ abbrev pub dependencies_table : List DependencyItem → Members
 dependencies_table items = members_from (map (λ i. (i.«package», set_data i.criteria)) items)
 
 -- a policy
-abbrev pub policy_fields : Policy → List (List ℕ × Option Data)
+abbrev pub policy_fields : Policy → List (Key × Option Data)
 policy_fields p =
     (codes "audit-as-crates-io", some_flag p.audit_as_crates_io) ∷ (codes "criteria", optional_set p.criteria)
     ∷ (codes "dependency-criteria", unless_empty (dependencies_table p.dependency_criteria)) ∷
@@ -70,7 +71,7 @@ abbrev pub exemptions_table : List Entry → Members
 exemptions_table entries = package_lists (listed_entries Exemptions set.empty entries)
 
 -- the table of a config file
-abbrev pub config_fields : ConfigContent → List (List ℕ × Option Data)
+abbrev pub config_fields : ConfigContent → List (Key × Option Data)
 config_fields content =
     (codes "cargo-vet", option_map (λ v. table (cargo_vet_table v)) content.vet_version)
     ∷ (codes "default-criteria", optional_set content.default_criteria)

@@ -8,6 +8,7 @@ use Rattle.vet_base.specs.Day.{day_text}
 use Rattle.vet_base.specs.Delta.{delta_text}
 use Rattle.vet_base.specs.Names.{NameSet}
 use Rattle.vet_base.specs.Version.{version_text}
+use Rattle.vet_base.specs.Words.{Key, Name, Text}
 use Rattle.vet_entries.specs.declared.entry.Entry.{Entry}
 use Rattle.vet_entries.specs.declared.kind.Kind.{Kind}
 use Rattle.vet_entries.specs.declared.kind.Kind.TheVariants.{Full, Delta, Violation, Wildcard, Trusted, Exemption}
@@ -18,14 +19,14 @@ use Rattle.vet_files.specs.Tables.{by_name, fields, set_data, some_set}
 -- ---- one entry
 
 -- a text and a truth value, where there is one
-abbrev pub some_text : Option (List ℕ) → Option Data
+abbrev pub some_text : Option Text → Option Data
 some_text = option_map string
 
 abbrev pub some_flag : Option Bool → Option Data
 some_flag = option_map boolean
 
 -- the keys of an entry's table, by its kind, with its criteria and notes
-abbrev pub entry_fields : Data → Option Data → Kind → List (List ℕ × Option Data)
+abbrev pub entry_fields : Data → Option Data → Kind → List (Key × Option Data)
 entry_fields criteria notes (Full version audit) =
     (codes "criteria", Some criteria) ∷ (codes "importable", some_flag audit.importable) ∷ (codes "notes", notes)
     ∷ (codes "version", Some (string (version_text version))) ∷ (codes "who", some_set audit.who) ∷ []
@@ -68,7 +69,7 @@ listed_entries which exclude entries = filter (λ e. is_listed which e.kind && n
     entries
 
 -- the entries of a package, in order
-abbrev pub of_package : List ℕ → List Entry → List Entry
+abbrev pub of_package : Name → List Entry → List Entry
 of_package name entries = filter (λ e. bytes_eq name e.«package») entries
 
 -- their tables, in order

@@ -14,16 +14,17 @@ use Rattle.vet_base.specs.Name.{read_name, read_package_name}
 use Rattle.vet_base.specs.Names.{NameSet}
 use Rattle.vet_base.specs.Req.{read_req}
 use Rattle.vet_base.specs.Version.{VersionValue, read_version}
+use Rattle.vet_base.specs.Words.{Key, Name, Path, Text}
 use Rattle.vet_base.specs.declared.delta.Delta.{Delta}
 use Rattle.vet_base.specs.declared.limits.TheConstants.{MOST_TEXT_BYTES}
-use Rattle.vet_base.specs.declared.refusal.Limit.TheVariants.{Text}
+use Rattle.vet_base.specs.declared.refusal.Limit.TheVariants as limit
 use Rattle.vet_base.specs.declared.refusal.Refusal.{Refusal}
 use Rattle.vet_base.specs.declared.refusal.Refusal.TheVariants.{FieldRefused, TooLarge}
 use Rattle.vet_files.specs.Walk.{each_item}
 use Rattle.vet_entries.specs.declared.user.TheConstants.{LAST_USER}
 
 -- what stands in a table at a key is at fault, or is missing
-abbrev pub fault : List ℕ → List ℕ → Refusal
+abbrev pub fault : Path → Key → Refusal
 fault path key = FieldRefused (told_key path) (told_key key)
 
 -- ---- a key that need not be there, and one that must
@@ -33,36 +34,36 @@ abbrev pub told_if_some : {A : Type 0} → (Data → Told A) → Option Data →
 told_if_some read None = Ok None
 told_if_some read (Some d) = read d >>= λ x. Ok (Some x)
 
-abbrev pub optional : {A : Type 0} → (List ℕ → List ℕ → Data → Told A) → List ℕ → List ℕ → Members → Told (Option A)
+abbrev pub optional : {A : Type 0} → (Path → Key → Data → Told A) → Path → Key → Members → Told (Option A)
 optional read path key ms = told_if_some (read path key) (get_member key ms)
 
-abbrev pub required : {A : Type 0} → (List ℕ → List ℕ → Data → Told A) → List ℕ → List ℕ → Members → Told A
+abbrev pub required : {A : Type 0} → (Path → Key → Data → Told A) → Path → Key → Members → Told A
 required read path key ms = found_or (fault path key) (get_member key ms) >>= read path key
 
 -- ---- one word for each type
 
 -- a truth value
-abbrev pub a_flag : List ℕ → List ℕ → Data → Told Bool
+abbrev pub a_flag : Path → Key → Data → Told Bool
 a_flag path key d = found_or (fault path key) (as_bool d)
 
 -- a free text, which has its limit
-abbrev pub short_text : List ℕ → Told (List ℕ)
-short_text text = if nat_lt MOST_TEXT_BYTES (length text) then Err (TooLarge Text) else Ok text
+abbrev pub short_text : Text → Told Text
+short_text text = if nat_lt MOST_TEXT_BYTES (length text) then Err (TooLarge limit.Text) else Ok text
 
-abbrev pub a_text : List ℕ → List ℕ → Data → Told (List ℕ)
+abbrev pub a_text : Path → Key → Data → Told Text
 a_text path key d = found_or (fault path key) (as_str d) >>= short_text
 
 -- a text that reads as a value
-abbrev pub a_reading : {A : Type 0} → (List ℕ → Option A) → List ℕ → List ℕ → Data → Told A
+abbrev pub a_reading : {A : Type 0} → (Text → Option A) → Path → Key → Data → Told A
 a_reading read path key d = found_or (fault path key) (option_and_then read (as_str d))
 
-abbrev pub a_version : List ℕ → List ℕ → Data → Told VersionValue
+abbrev pub a_version : Path → Key → Data → Told VersionValue
 a_version = a_reading read_version
 
-abbrev pub a_delta : List ℕ → List ℕ → Data → Told Delta
+abbrev pub a_delta : Path → Key → Data → Told Delta
 a_delta = a_reading read_delta
 
-abbrev pub a_requirement : List ℕ → List ℕ → Data → Told (List ℕ)
+abbrev pub a_requirement : Path → Key → Data → Told Text
 a_requirement = a_reading read_req
 
 -- a day: a text, or a local date
@@ -80,7 +81,7 @@ abbrev pub day_of : Data → Option DayValue
 day_of (string text) = read_day text
 day_of d = option_and_then (λ t. option_and_then day_of_date (local_date t)) (as_datetime d)
 
-abbrev pub a_day : List ℕ → List ℕ → Data → Told DayValue
+abbrev pub a_day : Path → Key → Data → Told DayValue
 a_day path key d = found_or (fault path key) (day_of d)
 
 -- a user: a whole number from 0
@@ -88,7 +89,7 @@ abbrev pub user_of : ℤ → Option ℕ
 user_of (pos n) = if nat_le n LAST_USER then Some n else None
 user_of (negsuc n) = None
 
-abbrev pub a_user : List ℕ → List ℕ → Data → Told ℕ
+abbrev pub a_user : Path → Key → Data → Told ℕ
 a_user path key d = found_or (fault path key) (option_and_then user_of (as_integer d))
 
 -- the items of a value: a text is a list of one
@@ -105,31 +106,31 @@ abbrev pub items_told : {A : Type 0} → (Data → Told A) → Items → Told (L
 items_told read = each_item (next_item read) [] 0
 
 -- the same of a value: a text, or a list
-abbrev pub one_or_list_told : {A : Type 0} → (List ℕ → List ℕ → Data → Told A) → List ℕ → List ℕ → Data → Told (List A)
+abbrev pub one_or_list_told : {A : Type 0} → (Path → Key → Data → Told A) → Path → Key → Data → Told (List A)
 one_or_list_told read path key d = found_or (fault path key) (items_of d) >>= items_told (read path key)
 
 -- the set of what these items read as
-abbrev pub with_item : (Data → Told (List ℕ)) → NameSet → ℕ → Data → Told NameSet
+abbrev pub with_item : (Data → Told Name) → NameSet → ℕ → Data → Told NameSet
 with_item read found place d = read d >>= λ text. Ok (set.insert found text)
 
-abbrev pub set_of_items : (Data → Told (List ℕ)) → Items → Told NameSet
+abbrev pub set_of_items : (Data → Told Name) → Items → Told NameSet
 set_of_items read = each_item (with_item read) set.empty 0
 
 -- a name of a criterion
-abbrev pub a_name : List ℕ → List ℕ → Data → Told (List ℕ)
+abbrev pub a_name : Path → Key → Data → Told Name
 a_name = a_reading read_name
 
 -- names: one, or a list of them
-abbrev pub names : List ℕ → List ℕ → Data → Told NameSet
+abbrev pub names : Path → Key → Data → Told NameSet
 names path key d = found_or (fault path key) (items_of d) >>= set_of_items (a_name path key)
 
 -- texts: one, or a list of them
-abbrev pub texts : List ℕ → List ℕ → Data → Told NameSet
+abbrev pub texts : Path → Key → Data → Told NameSet
 texts path key d = found_or (fault path key) (items_of d) >>= set_of_items (a_text path key)
 
 -- names of packages, which are always a list
-abbrev pub a_package : List ℕ → List ℕ → Data → Told (List ℕ)
+abbrev pub a_package : Path → Key → Data → Told Name
 a_package = a_reading read_package_name
 
-abbrev pub package_names : List ℕ → List ℕ → Data → Told NameSet
+abbrev pub package_names : Path → Key → Data → Told NameSet
 package_names path key d = found_or (fault path key) (as_array d) >>= set_of_items (a_package path key)

@@ -11,6 +11,7 @@ use Rattle.vet_base.specs.CriteriaChanges.{is_built_in}
 use Rattle.vet_base.specs.Items.{NamedOnce}
 use Rattle.vet_base.specs.Keyed.{IsByKey, all_set, item_of}
 use Rattle.vet_base.specs.Names.{NameSet}
+use Rattle.vet_base.specs.Words.{Name, Text}
 use Rattle.vet_base.specs.declared.criterion.Criterion.{Criterion}
 use Rattle.vet_demand.specs.Policies.{IsInKeyOrder}
 use Rattle.vet_demand.specs.declared.policies.KeyedPolicy.{KeyedPolicy}
@@ -38,7 +39,7 @@ pub record FilesValue : Type 0 where
   pub contents : List ImportedPeer
   pub publishers : List PackagePublishers
   pub policies : List KeyedPolicy
-  pub vet_version : Option (List ℕ)
+  pub vet_version : Option Text
   pub default_criteria : Option NameSet
 
 -- it is stored as the tuple of its parts
@@ -47,7 +48,7 @@ abbrev pub files_code : Coded Entry → Coded PeerSettings → Coded ImportedPee
 files_code of_entry of_settings of_content of_publishers of_policy =
     code_by (List Criterion
     × (List Entry × (List PeerSettings
-    × (List ImportedPeer × (List PackagePublishers × (List KeyedPolicy × (Option (List ℕ) × Option NameSet)))))))
+    × (List ImportedPeer × (List PackagePublishers × (List KeyedPolicy × (Option Text × Option NameSet)))))))
     (coded× (coded_list criterion_code)
     (coded× (coded_list of_entry) (coded× (coded_list of_settings) (coded× (coded_list of_content)
     (coded× (coded_list of_publishers)
@@ -107,7 +108,7 @@ content_held None = no_content
 content_held (Some peer) = peer.content
 
 -- what an imports file says of the peer of a name: nothing, where it isn't there
-abbrev pub content_for : List ImportedPeer → List ℕ → PeerContentValue
+abbrev pub content_for : List ImportedPeer → Name → PeerContentValue
 content_for contents name = content_held (item_of (slice_cmp nat_cmp) imported_name contents name)
 
 -- the config file has settings of a peer

@@ -3,6 +3,7 @@ use Rattle.std.specs.Prelude.{ℕ, ◌≡◌, List, [], ◌∷◌, ◌++◌, Ok}
 use Rattle.std.specs.BTreeSet.{BTreeSet, contains}
 use Rattle.toml.specs.Data.{Data}
 use Rattle.vet_base.specs.Gives.{Told, ◌>>=◌}
+use Rattle.vet_base.specs.Words.{Text}
 use Rattle.vet_demand.specs.Policies.{has_policy, in_key_order}
 use Rattle.vet_demand.specs.PolicyKey.{policy_key_cmp}
 use Rattle.vet_demand.specs.declared.policies.KeyedPolicy.{KeyedPolicy}
@@ -23,7 +24,7 @@ policy_behind found key more = record {
   notices = together found.notices more.notices;
 }
 
-abbrev pub next_gathered : Found (List KeyedPolicy) → List ℕ → Data → Told (Found (List KeyedPolicy))
+abbrev pub next_gathered : Found (List KeyedPolicy) → Text → Data → Told (Found (List KeyedPolicy))
 next_gathered found text d =
     new_key_told text (in_key_order found.content) >>= λ key.
     policy_at text d >>= λ more.

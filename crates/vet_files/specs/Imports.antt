@@ -3,6 +3,7 @@ use Rattle.std.specs.Prelude.{ℕ, List, [], ◌++◌, codes, Option, Some, Ok, 
 use Rattle.toml.specs.Data.{Data, Members, as_table}
 use Rattle.vet_base.specs.Gives.{Told, found_or, ◌>>=◌}
 use Rattle.vet_base.specs.Name.{is_name}
+use Rattle.vet_base.specs.Words.{Bytes, Name, Path}
 use Rattle.vet_entries.specs.PublisherRecords.{with_any}
 use Rattle.vet_files.specs.Publishers.{in_order}
 use Rattle.vet_entries.specs.PeerContent.{PeerContentValue}
@@ -23,7 +24,7 @@ use Rattle.vet_files.specs.Walk.{each_member}
 
 -- ---- `publisher`
 
-abbrev pub publisher_of : List ℕ → Members → Told (Found (Option Publisher))
+abbrev pub publisher_of : Path → Members → Told (Found (Option Publisher))
 publisher_of path ms =
     required a_version path (codes "version") ms >>= λ version.
     required a_day path (codes "when") ms >>= λ day.
@@ -37,10 +38,10 @@ abbrev pub publisher_told : Reading Publisher
 publisher_told name path ms = if has ms (codes "user-id") then publisher_of path ms else Ok skipped
 
 -- the records of a package, each once and in order; a package without any is none
-abbrev pub published : List ℕ → Found (List Publisher) → Found (List PackagePublishers)
+abbrev pub published : Name → Found (List Publisher) → Found (List PackagePublishers)
 published name found = record { content = with_any name found.content; notices = found.notices }
 
-abbrev pub next_publishers : Found (List PackagePublishers) → List ℕ → Data → Told (Found (List PackagePublishers))
+abbrev pub next_publishers : Found (List PackagePublishers) → Name → Data → Told (Found (List PackagePublishers))
 next_publishers found name d =
     tables_of_package publisher_told (codes "publisher") name d >>= λ more.
     Ok (onto found (published name (each_once in_order more)))
@@ -51,36 +52,36 @@ publishers_told ms = table_at (codes "top") (codes "publisher") ms >>= each_memb
 -- ---- `audits`
 
 -- the name of a peer
-abbrev pub imported_name : ImportedPeer → List ℕ
+abbrev pub imported_name : ImportedPeer → Name
 imported_name peer = peer.name
 
 -- a peer's file as its content
 abbrev pub peer_value : AuditsContent → PeerContentValue
 peer_value content = record { criteria = content.criteria; entries = content.entries }
 
-abbrev pub peer_file_told : List ℕ → List ℕ → Members → Told (Found PeerContentValue)
+abbrev pub peer_file_told : Path → Path → Members → Told (Found PeerContentValue)
 peer_file_told path prefix ms =
     audits_file_told Peers path prefix ms >>= λ found.
     Ok (record { content = peer_value found.content; notices = found.notices })
 
 -- a peer with its content
-abbrev pub imported : List ℕ → Found PeerContentValue → Found (Option ImportedPeer)
+abbrev pub imported : Name → Found PeerContentValue → Found (Option ImportedPeer)
 imported name found =
     record { content = Some (record { name = name; content = found.content }); notices = found.notices }
 
 -- a peer's tables stand in one of a path, and their paths begin with a prefix
-abbrev pub imported_from : List ℕ → List ℕ → List ℕ → Members → Told (Found (Option ImportedPeer))
+abbrev pub imported_from : Name → Path → Path → Members → Told (Found (Option ImportedPeer))
 imported_from name path prefix ms = peer_file_told path prefix ms >>= λ more. Ok (imported name more)
 
-abbrev pub imported_table : List ℕ → Members → Told (Found (Option ImportedPeer))
+abbrev pub imported_table : Name → Members → Told (Found (Option ImportedPeer))
 imported_table name ms = imported_from name (path_below (codes "audits") name)
     (path_below (codes "audits") name ++ codes ".") ms
 
-abbrev pub imported_at : List ℕ → Data → Told (Found (Option ImportedPeer))
+abbrev pub imported_at : Name → Data → Told (Found (Option ImportedPeer))
 imported_at name d = found_or (fault (codes "audits") name) (as_table d) >>= imported_table name
 
 -- one more peer
-abbrev pub next_imported : Found (List ImportedPeer) → List ℕ → Data → Told (Found (List ImportedPeer))
+abbrev pub next_imported : Found (List ImportedPeer) → Name → Data → Told (Found (List ImportedPeer))
 next_imported found name d = if is_name name then imported_at name d >>= (λ more. Ok (onto found (listed more))) else
     Err (fault (codes "audits") name)
 
@@ -99,9 +100,9 @@ imports_file_told ms =
     })
 
 -- the content of an imports file
-abbrev pub imports_told : List ℕ → Told (Found ImportsContent)
+abbrev pub imports_told : Bytes → Told (Found ImportsContent)
 imports_told bytes = document_told bytes >>= imports_file_told
 
 -- the content of a peer's audits file
-abbrev pub peer_content_told : List ℕ → Told (Found PeerContentValue)
+abbrev pub peer_content_told : Bytes → Told (Found PeerContentValue)
 peer_content_told bytes = document_told bytes >>= peer_file_told (codes "top") []

@@ -8,6 +8,7 @@ use Rattle.toml.specs.View.{items_of}
 use Rattle.vet_base.specs.Day.{day_text}
 use Rattle.vet_base.specs.Names.{NameSet}
 use Rattle.vet_base.specs.Version.{version_text}
+use Rattle.vet_base.specs.Words.{Key, Name}
 use Rattle.vet_entries.specs.declared.peer_settings.PeerSettings.{PeerSettings}
 use Rattle.vet_entries.specs.declared.publisher.Publisher.{Publisher}
 use Rattle.vet_entries.specs.declared.publisher_records.PackagePublishers.{PackagePublishers}
@@ -20,7 +21,7 @@ use Rattle.vet_files.specs.Tables.{by_name, fields, unless_empty}
 -- ---- `publisher`
 
 -- a publisher record
-abbrev pub publisher_fields : Publisher → List (List ℕ × Option Data)
+abbrev pub publisher_fields : Publisher → List (Key × Option Data)
 publisher_fields p =
     (codes "user-id", Some (integer (pos p.user))) ∷ (codes "user-login", some_text p.login) ∷
     (codes "user-name", some_text p.name)
@@ -39,7 +40,7 @@ publishers_table packages = by_name (map (λ p. (p.«package», array (publisher
 -- ---- `audits`
 
 -- the packages of which nothing is taken from a peer: those that the first settings of its name exclude
-abbrev pub excluded_of : List PeerSettings → List ℕ → NameSet
+abbrev pub excluded_of : List PeerSettings → Name → NameSet
 excluded_of [] name = set.empty
 excluded_of (s ∷ rest) name = if bytes_eq name s.name then s.exclude else excluded_of rest name
 
@@ -54,7 +55,7 @@ imported_peers_table settings peers = by_name (map (λ p. (p.name, table (import
 -- ---- the file
 
 -- the table of an imports file. The table `audits` is there even where it is empty.
-abbrev pub imports_fields : List PeerSettings → ImportsContent → List (List ℕ × Option Data)
+abbrev pub imports_fields : List PeerSettings → ImportsContent → List (Key × Option Data)
 imports_fields settings content =
     (codes "audits", Some (table (imported_peers_table settings content.peers)))
     ∷ (codes "publisher", unless_empty (publishers_table content.publishers)) ∷ []

@@ -2,11 +2,12 @@
 use Rattle.std.specs.Prelude.{ℕ, suc, ◌||◌, Bool, List, codes, if◌then◌else◌}
 use Rattle.std.specs.Str.{bytes_eq}
 use Rattle.toml.specs.Data.{Members, no_members, member}
+use Rattle.vet_base.specs.Words.{Key}
 use Rattle.vet_files.specs.declared.keys.TableKind.{TableKind}
 use Rattle.vet_files.specs.declared.keys.TableKind.TheVariants as kind
 
 -- whether a table of a kind has a meaning for a key
-abbrev pub is_key : TableKind → List ℕ → Bool
+abbrev pub is_key : TableKind → Key → Bool
 is_key kind.AuditsFile k = bytes_eq k (codes "criteria") ||
     (bytes_eq k (codes "audits") || (bytes_eq k (codes "wildcard-audits") || bytes_eq k (codes "trusted")))
 is_key kind.Criterion k = bytes_eq k (codes "description") ||

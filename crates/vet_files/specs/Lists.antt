@@ -5,6 +5,7 @@ use Rattle.std.specs.Option.{option_to_list}
 use Rattle.toml.specs.Data.{Data, Members, no_members, as_array, as_table, get_member}
 use Rattle.vet_base.specs.Gives.{Told, found_or, ◌>>=◌}
 use Rattle.vet_base.specs.Name.{is_package_name}
+use Rattle.vet_base.specs.Words.{Key, Name, Path}
 use Rattle.vet_files.specs.declared.found.Found.{Found}
 use Rattle.vet_files.specs.Field.{fault}
 use Rattle.vet_files.specs.Notices.{no_notices, one_skipped, only_doubles, only_keys, together}
@@ -36,37 +37,37 @@ each_once distinct found = record {
 }
 
 -- the table at a key; a missing one is empty
-abbrev pub table_of : List ℕ → List ℕ → Option Data → Told Members
+abbrev pub table_of : Path → Key → Option Data → Told Members
 table_of path key None = Ok no_members
 table_of path key (Some d) = found_or (fault path key) (as_table d)
 
-abbrev pub table_at : List ℕ → List ℕ → Members → Told Members
+abbrev pub table_at : Path → Key → Members → Told Members
 table_at path key ms = table_of path key (get_member key ms)
 
 -- the keys of the table at a key rise
-abbrev pub RisesAt : List ℕ → List ℕ → Members → Type 0
+abbrev pub RisesAt : Path → Key → Members → Type 0
 RisesAt path key ms = IfOk (table_at path key ms) KeysRise
 
 -- the path of what stands in a table at a key: `criteria.ours`
-abbrev pub path_below : List ℕ → List ℕ → List ℕ
+abbrev pub path_below : Path → Key → Path
 path_below path key = path ++ (codes "." ++ key)
 
 -- the path of a table in a list: `audits.serde[0]`
-abbrev pub path_in_list : List ℕ → List ℕ → ℕ → List ℕ
+abbrev pub path_in_list : Path → Name → ℕ → Path
 path_in_list path name place = path ++ (codes "." ++ (name ++ (codes "[" ++ (decimal place ++ codes "]"))))
 
 -- how a table of a list is read, by the package's name and the table's path
 abbrev pub Reading : Type 0 → Type 0
-Reading A = List ℕ → List ℕ → Members → Told (Found (Option A))
+Reading A = Name → Path → Members → Told (Found (Option A))
 
 -- one more table of a package's list
-abbrev pub next_table : {A : Type 0} → Reading A → List ℕ → List ℕ → Found (List A) → ℕ → Data → Told (Found (List A))
+abbrev pub next_table : {A : Type 0} → Reading A → Path → Name → Found (List A) → ℕ → Data → Told (Found (List A))
 next_table read path name found place d =
     found_or (fault path name) (as_table d) >>= read name (path_in_list path name place) >>= λ more.
     Ok (onto found (listed more))
 
 -- the tables of a package: a list of them at the package's name
-abbrev pub tables_of_package : {A : Type 0} → Reading A → List ℕ → List ℕ → Data → Told (Found (List A))
+abbrev pub tables_of_package : {A : Type 0} → Reading A → Path → Name → Data → Told (Found (List A))
 tables_of_package read path name d =
     if is_package_name name
     then found_or (fault path name) (as_array d) >>= each_item (next_table read path name) nothing 0

@@ -7,6 +7,7 @@ use Rattle.toml.specs.Data.{Data, string}
 use Rattle.vet_base.specs.Gives.{Told}
 use Rattle.vet_base.specs.Name.{is_name, is_package_name}
 use Rattle.vet_base.specs.Names.{NameSet}
+use Rattle.vet_base.specs.Words.{Bytes, Key, Name, Path}
 use Rattle.vet_base.specs.declared.criterion.Criterion.{Criterion}
 use Rattle.vet_demand.specs.PolicyKey.{key_text, read_key}
 use Rattle.vet_demand.specs.declared.policies.KeyedPolicy.{KeyedPolicy}
@@ -37,11 +38,11 @@ use Rattle.vet_files.specs.Notices.{no_notices}
 use Rattle.vet_files.specs.Tables.{set_data}
 
 -- what stands at a key, whatever the key and its table's path, is read as this
-abbrev pub IsReadAs : {A : Type 0} → (List ℕ → List ℕ → Data → Told A) → Data → A → Type 0
-IsReadAs told d x = (path key : List ℕ) → told path key d ≡ Ok x
+abbrev pub IsReadAs : {A : Type 0} → (Path → Key → Data → Told A) → Data → A → Type 0
+IsReadAs told d x = (path : Path) (key : Key) → told path key d ≡ Ok x
 
 -- a text is read as a content that is the same as one, with nothing passed over
-abbrev pub GivesBack : {C : Type 0} → (List ℕ → Told (Found C)) → (C → Type 0) → List ℕ → Type 0
+abbrev pub GivesBack : {C : Type 0} → (Bytes → Told (Found C)) → (C → Type 0) → Bytes → Type 0
 GivesBack {C} told IsSame text = (found : C)
     × ((told text ≡ Ok (record { content = found; notices = no_notices })) × IsSame found)
 
@@ -63,23 +64,23 @@ is_taken Peers kind = is_peer_kind kind
 pub record ReadsEntry (e : Entry) : Type 0 where
   pub named : is_package_name e.«package» ≡ true
   pub read : (whose : Whose) → is_own e.source ≡ true → is_taken whose e.kind ≡ true
-      → (path : List ℕ) → reading_of whose e.kind e.«package» path (entry_table e) ≡ Ok (one e 0)
+      → (path : Path) → reading_of whose e.kind e.«package» path (entry_table e) ≡ Ok (one e 0)
 
 pub record ReadsCriterion (c : Criterion) : Type 0 where
   pub named : is_name c.name ≡ true
-  pub read : (path : List ℕ) → criterion_told c.name path (criterion_table c) ≡ Ok (one c 0)
+  pub read : (path : Path) → criterion_told c.name path (criterion_table c) ≡ Ok (one c 0)
 
 pub record ReadsPeer (p : PeerSettings) : Type 0 where
   pub named : is_name p.name ≡ true
-  pub read : (path : List ℕ) → peer_told p.name path (peer_table p) ≡ Ok (one p 0)
+  pub read : (path : Path) → peer_told p.name path (peer_table p) ≡ Ok (one p 0)
 
 pub record ReadsPolicy (p : KeyedPolicy) : Type 0 where
   pub keyed : read_key (key_text p.key) ≡ Some p.key
-  pub read : (path : List ℕ) → policy_told path (policy_table p.policy)
+  pub read : (path : Path) → policy_told path (policy_table p.policy)
       ≡ Ok (record { content = p.policy; notices = no_notices })
 
 pub record ReadsPublisher (p : Publisher) : Type 0 where
-  pub read : (name path : List ℕ) → publisher_told name path (publisher_table p) ≡ Ok (one p 0)
+  pub read : (name : Name) (path : Path) → publisher_told name path (publisher_table p) ≡ Ok (one p 0)
 
 -- ---- the tables of a file
 

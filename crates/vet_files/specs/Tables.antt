@@ -7,46 +7,47 @@ use Rattle.std.specs.Cmp.Lexicographic.{slice_cmp}
 use Rattle.toml.specs.Data.{Data, string, array, table, Items, Members, no_members, member}
 use Rattle.toml.specs.View.{items_of}
 use Rattle.vet_base.specs.Names.{NameSet, members}
+use Rattle.vet_base.specs.Words.{Key, Text}
 
 -- ---- tables of known keys
 
 -- a key and what stands at it; where nothing does, the key is left out
-abbrev pub at_key : List ℕ → Option Data → Members → Members
+abbrev pub at_key : Key → Option Data → Members → Members
 at_key key None rest = rest
 at_key key (Some d) rest = member key d rest
 
 -- the table of these keys, which are listed in the order of their bytes
-abbrev pub fields : List (List ℕ × Option Data) → Members
+abbrev pub fields : List (Key × Option Data) → Members
 fields [] = no_members
 fields (f ∷ rest) = at_key f.0 f.1 (fields rest)
 
 -- ---- a key put into a table
 
 -- the table with this value at a key, in the order of the keys' bytes
-abbrev pub put_member : List ℕ → Data → Members → Members
+abbrev pub put_member : Key → Data → Members → Members
 put_member key d no_members = member key d no_members
 put_member key d (member k e rest) = by_order (slice_cmp nat_cmp key k) (member key d (member k e rest))
     (member k d rest) (member k e (put_member key d rest))
 
 -- where there is a value
-abbrev pub with_key : Members → List ℕ → Option Data → Members
+abbrev pub with_key : Members → Key → Option Data → Members
 with_key ms key None = ms
 with_key ms key (Some d) = put_member key d ms
 
 -- ---- tables by name
 
 -- the table of these names and values, as they are listed
-abbrev pub members_from : List (List ℕ × Data) → Members
+abbrev pub members_from : List (Key × Data) → Members
 members_from [] = no_members
 members_from (p ∷ rest) = member p.0 p.1 (members_from rest)
 
 -- one after the other is put in its place by the bytes of its name
-abbrev pub put_all : List (List ℕ × Data) → List (List ℕ × Data) → List (List ℕ × Data)
+abbrev pub put_all : List (Key × Data) → List (Key × Data) → List (Key × Data)
 put_all found [] = found
 put_all found (p ∷ rest) = put_all (put (slice_cmp nat_cmp) p.0 p.1 found) rest
 
 -- the table of these names and values, in the order of the names' bytes
-abbrev pub by_name : List (List ℕ × Data) → Members
+abbrev pub by_name : List (Key × Data) → Members
 by_name pairs = members_from (put_all [] pairs)
 
 -- a table in which nothing stands is left out
@@ -57,11 +58,11 @@ unless_empty (member k d rest) = Some (table (member k d rest))
 -- ---- sets
 
 -- texts as a list
-abbrev pub text_items : List (List ℕ) → Items
+abbrev pub text_items : List Text → Items
 text_items texts = items_of (map string texts)
 
 -- one text as a text, and others as a list
-abbrev pub one_or_list : List (List ℕ) → Data
+abbrev pub one_or_list : List Text → Data
 one_or_list (t ∷ []) = string t
 one_or_list texts = array (text_items texts)
 
@@ -74,7 +75,7 @@ abbrev pub list_data : NameSet → Data
 list_data s = array (text_items (members s))
 
 -- a set without anything is left out
-abbrev pub unless_none : List (List ℕ) → Data → Option Data
+abbrev pub unless_none : List Text → Data → Option Data
 unless_none [] d = None
 unless_none (t ∷ rest) d = Some d
 

@@ -2,6 +2,7 @@
 use Rattle.std.specs.Prelude.{◌≡◌, ℕ, true, List, MatchOption, codes}
 use Rattle.vet_base.specs.Criteria.{place_of}
 use Rattle.vet_base.specs.Version.{VersionValue}
+use Rattle.vet_base.specs.Words.{Text}
 use Rattle.vet_demand.specs.declared.pair.Pair.{Pair}
 use Rattle.vet_entries.specs.Condemned.{is_condemned}
 use Rattle.vet_entries.specs.Facts.{Facts}
@@ -49,7 +50,7 @@ IsClassOfPair facts p class =
     (λ place. IsClass (steps_of facts p.«package») (is_condemned facts p.«package») place p.version class)
 
 -- the word of a class: its name in small letters
-abbrev pub class_word : Class → List ℕ
+abbrev pub class_word : Class → Text
 class_word Conflicting = codes "conflicting"
 class_word Full = codes "full"
 class_word Partial = codes "partial"

@@ -1,5 +1,6 @@
 -- What is known of the steps of one package (ours).
 use Rattle.std.specs.Prelude.{◌≡◌, ℕ, List}
+use Rattle.vet_base.specs.Words.{Name}
 use Rattle.vet_entries.specs.declared.condemned.Violation.{Violation}
 use Rattle.vet_entries.specs.Condemned.{condemned_by, violations_of}
 use Rattle.vet_entries.specs.Facts.{Facts}
@@ -8,7 +9,7 @@ use Rattle.vet_graph.specs.declared.guarded.GuardedStep.{GuardedStep}
 use Rattle.vet_graph.specs.Search.{AreGuarded, steps_in}
 
 -- these are the steps of a package, with what condemns their targets, and its violations
-pub record AreStepsOf (facts : Facts) (name : List ℕ) (guarded : List GuardedStep)
+pub record AreStepsOf (facts : Facts) (name : Name) (guarded : List GuardedStep)
     (held : List Violation) : Type 0 where
   pub steps : steps_in guarded ≡ steps_of facts name
   pub guards : AreGuarded (condemned_by held) guarded

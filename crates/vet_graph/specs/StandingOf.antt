@@ -3,6 +3,7 @@ use Rattle.std.specs.Prelude.{◌≡◌, ℕ, List, MatchOption, Option, map}
 use Rattle.std.specs.Option.{option_map_or}
 use Rattle.std.specs.List.{Contains}
 use Rattle.vet_base.specs.Criteria.{Criteria, place_of}
+use Rattle.vet_base.specs.Words.{Name}
 use Rattle.vet_demand.specs.declared.pair.Pair.{Pair}
 use Rattle.vet_entries.specs.Condemned.{is_condemned}
 use Rattle.vet_entries.specs.Facts.{Facts}
@@ -17,7 +18,7 @@ use Rattle.vet_graph.specs.declared.class.Class.TheVariants.{Unvetted}
 use Rattle.vet_graph.specs.declared.standing.Stand.{Stand}
 
 -- the condemned versions of a package
-abbrev pub condemned_of : Facts → List ℕ → Condemned
+abbrev pub condemned_of : Facts → Name → Condemned
 condemned_of facts name = is_condemned facts name
 
 -- the class of a pair by its package's steps and condemned versions; nothing vouches for a criterion that the table

@@ -57,7 +57,8 @@ refuses_too A B (UnknownCriterion n) f (inr h) = inr (ap Err (cc h))
 refuses_too A B e f h = ap Err (cc h)
 
 -- of what is accepted nothing is asked before its moves are known
-pub accepted_exact : {K U : Type 0} (s : State) (a : Action) (t : Told Answer) (answer : Result (Prepared K U) Refusal) → t ≡ Ok Accepted → IsExact (wants_memory s a) t answer
+pub accepted_exact : {K U : Type 0} (s : State) (a : Action) (t : Told Answer)
+    (answer : Result (Prepared K U) Refusal) → t ≡ Ok Accepted → IsExact (wants_memory s a) t answer
 accepted_exact {K} {U} s a t answer told = by (wants_memory s a)
   where
     accepted_so : IsExactly t answer
@@ -82,20 +83,23 @@ module _ {K : Type 0} (r : RegisterView K) (day : DayValue) (a : Action) where
   refused (Err e) f h = refuses_too _ _ e f h
 
   -- what is accepted has an effect
-  pub effective : (t : Told Answer) (e : Effect) → t ≡ Ok Accepted → IsEffect r day a e → AsksExactly r day a t (Ok (asked.Effect e))
+  pub effective : (t : Told Answer) (e : Effect) → t ≡ Ok Accepted → IsEffect r day a e → AsksExactly r day a t
+      (Ok (asked.Effect e))
   effective t e told is = rw told is
 
   -- or memory is wanting
   pub no_memory : (t : Told Answer) (f : Refusal) → t ≡ Ok Accepted → f ≡ NoMemory → AsksExactly r day a t (Err f)
   no_memory t f told is = rw told is
 
-  accepted_exactly : (t : Told Answer) (e : Effect) → AsksExactly r day a t (Ok (asked.Effect e)) → (t ≡ Ok Accepted) × IsEffect r day a e
+  accepted_exactly : (t : Told Answer) (e : Effect) → AsksExactly r day a t (Ok (asked.Effect e)) → (t ≡ Ok Accepted)
+      × IsEffect r day a e
   accepted_exactly (Err f) e h = absurd (never_refuses f _ h)
   accepted_exactly (Ok (Already n)) e h = cc h
   accepted_exactly (Ok Accepted) e h = (refl, h)
 
   -- what has an effect was accepted
-  pub accepted : (s : State) (t : Told Answer) (e : Effect) → Asks s r day a t (Ok (asked.Effect e)) → (t ≡ Ok Accepted) × IsEffect r day a e
+  pub accepted : (s : State) (t : Told Answer) (e : Effect) → Asks s r day a t (Ok (asked.Effect e)) →
+      (t ≡ Ok Accepted) × IsEffect r day a e
   accepted s t e h = by (wants_memory s a) h
     where
       by : (wants : Bool) → AsksBy wants r day a t (Ok (asked.Effect e)) → (t ≡ Ok Accepted) × IsEffect r day a e
@@ -103,7 +107,8 @@ module _ {K : Type 0} (r : RegisterView K) (day : DayValue) (a : Action) where
       by true (inr h) = accepted_exactly t e h
       by false h = accepted_exactly t e h
 
-  told_exactly : {B : Type 0} (t : Told Answer) (then : Answer → Told B) (f : Refusal) → AsksExactly r day a t (Err f) → (f ≡ NoMemory) ⊎ ((t >>= then) ≡ Err f)
+  told_exactly : {B : Type 0} (t : Told Answer) (then : Answer → Told B) (f : Refusal) → AsksExactly r day a t (Err f)
+      → (f ≡ NoMemory) ⊎ ((t >>= then) ≡ Err f)
   told_exactly (Err (UnknownCriterion n)) then f (inl h) = inr (sym (ap Err (cc h)))
   told_exactly (Err (UnknownCriterion n)) then f (inr h) = inl (cc h)
   told_exactly (Err e) then f h = inr (sym (ap Err (cc h)))
@@ -111,7 +116,8 @@ module _ {K : Type 0} (r : RegisterView K) (day : DayValue) (a : Action) where
   told_exactly (Ok Accepted) then f h = inl h
 
   -- what is refused was refused by the verdict, or for want of memory
-  pub refusal_told : {B : Type 0} (s : State) (t : Told Answer) (then : Answer → Told B) (f : Refusal) → Asks s r day a t (Err f) → (f ≡ NoMemory) ⊎ ((t >>= then) ≡ Err f)
+  pub refusal_told : {B : Type 0} (s : State) (t : Told Answer) (then : Answer → Told B) (f : Refusal) → Asks s r day
+      a t (Err f) → (f ≡ NoMemory) ⊎ ((t >>= then) ≡ Err f)
   refusal_told {B} s t then f h = by (wants_memory s a) h
     where
       by : (wants : Bool) → AsksBy wants r day a t (Err f) → (f ≡ NoMemory) ⊎ ((t >>= then) ≡ Err f)
@@ -119,13 +125,15 @@ module _ {K : Type 0} (r : RegisterView K) (day : DayValue) (a : Action) where
       by true (inr h) = told_exactly t then f h
       by false h = told_exactly t then f h
 
-  exact_exactly : (U : Type 0) (t : Told Answer) (f : Refusal) → AsksExactly r day a t (Err f) → IsExactly {K = K} {U = U} t (Err f)
+  exact_exactly : (U : Type 0) (t : Told Answer) (f : Refusal) → AsksExactly r day a t (Err f) → IsExactly {K = K}
+      {U = U} t (Err f)
   exact_exactly U (Err e) f h = refuses_too _ _ e f h
   exact_exactly U (Ok (Already n)) f h = cc h
   exact_exactly U (Ok Accepted) f h = tt
 
   -- and before moves are known, exactly so
-  pub refusal_exact : (s : State) (U : Type 0) (t : Told Answer) (f : Refusal) → Asks s r day a t (Err f) → IsExact {K = K} {U = U} (wants_memory s a) t (Err f)
+  pub refusal_exact : (s : State) (U : Type 0) (t : Told Answer) (f : Refusal) → Asks s r day a t (Err f) → IsExact
+      {K = K} {U = U} (wants_memory s a) t (Err f)
   refusal_exact s U t f h = by (wants_memory s a) h
     where
       by : (wants : Bool) → AsksBy wants r day a t (Err f) → IsExact {K = K} {U = U} wants t (Err f)
@@ -136,7 +144,8 @@ module _ {K : Type 0} (r : RegisterView K) (day : DayValue) (a : Action) where
   -- the effect of what is accepted in a state that stays, if what is held after it is sound
   pub effect_is : (s : State) (e : Effect) → r.state ≡ s → edited e.edit s.held ≡ held_after s a
       → desk_edited e.desk s.desk ≡ desk_by s day a → e.number ≡ number_given s a → e.next_entry ≡ number_after s a
-      → Fits e.edit (held_room r) → HoldsDesk e.desk (desk_room r) → IsSoundHeld (held_after s a) (number_after s a) → IsEffect r day a e
+      → Fits e.edit (held_room r) → HoldsDesk e.desk (desk_room r) → IsSoundHeld (held_after s a) (number_after s a) →
+          IsEffect r day a e
   effect_is s e stays held desk number next fits holds sound =
       let same : s ≡ r.state = sym stays in
       record {
@@ -158,14 +167,19 @@ module _ {K : Type 0} (r : RegisterView K) (day : DayValue) (a : Action) where
       (subst (λ o. HoldsDesk o (desk_room r)) (sym none) tt) sound
 
   -- that of an edit of facts, where all else stays, if criteria and publisher records are sound after it
-  pub facts_effect : (s : State) (change : Edit) (number : Option ℕ) (next : ℕ) → r.state ≡ s → IsSound s → judged s day a ≡ Ok Accepted
-      → IsGivenContent a → facts.edited change s.held.facts ≡ facts_after s a → policies_by a s.held.policies ≡ s.held.policies
-      → projects_by a s.held.projects ≡ s.held.projects → settings_by a s.held.settings ≡ s.held.settings → desk_by s day a ≡ s.desk → number ≡ number_given s a → next ≡ number_after s a → facts.Fits change (held_room r).facts
+  pub facts_effect : (s : State) (change : Edit) (number : Option ℕ) (next : ℕ) → r.state ≡ s → IsSound s → judged s
+      day a ≡ Ok Accepted
+      → IsGivenContent a → facts.edited change s.held.facts ≡ facts_after s a → policies_by a s.held.policies ≡
+          s.held.policies
+      → projects_by a s.held.projects ≡ s.held.projects → settings_by a s.held.settings ≡ s.held.settings → desk_by s
+          day a ≡ s.desk → number ≡ number_given s a → next ≡ number_after s a → facts.Fits change (held_room r).facts
       → IsTable (facts_after s a).criteria → ArePublishers (facts_after s a).publishers
       → IsEffect r day a (record { edit = edit.Facts change; desk = None; number = number; next_entry = next })
-  facts_effect s change number next stays sound told given becomes policies projects settings desk numbered follows fits is are =
+  facts_effect s change number next stays sound told given becomes policies projects settings desk numbered follows
+      fits is are =
       held_effect s (record { edit = edit.Facts change; desk = None; number = number; next_entry = next }) stays
-      (λ i. record { facts = becomes i; policies = sym policies i; projects = sym projects i; settings = sym settings i }) refl desk numbered follows fits
+      (λ i. record { facts = becomes i; policies = sym policies i; projects = sym projects i; settings = sym settings
+          i }) refl desk numbered follows fits
       (sound_held s day a told sound given is are)
 
 -- ---- what was passed
@@ -175,36 +189,45 @@ pub some_day : DayValue
 some_day = record { year = 0; month = 1; day = 1 }
 
 -- a criterion that is set passes all that the table asks
-pub set_passed : (s : State) (day : DayValue) (c : Criterion) → judged s day (SetCriterion c) ≡ Ok Accepted → set_verdict s.held.facts.criteria c ≡ Ok tt
+pub set_passed : (s : State) (day : DayValue) (c : Criterion) → judged s day (SetCriterion c) ≡ Ok Accepted →
+    set_verdict s.held.facts.criteria c ≡ Ok tt
 set_passed s day c told =
     let p = passed s day (SetCriterion c) told in
     let l = then_told (set_limits s.held.facts.criteria c.name) (λ _. step_limit s) tt p.limits in
-    ap (λ t. t >>= λ _. set_references s.held.facts.criteria c >>= λ _. set_rules c.name) l.0 ∙ ap (λ t. t >>= λ _. set_rules c.name) p.references ∙ p.rules
+    ap (λ t. t >>= λ _. set_references s.held.facts.criteria c >>= λ _. set_rules c.name) l.0 ∙ ap
+        (λ t. t >>= λ _. set_rules c.name) p.references ∙ p.rules
 
 -- so does the name of one that is removed
-pub remove_passed : (s : State) (day : DayValue) (n : List ℕ) → judged s day (RemoveCriterion n) ≡ Ok Accepted → remove_verdict s.held.facts.criteria n ≡ Ok tt
+pub remove_passed : (s : State) (day : DayValue) (n : List ℕ) → judged s day (RemoveCriterion n) ≡ Ok Accepted →
+    remove_verdict s.held.facts.criteria n ≡ Ok tt
 remove_passed s day n told =
     let p = passed s day (RemoveCriterion n) told in
     let u = then_told (remove_rules s.held.facts.criteria n) (λ _. refuse_if (is_used s n) CriterionInUse) tt p.rules in
     ap (λ t. t >>= λ _. remove_rules s.held.facts.criteria n) p.references ∙ u.0
 
-module _ (s : State) (day : DayValue) (name : List ℕ) (records : List Publisher) (told : judged s day (SetPublishers name records) ≡ Ok Accepted) where
+module _ (s : State) (day : DayValue) (name : List ℕ) (records : List Publisher)
+    (told : judged s day (SetPublishers name records) ≡ Ok Accepted) where
   limited : publisher_limit s name records ≡ Ok tt
-  limited = (then_told (publisher_limit s name records) (λ _. step_limit s) tt (passed s day (SetPublishers name records) told).limits).0
+  limited = (then_told (publisher_limit s name records) (λ _. step_limit s) tt
+      (passed s day (SetPublishers name records) told).limits).0
 
   -- publisher records that are set can be counted
   pub records_counted : records_total (with_records name records s.held.facts.publishers) < 2 ^ 64
-  records_counted = omega (arith, ltb-false MOST_PUBLISHERS (records_total (with_records name records s.held.facts.publishers)) (not_refused _ (TooLarge limit.Publishers) limited))
+  records_counted = omega
+      (arith, ltb-false MOST_PUBLISHERS (records_total (with_records name records s.held.facts.publishers))
+          (not_refused _ (TooLarge limit.Publishers) limited))
 
   -- they are sound
-  pub records_sound : ArePublishers s.held.facts.publishers → Publishers.IsInOrder records → IsByName (with_records name records s.held.facts.publishers)
+  pub records_sound : ArePublishers s.held.facts.publishers → Publishers.IsInOrder records → IsByName
+      (with_records name records s.held.facts.publishers)
       → ArePublishers (with_records name records s.held.facts.publishers)
   records_sound are ordered named = are_publishers s name records are ordered named limited
 
   -- and others than those held
   pub records_differ : records_of s.held.facts.publishers name ≡ [] → records ≡ [] → ⊥
   records_differ none no_new =
-      differs (publishers_eq (records_of s.held.facts.publishers name) records) ((publishers_eq-Decides _ _).1 (none ∙ sym no_new)) (passed s day (SetPublishers name records) told).held
+      differs (publishers_eq (records_of s.held.facts.publishers name) records)
+          ((publishers_eq-Decides _ _).1 (none ∙ sym no_new)) (passed s day (SetPublishers name records) told).held
     where
       nothing : Option (Option ℕ)
       nothing = None

@@ -38,7 +38,8 @@ answers_itself (Ok y) x h = h
 answers_itself (Err e) x h = refuses_itself e x h
 
 -- a refusal is told before all that comes after
-pub refused_first : {B : Type 0} (t : Told (Unit {0})) (then : Unit {0} → Told B) (f : Refusal) → Answers t (Err f) → Answers (t >>= then) (Err f)
+pub refused_first : {B : Type 0} (t : Told (Unit {0})) (then : Unit {0} → Told B) (f : Refusal) → Answers t (Err f) →
+    Answers (t >>= then) (Err f)
 refused_first (Ok u) then f h = cc h
 refused_first (Err e) then f h = refuses_too _ _ e f h
 
@@ -51,79 +52,101 @@ in_turn (Err e) b c d = refl
 
 module _ (s : State) (command : DeskCommand) where
   -- where the parts before were passed, the rules are left
-  pub rules_left : desk_limits s.desk command ≡ Ok tt → step_before_rules s command ≡ Ok tt → desk_number s.desk command ≡ Ok tt
-      → desk_references s.held.facts.criteria s.desk command ≡ Ok tt → asked_before s command ≡ desk_rules (demanded s) s.desk command
+  pub rules_left : desk_limits s.desk command ≡ Ok tt → step_before_rules s command ≡ Ok tt → desk_number s.desk
+      command ≡ Ok tt
+      → desk_references s.held.facts.criteria s.desk command ≡ Ok tt → asked_before s command ≡ desk_rules
+          (demanded s) s.desk command
   rules_left few step number references =
       let last = desk_rules (demanded s) s.desk command in
       let third = desk_references s.held.facts.criteria s.desk command in
-      ap (λ t. (t >>= λ _. step_before_rules s command >>= λ _. desk_number s.desk command) >>= λ _. third >>= λ _. last) few
+      ap (λ t. (t >>= λ _. step_before_rules s command >>= λ _. desk_number s.desk command) >>= λ _. third >>= λ _.
+          last) few
       ∙ ap (λ t. (t >>= λ _. desk_number s.desk command) >>= λ _. third >>= λ _. last) step
       ∙ ap (λ t. t >>= λ _. third >>= λ _. last) number ∙ ap (λ t. t >>= λ _. last) references
 
-  judged_in_turn : (day : DayValue) → desk_held s.desk command ≡ false → judged s day (Desk command) ≡ ((asked_before s command >>= λ _. limits_after_rules s command) >>= λ _. Ok Accepted)
+  judged_in_turn : (day : DayValue) → desk_held s.desk command ≡ false → judged s day (Desk command) ≡
+      ((asked_before s command >>= λ _. limits_after_rules s command) >>= λ _. Ok Accepted)
   judged_in_turn day new =
       ap (λ b. held_or (cond b (Some None) None) (checked s day (Desk command))) new
       ∙ ap (λ t. t >>= λ _. Ok Accepted)
-      (in_turn (limits s (Desk command)) (references s (Desk command)) (desk_rules (demanded s) s.desk command) (limits_after_rules s command))
+      (in_turn (limits s (Desk command)) (references s (Desk command)) (desk_rules (demanded s) s.desk command)
+          (limits_after_rules s command))
 
   -- what was asked before was passed: the limits after rules are left
-  judged_after : (day : DayValue) → desk_held s.desk command ≡ false → asked_before s command ≡ Ok tt → judged s day (Desk command) ≡ (limits_after_rules s command >>= λ _. Ok Accepted)
-  judged_after day new passed = judged_in_turn day new ∙ ap (λ t. (t >>= λ _. limits_after_rules s command) >>= λ _. Ok Accepted) passed
+  judged_after : (day : DayValue) → desk_held s.desk command ≡ false → asked_before s command ≡ Ok tt → judged s day
+      (Desk command) ≡ (limits_after_rules s command >>= λ _. Ok Accepted)
+  judged_after day new passed = judged_in_turn day new ∙ ap
+      (λ t. (t >>= λ _. limits_after_rules s command) >>= λ _. Ok Accepted) passed
 
-  pub accepted_after : (day : DayValue) → desk_held s.desk command ≡ false → asked_before s command ≡ Ok tt → limits_after_rules s command ≡ Ok tt → judged s day (Desk command) ≡ Ok Accepted
+  pub accepted_after : (day : DayValue) → desk_held s.desk command ≡ false → asked_before s command ≡ Ok tt →
+      limits_after_rules s command ≡ Ok tt → judged s day (Desk command) ≡ Ok Accepted
   accepted_after day new passed last = judged_after day new passed ∙ ap (λ t. t >>= λ _. Ok Accepted) last
 
   -- the desk accepts the command too
   pub desk_accepts : desk_held s.desk command ≡ false → asked_before s command ≡ Ok tt
       → desk_verdict s.held.facts.criteria (demanded s) s.desk command ≡ Ok at_desk.Accepted
   desk_accepts new passed =
-      let l = then_told (limits s (Desk command)) (λ _. references s (Desk command) >>= λ _. desk_rules (demanded s) s.desk command) tt passed in
+      let l = then_told (limits s (Desk command))
+          (λ _. references s (Desk command) >>= λ _. desk_rules (demanded s) s.desk command) tt passed in
       let r = then_told (references s (Desk command)) (λ _. desk_rules (demanded s) s.desk command) tt l.1 in
-      let few = then_told (desk_limits s.desk command) (λ _. step_before_rules s command >>= λ _. desk_number s.desk command) tt l.0 in
+      let few = then_told (desk_limits s.desk command)
+          (λ _. step_before_rules s command >>= λ _. desk_number s.desk command) tt l.0 in
       let number = then_told (step_before_rules s command) (λ _. desk_number s.desk command) tt few.1 in
       ap (λ b. already_or b (desk_checked s.held.facts.criteria (demanded s) s.desk command)) new
       ∙ ap (already_or false) (passes_desk s command few.0 number.1 r.0 r.1)
 
 -- ---- what is answered
 
-module _ {K : Type 0} (r : RegisterView K) (s : State) (day : DayValue) (command : DeskCommand) (new : desk_held s.desk command ≡ false) where
+module _ {K : Type 0} (r : RegisterView K) (s : State) (day : DayValue) (command : DeskCommand)
+    (new : desk_held s.desk command ≡ false) where
   -- a refusal of what is asked before
-  pub refused_before : (f : Refusal) → Answers (asked_before s command) (Err f) → Asks s r day (Desk command) (judged s day (Desk command)) (Err f)
+  pub refused_before : (f : Refusal) → Answers (asked_before s command) (Err f) → Asks s r day (Desk command)
+      (judged s day (Desk command)) (Err f)
   refused_before f h =
       let told = refused_first (asked_before s command >>= λ _. limits_after_rules s command) (λ _. Ok Accepted) f
       (refused_first (asked_before s command) (λ _. limits_after_rules s command) f h) in
       exactly r day (Desk command) s (judged s day (Desk command)) (Err f)
-      (refused r day (Desk command) (judged s day (Desk command)) f (subst (λ (t : Told Answer). Answers t (Err f)) (sym (judged_in_turn s command day new)) told))
+      (refused r day (Desk command) (judged s day (Desk command)) f
+          (subst (λ (t : Told Answer). Answers t (Err f)) (sym (judged_in_turn s command day new)) told))
 
   module _ (passed : asked_before s command ≡ Ok tt) where
     -- or memory is wanting
     pub wanting : (f : Refusal) → f ≡ NoMemory → Asks s r day (Desk command) (judged s day (Desk command)) (Err f)
     wanting f lacks = by (finishes command) refl
       where
-        by : (b : Bool) → finishes command ≡ b → AsksBy (b && is_ok (asked_before s command)) r day (Desk command) (judged s day (Desk command)) (Err f)
-        by true is = subst (λ t. AsksBy (is_ok t) r day (Desk command) (judged s day (Desk command)) (Err f)) (sym passed) (inl (ap Err lacks))
+        by : (b : Bool) → finishes command ≡ b → AsksBy (b && is_ok (asked_before s command)) r day (Desk command)
+            (judged s day (Desk command)) (Err f)
+        by true is = subst (λ t. AsksBy (is_ok t) r day (Desk command) (judged s day (Desk command)) (Err f))
+            (sym passed) (inl (ap Err lacks))
         by false is =
             no_memory r day (Desk command) (judged s day (Desk command)) f
-            (accepted_after s command day new passed (ap (λ b. cond b (entry_limits s (added_by s command)) (Ok tt)) is)) lacks
+            (accepted_after s command day new passed
+                (ap (λ b. cond b (entry_limits s (added_by s command)) (Ok tt)) is)) lacks
 
     -- a refusal by the limits after rules
-    pub refused_last : (f : Refusal) → (f ≡ NoMemory) ⊎ (limits_after_rules s command ≡ Err f) → Asks s r day (Desk command) (judged s day (Desk command)) (Err f)
+    pub refused_last : (f : Refusal) → (f ≡ NoMemory) ⊎ (limits_after_rules s command ≡ Err f) → Asks s r day
+        (Desk command) (judged s day (Desk command)) (Err f)
     refused_last f (inl lacks) = wanting f lacks
     refused_last f (inr told) =
-        let is : judged s day (Desk command) ≡ Err f = judged_after s command day new passed ∙ ap (λ t. t >>= λ _. Ok Accepted) told in
+        let is : judged s day (Desk command) ≡ Err f = judged_after s command day new passed ∙ ap
+            (λ t. t >>= λ _. Ok Accepted) told in
         exactly r day (Desk command) s (judged s day (Desk command)) (Err f)
-        (refused r day (Desk command) (judged s day (Desk command)) f (answers_itself (judged s day (Desk command)) (Err f) (sym is)))
+        (refused r day (Desk command) (judged s day (Desk command)) f
+            (answers_itself (judged s day (Desk command)) (Err f) (sym is)))
 
 some_mapped : {A B : Type 0} (f : A → B) (o : Option A) → is_some (option_map f o) ≡ is_some o
 some_mapped f None = refl
 some_mapped f (Some x) = refl
 
 -- an effect of a command to the desk is its effect
-pub desk_effective : {K : Type 0} (r : RegisterView K) (s : State) (day : DayValue) (command : DeskCommand) (change : DeskChange) (e : Effect) → r.state ≡ s → IsSound s
-    → judged s day (Desk command) ≡ Ok Accepted → IsDeskChange (desk_room r) day command change → IsDeskEffect r command change e → IsEffect r day (Desk command) e
+pub desk_effective : {K : Type 0} (r : RegisterView K) (s : State) (day : DayValue) (command : DeskCommand)
+    (change : DeskChange) (e : Effect) → r.state ≡ s → IsSound s
+    → judged s day (Desk command) ≡ Ok Accepted → IsDeskChange (desk_room r) day command change → IsDeskEffect r
+        command change e → IsEffect r day (Desk command) e
 desk_effective r s day command change e stays sound told prepared h =
     let here : IsSound r.state = subst IsSound (sym stays) sound in
-    let accepted : judged r.state day (Desk command) ≡ Ok Accepted = subst (λ (t : State). judged t day (Desk command) ≡ Ok Accepted) (sym stays) told in
+    let accepted : judged r.state day (Desk command) ≡ Ok Accepted = subst
+        (λ (t : State). judged t day (Desk command) ≡ Ok Accepted) (sym stays) told in
     let made = added_by r.state command in
     let facts = r.state.held.facts in
     record {
@@ -131,7 +154,8 @@ desk_effective r s day command change e stays sound told prepared h =
       desk = ap (λ o. desk_edited o r.state.desk) h.desk ∙ prepared.step.becomes (entry_number r.state command);
       number = h.number;
       next_entry = h.next_entry;
-      sound = sound_held r.state day (Desk command) accepted here tt (subst IsTable (sym (same_criteria r.state.next_entry made facts)) here.held.facts.criteria)
+      sound = sound_held r.state day (Desk command) accepted here tt
+          (subst IsTable (sym (same_criteria r.state.next_entry made facts)) here.held.facts.criteria)
           (subst ArePublishers (sym (same_publishers r.state.next_entry made facts)) here.held.facts.publishers);
       fits = h.fits;
       holds = subst (λ o. HoldsDesk o (desk_room r)) (sym h.desk) (record {

@@ -28,11 +28,14 @@ pub nothing_stands : NothingIsDemanded → standing_in nothing_held ≡ []
 nothing_stands law = ap (standing_of no_facts) (law [] built_in_criteria)
 
 -- the five counts of a standing add up to the demand
-pub all_counted : ClassesAddUp → (facts : Facts) (demand : List Pair) → total_of (counts_of (standing_of facts demand)) ≡ length demand
-all_counted law facts demand = law (standing_of facts demand) ∙ length-map demand (λ p. record { pair = p; class = class_of_pair facts p })
+pub all_counted : ClassesAddUp → (facts : Facts) (demand : List Pair) → total_of
+    (counts_of (standing_of facts demand)) ≡ length demand
+all_counted law facts demand = law (standing_of facts demand) ∙ length-map demand
+    (λ p. record { pair = p; class = class_of_pair facts p })
 
 -- where the machine begins is sound
-pub start_is_sound : NothingIsDemanded → (limit : ℕ) → IsTable built_in_criteria → (0 < limit) × (limit ≤ MOST_MOVES) → IsSound (start limit)
+pub start_is_sound : NothingIsDemanded → (limit : ℕ) → IsTable built_in_criteria → (0 < limit) × (limit ≤ MOST_MOVES)
+    → IsSound (start limit)
 start_is_sound law limit t l = record {
   held = record {
     facts = record {
@@ -59,7 +62,8 @@ start_is_sound law limit t l = record {
   desk = record {
     desk = record {
       members = record { by_name = λ i j x a b. absurd (omega arith); few = omega arith };
-      reviews = record { numbers_rise = λ i j x a b. absurd (omega arith); numbers_given = All-nil _; by_members = All-nil _; few = omega arith };
+      reviews = record { numbers_rise = λ i j x a b. absurd (omega arith); numbers_given = All-nil _; by_members =
+          All-nil _; few = omega arith };
       next_number = omega arith;
     };
     known = All-nil _;

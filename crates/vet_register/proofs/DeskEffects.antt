@@ -34,14 +34,17 @@ use Rattle.vet_register.proofs.Known.{known_without, stays_known, unused}
 
 -- ---- numbers of entries
 
-given_later : (next later : ℕ) → next ≤ later → (state : ReviewState) → IsEntryGiven next state → IsEntryGiven later state
+given_later : (next later : ℕ) → next ≤ later → (state : ReviewState) → IsEntryGiven next state → IsEntryGiven later
+    state
 given_later next later le Waiting h = tt
 given_later next later le (Assigned member) h = tt
 given_later next later le (Finished entry) h = omega (arith, le, h)
 given_later next later le Withdrawn h = tt
 
-still_given : (next later : ℕ) (reviews : List Review) → next ≤ later → HaveEntriesGiven next reviews → HaveEntriesGiven later reviews
-still_given next later reviews le h = All-weaker (HasEntryGiven next) (HasEntryGiven later) (λ (r : Review). given_later next later le r.state) reviews h
+still_given : (next later : ℕ) (reviews : List Review) → next ≤ later → HaveEntriesGiven next reviews →
+    HaveEntriesGiven later reviews
+still_given next later reviews le h = All-weaker (HasEntryGiven next) (HasEntryGiven later)
+    (λ (r : Review). given_later next later le r.state) reviews h
 
 -- what is found has what each has
 found_has : {X : Type 0} (P : X → Type 0) (test : X → Bool) (xs : List X) → All P xs → IfSome (find test xs) P
@@ -52,15 +55,18 @@ found_has P test (x ∷ xs) h = elim (cases_Bool (test x)) [
 ]
 
 -- the number of a held entry lies below the next one
-number_given_to : (entries : List HeldEntry) (e : Entry) (next : ℕ) → All (IsGiven next) entries → IfSome (number_of entries e) (λ n. n < next)
-number_given_to entries e next h = by (find (λ x. entry_eq x.entry (own e)) entries) (found_has (IsGiven next) (λ x. entry_eq x.entry (own e)) entries h)
+number_given_to : (entries : List HeldEntry) (e : Entry) (next : ℕ) → All (IsGiven next) entries → IfSome
+    (number_of entries e) (λ n. n < next)
+number_given_to entries e next h = by (find (λ x. entry_eq x.entry (own e)) entries)
+    (found_has (IsGiven next) (λ x. entry_eq x.entry (own e)) entries h)
   where
     by : (o : Option HeldEntry) → IfSome o (IsGiven next) → IfSome (option_map (λ h. h.number) o) (λ n. n < next)
     by None h = tt
     by (Some x) h = h
 
 -- so does the number of a finished review's entry below the one after the command
-entry_given : (s : State) (command : DeskCommand) → All (IsGiven s.next_entry) s.held.facts.entries → IfSome (entry_number s command) (λ n. n < number_after s (Desk command))
+entry_given : (s : State) (command : DeskCommand) → All (IsGiven s.next_entry) s.held.facts.entries → IfSome
+    (entry_number s command) (λ n. n < number_after s (Desk command))
 entry_given s command given = made (entry_of s.desk command)
   where
     made : (o : Option Entry) → IfSome (option_map (λ e. unwrap_or (number_of s.held.facts.entries e) s.next_entry) o)
@@ -68,28 +74,34 @@ entry_given s command given = made (entry_of s.desk command)
     made None = tt
     made (Some e) = by (number_of s.held.facts.entries e) (number_given_to s.held.facts.entries e s.next_entry given)
       where
-        by : (n : Option ℕ) → IfSome n (λ n. n < s.next_entry) → unwrap_or n s.next_entry < s.next_entry + option_map_or (λ _. 1) (unless_held n e) 0
+        by : (n : Option ℕ) → IfSome n (λ n. n < s.next_entry) → unwrap_or n s.next_entry < s.next_entry +
+            option_map_or (λ _. 1) (unless_held n e) 0
         by None below = omega arith
         by (Some n) below = omega (arith, below)
 
 -- ---- the desk after a command
 
 -- the desk stays, and what its reviews name is known
-same_desk : (s : State) (criteria : Criteria) (later : ℕ) → IsSoundAtDesk s.held.facts.criteria s.desk s.next_entry → s.next_entry ≤ later
+same_desk : (s : State) (criteria : Criteria) (later : ℕ) → IsSoundAtDesk s.held.facts.criteria s.desk s.next_entry →
+    s.next_entry ≤ later
     → AreKnownTo criteria s.desk.reviews → IsSoundAtDesk criteria s.desk later
-same_desk s criteria later h le known = record { desk = h.desk; known = known; entries_given = still_given s.next_entry later s.desk.reviews le h.entries_given }
+same_desk s criteria later h le known = record
+    { desk = h.desk; known = known; entries_given = still_given s.next_entry later s.desk.reviews le h.entries_given }
 
 module _ (s : State) (day : DayValue) (h : IsSound s) where
   abbrev criteria : Criteria
   criteria = s.held.facts.criteria
 
-  pub sound_desk : (a : Action) → Passed s day a → IsSoundAtDesk (facts_after s a).criteria (desk_by s day a) (number_after s a)
+  pub sound_desk : (a : Action) → Passed s day a → IsSoundAtDesk (facts_after s a).criteria (desk_by s day a)
+      (number_after s a)
   sound_desk (SetCriterion c) p =
       same_desk s _ _ h.desk (omega arith)
-      (All-weaker (IsKnownTo criteria) (IsKnownTo _) (λ (r : Review). λ k unclosed. stays_known criteria c r.criteria (k unclosed)) s.desk.reviews h.desk.known)
+      (All-weaker (IsKnownTo criteria) (IsKnownTo _)
+          (λ (r : Review). λ k unclosed. stays_known criteria c r.criteria (k unclosed)) s.desk.reviews h.desk.known)
   sound_desk (RemoveCriterion n) p =
       same_desk s _ _ h.desk (omega arith)
-      (unnamed_may_go criteria _ n s.desk.reviews (λ (names : NameSet). known_without criteria n names) (unused s day n p.rules).reviews h.desk.known)
+      (unnamed_may_go criteria _ n s.desk.reviews (λ (names : NameSet). known_without criteria n names)
+          (unused s day n p.rules).reviews h.desk.known)
   sound_desk (AddEntry e) p = same_desk s _ _ h.desk (omega arith) h.desk.known
   sound_desk (DropEntry n) p = same_desk s _ _ h.desk (omega arith) h.desk.known
   sound_desk (SetPeer settings) p = same_desk s _ _ h.desk (omega arith) h.desk.known
@@ -102,14 +114,17 @@ module _ (s : State) (day : DayValue) (h : IsSound s) where
   sound_desk (DropProject n) p = same_desk s _ _ h.desk (omega arith) h.desk.known
   sound_desk (ReplaceFiles f) p =
       same_desk s _ _ h.desk (omega arith)
-      ((known_is_not_beyond (defined f.criteria) s.desk.reviews).0 (not_refused (are_open_beyond (defined f.criteria) s.desk.reviews) CriterionInUse p.rules))
+      ((known_is_not_beyond (defined f.criteria) s.desk.reviews).0
+          (not_refused (are_open_beyond (defined f.criteria) s.desk.reviews) CriterionInUse p.rules))
   sound_desk (Desk command) p =
       let checked = (passed_at_desk s day command p).checked in
       let entry = entry_number s command in
       let later = number_after s (Desk command) in
-      subst (λ (t : Criteria). IsSoundAtDesk t (desk_by s day (Desk command)) later) (sym (same_criteria s.next_entry (added_by s command) s.held.facts)) (record {
+      subst (λ (t : Criteria). IsSoundAtDesk t (desk_by s day (Desk command)) later)
+          (sym (same_criteria s.next_entry (added_by s command) s.held.facts)) (record {
         desk = stays_sound criteria (demanded s) s.desk day entry command checked h.desk.desk;
         known = stay_known criteria (demanded s) s.desk day entry command checked h.desk.known;
-        entries_given = stay_given s.next_entry later s.desk day entry command (omega arith) (entry_given s command h.held.facts.entries.numbers_given) h.desk.entries_given;
+        entries_given = stay_given s.next_entry later s.desk day entry command (omega arith)
+            (entry_given s command h.held.facts.entries.numbers_given) h.desk.entries_given;
       })
   sound_desk ClosePeriod p = same_desk s _ _ h.desk (omega arith) h.desk.known

@@ -42,25 +42,30 @@ module _ {X : Type 0} (p : X → Bool) where
   some_place false n i e = cc e
 
 -- later numbers are others
-others_later : (n : ℕ) (held : HeldEntry) (entries : List HeldEntry) → has_number n held ≡ true → All (Rise held) entries
+others_later : (n : ℕ) (held : HeldEntry) (entries : List HeldEntry) → has_number n held ≡ true → All (Rise held)
+    entries
     → filter (λ h. not (has_number n h)) entries ≡ entries
 others_later n held [] is later = refl
 others_later n held (h ∷ entries) is later = elim (cases_Bool (has_number n h)) [
-  | inl same ↦ (let above = All-head (Rise held) h entries later in let a : held.number ≡ n = eqb-true held.number n is in let b : h.number ≡ n = eqb-true h.number n same in absurd (omega (arith, above, a, b)))
+  | inl same ↦ (let above = All-head (Rise held) h entries later in let a : held.number ≡ n = eqb-true held.number n
+      is in let b : h.number ≡ n = eqb-true h.number n same in absurd (omega (arith, above, a, b)))
   | inr other ↦ rw other (ap (λ es. h ∷ es) (others_later n held entries is (All-tail (Rise held) h entries later)))
 ]
 
 remove_here : (h : HeldEntry) (entries : List HeldEntry) (k : ℕ) → remove (h ∷ entries) (suc k) ≡ h ∷ remove entries k
 remove_here h entries k = refl
 
-dropped_at : (n : ℕ) (entries : List HeldEntry) → AllPairs Rise entries → position_or_len (has_number n) entries < length entries
+dropped_at : (n : ℕ) (entries : List HeldEntry) → AllPairs Rise entries → position_or_len (has_number n) entries <
+    length entries
     → remove entries (position_or_len (has_number n) entries) ≡ filter (λ h. not (has_number n h)) entries
 dropped_at n [] rise l = absurd (omega (arith, l))
 dropped_at n (h ∷ entries) rise l = elim (cases_Bool (has_number n h)) [
   | inl same ↦ rw same (sym (others_later n h entries same (AllPairs-head Rise h entries rise)))
   | inr other ↦
-      (let place : position_or_len (has_number n) (h ∷ entries) ≡ suc (position_or_len (has_number n) entries) = rw other (omega arith) in
-      let kept : filter (λ x. not (has_number n x)) (h ∷ entries) ≡ h ∷ filter (λ x. not (has_number n x)) entries = rw other refl in
+      (let place : position_or_len (has_number n) (h ∷ entries) ≡ suc (position_or_len (has_number n) entries) = rw
+          other (omega arith) in
+      let kept : filter (λ x. not (has_number n x)) (h ∷ entries) ≡ h ∷ filter (λ x. not (has_number n x)) entries =
+          rw other refl in
       let rest = dropped_at n entries (AllPairs-tail Rise h entries rise) (omega (arith, l, place)) in
       ap (remove (h ∷ entries)) place ∙ remove_here h entries _ ∙ ap (λ es. h ∷ es) rest ∙ sym kept)
 ]
@@ -69,13 +74,16 @@ dropped_at n (h ∷ entries) rise l = elim (cases_Bool (has_number n h)) [
 pub dropped : (n place : ℕ) (entries : List HeldEntry) → AllPairs Rise entries → place_of entries n ≡ Some place
     → remove entries place ≡ filter (λ h. not (has_number n h)) entries
 dropped n place entries rise e =
-    let at = some_place (has_number n) (ltb (position_or_len (has_number n) entries) (length entries)) (position_or_len (has_number n) entries) place e in
-    ap (remove entries) (sym at.1) ∙ dropped_at n entries rise (ltb-true (position_or_len (has_number n) entries) (length entries) at.0)
+    let at = some_place (has_number n) (ltb (position_or_len (has_number n) entries) (length entries))
+        (position_or_len (has_number n) entries) place e in
+    ap (remove entries) (sym at.1) ∙ dropped_at n entries rise
+        (ltb-true (position_or_len (has_number n) entries) (length entries) at.0)
 
 -- ---- what a command that drops an entry is told
 
 -- an entry of a number is held where the number has a place
-pub placed : (entries : List HeldEntry) (n place : ℕ) → place_of entries n ≡ Some place → list_any (has_number n) entries ≡ true
+pub placed : (entries : List HeldEntry) (n place : ℕ) → place_of entries n ≡ Some place → list_any (has_number n)
+    entries ≡ true
 placed entries n place at = sym (some-position (has_number n) entries) ∙ ap is_some at
 
 unplaced : (entries : List HeldEntry) (n : ℕ) → place_of entries n ≡ None → list_any (has_number n) entries ≡ false
@@ -84,16 +92,20 @@ unplaced entries n at = sym (some-position (has_number n) entries) ∙ ap is_som
 -- the place of a number lies within the entries
 pub place_within : (entries : List HeldEntry) (n place : ℕ) → place_of entries n ≡ Some place → place < length entries
 place_within entries n place e =
-    let at = some_place (has_number n) (ltb (position_or_len (has_number n) entries) (length entries)) (position_or_len (has_number n) entries) place e in
+    let at = some_place (has_number n) (ltb (position_or_len (has_number n) entries) (length entries))
+        (position_or_len (has_number n) entries) place e in
     subst (λ k. k < length entries) at.1 (ltb-true (position_or_len (has_number n) entries) (length entries) at.0)
 
-pub drop_passes : (s : State) (day : DayValue) (n place : ℕ) → step_limit s ≡ Ok tt → place_of s.held.facts.entries n ≡ Some place → checked s day (DropEntry n) ≡ Ok tt
+pub drop_passes : (s : State) (day : DayValue) (n place : ℕ) → step_limit s ≡ Ok tt → place_of s.held.facts.entries n
+    ≡ Some place → checked s day (DropEntry n) ≡ Ok tt
 drop_passes s day n place step at = rw (step, placed s.held.facts.entries n place at) refl
 
-pub drop_refused : (s : State) (day : DayValue) (n : ℕ) → place_of s.held.facts.entries n ≡ None → checked s day (DropEntry n) ≡ Ok tt → ⊥
+pub drop_refused : (s : State) (day : DayValue) (n : ℕ) → place_of s.held.facts.entries n ≡ None → checked s day
+    (DropEntry n) ≡ Ok tt → ⊥
 drop_refused s day n at told =
     let r = then_told (step_limit s) (λ _. references s (DropEntry n) >>= λ _. rules s day (DropEntry n)) tt told in
-    let held = not_refused (not (list_any (has_number n) s.held.facts.entries)) UnknownEntry (then_told (references s (DropEntry n)) (λ _. rules s day (DropEntry n)) tt r.1).0 in
+    let held = not_refused (not (list_any (has_number n) s.held.facts.entries)) UnknownEntry
+        (then_told (references s (DropEntry n)) (λ _. rules s day (DropEntry n)) tt r.1).0 in
     false≢true (sym held ∙ ap not (unplaced s.held.facts.entries n at))
 
 -- what is answered without a refusal passed

@@ -81,7 +81,8 @@ pub record Counted (s : State) (count numbers : ℕ) : Type 0 where
   pub step : step_limit s ≡ Ok tt
   pub number : s.next_entry + numbers ≤ LAST_NUMBER + 1
 
-counts_passed : (s : State) (count numbers : ℕ) → (entry_limit count >>= λ _. step_limit s >>= λ _. number_limit s numbers) ≡ Ok tt → Counted s count numbers
+counts_passed : (s : State) (count numbers : ℕ) →
+    (entry_limit count >>= λ _. step_limit s >>= λ _. number_limit s numbers) ≡ Ok tt → Counted s count numbers
 counts_passed s count numbers h =
     let l = then_told (entry_limit count) (λ _. step_limit s >>= λ _. number_limit s numbers) tt h in
     let r = then_told (step_limit s) (λ _. number_limit s numbers) tt l.1 in
@@ -91,12 +92,15 @@ counts_passed s count numbers h =
       number = ltb-false (LAST_NUMBER + 1) (s.next_entry + numbers) (not_refused _ (TooLarge limit.Number) r.1);
     }
 
-pub entry_passed : (s : State) (e : Entry) → entry_limits s (Some e) ≡ Ok tt → Counted s (entries_total s.held.facts + 1) 1
+pub entry_passed : (s : State) (e : Entry) → entry_limits s (Some e) ≡ Ok tt → Counted s
+    (entries_total s.held.facts + 1) 1
 entry_passed s e h = counts_passed s (entries_total s.held.facts + 1) 1 h
 
-pub import_passed : (s : State) (name : List ℕ) (content : PeerContentValue) → limits s (ImportPeer name content) ≡ Ok tt
+pub import_passed : (s : State) (name : List ℕ) (content : PeerContentValue) → limits s (ImportPeer name content) ≡ Ok
+    tt
     → Counted s (entries_beside s.held.facts name + length content.entries) (numbers_given s (ImportPeer name content))
-import_passed s name content h = counts_passed s (entries_beside s.held.facts name + length content.entries) (numbers_given s (ImportPeer name content)) h
+import_passed s name content h = counts_passed s (entries_beside s.held.facts name + length content.entries)
+    (numbers_given s (ImportPeer name content)) h
 
 -- ---- what a command to the desk passed
 
@@ -109,13 +113,15 @@ makes_none s (FinishReview n member reviewed) h = cc h
 makes_none s (WithdrawReview n member) h = refl
 
 -- what passes the desk's parts of the verdict passes the desk
-pub passes_desk : (s : State) (command : DeskCommand) → desk_limits s.desk command ≡ Ok tt → desk_number s.desk command ≡ Ok tt
+pub passes_desk : (s : State) (command : DeskCommand) → desk_limits s.desk command ≡ Ok tt → desk_number s.desk
+    command ≡ Ok tt
     → desk_references s.held.facts.criteria s.desk command ≡ Ok tt → desk_rules (demanded s) s.desk command ≡ Ok tt
     → desk_checked s.held.facts.criteria (demanded s) s.desk command ≡ Ok tt
 passes_desk s command limits number references rules =
     let last = desk_rules (demanded s) s.desk command in
     let third = desk_references s.held.facts.criteria s.desk command in
-    ap (λ t. t >>= λ _. desk_number s.desk command >>= λ _. third >>= λ _. last) limits ∙ ap (λ t. t >>= λ _. third >>= λ _. last) number
+    ap (λ t. t >>= λ _. desk_number s.desk command >>= λ _. third >>= λ _. last) limits ∙ ap
+        (λ t. t >>= λ _. third >>= λ _. last) number
     ∙ ap (λ t. t >>= λ _. last) references ∙ rules
 
 -- what the desk asks, a step and, where an entry is added, room and a number for it
@@ -124,11 +130,14 @@ pub record PassedAtDesk (s : State) (command : DeskCommand) : Type 0 where
   pub step : step_limit s ≡ Ok tt
   pub entry : (e : Entry) → added_by s command ≡ Some e → Counted s (entries_total s.held.facts + 1) 1
 
-pub passed_at_desk : (s : State) (day : DayValue) (command : DeskCommand) → Passed s day (Desk command) → PassedAtDesk s command
+pub passed_at_desk : (s : State) (day : DayValue) (command : DeskCommand) → Passed s day (Desk command) → PassedAtDesk
+    s command
 passed_at_desk s day command p = by (finishes command) refl step.0 last.1
   where
-    first : (desk_limits s.desk command ≡ Ok tt) × ((step_before_rules s command >>= λ _. desk_number s.desk command) ≡ Ok tt)
-    first = then_told (desk_limits s.desk command) (λ _. step_before_rules s command >>= λ _. desk_number s.desk command) tt p.limits
+    first : (desk_limits s.desk command ≡ Ok tt) ×
+        ((step_before_rules s command >>= λ _. desk_number s.desk command) ≡ Ok tt)
+    first = then_told (desk_limits s.desk command)
+        (λ _. step_before_rules s command >>= λ _. desk_number s.desk command) tt p.limits
 
     step : (step_before_rules s command ≡ Ok tt) × (desk_number s.desk command ≡ Ok tt)
     step = then_told (step_before_rules s command) (λ _. desk_number s.desk command) tt first.1
@@ -141,22 +150,27 @@ passed_at_desk s day command p = by (finishes command) refl step.0 last.1
 
     added : (o : Option Entry) → added_by s command ≡ o → entry_limits s o ≡ Ok tt → PassedAtDesk s command
     added None made h = record { checked = all; step = h; entry = λ e is. cc (sym made ∙ is) }
-    added (Some x) made h = record { checked = all; step = (entry_passed s x h).step; entry = λ e is. entry_passed s x h }
+    added (Some x) made h = record
+        { checked = all; step = (entry_passed s x h).step; entry = λ e is. entry_passed s x h }
 
-    by : (b : Bool) → finishes command ≡ b → cond b (Ok tt) (step_limit s) ≡ Ok tt → cond b (entry_limits s (added_by s command)) (Ok tt) ≡ Ok tt → PassedAtDesk s command
+    by : (b : Bool) → finishes command ≡ b → cond b (Ok tt) (step_limit s) ≡ Ok tt → cond b
+        (entry_limits s (added_by s command)) (Ok tt) ≡ Ok tt → PassedAtDesk s command
     by true finishes before after = added (added_by s command) refl after
-    by false other before after = record { checked = all; step = before; entry = λ e is. cc (sym (makes_none s command other) ∙ is) }
+    by false other before after = record
+        { checked = all; step = before; entry = λ e is. cc (sym (makes_none s command other) ∙ is) }
 
 -- a step follows
 pub step_passed : (s : State) (day : DayValue) (a : Action) → Passed s day a → step_limit s ≡ Ok tt
-step_passed s day (SetCriterion c) p = (then_told (set_limits s.held.facts.criteria c.name) (λ _. step_limit s) tt p.limits).1
+step_passed s day (SetCriterion c) p =
+    (then_told (set_limits s.held.facts.criteria c.name) (λ _. step_limit s) tt p.limits).1
 step_passed s day (RemoveCriterion n) p = p.limits
 step_passed s day (AddEntry e) p = (entry_passed s e p.limits).step
 step_passed s day (DropEntry n) p = p.limits
 step_passed s day (SetPeer settings) p = (then_told (peer_limit s settings.name) (λ _. step_limit s) tt p.limits).1
 step_passed s day (DropPeer n) p = p.limits
 step_passed s day (ImportPeer n content) p = (import_passed s n content p.limits).step
-step_passed s day (SetPublishers n records) p = (then_told (publisher_limit s n records) (λ _. step_limit s) tt p.limits).1
+step_passed s day (SetPublishers n records) p =
+    (then_told (publisher_limit s n records) (λ _. step_limit s) tt p.limits).1
 step_passed s day (SetPolicy policy) p = (then_told (policy_limit s policy.key) (λ _. step_limit s) tt p.limits).1
 step_passed s day (DropPolicy key) p = p.limits
 step_passed s day (LoadProject project) p = (then_told (project_limit s project.name) (λ _. step_limit s) tt p.limits).1
@@ -168,7 +182,8 @@ step_passed s day ClosePeriod p = p.limits
 pub step_follows : (s : State) → step_limit s ≡ Ok tt → s.step + 1 ≤ LAST_STEP
 step_follows s h = ltb-false LAST_STEP (s.step + 1) (not_refused _ (TooLarge limit.Step) h)
 
-pub next_number_follows : (s : State) (day : DayValue) (a : Action) → Passed s day a → s.next_entry ≤ LAST_NUMBER + 1 → number_after s a ≤ LAST_NUMBER + 1
+pub next_number_follows : (s : State) (day : DayValue) (a : Action) → Passed s day a → s.next_entry ≤ LAST_NUMBER + 1
+    → number_after s a ≤ LAST_NUMBER + 1
 next_number_follows s day (SetCriterion c) p h = omega (arith, h)
 next_number_follows s day (RemoveCriterion n) p h = omega (arith, h)
 next_number_follows s day (AddEntry e) p h = (entry_passed s e p.limits).number
@@ -206,7 +221,8 @@ none_under None h = refl
 none_under (Some n) h = cc h
 
 -- entries that stay
-same_entries : (entries : List HeldEntry) (n : ℕ) (keeps : HeldEntry → Bool) → AreEntries Own entries n → AreEntries Own (filter keeps entries) n
+same_entries : (entries : List HeldEntry) (n : ℕ) (keeps : HeldEntry → Bool) → AreEntries Own entries n → AreEntries
+    Own (filter keeps entries) n
 same_entries entries n keeps h = record {
   from = All-filter keeps (IsFrom Own) entries h.from;
   different = AllPairs-filter Differ keeps entries h.different;
@@ -215,23 +231,27 @@ same_entries entries n keeps h = record {
 }
 
 -- one entry more
-one_more : (n : ℕ) (e : Entry) (entries : List HeldEntry) → AreEntries Own entries n → All (λ h. h.entry ≢ own e) entries
+one_more : (n : ℕ) (e : Entry) (entries : List HeldEntry) → AreEntries Own entries n → All (λ h. h.entry ≢ own e)
+    entries
     → AreEntries Own (entries ++ (record { number = n; entry = own e }) ∷ []) (n + 1)
 one_more n e entries h other =
     let new : HeldEntry = record { number = n; entry = own e } in
     record {
       from = All-append (IsFrom Own) entries (new ∷ []) h.from (All-cons (IsFrom Own) new [] refl (All-nil _));
       different = AllPairs-append Differ entries (new ∷ []) h.different (AllPairs-single Differ new)
-          (All-weaker (λ x. x.entry ≢ own e) (λ x. All (Differ x) (new ∷ [])) (λ x d. All-cons (Differ x) new [] d (All-nil _)) entries other);
+          (All-weaker (λ x. x.entry ≢ own e) (λ x. All (Differ x) (new ∷ []))
+              (λ x d. All-cons (Differ x) new [] d (All-nil _)) entries other);
       numbers_rise = AllPairs-append Rise entries (new ∷ []) h.numbers_rise (AllPairs-single Rise new)
-          (All-weaker (IsGiven n) (λ x. All (Rise x) (new ∷ [])) (λ x d. All-cons (Rise x) new [] d (All-nil _)) entries h.numbers_given);
+          (All-weaker (IsGiven n) (λ x. All (Rise x) (new ∷ [])) (λ x d. All-cons (Rise x) new [] d (All-nil _))
+              entries h.numbers_given);
       numbers_given = All-append (IsGiven (n + 1)) entries (new ∷ [])
           (All-weaker (IsGiven n) (IsGiven (n + 1)) (λ x p. omega (arith, p)) entries h.numbers_given)
           (All-cons (IsGiven (n + 1)) new [] (omega arith) (All-nil _));
     }
 
 -- what is new of what is made isn't held
-pub new_is_unheld : (facts : Facts) (o : Option Entry) (e : Entry) → if_new facts o ≡ Some e → number_of facts.entries e ≡ None
+pub new_is_unheld : (facts : Facts) (o : Option Entry) (e : Entry) → if_new facts o ≡ Some e → number_of facts.entries
+    e ≡ None
 new_is_unheld facts None e h = cc h
 new_is_unheld facts (Some x) e h = by (number_of facts.entries x) refl h
   where
@@ -241,17 +261,22 @@ new_is_unheld facts (Some x) e h = by (number_of facts.entries x) refl h
 
 -- an own entry more, where there is one that isn't held
 module _ (s : State) where
-  added_entries : (o : Option Entry) → ((e : Entry) → o ≡ Some e → number_of s.held.facts.entries e ≡ None) → AreEntries Own s.held.facts.entries s.next_entry
+  added_entries : (o : Option Entry) → ((e : Entry) → o ≡ Some e → number_of s.held.facts.entries e ≡ None) →
+      AreEntries Own s.held.facts.entries s.next_entry
       → AreEntries Own (with_entry s.next_entry o s.held.facts).entries (s.next_entry + option_map_or (λ _. 1) o 0)
   added_entries None new h = later_entries Own s.held.facts.entries s.next_entry _ (omega arith) h
-  added_entries (Some e) new h = one_more s.next_entry e s.held.facts.entries h (other_entries s.held.facts.entries e (new e refl))
+  added_entries (Some e) new h = one_more s.next_entry e s.held.facts.entries h
+      (other_entries s.held.facts.entries e (new e refl))
 
   added_beside : (o : Option Entry) → PeersSound s.held.facts.entries s.held.facts.peers s.next_entry
-      → PeersSound (with_entry s.next_entry o s.held.facts).entries (with_entry s.next_entry o s.held.facts).peers (s.next_entry + option_map_or (λ _. 1) o 0)
-  added_beside None h = own_changed s.held.facts.entries s.held.facts.entries s.held.facts.peers s.next_entry _ (omega arith) (λ x i. inl i) h
+      → PeersSound (with_entry s.next_entry o s.held.facts).entries (with_entry s.next_entry o s.held.facts).peers
+          (s.next_entry + option_map_or (λ _. 1) o 0)
+  added_beside None h = own_changed s.held.facts.entries s.held.facts.entries s.held.facts.peers s.next_entry _
+      (omega arith) (λ x i. inl i) h
   added_beside (Some e) h =
       let new : HeldEntry = record { number = s.next_entry; entry = own e } in
-      own_changed s.held.facts.entries (s.held.facts.entries ++ new ∷ []) s.held.facts.peers s.next_entry (s.next_entry + 1) (omega arith)
+      own_changed s.held.facts.entries (s.held.facts.entries ++ new ∷ []) s.held.facts.peers s.next_entry
+          (s.next_entry + 1) (omega arith)
       (λ x i. elim (in_append s.held.facts.entries (new ∷ []) x i) [
         | inl held ↦ inl held
         | inr last ↦ elim last [
@@ -260,7 +285,8 @@ module _ (s : State) where
         ]
       ]) h
 
-  added_counted : (o : Option Entry) → ((e : Entry) → o ≡ Some e → Counted s (entries_total s.held.facts + 1) 1) → entries_total s.held.facts ≤ MOST_ENTRIES
+  added_counted : (o : Option Entry) → ((e : Entry) → o ≡ Some e → Counted s (entries_total s.held.facts + 1) 1) →
+      entries_total s.held.facts ≤ MOST_ENTRIES
       → entries_total (with_entry s.next_entry o s.held.facts) ≤ MOST_ENTRIES
   added_counted None counted few = few
   added_counted (Some e) counted few =
@@ -274,49 +300,66 @@ IsGivenContent (ReplaceFiles files) = IsFiles files
 IsGivenContent _ = Unit {0}
 
 -- the entries after a command
-entries_after : (s : State) (day : DayValue) (a : Action) → Passed s day a → IsGivenContent a → AreEntries Own s.held.facts.entries s.next_entry
+entries_after : (s : State) (day : DayValue) (a : Action) → Passed s day a → IsGivenContent a → AreEntries Own
+    s.held.facts.entries s.next_entry
     → AreEntries Own (facts_after s a).entries (number_after s a)
 entries_after s day (SetCriterion c) p given h = later_entries Own s.held.facts.entries s.next_entry _ (omega arith) h
-entries_after s day (RemoveCriterion n) p given h = later_entries Own s.held.facts.entries s.next_entry _ (omega arith) h
+entries_after s day (RemoveCriterion n) p given h = later_entries Own s.held.facts.entries s.next_entry _
+    (omega arith) h
 entries_after s day (AddEntry e) p given h =
     let none = none_under (number_of s.held.facts.entries e) p.held in
-    added_entries s (Some e) (λ x same. (let is : e ≡ x = cc same in subst (λ (y : Entry). number_of s.held.facts.entries y ≡ None) is none)) h
+    added_entries s (Some e)
+        (λ x same. (let is : e ≡ x = cc same in subst (λ (y : Entry). number_of s.held.facts.entries y ≡ None) is
+            none)) h
 entries_after s day (DropEntry n) p given h =
     let keeps : HeldEntry → Bool = λ h. not (has_number n h) in
-    later_entries Own (filter keeps s.held.facts.entries) s.next_entry _ (omega arith) (same_entries s.held.facts.entries s.next_entry keeps h)
+    later_entries Own (filter keeps s.held.facts.entries) s.next_entry _ (omega arith)
+        (same_entries s.held.facts.entries s.next_entry keeps h)
 entries_after s day (SetPeer settings) p given h = later_entries Own s.held.facts.entries s.next_entry _ (omega arith) h
 entries_after s day (DropPeer n) p given h = later_entries Own s.held.facts.entries s.next_entry _ (omega arith) h
-entries_after s day (ImportPeer n content) p given h = later_entries Own s.held.facts.entries s.next_entry _ (omega arith) h
-entries_after s day (SetPublishers n records) p given h = later_entries Own s.held.facts.entries s.next_entry _ (omega arith) h
+entries_after s day (ImportPeer n content) p given h = later_entries Own s.held.facts.entries s.next_entry _
+    (omega arith) h
+entries_after s day (SetPublishers n records) p given h = later_entries Own s.held.facts.entries s.next_entry _
+    (omega arith) h
 entries_after s day (SetPolicy policy) p given h = later_entries Own s.held.facts.entries s.next_entry _ (omega arith) h
 entries_after s day (DropPolicy key) p given h = later_entries Own s.held.facts.entries s.next_entry _ (omega arith) h
-entries_after s day (LoadProject project) p given h = later_entries Own s.held.facts.entries s.next_entry _ (omega arith) h
+entries_after s day (LoadProject project) p given h = later_entries Own s.held.facts.entries s.next_entry _
+    (omega arith) h
 entries_after s day (DropProject n) p given h = later_entries Own s.held.facts.entries s.next_entry _ (omega arith) h
 entries_after s day (ReplaceFiles f) p given h = files_entries s f given h
-entries_after s day (Desk command) p given h = added_entries s (added_by s command) (new_is_unheld s.held.facts (entry_of s.desk command)) h
+entries_after s day (Desk command) p given h = added_entries s (added_by s command)
+    (new_is_unheld s.held.facts (entry_of s.desk command)) h
 entries_after s day ClosePeriod p given h = later_entries Own s.held.facts.entries s.next_entry _ (omega arith) h
 
 -- ---- peers
 
-stay : (s : State) (m : ℕ) → s.next_entry ≤ m → PeersSound s.held.facts.entries s.held.facts.peers s.next_entry → PeersSound s.held.facts.entries s.held.facts.peers m
-stay s m above h = own_changed s.held.facts.entries s.held.facts.entries s.held.facts.peers s.next_entry m above (λ x i. inl i) h
+stay : (s : State) (m : ℕ) → s.next_entry ≤ m → PeersSound s.held.facts.entries s.held.facts.peers s.next_entry →
+    PeersSound s.held.facts.entries s.held.facts.peers m
+stay s m above h = own_changed s.held.facts.entries s.held.facts.entries s.held.facts.peers s.next_entry m above
+    (λ x i. inl i) h
 
 -- the peers after a command
-peers_after : (s : State) (day : DayValue) (a : Action) → Passed s day a → AreEntries Own s.held.facts.entries s.next_entry → IsGivenContent a
-    → PeersSound s.held.facts.entries s.held.facts.peers s.next_entry → PeersSound (facts_after s a).entries (facts_after s a).peers (number_after s a)
+peers_after : (s : State) (day : DayValue) (a : Action) → Passed s day a → AreEntries Own s.held.facts.entries
+    s.next_entry → IsGivenContent a
+    → PeersSound s.held.facts.entries s.held.facts.peers s.next_entry → PeersSound (facts_after s a).entries
+        (facts_after s a).peers (number_after s a)
 peers_after s day (SetCriterion c) p own given h = stay s _ (omega arith) h
 peers_after s day (RemoveCriterion n) p own given h = stay s _ (omega arith) h
 peers_after s day (AddEntry e) p mine given h = added_beside s (Some e) h
 peers_after s day (DropEntry n) p own given h =
     let keeps : HeldEntry → Bool = λ h. not (has_number n h) in
-    own_changed s.held.facts.entries (filter keeps s.held.facts.entries) s.held.facts.peers s.next_entry _ (omega arith) (λ x i. inl (in_filter keeps s.held.facts.entries x i).0) h
+    own_changed s.held.facts.entries (filter keeps s.held.facts.entries) s.held.facts.peers s.next_entry _
+        (omega arith) (λ x i. inl (in_filter keeps s.held.facts.entries x i).0) h
 peers_after s day (SetPeer settings) p own given h =
     let l = then_told (peer_limit s settings.name) (λ _. step_limit s) tt p.limits in
     settings_set s.held.facts.entries s.held.facts.peers settings s.next_entry h _ (omega arith)
-    (not_refused (is_none (peer_of s.held.facts.peers settings.name) && nat_lt MOST_PEERS (length s.held.facts.peers + 1)) (TooLarge limit.Peers) l.0)
-peers_after s day (DropPeer n) p own given h = dropped_peer s.held.facts.entries s.held.facts.peers n s.next_entry _ (omega arith) h
+    (not_refused (is_none (peer_of s.held.facts.peers settings.name) && nat_lt MOST_PEERS
+        (length s.held.facts.peers + 1)) (TooLarge limit.Peers) l.0)
+peers_after s day (DropPeer n) p own given h = dropped_peer s.held.facts.entries s.held.facts.peers n s.next_entry _
+    (omega arith) h
 peers_after s day (ImportPeer n content) p own given h =
-    imported_peer s.held.facts.entries s.held.facts.peers n s.next_entry content h own.numbers_given given (peer_of s.held.facts.peers n) refl
+    imported_peer s.held.facts.entries s.held.facts.peers n s.next_entry content h own.numbers_given given
+        (peer_of s.held.facts.peers n) refl
     (not_refused (is_none (peer_of s.held.facts.peers n)) UnknownPeer p.references)
 peers_after s day (SetPublishers n records) p own given h = stay s _ (omega arith) h
 peers_after s day (SetPolicy policy) p own given h = stay s _ (omega arith) h
@@ -330,32 +373,42 @@ peers_after s day ClosePeriod p own given h = stay s _ (omega arith) h
 -- ---- how many entries there are
 
 -- an import of a held peer counts its entries in place of those held
-import_counted : (s : State) (name : List ℕ) (content : PeerContentValue) → PeersSound s.held.facts.entries s.held.facts.peers s.next_entry
-    → IsPeerContent content.criteria content.entries → length s.held.facts.entries + entries_of_peers (without_peer name s.held.facts.peers) + length content.entries ≤ MOST_ENTRIES
+import_counted : (s : State) (name : List ℕ) (content : PeerContentValue) → PeersSound s.held.facts.entries
+    s.held.facts.peers s.next_entry
+    → IsPeerContent content.criteria content.entries → length s.held.facts.entries + entries_of_peers
+        (without_peer name s.held.facts.peers) + length content.entries ≤ MOST_ENTRIES
     → (o : Option HeldPeer) → peer_of s.held.facts.peers name ≡ o → is_none o ≡ false
-    → length s.held.facts.entries + entries_of_peers (with_content_of o (imported name s.next_entry content (holding_or_none o)) s.held.facts.peers) ≤ MOST_ENTRIES
+    → length s.held.facts.entries + entries_of_peers
+        (with_content_of o (imported name s.next_entry content (holding_or_none o)) s.held.facts.peers) ≤ MOST_ENTRIES
 import_counted s name content h is few None e some = absurd (false≢true (sym some))
 import_counted s name content h is few (Some x) e some =
     let peers = s.held.facts.peers in
     let same : x.settings.name ≡ name = found_name peers name x e in
     let new : HeldPeer = record x { content = imported name s.next_entry content x.content } in
-    let different : AllDiffer x.content.entries = (in_all (IsSoundPeer s.next_entry) peers h.are.sound x (found_in peers name x e)).entries.different in
-    let count : length new.content.entries ≡ length content.entries = (holds_each_once name s.next_entry x.content.entries content is different).1 in
-    let held : length (holding_or_none (peer_of peers name)).entries ≡ length x.content.entries = ap (λ o. length (holding_or_none o).entries) e in
+    let different : AllDiffer x.content.entries =
+        (in_all (IsSoundPeer s.next_entry) peers h.are.sound x (found_in peers name x e)).entries.different in
+    let count : length new.content.entries ≡ length content.entries =
+        (holds_each_once name s.next_entry x.content.entries content is different).1 in
+    let held : length (holding_or_none (peer_of peers name)).entries ≡ length x.content.entries = ap
+        (λ o. length (holding_or_none o).entries) e in
     let at : length (holding_or_none (peer_of peers x.settings.name)).entries ≡ length x.content.entries =
     ap (λ o. length (holding_or_none o).entries) (ap (peer_of peers) same ∙ e) in
     omega (arith, few, count, held, at, entries_with peers new h.are.by_name, entries_without peers name h.are.by_name)
 
-counted_after : (s : State) (day : DayValue) (a : Action) → Passed s day a → AreEntries Own s.held.facts.entries s.next_entry → IsGivenContent a → PeersSound s.held.facts.entries s.held.facts.peers s.next_entry
+counted_after : (s : State) (day : DayValue) (a : Action) → Passed s day a → AreEntries Own s.held.facts.entries
+    s.next_entry → IsGivenContent a → PeersSound s.held.facts.entries s.held.facts.peers s.next_entry
     → entries_total s.held.facts ≤ MOST_ENTRIES → entries_total (facts_after s a) ≤ MOST_ENTRIES
 counted_after s day (SetCriterion c) p own given h few = few
 counted_after s day (RemoveCriterion n) p own given h few = few
 counted_after s day (AddEntry e) p mine given h few = added_counted s (Some e) (λ x same. entry_passed s e p.limits) few
-counted_after s day (DropEntry n) p own given h few = omega (arith, few, filter-fewer (λ h. not (has_number n h)) s.held.facts.entries)
+counted_after s day (DropEntry n) p own given h few = omega
+    (arith, few, filter-fewer (λ h. not (has_number n h)) s.held.facts.entries)
 counted_after s day (SetPeer settings) p own given h few =
-    let new : HeldPeer = record { settings = settings; content = holding_or_none (peer_of s.held.facts.peers settings.name) } in
+    let new : HeldPeer = record
+        { settings = settings; content = holding_or_none (peer_of s.held.facts.peers settings.name) } in
     omega (arith, few, entries_with s.held.facts.peers new h.are.by_name)
-counted_after s day (DropPeer n) p own given h few = omega (arith, few, entries_without s.held.facts.peers n h.are.by_name)
+counted_after s day (DropPeer n) p own given h few = omega
+    (arith, few, entries_without s.held.facts.peers n h.are.by_name)
 counted_after s day (ImportPeer n content) p own given h few =
     import_counted s n content h given (import_passed s n content p.limits).few (peer_of s.held.facts.peers n) refl
     (not_refused (is_none (peer_of s.held.facts.peers n)) UnknownPeer p.references)
@@ -364,17 +417,22 @@ counted_after s day (SetPolicy policy) p own given h few = few
 counted_after s day (DropPolicy key) p own given h few = few
 counted_after s day (LoadProject project) p own given h few = few
 counted_after s day (DropProject n) p own given h few = few
-counted_after s day (ReplaceFiles f) p own given h few = omega (arith, files_counted s f given own h, (files_fit s f p.limits).entries)
-counted_after s day (Desk command) p own given h few = added_counted s (added_by s command) (passed_at_desk s day command p).entry few
+counted_after s day (ReplaceFiles f) p own given h few = omega
+    (arith, files_counted s f given own h, (files_fit s f p.limits).entries)
+counted_after s day (Desk command) p own given h few = added_counted s (added_by s command)
+    (passed_at_desk s day command p).entry few
 counted_after s day ClosePeriod p own given h few = few
 
 -- what is held after a command, if its criteria and its publisher records are sound, and what is imported or put in place is what a reader gives
-pub sound_effect : (s : State) (day : DayValue) (a : Action) → judged s day a ≡ Ok Accepted → AreSound s.held.facts s.next_entry
+pub sound_effect : (s : State) (day : DayValue) (a : Action) → judged s day a ≡ Ok Accepted → AreSound s.held.facts
+    s.next_entry
     → AreKnownTo s.held.facts.criteria s.desk.reviews → IsGivenContent a
-    → IsTable (facts_after s a).criteria → ArePublishers (facts_after s a).publishers → AreSound (facts_after s a) (number_after s a)
+    → IsTable (facts_after s a).criteria → ArePublishers (facts_after s a).publishers → AreSound (facts_after s a)
+        (number_after s a)
 sound_effect s day a e h at given is are =
     let p = passed s day a e in
-    let now : PeersSound s.held.facts.entries s.held.facts.peers s.next_entry = record { are = h.peers; apart = h.apart } in
+    let now : PeersSound s.held.facts.entries s.held.facts.peers s.next_entry = record
+        { are = h.peers; apart = h.apart } in
     let after = peers_after s day a p h.entries given now in
     record {
       criteria = is;

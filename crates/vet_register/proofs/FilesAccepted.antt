@@ -41,7 +41,8 @@ use Rattle.vet_register.proofs.FilesPassed.{files_fit}
 use Rattle.vet_register.proofs.Lists.{filter-fewer}
 
 -- what is found of files is how they were accepted
-pub accepted_files : (s : State) (day : DayValue) (f : FilesValue) (o : Option FilesComparison) (c : FilesComparison) → o ≡ Some c
+pub accepted_files : (s : State) (day : DayValue) (f : FilesValue) (o : Option FilesComparison) (c : FilesComparison)
+    → o ≡ Some c
     → MatchOption o (judged s day (ReplaceFiles f) ≡ Ok (Already None)) (AreAccepted s day f) → AreAccepted s day f c
 accepted_files s day f None c e h = cc e
 accepted_files s day f (Some x) c e h = subst (AreAccepted s day f) (cc e) h
@@ -50,25 +51,33 @@ module _ (peers : List HeldPeer) (contents : List ImportedPeer) where
   abbrev new_count : ComparisonValue → ℕ
   new_count c = c.new_count
 
-  new_among : (ps : List PeerSettings) → sum_by new_count (map (compared_peer peers contents) ps) ≡ sum_by (new_of_peer peers contents) ps
+  new_among : (ps : List PeerSettings) → sum_by new_count (map (compared_peer peers contents) ps) ≡ sum_by
+      (new_of_peer peers contents) ps
   new_among [] = refl
   new_among (p ∷ ps) =
-      omega (arith, sum_by-cons new_count (compared_peer peers contents p) (map (compared_peer peers contents) ps), new_among ps, sum_by-cons (new_of_peer peers contents) p ps)
+      omega (arith, sum_by-cons new_count (compared_peer peers contents p) (map (compared_peer peers contents) ps),
+          new_among ps, sum_by-cons (new_of_peer peers contents) p ps)
 
   -- settings and content are held just where the settings are, and nothing changes by the content
-  one_held : (p : PeerSettings) → (has_settings peers p && (compared_peer peers contents p).is_same) ≡ has_peer peers contents p
+  one_held : (p : PeerSettings) → (has_settings peers p && (compared_peer peers contents p).is_same) ≡ has_peer peers
+      contents p
   one_held p = by (peer_of peers p.name)
     where
-      by : (o : Option HeldPeer) → (option_map_or (λ (x : HeldPeer). settings_eq x.settings p) o false && same_content p.name (holding_or_none o) (content_for contents p.name))
-          ≡ (option_map_or (λ (x : HeldPeer). settings_eq x.settings p) o false && option_map_or (λ (x : HeldPeer). same_content p.name x.content (content_for contents p.name)) o false)
+      by : (o : Option HeldPeer) →
+          (option_map_or (λ (x : HeldPeer). settings_eq x.settings p) o false && same_content p.name
+              (holding_or_none o) (content_for contents p.name))
+          ≡ (option_map_or (λ (x : HeldPeer). settings_eq x.settings p) o false && option_map_or
+              (λ (x : HeldPeer). same_content p.name x.content (content_for contents p.name)) o false)
       by None = refl
       by (Some x) = refl
 
   pub each_held : (ps : List PeerSettings)
-      → (list_all (has_settings peers) ps && list_all (λ (c : ComparisonValue). c.is_same) (map (compared_peer peers contents) ps)) ≡ list_all (has_peer peers contents) ps
+      → (list_all (has_settings peers) ps && list_all (λ (c : ComparisonValue). c.is_same)
+          (map (compared_peer peers contents) ps)) ≡ list_all (has_peer peers contents) ps
   each_held [] = refl
   each_held (p ∷ ps) =
-      both (has_settings peers p) (list_all (has_settings peers) ps) (compared_peer peers contents p).is_same (list_all (λ (c : ComparisonValue). c.is_same) (map (compared_peer peers contents) ps))
+      both (has_settings peers p) (list_all (has_settings peers) ps) (compared_peer peers contents p).is_same
+          (list_all (λ (c : ComparisonValue). c.is_same) (map (compared_peer peers contents) ps))
       ∙ (λ i. one_held p i && each_held ps i)
     where
       both : (a b c d : Bool) → ((a && b) && (c && d)) ≡ ((a && c) && (b && d))
@@ -82,7 +91,8 @@ pub files_new : (s : State) (f : FilesValue) (c : FilesComparison) → IsCompare
     → c.own.new_count + sum_by (λ (v : ComparisonValue). v.new_count) c.peers.items ≡ new_of_files s.held.facts f
 files_new s f c h =
     let facts = s.held.facts in
-    omega (arith, ap (λ (v : ComparisonValue). v.new_count) h.own, ap (sum_by (λ (v : ComparisonValue). v.new_count)) h.peers, new_among facts.peers f.contents f.settings)
+    omega (arith, ap (λ (v : ComparisonValue). v.new_count) h.own, ap (sum_by (λ (v : ComparisonValue). v.new_count))
+        h.peers, new_among facts.peers f.contents f.settings)
 
 -- and there are numbers for them
 pub files_numbered : (s : State) (day : DayValue) (f : FilesValue) (c : FilesComparison) → AreAccepted s day f c
@@ -107,7 +117,8 @@ memory_wants t x e told (inl lacks) = lacks
 memory_wants t x e told (inr refused) = cc (sym told ∙ refused)
 
 -- a refusal is told before what comes after
-pub refuses_first : (t then : Told (Unit {0})) (f : Refusal) → Answers t (Err f) → Gives (λ u. u) (t >>= λ _. then) (Err f)
+pub refuses_first : (t then : Told (Unit {0})) (f : Refusal) → Answers t (Err f) → Gives (λ u. u) (t >>= λ _. then)
+    (Err f)
 refuses_first (Ok u) then f h = cc h
 refuses_first (Err (UnknownCriterion n)) then f (inl h) = inr (sym h)
 refuses_first (Err (UnknownCriterion n)) then f (inr h) = inl (cc h)
@@ -119,13 +130,17 @@ gives_itself (Ok u) answer h = rw h refl
 gives_itself (Err e) answer h = rw h (inr refl)
 
 -- reviews name what a table lacks just where another of the same names lacks it
-pub same_beyond : (a b : Criteria) → ((n : List ℕ) → table.contains_key a n ≡ table.contains_key b n) → (reviews : List Review) → are_open_beyond a reviews ≡ are_open_beyond b reviews
-same_beyond a b keys reviews = λ i. list_any (λ (r : Review). not (is_closed r.state) && is_some (find (λ n. not (keys n i)) (members r.criteria))) reviews
+pub same_beyond : (a b : Criteria) → ((n : List ℕ) → table.contains_key a n ≡ table.contains_key b n) →
+    (reviews : List Review) → are_open_beyond a reviews ≡ are_open_beyond b reviews
+same_beyond a b keys reviews = λ i. list_any
+    (λ (r : Review). not (is_closed r.state) && is_some (find (λ n. not (keys n i)) (members r.criteria))) reviews
 
 -- what files are asked is what is judged of them, where they are not held
 pub judged_by : (s : State) (day : DayValue) (f : FilesValue) → has_files s.held f ≡ false
     → judged s day (ReplaceFiles f) ≡ (checked s day (ReplaceFiles f) >>= λ _. Ok Accepted)
-judged_by s day f none = ap (λ b. held_or (cond b (Some None) (let free : Option (Option ℕ) = None in free)) (checked s day (ReplaceFiles f))) none
+judged_by s day f none = ap
+    (λ b. held_or (cond b (Some None) (let free : Option (Option ℕ) = None in free)) (checked s day (ReplaceFiles f)))
+        none
 
 pub refused_files : (s : State) (day : DayValue) (f : FilesValue) (e : Refusal) → has_files s.held f ≡ false
     → Gives (λ u. u) (checked s day (ReplaceFiles f)) (Err e) → (e ≡ NoMemory) ⊎ (judged s day (ReplaceFiles f) ≡ Err e)
@@ -142,5 +157,6 @@ no_more_new facts f =
       sum_by-le-sum_by (new_of_peer facts.peers f.contents) (count_of_peer f.contents) f.settings (λ p.
           (let held = (held_of_peer facts.peers p).entries in
           let entries = (content_for f.contents p.name).entries in
-          omega (arith, filter-fewer (is_new held) (as_peers p.name entries), length-map entries (of_source (Peer p.name))))),
+          omega (arith, filter-fewer (is_new held) (as_peers p.name entries), length-map entries
+              (of_source (Peer p.name))))),
     )

@@ -67,14 +67,16 @@ use Rattle.vet_register.proofs.Readable as readable
 -- ---- lists
 
 -- a test of all items decides what it decides of each
-each_decides : {X : Type 0} (p : X → Bool) (P : X → Type 0) → ((x : X) → Decides (p x) (P x)) → (xs : List X) → Decides (list_all p xs) ((x : X) → IsIn x xs → P x)
+each_decides : {X : Type 0} (p : X → Bool) (P : X → Type 0) → ((x : X) → Decides (p x) (P x)) → (xs : List X) →
+    Decides (list_all p xs) ((x : X) → IsIn x xs → P x)
 each_decides p P each xs = (
   λ t x i. (each x).0 (in_all (λ y. p y ≡ true) xs (AllPass-from_list_all p xs t) x i),
   λ h. list_all-from_AllPass p xs (all_in (λ y. p y ≡ true) xs (λ x i. (each x).1 (h x i))),
 )
 
 -- items that differ are all items of a list that is as long and holds them
-all_held : {X : Type 0} (E : X → X → Bool) → ((x y : X) → Decides (E x y) (x ≡ y)) → (xs ys : List X) → AllPairs (λ x y. x ≢ y) xs
+all_held : {X : Type 0} (E : X → X → Bool) → ((x y : X) → Decides (E x y) (x ≡ y)) → (xs ys : List X) → AllPairs
+    (λ x y. x ≢ y) xs
     → ((x : X) → IsIn x xs → IsIn x ys) → length xs ≡ length ys → (y : X) → IsIn y ys → IsIn y xs
 all_held {X} E decides xs ys differ held long y i = by (list_any (E y) xs) refl
   where
@@ -83,12 +85,15 @@ all_held {X} E decides xs ys differ held long y i = by (list_any (E y) xs) refl
     by false t =
         let more : length (y ∷ xs) ≤ length ys =
         no_longer (y ∷ xs) ys
-        (AllPairs-cons (λ a b. a ≢ b) y xs (all_in (λ x. y ≢ x) xs (λ x j same. false≢true (sym t ∙ in_any (E y) xs x j ((decides y x).1 same)))) differ)
+        (AllPairs-cons (λ a b. a ≢ b) y xs
+            (all_in (λ x. y ≢ x) xs (λ x j same. false≢true (sym t ∙ in_any (E y) xs x j ((decides y x).1 same))))
+                differ)
         (λ z j. elim j [ inl e ↦ subst (λ (w : X). IsIn w ys) (sym e) i | inr k ↦ held z k ]) in
         absurd (omega (arith, more, long))
 
 -- two things are the same where each is what the other is
-alike : {X : Type 0} (o p : Option X) → ((x : X) → o ≡ Some x → p ≡ Some x) → ((x : X) → p ≡ Some x → o ≡ Some x) → o ≡ p
+alike : {X : Type 0} (o p : Option X) → ((x : X) → o ≡ Some x → p ≡ Some x) → ((x : X) → p ≡ Some x → o ≡ Some x) → o
+    ≡ p
 alike (Some x) p there back = sym (there x refl)
 alike None (Some x) there back = back x refl
 alike None None there back = refl
@@ -99,18 +104,22 @@ module _ {X : Type 0} (name : X → List ℕ) where
   own_found : (xs : List X) → IsByKey R name xs → (x : X) → IsIn x xs → item_of R name xs (name x) ≡ Some x
   own_found xs up = in_all (λ y. item_of R name xs (name y) ≡ Some y) xs (λ k d l.
       (let y = get_or xs k d in
-      item_at R nat_list_cmp_total only_equal name xs (name y) k y up (l, λ e. ap name (get_or_default xs k e d l)) (get_or_default xs k y d l)))
+      item_at R nat_list_cmp_total only_equal name xs (name y) k y up (l, λ e. ap name (get_or_default xs k e d l))
+          (get_or_default xs k y d l)))
 
-  carried : (xs ys : List X) → IsByKey R name ys → ((x : X) → IsIn x xs → IsIn x ys) → (k : List ℕ) (x : X) → item_of R name xs k ≡ Some x → item_of R name ys k ≡ Some x
+  carried : (xs ys : List X) → IsByKey R name ys → ((x : X) → IsIn x xs → IsIn x ys) → (k : List ℕ) (x : X) → item_of
+      R name xs k ≡ Some x → item_of R name ys k ≡ Some x
   carried xs ys up held k x at =
       let found = item_found R name (λ z. IsIn z xs) xs k x (all_in (λ z. IsIn z xs) xs (λ z i. i)) at in
-      ap (item_of R name ys) (sym (only_equal (name x) k (equal (R (name x) k) found.0))) ∙ own_found ys up x (held x found.1)
+      ap (item_of R name ys) (sym (only_equal (name x) k (equal (R (name x) k) found.0))) ∙ own_found ys up x
+          (held x found.1)
 
   -- the same things are the same list
   same_in_order : (xs ys : List X) → IsByKey R name xs → IsByKey R name ys → SameItems xs ys → xs ≡ ys
   same_in_order xs ys up above same =
       same_items R nat_list_cmp_total only_equal name xs ys up above
-      (λ k. alike (item_of R name xs k) (item_of R name ys k) (carried xs ys above same.0 k) (carried ys xs up same.1 k))
+      (λ k. alike (item_of R name xs k) (item_of R name ys k) (carried xs ys above same.0 k)
+          (carried ys xs up same.1 k))
 
 -- ---- criteria
 
@@ -121,10 +130,12 @@ abbrev HasItsName : List ℕ × Criterion → Type 0
 HasItsName e = e.1.name ≡ e.0
 
 -- as many names as criteria are not built in
-as_many : (es : Entries) → All HasItsName es → length (filter (λ n. not (is_built_in n)) (map (λ e. e.0) es)) ≡ length (filter is_further (map (λ e. e.1) es))
+as_many : (es : Entries) → All HasItsName es → length (filter (λ n. not (is_built_in n)) (map (λ e. e.0) es)) ≡ length
+    (filter is_further (map (λ e. e.1) es))
 as_many [] h = refl
 as_many (e ∷ es) h =
-    ap (λ n. length (cond (not (is_built_in n)) (e.0 ∷ names) names)) (sym (All-head HasItsName e es h)) ∙ one (is_further e.1) (as_many es (All-tail HasItsName e es h))
+    ap (λ n. length (cond (not (is_built_in n)) (e.0 ∷ names) names)) (sym (All-head HasItsName e es h)) ∙ one
+        (is_further e.1) (as_many es (All-tail HasItsName e es h))
   where
     names : List (List ℕ)
     names = filter (λ n. not (is_built_in n)) (map (λ x. x.0) es)
@@ -132,7 +143,8 @@ as_many (e ∷ es) h =
     criteria : List Criterion
     criteria = filter is_further (map (λ x. x.1) es)
 
-    one : (b : Bool) → length names ≡ length criteria → length (cond b (e.0 ∷ names) names) ≡ length (cond b (e.1 ∷ criteria) criteria)
+    one : (b : Bool) → length names ≡ length criteria → length (cond b (e.0 ∷ names) names) ≡ length
+        (cond b (e.1 ∷ criteria) criteria)
     one true same = omega (arith, same)
     one false same = same
 
@@ -147,7 +159,8 @@ module _ (criteria : Criteria) (is : IsTable criteria) where
   stands : All (λ (e : List ℕ × Criterion). table.get criteria e.0 ≡ Some e.1) entries
   stands k d l =
       let e = get_or entries k d in
-      table.get-entries criteria e.0 ∙ entry_found e.0 entries e.1 (rising_keys criteria) (k, l, get_or_default entries k e d l)
+      table.get-entries criteria e.0 ∙ entry_found e.0 entries e.1 (rising_keys criteria)
+          (k, l, get_or_default entries k e d l)
 
   named : All HasItsName entries
   named k d l = (let e = get_or entries k d in is.named e.0 e.1 (stands k d l))
@@ -157,30 +170,37 @@ module _ (criteria : Criteria) (is : IsTable criteria) where
   value_found c i =
       let e = in_map (λ (x : List ℕ × Criterion). x.1) entries c i in
       let name : e.0.1.name ≡ e.0.0 = in_all HasItsName entries named e.0 e.1.0 in
-      let at : table.get criteria e.0.0 ≡ Some e.0.1 = in_all (λ (x : List ℕ × Criterion). table.get criteria x.0 ≡ Some x.1) entries stands e.0 e.1.0 in
+      let at : table.get criteria e.0.0 ≡ Some e.0.1 = in_all
+          (λ (x : List ℕ × Criterion). table.get criteria x.0 ≡ Some x.1) entries stands e.0 e.1.0 in
       subst (λ (x : Criterion). table.get criteria x.name ≡ Some x) (sym e.1.1) (ap (table.get criteria) name ∙ at)
 
   found_value : (c : Criterion) → table.get criteria c.name ≡ Some c → IsIn c (table.values criteria)
   found_value c h =
       let at = found_entry c.name entries c (sym (table.get-entries criteria c.name) ∙ h) in
       map_in (λ (x : List ℕ × Criterion). x.1) entries (c.name, c)
-      (subst (λ (x : List ℕ × Criterion). IsIn x entries) at.2 (all_in (λ x. IsIn x entries) entries (λ x i. i) at.0 (c.name, c) at.1))
+      (subst (λ (x : List ℕ × Criterion). IsIn x entries) at.2
+          (all_in (λ x. IsIn x entries) entries (λ x i. i) at.0 (c.name, c) at.1))
 
   criterion_decided : (c : Criterion) → Decides (is_held criteria c) (IsIn c (further criteria))
   criterion_decided c = (
     by (is_built_in c.name) refl,
     λ i. (let among = in_filter is_further (table.values criteria) c i in
-        cond-false (is_built_in c.name) false (option_eq criterion_eq (table.get criteria c.name) (Some c)) (not-true (is_built_in c.name) among.1)
+        cond-false (is_built_in c.name) false (option_eq criterion_eq (table.get criteria c.name) (Some c))
+            (not-true (is_built_in c.name) among.1)
         ∙ (options_decide criterion_eq-Decides (table.get criteria c.name) (Some c)).1 (value_found c among.0)),
   )
     where
-      by : (b : Bool) → is_built_in c.name ≡ b → cond b false (option_eq criterion_eq (table.get criteria c.name) (Some c)) ≡ true → IsIn c (further criteria)
+      by : (b : Bool) → is_built_in c.name ≡ b → cond b false
+          (option_eq criterion_eq (table.get criteria c.name) (Some c)) ≡ true → IsIn c (further criteria)
       by true e t = absurd (false≢true t)
       by false e t =
-          filter_in is_further (table.values criteria) c (found_value c ((options_decide criterion_eq-Decides (table.get criteria c.name) (Some c)).0 t)) (ap not e)
+          filter_in is_further (table.values criteria) c
+              (found_value c ((options_decide criterion_eq-Decides (table.get criteria c.name) (Some c)).0 t))
+                  (ap not e)
 
   -- some are held, and no others, just where they are those beside the built-in ones
-  criteria_decided : (cs : List Criterion) → NamedOnce (λ c. c.name) cs → Decides (has_criteria criteria cs) (SameItems cs (further criteria))
+  criteria_decided : (cs : List Criterion) → NamedOnce (λ c. c.name) cs → Decides (has_criteria criteria cs)
+      (SameItems cs (further criteria))
   criteria_decided cs once =
       let kept = further criteria in
       let names = filter (λ n. not (is_built_in n)) (table.keys criteria) in
@@ -198,24 +218,28 @@ module _ (criteria : Criteria) (is : IsTable criteria) where
 
 again_decided : (theirs : List Entry) (h : HeldEntry) → Decides (comes_again theirs h) (IsIn h.entry theirs)
 again_decided theirs h = (
-  λ t. (let x = any_in (entry_eq h.entry) theirs t in subst (λ e. IsIn e theirs) (sym ((entry_eq-Decides h.entry x.0).0 x.1.1)) x.1.0),
+  λ t. (let x = any_in (entry_eq h.entry) theirs t in subst (λ e. IsIn e theirs)
+      (sym ((entry_eq-Decides h.entry x.0).0 x.1.1)) x.1.0),
   λ i. in_any (entry_eq h.entry) theirs h.entry i ((entry_eq-Decides h.entry h.entry).1 refl),
 )
 
 entry_decided : (held : List HeldEntry) (e : Entry) → Decides (replaced.is_held held e) (IsIn e (entries_of held))
 entry_decided held e = (
   λ t. (let h = any_in (λ (g : HeldEntry). entry_eq g.entry e) held t in
-      subst (λ x. IsIn x (entries_of held)) ((entry_eq-Decides h.0.entry e).0 h.1.1) (map_in (λ (g : HeldEntry). g.entry) held h.0 h.1.0)),
+      subst (λ x. IsIn x (entries_of held)) ((entry_eq-Decides h.0.entry e).0 h.1.1)
+          (map_in (λ (g : HeldEntry). g.entry) held h.0 h.1.0)),
   λ i. (let h = in_map (λ (g : HeldEntry). g.entry) held e i in
       in_any (λ (g : HeldEntry). entry_eq g.entry e) held h.0 h.1.0 ((entry_eq-Decides h.0.entry e).1 (sym h.1.1))),
 )
 
 -- some entries, as of a source, are those held, in whatever order
-entries_decided : (source : Source) (held : List HeldEntry) (entries : List Entry) → Decides (same_entries source held entries) (SameItems (as_of source entries) (entries_of held))
+entries_decided : (source : Source) (held : List HeldEntry) (entries : List Entry) → Decides
+    (same_entries source held entries) (SameItems (as_of source entries) (entries_of held))
 entries_decided source held entries =
     let theirs = as_of source entries in
     Decides-like (same_entries source held entries)
-    (λ h. (h.1, λ e i. (let x = in_map (λ (g : HeldEntry). g.entry) held e i in subst (λ y. IsIn y theirs) (sym x.1.1) (h.0 x.0 x.1.0))))
+    (λ h. (h.1, λ e i. (let x = in_map (λ (g : HeldEntry). g.entry) held e i in subst (λ y. IsIn y theirs) (sym x.1.1)
+        (h.0 x.0 x.1.0))))
     (λ same. (λ h i. same.1 h.entry (map_in (λ (g : HeldEntry). g.entry) held h i), same.0))
     (Decides-and (list_all (comes_again theirs) held) (list_all (replaced.is_held held) theirs)
     (each_decides (comes_again theirs) (λ h. IsIn h.entry theirs) (again_decided theirs) held)
@@ -230,7 +254,8 @@ defined_again next x sound =
     let can = sound.content.1.readable in
     let more = further_are_defined cs can.named_once can.further in
     let again : defined cs ≡ defined (further (defined cs)) =
-    (same_definitions cs (further (defined cs)) can.named_once more.1 can.further (none_built_in (defined cs))).1 (more.0.1, more.0.0) in
+    (same_definitions cs (further (defined cs)) can.named_once more.1 can.further (none_built_in (defined cs))).1
+        (more.0.1, more.0.0) in
     sound.content.1.criteria ∙ again ∙ ap (λ t. defined (further t)) (sym sound.content.1.criteria)
 
 module _ (peers : List HeldPeer) (next : ℕ) (are : ArePeers peers next) (f : FilesValue) (is : IsFiles f) where
@@ -238,7 +263,8 @@ module _ (peers : List HeldPeer) (next : ℕ) (are : ArePeers peers next) (f : F
   settings_of x = x.settings
 
   -- the content of a peer is held just where it says what is held
-  content_decided : (x : HeldPeer) → IsSoundPeer next x → Decides (same_content x.settings.name x.content (content_for f.contents x.settings.name)) (SaysWhatIsHeld f.contents x)
+  content_decided : (x : HeldPeer) → IsSoundPeer next x → Decides
+      (same_content x.settings.name x.content (content_for f.contents x.settings.name)) (SaysWhatIsHeld f.contents x)
   content_decided x sound =
       let given = readable.readable next x sound in
       same_items_are_same x.settings.name x.content (content_for f.contents x.settings.name) (further x.content.table)
@@ -255,7 +281,8 @@ module _ (peers : List HeldPeer) (next : ℕ) (are : ArePeers peers next) (f : F
       holds q x = same_content q.name x.content (content_for f.contents q.name)
 
       by : (o : Option HeldPeer) → peer_of peers p.name ≡ o
-          → Decides (option_map_or (λ (x : HeldPeer). settings_eq x.settings p) o false && option_map_or (holds p) o false) (IsSaid o p)
+          → Decides (option_map_or (λ (x : HeldPeer). settings_eq x.settings p) o false && option_map_or (holds p) o
+              false) (IsSaid o p)
       by None e = (λ t. absurd (false≢true t), λ said. cc said.1.0)
       by (Some x) e =
           let content = content_decided x (found_sound peers p.name next x are e) in
@@ -267,7 +294,8 @@ module _ (peers : List HeldPeer) (next : ℕ) (are : ArePeers peers next) (f : F
                 (let this : x ≡ said.0 = same_Some x said.0 said.1.0 in
                 let its : x.settings ≡ p = ap settings_of this ∙ said.1.1.0 in
                 and_from (settings_eq x.settings p) (holds p x) (same.1 its)
-                (subst (λ q. holds q x ≡ true) its (content.1 (subst (SaysWhatIsHeld f.contents) (sym this) said.1.1.1)))),
+                (subst (λ q. holds q x ≡ true) its
+                    (content.1 (subst (SaysWhatIsHeld f.contents) (sym this) said.1.1.1)))),
           )
 
   abbrev AllSaid : Type 0
@@ -277,11 +305,14 @@ module _ (peers : List HeldPeer) (next : ℕ) (are : ArePeers peers next) (f : F
   those long said =
       let all = map settings_of peers in
       let held : (p : PeerSettings) → IsIn p f.settings → IsIn p all =
-      λ p i. (let x = said p i in subst (λ q. IsIn q all) x.1.1.0 (map_in settings_of peers x.0 (found_in peers p.name x.0 x.1.0))) in
-      same_in_order settings_name f.settings all is.settings_by_name (AllPairs-map settings_of (λ a b. R (settings_name a) (settings_name b) ≡ Less) peers are.by_name) (
+      λ p i. (let x = said p i in subst (λ q. IsIn q all) x.1.1.0
+          (map_in settings_of peers x.0 (found_in peers p.name x.0 x.1.0))) in
+      same_in_order settings_name f.settings all is.settings_by_name
+          (AllPairs-map settings_of (λ a b. R (settings_name a) (settings_name b) ≡ Less) peers are.by_name) (
         held,
         all_held settings_eq settings_eq-Decides f.settings all
-            (λ i j d l m same. other_names _ _ (is.settings_by_name i j d l m) (ap settings_name same)) held (long ∙ sym (length-map peers settings_of)),
+            (λ i j d l m same. other_names _ _ (is.settings_by_name i j d l m) (ap settings_name same)) held
+                (long ∙ sym (length-map peers settings_of)),
       )
 
   all_say : f.settings ≡ map settings_of peers → AllSaid → All (SaysWhatIsHeld f.contents) peers
@@ -301,20 +332,24 @@ module _ (peers : List HeldPeer) (next : ℕ) (are : ArePeers peers next) (f : F
       )
 
   -- the peers of files are those held just where the settings are, and each content says what is held
-  peers_decided : Decides (has_peers peers f) ((f.settings ≡ map settings_of peers) × ((each_is_set f ≡ true) × All (SaysWhatIsHeld f.contents) peers))
+  peers_decided : Decides (has_peers peers f)
+      ((f.settings ≡ map settings_of peers) × ((each_is_set f ≡ true) × All (SaysWhatIsHeld f.contents) peers))
   peers_decided =
       Decides-like (has_peers peers f)
       (λ h. (let same = those h.0 h.1.0 in (same, (h.1.1, all_say same h.1.0))))
       (λ w. (ap length w.0 ∙ length-map peers settings_of, (each_said w.0 w.1.1, w.1.0)))
-      (Decides-and (length f.settings == length peers) (list_all (has_peer peers f.contents) f.settings && each_is_set f)
+      (Decides-and (length f.settings == length peers)
+          (list_all (has_peer peers f.contents) f.settings && each_is_set f)
       (Decides-eqb (length f.settings) (length peers))
       (Decides-and (list_all (has_peer peers f.contents) f.settings) (each_is_set f)
-      (each_decides (has_peer peers f.contents) (λ p. IsSaid (peer_of peers p.name) p) peer_decided f.settings) (λ t. t, λ t. t)))
+      (each_decides (has_peer peers f.contents) (λ p. IsSaid (peer_of peers p.name) p) peer_decided f.settings)
+          (λ t. t, λ t. t)))
 
 -- ---- all that files say
 
 -- files are what is held just where they say it
-pub files_decided : (held : HeldValue) (next : ℕ) → IsSoundHeld held next → (f : FilesValue) → IsFiles f → Decides (has_files held f) (SayWhatIsHeld held f)
+pub files_decided : (held : HeldValue) (next : ℕ) → IsSoundHeld held next → (f : FilesValue) → IsFiles f → Decides
+    (has_files held f) (SayWhatIsHeld held f)
 files_decided held next sound f is =
     let facts = held.facts in
     Decides-like (has_files held f)
@@ -328,9 +363,11 @@ files_decided held next sound f is =
       policies = sym h.1.1.1.1.0;
       tool = sym h.1.1.1.1.1;
     })
-    (λ w. (w.criteria, (w.entries, ((w.settings, (w.set, w.contents)), (sym w.publishers, (sym w.policies, sym w.tool))))))
+    (λ w. (w.criteria, (w.entries,
+        ((w.settings, (w.set, w.contents)), (sym w.publishers, (sym w.policies, sym w.tool))))))
     (Decides-and _ _ (criteria_decided facts.criteria sound.facts.criteria f.criteria is.named_once)
     (Decides-and _ _ (entries_decided Own facts.entries f.entries)
     (Decides-and _ _ (peers_decided facts.peers next sound.facts.peers f is)
     (Decides-and _ _ (pointwise_decides package_eq-Decides facts.publishers f.publishers)
-    (Decides-and _ _ (policies_eq-Decides held.policies f.policies) (tool_eq-Decides held.settings (tool_of_files f)))))))
+    (Decides-and _ _ (policies_eq-Decides held.policies f.policies)
+        (tool_eq-Decides held.settings (tool_of_files f)))))))

@@ -56,20 +56,26 @@ has_more t n c x h = rw (table.get-insert nat_list_cmp_total t n c x) (tied (eq_
     tied false = h
 
 -- what a table has beside a name, it has without it
-has_beside : (t : Criteria) (n x : List ℕ) → eq_by_cmp (slice_cmp nat_cmp) n x ≡ false → not (table.contains_key t x) ≡ false
+has_beside : (t : Criteria) (n x : List ℕ) → eq_by_cmp (slice_cmp nat_cmp) n x ≡ false → not (table.contains_key t x)
+    ≡ false
     → not (table.contains_key (table.remove t n) x) ≡ false
 has_beside t n x other h =
     rw (table.get-remove nat_list_cmp_total t n x, (eq_by_cmp_equiv nat_list_cmp_total).symm x n, other) h
 
-pub stays_known : (t : Criteria) (c : Criterion) (names : NameSet) → least_unknown t names ≡ None → least_unknown (table.insert t c.name c) names ≡ None
-stays_known t c names k = find-none (λ x. not (table.contains_key t x)) (λ x. not (table.contains_key (table.insert t c.name c) x)) (has_more t c.name c) (members names) k
+pub stays_known : (t : Criteria) (c : Criterion) (names : NameSet) → least_unknown t names ≡ None → least_unknown
+    (table.insert t c.name c) names ≡ None
+stays_known t c names k = find-none (λ x. not (table.contains_key t x))
+    (λ x. not (table.contains_key (table.insert t c.name c) x)) (has_more t c.name c) (members names) k
 
-pub known_without : (t : Criteria) (n : List ℕ) (names : NameSet) → set.contains names n ≡ false → least_unknown t names ≡ None → least_unknown (table.remove t n) names ≡ None
+pub known_without : (t : Criteria) (n : List ℕ) (names : NameSet) → set.contains names n ≡ false → least_unknown t
+    names ≡ None → least_unknown (table.remove t n) names ≡ None
 known_without t n names unnamed k =
-    find-none_among (eq_by_cmp (slice_cmp nat_cmp) n) (λ x. not (table.contains_key t x)) (λ x. not (table.contains_key (table.remove t n) x))
+    find-none_among (eq_by_cmp (slice_cmp nat_cmp) n) (λ x. not (table.contains_key t x))
+        (λ x. not (table.contains_key (table.remove t n) x))
     (has_beside t n) (members names) (any-members names n ∙ unnamed) k
 
-both_fail : {X : Type 0} (P Q S : X → Type 0) → ((x : X) → P x → Q x → S x) → (xs : List X) → All P xs → All Q xs → All S xs
+both_fail : {X : Type 0} (P Q S : X → Type 0) → ((x : X) → P x → Q x → S x) → (xs : List X) → All P xs → All Q xs →
+    All S xs
 both_fail P Q S f xs p q k d l = f (get_or xs k d) (p k d l) (q k d l)
 
 neither : (a b : Bool) → (a || b) ≡ false → (a ≡ false) × (b ≡ false)
@@ -85,34 +91,42 @@ pub record Unused (s : State) (n : List ℕ) : Type 0 where
 pub unused : (s : State) (day : DayValue) (n : List ℕ) → rules s day (RemoveCriterion n) ≡ Ok tt → Unused s n
 unused s day n h =
     let r = then_told (remove_rules s.held.facts.criteria n) (λ _. refuse_if (is_used s n) CriterionInUse) tt h in
-    let facts = neither (is_named s.held.facts n) (list_any (policy_names n) s.held.policies || are_open_for s.desk.reviews n) (not_refused (is_used s n) CriterionInUse r.1) in
+    let facts = neither (is_named s.held.facts n)
+        (list_any (policy_names n) s.held.policies || are_open_for s.desk.reviews n)
+            (not_refused (is_used s n) CriterionInUse r.1) in
     let rest = neither (list_any (policy_names n) s.held.policies) (are_open_for s.desk.reviews n) facts.1 in
     record { facts = facts.0; policies = rest.0; reviews = rest.1 }
 
 removed : (s : State) (day : DayValue) (n : List ℕ) → rules s day (RemoveCriterion n) ≡ Ok tt
     → (list_any (is_named_by n) s.held.facts.entries ≡ false) × (list_any (is_target_of n) s.held.facts.peers ≡ false)
-removed s day n h = neither (list_any (is_named_by n) s.held.facts.entries) (list_any (is_target_of n) s.held.facts.peers) (unused s day n h).facts
+removed s day n h = neither (list_any (is_named_by n) s.held.facts.entries)
+    (list_any (is_target_of n) s.held.facts.peers) (unused s day n h).facts
 
 -- the settings of a peer stay where its content does not
-imported_known : (t : Criteria) (peers : List HeldPeer) (name : List ℕ) (content : HoldingValue) → All (HasKnownTargets t) peers
+imported_known : (t : Criteria) (peers : List HeldPeer) (name : List ℕ) (content : HoldingValue) → All
+    (HasKnownTargets t) peers
     → (o : Option HeldPeer) → peer_of peers name ≡ o → All (HasKnownTargets t) (with_content_of o content peers)
 imported_known t peers name content k None e = k
 imported_known t peers name content k (Some x) e =
-    All-with_item R peer_name (HasKnownTargets t) peers (record x { content = content }) k (item_found R peer_name (HasKnownTargets t) peers name x k e).1
+    All-with_item R peer_name (HasKnownTargets t) peers (record x { content = content }) k
+        (item_found R peer_name (HasKnownTargets t) peers name x k e).1
 
 -- the entry that finishes a review names criteria that are known, as the review isn't closed before
-entry_known : (s : State) (command : DeskCommand) → AreKnownTo s.held.facts.criteria s.desk.reviews → desk_rules (demanded s) s.desk command ≡ Ok tt
+entry_known : (s : State) (command : DeskCommand) → AreKnownTo s.held.facts.criteria s.desk.reviews → desk_rules
+    (demanded s) s.desk command ≡ Ok tt
     → (e : Entry) → entry_of s.desk command ≡ Some e → least_unknown s.held.facts.criteria e.criteria ≡ None
 entry_known s (AddMember name) known rules e is = cc is
 entry_known s (OpenReview name version criteria) known rules e is = cc is
 entry_known s (AssignReview n member) known rules e is = cc is
 entry_known s (FinishReview n member reviewed) known rules e is = by (review_of s.desk.reviews n) refl rules is
   where
-    by : (o : Option Review) → review_of s.desk.reviews n ≡ o → asked_of (finish_rules member reviewed) o ≡ Ok tt → option_map (entry_by member reviewed) o ≡ Some e
+    by : (o : Option Review) → review_of s.desk.reviews n ≡ o → asked_of (finish_rules member reviewed) o ≡ Ok tt →
+        option_map (entry_by member reviewed) o ≡ Some e
         → least_unknown s.held.facts.criteria e.criteria ≡ None
     by None found rules is = cc is
     by (Some r) found rules is =
-        let right = λ (u : Unit {0}). refuse_if (not (is_assigned_to member r.state)) NotYours >>= λ _. refuse_if (not (version_eq (target_of reviewed) r.version)) WrongTarget in
+        let right = λ (u : Unit {0}). refuse_if (not (is_assigned_to member r.state)) NotYours >>= λ _. refuse_if
+            (not (version_eq (target_of reviewed) r.version)) WrongTarget in
         let unclosed = not_refused (is_closed r.state) ReviewClosed (then_told (still_open r) right tt rules).0 in
         let made : entry_by member reviewed r ≡ e = cc is in
         subst (λ (x : Entry). least_unknown s.held.facts.criteria x.criteria ≡ None) made
@@ -128,7 +142,9 @@ of_new facts (Some x) e h = by (number_of facts.entries x) h
     by None h = h
     by (Some n) h = cc h
 
-with_known : (facts : Facts) (n : ℕ) (o : Option Entry) → ((e : Entry) → o ≡ Some e → least_unknown facts.criteria e.criteria ≡ None) → AreKnown facts → AreKnown (with_entry n o facts)
+with_known : (facts : Facts) (n : ℕ) (o : Option Entry) →
+    ((e : Entry) → o ≡ Some e → least_unknown facts.criteria e.criteria ≡ None) → AreKnown facts → AreKnown
+        (with_entry n o facts)
 with_known facts n None new k = k
 with_known facts n (Some e) new k = record {
   own = All-append (HasKnownCriteria facts.criteria) facts.entries _ k.own
@@ -137,22 +153,28 @@ with_known facts n (Some e) new k = record {
 }
 
 -- what is named is known after the command too
-pub known_after : (s : State) (day : DayValue) (a : Action) → AreKnown s.held.facts → AreKnownTo s.held.facts.criteria s.desk.reviews → references s a ≡ Ok tt → rules s day a ≡ Ok tt
+pub known_after : (s : State) (day : DayValue) (a : Action) → AreKnown s.held.facts → AreKnownTo s.held.facts.criteria
+    s.desk.reviews → references s a ≡ Ok tt → rules s day a ≡ Ok tt
     → AreKnown (facts_after s a)
 known_after s day (SetCriterion c) k at r u = record {
-  own = All-weaker (HasKnownCriteria s.held.facts.criteria) _ (λ h. stays_known s.held.facts.criteria c h.entry.criteria) s.held.facts.entries k.own;
-  targets = All-weaker (HasKnownTargets s.held.facts.criteria) _ (λ p. stays_known s.held.facts.criteria c (targets p.settings.map)) s.held.facts.peers k.targets;
+  own = All-weaker (HasKnownCriteria s.held.facts.criteria) _
+      (λ h. stays_known s.held.facts.criteria c h.entry.criteria) s.held.facts.entries k.own;
+  targets = All-weaker (HasKnownTargets s.held.facts.criteria) _
+      (λ p. stays_known s.held.facts.criteria c (targets p.settings.map)) s.held.facts.peers k.targets;
 }
 known_after s day (RemoveCriterion n) k at r u =
     let unnamed = removed s day n u in
     record {
-      own = both_fail _ _ _ (λ h. known_without s.held.facts.criteria n h.entry.criteria) s.held.facts.entries (none_pass (is_named_by n) s.held.facts.entries unnamed.0) k.own;
-      targets = both_fail _ _ _ (λ p. known_without s.held.facts.criteria n (targets p.settings.map)) s.held.facts.peers (none_pass (is_target_of n) s.held.facts.peers unnamed.1) k.targets;
+      own = both_fail _ _ _ (λ h. known_without s.held.facts.criteria n h.entry.criteria) s.held.facts.entries
+          (none_pass (is_named_by n) s.held.facts.entries unnamed.0) k.own;
+      targets = both_fail _ _ _ (λ p. known_without s.held.facts.criteria n (targets p.settings.map))
+          s.held.facts.peers (none_pass (is_target_of n) s.held.facts.peers unnamed.1) k.targets;
     }
 known_after s day (AddEntry e) k at r u =
     let known = all_known (least_unknown s.held.facts.criteria e.criteria) r in
     with_known s.held.facts s.next_entry (Some e)
-    (λ x same. (let is : e ≡ x = cc same in subst (λ (y : Entry). least_unknown s.held.facts.criteria y.criteria ≡ None) is known)) k
+    (λ x same. (let is : e ≡ x = cc same in subst
+        (λ (y : Entry). least_unknown s.held.facts.criteria y.criteria ≡ None) is known)) k
 known_after s day (DropEntry n) k at r u = record {
   own = All-filter (λ h. not (has_number n h)) (HasKnownCriteria s.held.facts.criteria) s.held.facts.entries k.own;
   targets = k.targets;
@@ -169,7 +191,8 @@ known_after s day (DropPeer name) k at r u = record {
 }
 known_after s day (ImportPeer name content) k at r u = record {
   own = k.own;
-  targets = imported_known s.held.facts.criteria s.held.facts.peers name (imported name s.next_entry content (held_of s.held.facts name)) k.targets (peer_of s.held.facts.peers name) refl;
+  targets = imported_known s.held.facts.criteria s.held.facts.peers name
+      (imported name s.next_entry content (held_of s.held.facts name)) k.targets (peer_of s.held.facts.peers name) refl;
 }
 known_after s day (SetPublishers n records) k at r u = record { own = k.own; targets = k.targets }
 known_after s day (SetPolicy policy) k at r u = record { own = k.own; targets = k.targets }
@@ -179,5 +202,6 @@ known_after s day (DropProject name) k at r u = record { own = k.own; targets = 
 known_after s day (ReplaceFiles f) k at r u = files_known f (files_know f r) s.next_entry s.held.facts
 known_after s day (Desk command) k at r u =
     let rules = then_told (desk_rules (demanded s) s.desk command) (λ _. limits_after_rules s command) tt u in
-    with_known s.held.facts s.next_entry (added_by s command) (λ e new. entry_known s command at rules.0 e (of_new s.held.facts (entry_of s.desk command) e new)) k
+    with_known s.held.facts s.next_entry (added_by s command)
+        (λ e new. entry_known s command at rules.0 e (of_new s.held.facts (entry_of s.desk command) e new)) k
 known_after s day ClosePeriod k at r u = k

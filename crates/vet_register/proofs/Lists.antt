@@ -17,10 +17,12 @@ module _ {X : Type 0} (R : X → X → Type 0) where
   pub AllPairs-tail : (x : X) (xs : List X) → AllPairs R (x ∷ xs) → AllPairs R xs
   AllPairs-tail x xs h i j d l m = h (suc i) (suc j) d (omega arith) (omega arith)
 
-  pub AllPairs-append : (xs ys : List X) → AllPairs R xs → AllPairs R ys → All (λ x. All (R x) ys) xs → AllPairs R (xs ++ ys)
+  pub AllPairs-append : (xs ys : List X) → AllPairs R xs → AllPairs R ys → All (λ x. All (R x) ys) xs → AllPairs R
+      (xs ++ ys)
   AllPairs-append [] ys h g across = g
   AllPairs-append (x ∷ xs) ys h g across =
-      AllPairs-cons R x (xs ++ ys) (All-append (R x) xs ys (AllPairs-head x xs h) (All-head (λ z. All (R z) ys) x xs across))
+      AllPairs-cons R x (xs ++ ys)
+          (All-append (R x) xs ys (AllPairs-head x xs h) (All-head (λ z. All (R z) ys) x xs across))
       (AllPairs-append xs ys (AllPairs-tail x xs h) g (All-tail (λ z. All (R z) ys) x xs across))
 
   pub AllPairs-single : (x : X) → AllPairs R (x ∷ [])
@@ -29,16 +31,19 @@ module _ {X : Type 0} (R : X → X → Type 0) where
 module _ {X Y : Type 0} (f : X → Y) (R : Y → Y → Type 0) where
   all_of_map : (y : Y) (xs : List X) → All (λ x. R y (f x)) xs → All (R y) (map f xs)
   all_of_map y [] h = All-nil _
-  all_of_map y (x ∷ xs) h = All-cons (R y) (f x) (map f xs) (All-head (λ z. R y (f z)) x xs h) (all_of_map y xs (All-tail (λ z. R y (f z)) x xs h))
+  all_of_map y (x ∷ xs) h = All-cons (R y) (f x) (map f xs) (All-head (λ z. R y (f z)) x xs h)
+      (all_of_map y xs (All-tail (λ z. R y (f z)) x xs h))
 
   pub AllPairs-map : (xs : List X) → AllPairs (λ x y. R (f x) (f y)) xs → AllPairs R (map f xs)
   AllPairs-map [] h = λ i j d l m. absurd (omega arith)
   AllPairs-map (x ∷ xs) h =
-      AllPairs-cons R (f x) (map f xs) (all_of_map (f x) xs (AllPairs-head (λ a b. R (f a) (f b)) x xs h)) (AllPairs-map xs (AllPairs-tail (λ a b. R (f a) (f b)) x xs h))
+      AllPairs-cons R (f x) (map f xs) (all_of_map (f x) xs (AllPairs-head (λ a b. R (f a) (f b)) x xs h))
+          (AllPairs-map xs (AllPairs-tail (λ a b. R (f a) (f b)) x xs h))
 
 module _ {X : Type 0} where
   -- what fails one test fails the other
-  pub find-none : (p q : X → Bool) → ((x : X) → p x ≡ false → q x ≡ false) → (xs : List X) → find p xs ≡ None → find q xs ≡ None
+  pub find-none : (p q : X → Bool) → ((x : X) → p x ≡ false → q x ≡ false) → (xs : List X) → find p xs ≡ None → find q
+      xs ≡ None
   find-none p q fails [] e = refl
   find-none p q fails (x ∷ xs) e = elim (cases_Bool (p x)) [
     | inl passes ↦ (let e' = rw passes at e in cc e')
@@ -46,13 +51,15 @@ module _ {X : Type 0} where
   ]
 
   -- the same among the elements that pass no third test
-  pub find-none_among : (r p q : X → Bool) → ((x : X) → r x ≡ false → p x ≡ false → q x ≡ false) → (xs : List X) → list_any r xs ≡ false → find p xs ≡ None → find q xs ≡ None
+  pub find-none_among : (r p q : X → Bool) → ((x : X) → r x ≡ false → p x ≡ false → q x ≡ false) → (xs : List X) →
+      list_any r xs ≡ false → find p xs ≡ None → find q xs ≡ None
   find-none_among r p q fails [] a e = refl
   find-none_among r p q fails (x ∷ xs) a e = elim (cases_Bool (r x)) [
     | inl out ↦ (let a' = rw out at a in cc a')
     | inr within ↦ elim (cases_Bool (p x)) [
       | inl passes ↦ (let e' = rw passes at e in cc e')
-      | inr fails_here ↦ rw (fails x within fails_here) (find-none_among r p q fails xs (rw within at a) (rw fails_here at e))
+      | inr fails_here ↦ rw (fails x within fails_here)
+          (find-none_among r p q fails xs (rw within at a) (rw fails_here at e))
     ]
   ]
 

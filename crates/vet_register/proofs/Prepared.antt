@@ -37,7 +37,8 @@ pub record IsUpdate {K U : Type 0} (keeping : Keeping K U) (s : State) (a : Acti
   pub basis : keeping.plans u (held_after s a).facts (demand_in (held_after s a))
   pub touches : keeping.touched_of u ≡ touched_by s a
 
-becomes_next : {K U : Type 0} (s : State) (c : Command) (change : Change K U) → AreParts s c change → edited change.edit s.held ≡ held_after s c.action
+becomes_next : {K U : Type 0} (s : State) (c : Command) (change : Change K U) → AreParts s c change → edited
+    change.edit s.held ≡ held_after s c.action
     → desk_edited change.desk s.desk ≡ desk_by s c.day c.action → changed change s ≡ next s c
 becomes_next s c change parts held desk = λ i. record {
   held = held i;
@@ -50,8 +51,10 @@ becomes_next s c change parts held desk = λ i. record {
 }
 
 -- a change of these parts is the step of a command that is accepted
-pub is_step : {K U : Type 0} → MoveLaws → (keeping : Keeping K U) (s : State) (c : Command) (change : Change K U) → IsSound s
-    → judged s c.day c.action ≡ Ok Accepted → IsSoundHeld (held_after s c.action) (number_after s c.action) → AreParts s c change
+pub is_step : {K U : Type 0} → MoveLaws → (keeping : Keeping K U) (s : State) (c : Command) (change : Change K U) →
+    IsSound s
+    → judged s c.day c.action ≡ Ok Accepted → IsSoundHeld (held_after s c.action) (number_after s c.action) → AreParts
+        s c change
     → edited change.edit s.held ≡ held_after s c.action → desk_edited change.desk s.desk ≡ desk_by s c.day c.action
     → demand_by change.demand (demanded s) ≡ demand_in (held_after s c.action)
     → IsUpdate keeping s c.action change.update → IsStep keeping s c change
@@ -67,32 +70,41 @@ is_step laws keeping s c change sound told held parts by desk demand update = re
 }
 
 -- a command that is accepted but for its moves is refused where these do not fit
-pub fit_told : (s t : State) (c : Command) (f : Refusal) → t ≡ s → judged s c.day c.action ≡ Ok Accepted → (f ≡ NoMemory) ⊎ (moves_fit t c.action ≡ Err f)
+pub fit_told : (s t : State) (c : Command) (f : Refusal) → t ≡ s → judged s c.day c.action ≡ Ok Accepted →
+    (f ≡ NoMemory) ⊎ (moves_fit t c.action ≡ Err f)
     → (f ≡ NoMemory) ⊎ (verdict s c ≡ Err f)
 fit_told s t c f same told (inl lacks) = inl lacks
 fit_told s t c f same told (inr h) =
-    inr (ap (λ t. t >>= fitting s c.action) told ∙ ap (λ t. t >>= λ _. Ok Accepted) (subst (λ (z : State). moves_fit z c.action ≡ Err f) same h))
+    inr (ap (λ t. t >>= fitting s c.action) told ∙ ap (λ t. t >>= λ _. Ok Accepted)
+        (subst (λ (z : State). moves_fit z c.action ≡ Err f) same h))
 
 -- and told so where they fit
-pub fits_told : (s t : State) (c : Command) → t ≡ s → judged s c.day c.action ≡ Ok Accepted → moves_fit t c.action ≡ Ok tt → verdict s c ≡ Ok Accepted
+pub fits_told : (s t : State) (c : Command) → t ≡ s → judged s c.day c.action ≡ Ok Accepted → moves_fit t c.action ≡
+    Ok tt → verdict s c ≡ Ok Accepted
 fits_told s t c same told h =
-    ap (λ t. t >>= fitting s c.action) told ∙ ap (λ t. t >>= λ _. Ok Accepted) (subst (λ (z : State). moves_fit z c.action ≡ Ok tt) same h)
+    ap (λ t. t >>= fitting s c.action) told ∙ ap (λ t. t >>= λ _. Ok Accepted)
+        (subst (λ (z : State). moves_fit z c.action ≡ Ok tt) same h)
 
 -- ---- what was prepared before
 
 -- what the same keeper was ready for it is ready for
-pub same_keeper : {K U : Type 0} (keeping : Keeping K U) (old new : RegisterView K) → new.keeper ≡ old.keeper → KeepsReady keeping old new
+pub same_keeper : {K U : Type 0} (keeping : Keeping K U) (old new : RegisterView K) → new.keeper ≡ old.keeper →
+    KeepsReady keeping old new
 same_keeper keeping old new keeper u h = subst (λ k. keeping.is_ready k u) (sym keeper) h
 
 -- an edit of the desk that it holds, it still holds
-pub desk_still : (old new : DeskView) → KeepsDeskChanges old new → (o : Option DeskEdit) → HoldsDesk o old → HoldsDesk o new
+pub desk_still : (old new : DeskView) → KeepsDeskChanges old new → (o : Option DeskEdit) → HoldsDesk o old → HoldsDesk
+    o new
 desk_still old new keeps None h = tt
-desk_still old new keeps (Some e) h = record { day = h.day; command = h.command; prepared = keeps h.day h.command e.change h.prepared; numbered = h.numbered }
+desk_still old new keeps (Some e) h = record
+    { day = h.day; command = h.command; prepared = keeps h.day h.command e.change h.prepared; numbered = h.numbered }
 
-module _ (law : HeldEditsFit) {K U : Type 0} (keeping : Keeping K U) (old new : RegisterView K) (state : new.state ≡ old.state) (ready : KeepsReady keeping old new)
+module _ (law : HeldEditsFit) {K U : Type 0} (keeping : Keeping K U) (old new : RegisterView K)
+    (state : new.state ≡ old.state) (ready : KeepsReady keeping old new)
     (room : KeepsRoom old new) where
   held_still : (e : HeldEdit) → Fits e (held_room old) → Fits e (held_room new)
-  held_still e h = subst (λ (t : State). Fits e (held_with t.held new.room.held)) (sym state) (law e old.state.held old.room.held new.room.held room.0 h)
+  held_still e h = subst (λ (t : State). Fits e (held_with t.held new.room.held)) (sym state)
+      (law e old.state.held old.room.held new.room.held room.0 h)
 
   moves_still : (r : Recording) → FitsMoves r old.room.moves → FitsMoves r new.room.moves
   moves_still (Behind more) h = omega (arith, h, room.1.0)

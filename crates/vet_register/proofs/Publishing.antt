@@ -32,14 +32,17 @@ abbrev InOrder : PackagePublishers → Type 0
 InOrder held = Publishers.IsInOrder held.publishers
 
 -- publisher records that were set are in order and within the limit
-pub are_publishers : (s : State) (name : List ℕ) (records : List Publisher) → ArePublishers s.held.facts.publishers → Publishers.IsInOrder records
-    → IsByName (with_records name records s.held.facts.publishers) → publisher_limit s name records ≡ Ok tt → ArePublishers (with_records name records s.held.facts.publishers)
+pub are_publishers : (s : State) (name : List ℕ) (records : List Publisher) → ArePublishers s.held.facts.publishers →
+    Publishers.IsInOrder records
+    → IsByName (with_records name records s.held.facts.publishers) → publisher_limit s name records ≡ Ok tt →
+        ArePublishers (with_records name records s.held.facts.publishers)
 are_publishers s name records are ordered named limited =
     let packages = s.held.facts.publishers in
     record {
       by_name = named;
       in_order = All-with_records InOrder name records packages are.in_order (λ some. ordered);
-      few = ltb-false MOST_PUBLISHERS (records_total (with_records name records packages)) (not_refused _ (TooLarge limit.Publishers) limited);
+      few = ltb-false MOST_PUBLISHERS (records_total (with_records name records packages))
+          (not_refused _ (TooLarge limit.Publishers) limited);
     }
 
 not_less : (x y : ℤ) (r : Ordering) → MatchOrdering r (x <ℤ y) (x ≡ y) (y <ℤ x) → (x <ℤ y → ⊥) → is_lt r ≡ false

@@ -53,23 +53,27 @@ module _ (name : List ℕ) (content : PeerContentValue) (held : HoldingValue) (i
   from_content h i =
       let among = is.entries.1 h.entry (map_in (λ (g : HeldEntry). g.entry) held.entries h i) in
       let e = in_map (of_source (Peer name)) content.entries h.entry among in
-      let its : e.0.source ≡ Own = own_of e.0 (in_all (λ x. is_peer_entry x ≡ true) content.entries is.readable.given e.0 e.1.0) in
+      let its : e.0.source ≡ Own = own_of e.0
+          (in_all (λ x. is_peer_entry x ≡ true) content.entries is.readable.given e.0 e.1.0) in
       (e.0, (e.1.0, ap own e.1.1 ∙ restored e.0 Own its))
 
   given : All (λ e. is_peer_entry e ≡ true) (spoken held.entries)
   given = all_in (λ e. is_peer_entry e ≡ true) (spoken held.entries) (λ e i.
       (let h = in_map (λ (g : HeldEntry). own g.entry) held.entries e i in
       let from = from_content h.0 h.1.0 in
-      subst (λ x. is_peer_entry x ≡ true) (sym (h.1.1 ∙ from.1.1)) (in_all (λ x. is_peer_entry x ≡ true) content.entries is.readable.given from.0 from.1.0)))
+      subst (λ x. is_peer_entry x ≡ true) (sym (h.1.1 ∙ from.1.1))
+          (in_all (λ x. is_peer_entry x ≡ true) content.entries is.readable.given from.0 from.1.0)))
 
   once : NamedOnce (λ c. c.name) (further held.table)
-  once = subst (λ t. NamedOnce (λ c. c.name) (further t)) (sym is.criteria) (further_are_defined content.criteria is.readable.named_once is.readable.further).1
+  once = subst (λ t. NamedOnce (λ c. c.name) (further t)) (sym is.criteria)
+      (further_are_defined content.criteria is.readable.named_once is.readable.further).1
 
   few : length (further held.table) ≤ MOST_PEER_CRITERIA
   few =
       let fewer : length (further held.table) ≤ length content.criteria =
       no_longer (further held.table) content.criteria (items_differ (further held.table) once)
-      (λ c i. (further_are_defined content.criteria is.readable.named_once is.readable.further).0.0 c (subst (λ t. IsIn c (further t)) is.criteria i)) in
+      (λ c i. (further_are_defined content.criteria is.readable.named_once is.readable.further).0.0 c
+          (subst (λ t. IsIn c (further t)) is.criteria i)) in
       let most : length content.criteria ≤ MOST_PEER_CRITERIA = is.readable.few in
       omega (arith, fewer, most)
 
@@ -88,16 +92,19 @@ unnumbered_differ : (held : List HeldEntry) → AllPairs Differ held → AllPair
 unnumbered_differ held differ = AllPairs-map (λ (h : HeldEntry). h.entry) IsOther held differ
 
 -- and those of one source do as each speaks of its own
-spoken_differ : (source : Source) (held : List HeldEntry) → All (IsFrom source) held → AllPairs Differ held → AllPairs IsOther (spoken held)
+spoken_differ : (source : Source) (held : List HeldEntry) → All (IsFrom source) held → AllPairs Differ held → AllPairs
+    IsOther (spoken held)
 spoken_differ source held from differ =
     AllPairs-map (λ (h : HeldEntry). own h.entry) IsOther held
     (λ i j d l m same. differ i j d l m
-    (sym (restored (get_or held i d).entry source (from i d (omega (arith, l, m)))) ∙ ap (of_source source) same ∙ restored (get_or held j d).entry source (from j d m)))
+    (sym (restored (get_or held i d).entry source (from i d (omega (arith, l, m)))) ∙ ap (of_source source) same ∙
+        restored (get_or held j d).entry source (from j d m)))
 
 -- ---- peers
 
 -- what is held of a sound peer is what a reader can give
-pub readable : (next : ℕ) (peer : HeldPeer) → IsSoundPeer next peer → IsPeerContent (content_of peer.content).criteria (content_of peer.content).entries
+pub readable : (next : ℕ) (peer : HeldPeer) → IsSoundPeer next peer → IsPeerContent (content_of peer.content).criteria
+    (content_of peer.content).entries
 readable next peer sound =
     let name = peer.settings.name in
     let content = sound.content.0 in
@@ -108,18 +115,23 @@ readable next peer sound =
       named_once = once name content held is;
       few = few name content held is;
       given = given name content held is;
-      once = each_once (spoken held.entries) (spoken_differ (Peer name) held.entries sound.entries.from sound.entries.different);
+      once = each_once (spoken held.entries)
+          (spoken_differ (Peer name) held.entries sound.entries.from sound.entries.different);
     }
 
-pub all_readable : (peers : List HeldPeer) (next : ℕ) → All (IsSoundPeer next) peers → All (λ p. IsPeerContent (content_of p.content).criteria (content_of p.content).entries) peers
-all_readable peers next sound = all_in (λ p. IsPeerContent (content_of p.content).criteria (content_of p.content).entries) peers (λ p i. readable next p (in_all (IsSoundPeer next) peers sound p i))
+pub all_readable : (peers : List HeldPeer) (next : ℕ) → All (IsSoundPeer next) peers → All
+    (λ p. IsPeerContent (content_of p.content).criteria (content_of p.content).entries) peers
+all_readable peers next sound = all_in
+    (λ p. IsPeerContent (content_of p.content).criteria (content_of p.content).entries) peers
+        (λ p i. readable next p (in_all (IsSoundPeer next) peers sound p i))
 
 -- ---- the imports file
 
 -- things in the order of their names are named once
 named : {X : Type 0} (name : X → List ℕ) (xs : List X) → IsByKey (slice_cmp nat_cmp) name xs → NamedOnce name xs
 named name xs up i j d l m same =
-    false≢true (sym (ap is_eq (up i j d l m)) ∙ ap (λ n. is_eq (slice_cmp nat_cmp n (name (get_or xs j d)))) same ∙ ap is_eq (tied_itself nat_list_cmp_total (name (get_or xs j d))))
+    false≢true (sym (ap is_eq (up i j d l m)) ∙ ap (λ n. is_eq (slice_cmp nat_cmp n (name (get_or xs j d)))) same ∙ ap
+        is_eq (tied_itself nat_list_cmp_total (name (get_or xs j d))))
 
 not_empty : {X : Type 0} (xs : List X) → 0 < length xs → xs ≡ [] → ⊥
 not_empty xs more none = (let len : length xs ≡ 0 = ap length none in absurd (omega (arith, more, len)))
@@ -130,11 +142,13 @@ imports_readable facts next sound = record {
   published = all_in HasRecords facts.publishers (λ p i. (
     not_empty p.publishers (in_all HasAny facts.publishers sound.publishers.by_name.filled p i),
     in_order-is p.publishers p.publishers (record {
-      in_order = in_all (λ (k : PackagePublishers). Publishers.IsInOrder k.publishers) facts.publishers sound.publishers.in_order p i;
+      in_order = in_all (λ (k : PackagePublishers). Publishers.IsInOrder k.publishers) facts.publishers
+          sound.publishers.in_order p i;
       same = λ x. (λ h. h, λ h. h);
     }),
   ));
-  named_once = AllPairs-map imported_of (λ (a b : ImportedPeer). a.name ≡ b.name → ⊥) facts.peers (named peer_name facts.peers sound.peers.by_name);
+  named_once = AllPairs-map imported_of (λ (a b : ImportedPeer). a.name ≡ b.name → ⊥) facts.peers
+      (named peer_name facts.peers sound.peers.by_name);
   peers = all_in _ (map imported_of facts.peers) (λ p i.
       (let q = in_map imported_of facts.peers p i in
       let is = readable next q.0 (in_all (IsSoundPeer next) facts.peers sound.peers.sound q.0 q.1.0) in
@@ -145,7 +159,8 @@ imports_readable facts next sound = record {
 -- ---- the audits file and the config file
 
 -- own entries that pass are such ones of one's own
-own_ones : (passes : Entry → Bool) (held : List HeldEntry) → All (IsFrom Own) held → All (λ e. (is_own e.source && passes e) ≡ true) (filter passes (unnumbered held))
+own_ones : (passes : Entry → Bool) (held : List HeldEntry) → All (IsFrom Own) held → All
+    (λ e. (is_own e.source && passes e) ≡ true) (filter passes (unnumbered held))
 own_ones passes held from =
     all_in (λ e. (is_own e.source && passes e) ≡ true) (filter passes (unnumbered held)) (λ e i.
     (let among = in_filter passes (unnumbered held) e i in
@@ -153,8 +168,10 @@ own_ones passes held from =
     let its : e.source ≡ Own = ap (λ (x : Entry). x.source) h.1.1 ∙ in_all (IsFrom Own) held from h.0 h.1.0 in
     ap (λ s. is_own s && passes e) its ∙ among.1))
 
-own_once : (passes : Entry → Bool) (held : List HeldEntry) → AllPairs Differ held → distinct (filter passes (unnumbered held)) ≡ filter passes (unnumbered held)
-own_once passes held differ = each_once (filter passes (unnumbered held)) (AllPairs-filter IsOther passes (unnumbered held) (unnumbered_differ held differ))
+own_once : (passes : Entry → Bool) (held : List HeldEntry) → AllPairs Differ held → distinct
+    (filter passes (unnumbered held)) ≡ filter passes (unnumbered held)
+own_once passes held differ = each_once (filter passes (unnumbered held))
+    (AllPairs-filter IsOther passes (unnumbered held) (unnumbered_differ held differ))
 
 pub audits_readable : (facts : Facts) (next : ℕ) → AreSound facts next → IsAudits (audits_of facts)
 audits_readable facts next sound = record {
@@ -167,7 +184,8 @@ audits_readable facts next sound = record {
 
 pub config_readable : (held : HeldValue) (next : ℕ) → IsSoundHeld held next → IsConfig (config_of held)
 config_readable held next sound = record {
-  named_once = AllPairs-map (λ (p : HeldPeer). p.settings) (λ (a b : PeerSettings). a.name ≡ b.name → ⊥) held.facts.peers (named peer_name held.facts.peers sound.facts.peers.by_name);
+  named_once = AllPairs-map (λ (p : HeldPeer). p.settings) (λ (a b : PeerSettings). a.name ≡ b.name → ⊥)
+      held.facts.peers (named peer_name held.facts.peers sound.facts.peers.by_name);
   by_key = sound.policies.by_key;
   kinds = own_ones is_exemption held.facts.entries sound.facts.entries.from;
   once = own_once is_exemption held.facts.entries sound.facts.entries.different;

@@ -39,7 +39,8 @@ use Rattle.vet_register.proofs.Effects.{passed}
 
 -- the verdict of an action by whether a test finds held what it asks for
 abbrev told_if : State → DayValue → Action → Bool → Told Answer
-told_if s day a b = held_or (cond b (Some None) (let none : Option (Option ℕ) = None in none)) (checked s day a) >>= fitting s a
+told_if s day a b = held_or (cond b (Some None) (let none : Option (Option ℕ) = None in none)) (checked s day a) >>=
+    fitting s a
 
 module _ (s : State) (day : DayValue) (a : Action) where
   abbrev c : Command
@@ -67,9 +68,11 @@ module _ (s : State) (day : DayValue) (a : Action) where
   pub just_where_held : (b : Bool) → verdict s c ≡ told_if s day a b → ChangesNothing s c ↔ (b ≡ true)
   just_where_held b is = (λ h. held_so b (sym is ∙ h.0), λ t. changes_nothing (is ∙ ap (told_if s day a) t))
 
-compares : (peers : List HeldPeer) (name : List ℕ) (content : PeerContentValue) (peer : HeldPeer) → peer_of peers name ≡ Some peer
+compares : (peers : List HeldPeer) (name : List ℕ) (content : PeerContentValue) (peer : HeldPeer) → peer_of peers name
+    ≡ Some peer
     → has_content peers name content ≡ same_content name peer.content content
-compares peers name content peer found = ap (λ o. option_map_or (λ (p : HeldPeer). same_content name p.content content) o false) found
+compares peers name content peer found = ap
+    (λ o. option_map_or (λ (p : HeldPeer). same_content name p.content content) o false) found
 
 pub held_is_already : HeldContentIsAlready
 held_is_already s day name content peer criteria is found table once further =
@@ -81,10 +84,13 @@ held_is_already s day name content peer criteria is found table once further =
 -- ---- what an import leaves
 
 -- the same entries are the same as those of a source
-pub same_as_of : (source : Source) (xs ys : List Entry) → SameItems xs ys → SameItems (as_of source xs) (as_of source ys)
+pub same_as_of : (source : Source) (xs ys : List Entry) → SameItems xs ys → SameItems (as_of source xs)
+    (as_of source ys)
 same_as_of source xs ys same = (
-  λ e i. (let m = in_map (of_source source) xs e i in subst (λ x. IsIn x (as_of source ys)) (sym m.1.1) (map_in (of_source source) ys m.0 (same.0 m.0 m.1.0))),
-  λ e i. (let m = in_map (of_source source) ys e i in subst (λ x. IsIn x (as_of source xs)) (sym m.1.1) (map_in (of_source source) xs m.0 (same.1 m.0 m.1.0))),
+  λ e i. (let m = in_map (of_source source) xs e i in subst (λ x. IsIn x (as_of source ys)) (sym m.1.1)
+      (map_in (of_source source) ys m.0 (same.0 m.0 m.1.0))),
+  λ e i. (let m = in_map (of_source source) ys e i in subst (λ x. IsIn x (as_of source xs)) (sym m.1.1)
+      (map_in (of_source source) xs m.0 (same.1 m.0 m.1.0))),
 )
 
 pub judged_accepted : (s : State) (a : Action) (t : Told Answer) → (t >>= fitting s a) ≡ Ok Accepted → t ≡ Ok Accepted
@@ -93,7 +99,8 @@ judged_accepted s a (Ok (Already n)) h = cc h
 judged_accepted s a (Ok Accepted) h = refl
 
 -- the peer that is held after its import
-held_after : (peers : List HeldPeer) (name : List ℕ) (n : ℕ) (content : PeerContentValue) (o : Option HeldPeer) → peer_of peers name ≡ o → is_none o ≡ false
+held_after : (peers : List HeldPeer) (name : List ℕ) (n : ℕ) (content : PeerContentValue) (o : Option HeldPeer) →
+    peer_of peers name ≡ o → is_none o ≡ false
     → (p : HeldPeer) × ((peer_of (with_content_of o (imported name n content (holding_or_none o)) peers) name ≡ Some p)
     × (p.content ≡ imported name n content (holding_or_none o)))
 held_after peers name n content None e some = absurd (false≢true (sym some))
@@ -111,6 +118,8 @@ repeated_is_already s day later name content again is repeats criteria entries t
     let left = holds_its_content name s.next_entry (holding_or_none o) content in
     let theirs = same_as_of (Peer name) again.entries content.entries entries in
     let stays : SameItems (as_peers name content.entries) (entries_of held.0.content.entries) =
-    subst (λ (h : HoldingValue). SameItems (as_peers name content.entries) (entries_of h.entries)) (sym held.1.1) left.0 in
-    (held_is_already (next s (import_on day name content)) later name again held.0 content.criteria repeats held.1.0 (ap (λ h. h.table) held.1.1) is.named_once is.further).1
+    subst (λ (h : HoldingValue). SameItems (as_peers name content.entries) (entries_of h.entries)) (sym held.1.1)
+        left.0 in
+    (held_is_already (next s (import_on day name content)) later name again held.0 content.criteria repeats held.1.0
+        (ap (λ h. h.table) held.1.1) is.named_once is.further).1
     (criteria, (λ e i. stays.0 e (theirs.0 e i), λ e i. theirs.1 e (stays.1 e i)))

@@ -52,20 +52,24 @@ same_through : {X : Type 0} (xs ys zs : List X) → SameItems xs ys → SameItem
 same_through xs ys zs first second = (λ x i. second.0 x (first.0 x i), λ x i. first.1 x (second.1 x i))
 
 -- criteria that are the same as others are those that the others define
-same_as_defined : (cs ds : List Criterion) → NamedOnce (λ c. c.name) ds → All (λ c. is_built_in c.name ≡ false) ds → SameItems cs ds → SameItems cs (further (defined ds))
+same_as_defined : (cs ds : List Criterion) → NamedOnce (λ c. c.name) ds → All (λ c. is_built_in c.name ≡ false) ds →
+    SameItems cs ds → SameItems cs (further (defined ds))
 same_as_defined cs ds once free same =
     let defines = (further_are_defined ds once free).0 in
     same_through cs ds (further (defined ds)) same (defines.1, defines.0)
 
 -- the peers after have the settings that the files give
-settings_stay : (k : ℕ) (peers : List HeldPeer) (contents : List ImportedPeer) (ps : List PeerSettings) → map (λ (x : HeldPeer). x.settings) (peers_after k peers contents ps) ≡ ps
+settings_stay : (k : ℕ) (peers : List HeldPeer) (contents : List ImportedPeer) (ps : List PeerSettings) → map
+    (λ (x : HeldPeer). x.settings) (peers_after k peers contents ps) ≡ ps
 settings_stay k peers contents [] = refl
-settings_stay k peers contents (p ∷ ps) = ap (λ (rest : List PeerSettings). p ∷ rest) (settings_stay (k + new_of_peer peers contents p) peers contents ps)
+settings_stay k peers contents (p ∷ ps) = ap (λ (rest : List PeerSettings). p ∷ rest)
+    (settings_stay (k + new_of_peer peers contents p) peers contents ps)
 
 -- whether peers are set depends on their names alone
 set_by_name : (f again : FilesValue) → SayTheSame again f → each_is_set f ≡ true → each_is_set again ≡ true
 set_by_name f again same set =
-    let is_set_in : List PeerSettings → List ℕ → Bool = λ settings name. is_some (item_of R settings_name settings name) in
+    let is_set_in : List PeerSettings → List ℕ → Bool = λ settings name. is_some
+        (item_of R settings_name settings name) in
     let name_of : ImportedPeer → List ℕ = λ p. p.name in
     sym (list_all-map (is_set_in again.settings) name_of again.contents)
     ∙ (λ i. list_all (is_set_in (same.settings i)) (same.peers i))
@@ -76,9 +80,12 @@ set_by_name f again same set =
 set_accepted : (f : FilesValue) → files_references f ≡ Ok tt → each_is_set f ≡ true
 set_accepted f h =
     let names = known (unknown_of_files (table.contains_key (defined f.criteria)) f) in
-    not-false (each_is_set f) (not_refused (not (each_is_set f)) UnknownPeer (then_told names (λ _. refuse_if (not (each_is_set f)) UnknownPeer) tt h).1)
+    not-false (each_is_set f)
+        (not_refused (not (each_is_set f)) UnknownPeer
+            (then_told names (λ _. refuse_if (not (each_is_set f)) UnknownPeer) tt h).1)
 
-module _ (peers : List HeldPeer) (f again : FilesValue) (is : IsFiles f) (same : (name : List ℕ) → SameContents (content_for again.contents name) (content_for f.contents name)) where
+module _ (peers : List HeldPeer) (f again : FilesValue) (is : IsFiles f)
+    (same : (name : List ℕ) → SameContents (content_for again.contents name) (content_for f.contents name)) where
   -- files that say the same of a peer say what is held of it after
   one_says : (k : ℕ) (p : PeerSettings) → SaysWhatIsHeld again.contents (peer_after k peers f.contents p)
   one_says k p =
@@ -94,16 +101,19 @@ module _ (peers : List HeldPeer) (f again : FilesValue) (is : IsFiles f) (same :
   each_says k [] = All-nil (SaysWhatIsHeld again.contents)
   each_says k (p ∷ ps) =
       let next = k + new_of_peer peers f.contents p in
-      All-cons (SaysWhatIsHeld again.contents) (peer_after k peers f.contents p) (peers_after next peers f.contents ps) (one_says k p) (each_says next ps)
+      All-cons (SaysWhatIsHeld again.contents) (peer_after k peers f.contents p)
+          (peers_after next peers f.contents ps) (one_says k p) (each_says next ps)
 
 -- files that say the same as others say what is held after these
-say_what_is_left : (s : State) (f again : FilesValue) → IsFiles f → SayTheSame again f → each_is_set f ≡ true → SayWhatIsHeld (held_after s (ReplaceFiles f)) again
+say_what_is_left : (s : State) (f again : FilesValue) → IsFiles f → SayTheSame again f → each_is_set f ≡ true →
+    SayWhatIsHeld (held_after s (ReplaceFiles f)) again
 say_what_is_left s f again is same set =
     let facts = s.held.facts in
     let k = s.next_entry + new_own facts f in
     record {
       criteria = same_as_defined again.criteria f.criteria is.named_once is.further same.criteria;
-      entries = same_through _ _ _ (same_as_of Own again.entries f.entries same.entries) (entries_are_held Own s.next_entry facts.entries f.entries);
+      entries = same_through _ _ _ (same_as_of Own again.entries f.entries same.entries)
+          (entries_are_held Own s.next_entry facts.entries f.entries);
       settings = same.settings ∙ sym (settings_stay k facts.peers f.contents f.settings);
       set = set_by_name f again same set;
       contents = each_says facts.peers f again is same.contents k f.settings;
@@ -121,5 +131,7 @@ repeated_files_are_already s day later f again sound is are same told =
     let fit = files_fit s f p.limits in
     let defines = told_is_table f.criteria (files_table f is fit.criteria (files_know f p.references)) in
     let held = sound_held s day a accepted sound is defines (files_records f is fit.records) in
-    let just = just_where_held (next s (replace_on day f)) later (ReplaceFiles again) (has_files (held_after s a) again) refl in
-    just.1 ((files_decided (held_after s a) (number_after s a) held again are).1 (say_what_is_left s f again is same (set_accepted f p.references)))
+    let just = just_where_held (next s (replace_on day f)) later (ReplaceFiles again)
+        (has_files (held_after s a) again) refl in
+    just.1 ((files_decided (held_after s a) (number_after s a) held again are).1
+        (say_what_is_left s f again is same (set_accepted f p.references)))

@@ -40,8 +40,10 @@ same_changes : (step : ℕ) (day : DayValue) (moves : List Move) → changes_of 
 same_changes step day [] = refl
 same_changes step day (m ∷ moves) = ap (λ ms. m ∷ ms) (same_changes step day moves)
 
-pub changes-append : (s : State) (c : Command) → changes_of (s.moves ++ records_of s c) ≡ changes_of s.moves ++ moves_of s c.action
-changes-append s c = map-append (λ m. m.change) s.moves (records_of s c) ∙ ap (λ ms. changes_of s.moves ++ ms) (same_changes (s.step + 1) c.day (moves_of s c.action))
+pub changes-append : (s : State) (c : Command) → changes_of (s.moves ++ records_of s c) ≡ changes_of s.moves ++
+    moves_of s c.action
+changes-append s c = map-append (λ m. m.change) s.moves (records_of s c) ∙ ap (λ ms. changes_of s.moves ++ ms)
+    (same_changes (s.step + 1) c.day (moves_of s c.action))
 
 pub same_pairs : (facts : Facts) (demand : List Pair) → pairs_of (standing_of facts demand) ≡ demand
 same_pairs facts [] = refl
@@ -64,7 +66,8 @@ pub record MoveLaws : Type 0 where
 -- what is held and sound has a standing in order
 sound_standing : DemandIsLeast → (held : HeldValue) (next : ℕ) → IsSoundHeld held next → IsStanding (standing_in held)
 sound_standing least held next h =
-    standing_in_order held.facts (demand_in held) (least held.projects held.policies held.facts.criteria h.facts.criteria h.policies.known).in_order
+    standing_in_order held.facts (demand_in held)
+        (least held.projects held.policies held.facts.criteria h.facts.criteria h.policies.known).in_order
 
 moves_sound : MoveLaws → (s : State) (c : Command) → moves_fit s c.action ≡ Ok tt → IsSoundHeld s.held s.next_entry
     → IsSoundHeld (held_after s c.action) (number_after s c.action) → AreInOrder s.moves s.step s.moves_limit
@@ -72,19 +75,25 @@ moves_sound : MoveLaws → (s : State) (c : Command) → moves_fit s c.action �
 moves_sound laws s c fit before after h = by (ends_period c.action) fit
   where
     ended : AreInOrder [] (s.step + 1) s.moves_limit
-    ended = record { in_order = λ i j d l m. absurd (omega arith); steps = All-nil (IsBy (s.step + 1)); few = omega arith }
+    ended = record { in_order = λ i j d l m. absurd (omega arith); steps = All-nil (IsBy (s.step + 1)); few = omega
+        arith }
 
-    recorded_behind : nat_lt s.moves_limit (length s.moves + length (moves_of s c.action)) ≡ false → AreInOrder (s.moves ++ records_of s c) (s.step + 1) s.moves_limit
+    recorded_behind : nat_lt s.moves_limit (length s.moves + length (moves_of s c.action)) ≡ false → AreInOrder
+        (s.moves ++ records_of s c) (s.step + 1) s.moves_limit
     recorded_behind room =
-        let made = laws.differences (standing s) (standing_in (held_after s c.action)) (sound_standing laws.least s.held s.next_entry before)
+        let made = laws.differences (standing s) (standing_in (held_after s c.action))
+            (sound_standing laws.least s.held s.next_entry before)
         (sound_standing laws.least (held_after s c.action) (number_after s c.action) after) in
         let more = records_of s c in
-        let at_step : All (IsOf (s.step + 1)) more = All-map (IsOf (s.step + 1)) (recorded (s.step + 1) c.day) (moves_of s c.action) (λ k d l. refl) in
+        let at_step : All (IsOf (s.step + 1)) more = All-map (IsOf (s.step + 1)) (recorded (s.step + 1) c.day)
+            (moves_of s c.action) (λ k d l. refl) in
         record {
           in_order = AllPairs-append ComesBefore s.moves more h.in_order
-              (AllPairs-map (recorded (s.step + 1) c.day) ComesBefore (moves_of s c.action) (λ i j d l m. inr (refl, made.in_order i j d l m)))
+              (AllPairs-map (recorded (s.step + 1) c.day) ComesBefore (moves_of s c.action)
+                  (λ i j d l m. inr (refl, made.in_order i j d l m)))
               (All-weaker (IsBy s.step) (λ m. All (ComesBefore m) more)
-              (λ m e. All-weaker (IsOf (s.step + 1)) (ComesBefore m) (λ n at. inl (omega (arith, at, e))) more at_step) s.moves h.steps);
+              (λ m e. All-weaker (IsOf (s.step + 1)) (ComesBefore m) (λ n at. inl (omega (arith, at, e))) more
+                  at_step) s.moves h.steps);
           steps = All-append (IsBy (s.step + 1)) s.moves more
               (All-weaker (IsBy s.step) (IsBy (s.step + 1)) (λ m e. omega (arith, e)) s.moves h.steps)
               (All-weaker (IsOf (s.step + 1)) (IsBy (s.step + 1)) (λ m e. omega (arith, e)) more at_step);
@@ -92,7 +101,8 @@ moves_sound laws s c fit before after h = by (ends_period c.action) fit
               (ltb-false s.moves_limit (length s.moves + length (moves_of s c.action)) room);
         }
 
-    by : (b : Bool) → refuse_if (nat_lt s.moves_limit (cond b 0 (length s.moves + length (moves_of s c.action)))) MovesFull ≡ Ok tt
+    by : (b : Bool) → refuse_if (nat_lt s.moves_limit (cond b 0 (length s.moves + length (moves_of s c.action))))
+        MovesFull ≡ Ok tt
         → AreInOrder (cond b [] (s.moves ++ records_of s c)) (s.step + 1) s.moves_limit
     by true fit = ended
     by false fit = recorded_behind (not_refused _ MovesFull fit)
@@ -126,20 +136,25 @@ balance_sound : MoveLaws → (s : State) (c : Command) → IsBalanced s → IsBa
 balance_sound laws s c b class = by (ends_period c.action) refl
   where
     goes_on : count_in class s.first + arrivals_of class (changes_of (s.moves ++ records_of s c))
-        ≡ count_of class (standing_in (held_after s c.action)) + departures_of class (changes_of (s.moves ++ records_of s c))
+        ≡ count_of class (standing_in (held_after s c.action)) + departures_of class
+            (changes_of (s.moves ++ records_of s c))
     goes_on =
         let law = laws.balance class (standing s) (standing_in (held_after s c.action)) in
         let a = laws.arrivals class (changes_of s.moves) (moves_of s c.action) in
         let d = laws.departures class (changes_of s.moves) (moves_of s c.action) in
         rw (changes-append s c, a, d) (omega (arith, b class, law))
 
-    by : (e : Bool) → ends_period c.action ≡ e → count_in class (cond e (counts_of (standing s)) s.first) + arrivals_of class (changes_of (cond e [] (s.moves ++ records_of s c)))
-        ≡ count_of class (standing_in (held_after s c.action)) + departures_of class (changes_of (cond e [] (s.moves ++ records_of s c)))
-    by true ends = ap (λ n. n + 0) (counted_in class (standing s) ∙ ap (λ h. count_of class (standing_in h)) (sym (ends_only s c.action ends)))
+    by : (e : Bool) → ends_period c.action ≡ e → count_in class (cond e (counts_of (standing s)) s.first) +
+        arrivals_of class (changes_of (cond e [] (s.moves ++ records_of s c)))
+        ≡ count_of class (standing_in (held_after s c.action)) + departures_of class
+            (changes_of (cond e [] (s.moves ++ records_of s c)))
+    by true ends = ap (λ n. n + 0)
+        (counted_in class (standing s) ∙ ap (λ h. count_of class (standing_in h)) (sym (ends_only s c.action ends)))
     by false goes = goes_on
 
 -- the state after a command that was judged, and whose moves fit, if what is held then is sound
-pub sound_after : MoveLaws → (s : State) (c : Command) → IsSound s → judged s c.day c.action ≡ Ok Accepted → moves_fit s c.action ≡ Ok tt
+pub sound_after : MoveLaws → (s : State) (c : Command) → IsSound s → judged s c.day c.action ≡ Ok Accepted → moves_fit
+    s c.action ≡ Ok tt
     → IsSoundHeld (held_after s c.action) (number_after s c.action) → IsSound (next s c)
 sound_after laws s c h e fit held =
     let p = passed s c.day c.action e in

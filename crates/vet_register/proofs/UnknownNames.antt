@@ -32,7 +32,8 @@ module _ {X : Type 0} (known : List ℕ → Bool) (names : X → NameSet) where
   abbrev pub HasKnown : X → Type 0
   HasKnown x = find (λ n. not (known n)) (members (names x)) ≡ None
 
-  pub none_left : (least : Option (List ℕ)) (xs : List X) → fold (λ least x. or_unknown known least (names x)) least xs ≡ None → (least ≡ None) × All HasKnown xs
+  pub none_left : (least : Option (List ℕ)) (xs : List X) → fold (λ least x. or_unknown known least (names x)) least
+      xs ≡ None → (least ≡ None) × All HasKnown xs
   none_left least [] e = (e, All-nil HasKnown)
   none_left least (x ∷ xs) e =
       let rest = none_left (or_unknown known least (names x)) xs e in
@@ -41,12 +42,16 @@ module _ {X : Type 0} (known : List ℕ → Bool) (names : X → NameSet) where
 
 -- ---- the table of some criteria
 
-none_built_in : (cs : List Criterion) → All (λ c. is_built_in c.name ≡ false) cs → list_any (λ c. is_built_in c.name) cs ≡ false
+none_built_in : (cs : List Criterion) → All (λ c. is_built_in c.name ≡ false) cs → list_any (λ c. is_built_in c.name)
+    cs ≡ false
 none_built_in [] h = refl
-none_built_in (c ∷ cs) h = rw (All-head (λ c. is_built_in c.name ≡ false) c cs h, none_built_in cs (All-tail (λ c. is_built_in c.name ≡ false) c cs h)) refl
+none_built_in (c ∷ cs) h = rw
+    (All-head (λ c. is_built_in c.name ≡ false) c cs h, none_built_in cs
+        (All-tail (λ c. is_built_in c.name ≡ false) c cs h)) refl
 
 -- criteria that are few, imply known ones alone and are not built in have a table
-pub table_of : (cs : List Criterion) → nat_lt MOST_CRITERIA (table.len (defined cs)) ≡ false → least_undefined (table.contains_key (defined cs)) cs ≡ None
+pub table_of : (cs : List Criterion) → nat_lt MOST_CRITERIA (table.len (defined cs)) ≡ false → least_undefined
+    (table.contains_key (defined cs)) cs ≡ None
     → All (λ c. is_built_in c.name ≡ false) cs → table_told cs ≡ Ok (defined cs)
 table_of cs few implied further = rw (few, implied, none_built_in cs further) refl
 
@@ -63,8 +68,10 @@ same_names : (names : NameSet) (cs : List Criterion) → with_names names (map n
 same_names names [] = refl
 same_names names (c ∷ cs) = same_names (set.insert names c.name) cs
 
-pub alone_has : (cs : List Criterion) (n : List ℕ) → table.contains_key (defined (map named_alone cs)) n ≡ table.contains_key (defined cs) n
-alone_has cs n = sym (defined_names (map named_alone cs) n) ∙ ap (λ names. set.contains names n) (same_names built_in_names cs) ∙ defined_names cs n
+pub alone_has : (cs : List Criterion) (n : List ℕ) → table.contains_key (defined (map named_alone cs)) n ≡
+    table.contains_key (defined cs) n
+alone_has cs n = sym (defined_names (map named_alone cs) n) ∙ ap (λ names. set.contains names n)
+    (same_names built_in_names cs) ∙ defined_names cs n
 
 pub alone_len : (cs : List Criterion) → table.len (defined (map named_alone cs)) ≡ table.len (defined cs)
 alone_len cs = sym (defined_len (map named_alone cs)) ∙ ap set.len (same_names built_in_names cs) ∙ defined_len cs
@@ -75,10 +82,12 @@ none_implied known = ap (find (λ n. not (known n))) (members-from_list [] IsRis
 alone_implies : (known : List ℕ → Bool) (least : Option (List ℕ)) (cs : List Criterion) → least ≡ None
     → fold (λ least c. lesser least (least_implied known c)) least (map named_alone cs) ≡ None
 alone_implies known least [] e = e
-alone_implies known least (c ∷ cs) e = alone_implies known (lesser least (least_implied known (named_alone c))) cs (λ i. lesser (e i) (none_implied known i))
+alone_implies known least (c ∷ cs) e = alone_implies known (lesser least (least_implied known (named_alone c))) cs
+    (λ i. lesser (e i) (none_implied known i))
 
 -- names alone have a table where the criteria of these names are few
-pub alone_table : (cs : List Criterion) → nat_lt MOST_CRITERIA (table.len (defined cs)) ≡ false → All (λ c. is_built_in c.name ≡ false) cs
+pub alone_table : (cs : List Criterion) → nat_lt MOST_CRITERIA (table.len (defined cs)) ≡ false → All
+    (λ c. is_built_in c.name ≡ false) cs
     → table_told (map named_alone cs) ≡ Ok (defined (map named_alone cs))
 alone_table cs few further =
     table_of (map named_alone cs) (ap (nat_lt MOST_CRITERIA) (alone_len cs) ∙ few)

@@ -4,6 +4,7 @@ use Rattle.std.specs.Cmp.Lexicographic.{pointwise}
 use Rattle.std.specs.List.{list_all}
 use Rattle.std.specs.Option.{option_eq, option_map_or}
 use Rattle.std.specs.FinMap as table
+use Rattle.vet_base.specs.Words.{Name}
 use Rattle.vet_base.specs.declared.criterion.Criterion.{Criterion}
 use Rattle.vet_base.specs.Criteria.{Criteria}
 use Rattle.vet_base.specs.CriteriaChanges.{is_built_in}
@@ -37,7 +38,7 @@ has_settings peers settings =
     option_map_or (λ (p : HeldPeer). settings_eq p.settings settings) (peer_of peers settings.name) false
 
 -- whether a peer is held with a content: the same criteria and the same entries, in whatever order
-abbrev pub has_content : List HeldPeer → List ℕ → PeerContentValue → Bool
+abbrev pub has_content : List HeldPeer → Name → PeerContentValue → Bool
 has_content peers name content =
     option_map_or (λ (p : HeldPeer). same_content name p.content content) (peer_of peers name) false
 

@@ -1,14 +1,14 @@
 -- The class of a pair where one audits file is all that is held, or the first fault (ours).
-use Rattle.std.specs.Prelude.{◌≡◌, ℕ, Bool, List, [], Option, Some, None, Ok, Err, if◌then◌else◌, length, nat_lt}
+use Rattle.std.specs.Prelude.{◌≡◌, ℕ, Bool, List, [], Option, Some, None, Ok, if◌then◌else◌}
 use Rattle.std.specs.FinMap as map
 use Rattle.vet_base.specs.CriteriaChanges.{known}
 use Rattle.vet_base.specs.Defined.{defined, least_undefined, lesser}
+use Rattle.vet_base.specs.Document.{length_told}
 use Rattle.vet_base.specs.Gives.{Told, found_or, ◌>>=◌}
 use Rattle.vet_base.specs.Name.{read_name, read_package_name}
 use Rattle.vet_base.specs.Version.{read_version}
-use Rattle.vet_base.specs.declared.limits.TheConstants.{MOST_INPUT_BYTES}
-use Rattle.vet_base.specs.declared.refusal.Limit.TheVariants.{Input}
-use Rattle.vet_base.specs.declared.refusal.Refusal.TheVariants.{BadName, BadVersion, TooLarge}
+use Rattle.vet_base.specs.Words.{Bytes, Name, Text}
+use Rattle.vet_base.specs.declared.refusal.Refusal.TheVariants.{BadName, BadVersion}
 use Rattle.vet_demand.specs.declared.pair.Pair.{Pair}
 use Rattle.vet_entries.specs.Facts.{Facts}
 use Rattle.vet_entries.specs.Numbered.{numbered}
@@ -20,16 +20,16 @@ use Rattle.vet_graph.specs.declared.class.Class.{Class}
 use Rattle.vet_register.specs.NamesOfFiles.{counted, unknown_of_entries}
 
 -- a name that isn't known
-abbrev pub unknown_in : (List ℕ → Bool) → List ℕ → Option (List ℕ)
+abbrev pub unknown_in : (Name → Bool) → Name → Option Name
 unknown_in known name = if known name then None else Some name
 
 -- the least name that isn't known, of a word, of what a file's criteria imply and of its entries' criteria
-abbrev pub unknown_name : (List ℕ → Bool) → List ℕ → AuditsContent → Option (List ℕ)
+abbrev pub unknown_name : (Name → Bool) → Name → AuditsContent → Option Name
 unknown_name known word content =
     unknown_of_entries known (lesser (unknown_in known word) (least_undefined known content.criteria)) content.entries
 
 -- there are not too many criteria, and each that is named is known
-abbrev pub checked : List ℕ → AuditsContent → Told (Unit {0})
+abbrev pub checked : Name → AuditsContent → Told (Unit {0})
 checked word content =
     counted (defined content.criteria) >>= λ _.
     known (unknown_name (map.contains_key (defined content.criteria)) word content)
@@ -44,13 +44,12 @@ abbrev pub class_in : AuditsContent → Pair → Told Class
 class_in content p = checked p.criterion content >>= λ _. Ok (class_of_pair (facts_of content) p)
 
 -- the content of a file that isn't too long
-abbrev pub content_told : List ℕ → Told AuditsContent
+abbrev pub content_told : Bytes → Told AuditsContent
 content_told file =
-    if nat_lt MOST_INPUT_BYTES (length file) then Err (TooLarge Input)
-    else audits_told file >>= λ found. Ok found.content
+    length_told file >>= λ _. audits_told file >>= λ found. Ok found.content
 
 -- the pair that three words name
-abbrev pub pair_told : List ℕ → List ℕ → List ℕ → Told Pair
+abbrev pub pair_told : Name → Text → Name → Told Pair
 pair_told name version criterion =
     found_or BadName (read_package_name name) >>= λ name.
     found_or BadVersion (read_version version) >>= λ version.
@@ -58,12 +57,12 @@ pair_told name version criterion =
     Ok (record { «package» = name; version = version; criterion = criterion })
 
 -- the words go first, then the file, then the criteria
-abbrev pub class_told : List ℕ → List ℕ → List ℕ → List ℕ → Told Class
+abbrev pub class_told : Bytes → Name → Text → Name → Told Class
 class_told file name version criterion =
     pair_told name version criterion >>= λ p. content_told file >>= λ content. class_in content p
 
 -- the words name a pair, the file tells its content, and this is the pair's class by all that is held then
-pub record IsClassOfFile (file name version criterion : List ℕ) (class : Class) : Type 0 where
+pub record IsClassOfFile (file : Bytes) (name : Name) (version : Text) (criterion : Name) (class : Class) : Type 0 where
   pub pair : Pair
   pub content : AuditsContent
   pub named : pair_told name version criterion ≡ Ok pair

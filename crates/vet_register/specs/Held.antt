@@ -5,6 +5,7 @@ use Rattle.std.specs.Cmp.Lexicographic.{slice_cmp}
 use Rattle.std.specs.Ordering.{nat_cmp}
 use Rattle.vet_base.specs.Keyed as keyed
 use Rattle.vet_base.specs.Keyed.{item_of, with_item, without_item}
+use Rattle.vet_base.specs.Words.{Name}
 use Rattle.vet_demand.specs.declared.pair.Pair.{Pair}
 use Rattle.vet_demand.specs.declared.policies.KeyedPolicy.{KeyedPolicy}
 use Rattle.vet_demand.specs.declared.policy_key.PolicyKey.{PolicyKey}
@@ -54,13 +55,13 @@ with_policy policy policies = with_item policy_key_cmp key_of policies policy
 abbrev pub without_policy : PolicyKey → List KeyedPolicy → List KeyedPolicy
 without_policy key policies = without_item policy_key_cmp key_of policies key
 
-abbrev pub project_at : List NamedProject → List ℕ → Option NamedProject
+abbrev pub project_at : List NamedProject → Name → Option NamedProject
 project_at projects name = item_of (slice_cmp nat_cmp) project_name projects name
 
 abbrev pub with_project : NamedProject → List NamedProject → List NamedProject
 with_project project projects = with_item (slice_cmp nat_cmp) project_name projects project
 
-abbrev pub without_project : List ℕ → List NamedProject → List NamedProject
+abbrev pub without_project : Name → List NamedProject → List NamedProject
 without_project name projects = without_item (slice_cmp nat_cmp) project_name projects name
 
 -- ---- edits

@@ -4,6 +4,7 @@ use Rattle.std.specs.FinMap as table
 use Rattle.vet_base.specs.Criteria.{Criteria}
 use Rattle.vet_base.specs.CriteriaChanges.{is_built_in}
 use Rattle.vet_base.specs.FurtherCriteria.{further}
+use Rattle.vet_base.specs.Words.{Name}
 use Rattle.vet_base.specs.declared.criterion.Criterion.{Criterion}
 use Rattle.vet_entries.specs.Entry.{own}
 use Rattle.vet_entries.specs.Facts.{Facts}
@@ -23,7 +24,7 @@ use Rattle.vet_register.specs.Held.{HeldValue}
 -- ---- audits files
 
 -- the criterion of a name, where a table has one that is not built in
-abbrev pub further_at : Criteria → List ℕ → Option Criterion
+abbrev pub further_at : Criteria → Name → Option Criterion
 further_at criteria name = if is_built_in name then None else table.get criteria name
 
 -- an entry, as one of one's own, is an exemption: it stands in the config file and not in the audits file

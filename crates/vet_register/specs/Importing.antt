@@ -1,6 +1,7 @@
 -- What is found of an import before it is made (ours).
 use Rattle.std.specs.Prelude.{◌≡◌, ◌⊎◌, ℕ, List, MatchOption, MatchResult, Option, Ok, Err, None, Result}
 use Rattle.vet_base.specs.Day.{DayValue}
+use Rattle.vet_base.specs.Words.{Name}
 use Rattle.vet_base.specs.declared.refusal.Refusal.{Refusal}
 use Rattle.vet_base.specs.declared.refusal.Refusal.TheVariants.{NoMemory}
 use Rattle.vet_entries.specs.Facts.{IsHeld}
@@ -13,7 +14,7 @@ use Rattle.vet_register.specs.State.{State}
 use Rattle.vet_register.specs.Verdict.{judged}
 
 -- an import is accepted, and this is how its content stands to what is held of the peer
-pub record IsAccepted (s : State) (day : DayValue) (name : List ℕ) (content : PeerContentValue) (c : ComparisonValue)
+pub record IsAccepted (s : State) (day : DayValue) (name : Name) (content : PeerContentValue) (c : ComparisonValue)
     : Type 0 where
   pub told : judged s day (ImportPeer name content) ≡ Ok Accepted
   pub held : IsHeld name s.held.facts
@@ -21,7 +22,7 @@ pub record IsAccepted (s : State) (day : DayValue) (name : List ℕ) (content : 
 
 -- the answer is what is judged, with how the content stands to what is held where that is accepted; or memory is
 -- wanting
-abbrev pub IsJudgedImport : State → DayValue → List ℕ → PeerContentValue → Result (Option ComparisonValue) Refusal
+abbrev pub IsJudgedImport : State → DayValue → Name → PeerContentValue → Result (Option ComparisonValue) Refusal
     → Type 0
 IsJudgedImport s day name content answer = MatchResult answer
     (λ found.

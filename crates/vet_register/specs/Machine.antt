@@ -4,6 +4,7 @@ use Rattle.std.specs.Prelude.{length, filter, map}
 use Rattle.std.specs.Option.{option_map_or}
 use Rattle.std.specs.FinMap as table
 use Rattle.vet_base.specs.Day.{DayValue}
+use Rattle.vet_base.specs.Words.{Name}
 use Rattle.vet_desk.specs.Desk.{DeskState, desk_after}
 use Rattle.vet_entries.specs.declared.entry.Entry.{Entry}
 use Rattle.vet_entries.specs.Entry.{own}
@@ -44,7 +45,7 @@ abbrev pub ActionValue : Type 0
 ActionValue = Action
 
 -- what is held of the peer of a name: of a new one, nothing
-abbrev pub held_of : Facts → List ℕ → HoldingValue
+abbrev pub held_of : Facts → Name → HoldingValue
 held_of facts name = holding_or_none (peer_of facts.peers name)
 
 -- the facts with an own entry more, of this number, if there is one

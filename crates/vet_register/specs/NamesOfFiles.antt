@@ -6,6 +6,7 @@ use Rattle.vet_base.specs.Criteria.{Criteria}
 use Rattle.vet_base.specs.Defined.{least_undefined, lesser}
 use Rattle.vet_base.specs.Gives.{Told}
 use Rattle.vet_base.specs.Names.{NameSet, members}
+use Rattle.vet_base.specs.Words.{Name}
 use Rattle.vet_base.specs.declared.criterion.Criterion.{Criterion}
 use Rattle.vet_base.specs.declared.limits.TheConstants.{MOST_CRITERIA}
 use Rattle.vet_base.specs.declared.refusal.Refusal.TheVariants.{TooManyCriteria}
@@ -21,24 +22,24 @@ abbrev pub counted : Criteria → Told (Unit {0})
 counted table = if nat_lt MOST_CRITERIA (map.len table) then Err TooManyCriteria else Ok tt
 
 -- the lesser of a name, if there is one, and the least of some names that isn't known
-abbrev pub or_unknown : (List ℕ → Bool) → Option (List ℕ) → NameSet → Option (List ℕ)
+abbrev pub or_unknown : (Name → Bool) → Option Name → NameSet → Option Name
 or_unknown known least names = lesser least (find (λ n. not (known n)) (members names))
 
 -- the least name that isn't known, of one handed in and of the criteria of some entries
-abbrev pub unknown_of_entries : (List ℕ → Bool) → Option (List ℕ) → List Entry → Option (List ℕ)
+abbrev pub unknown_of_entries : (Name → Bool) → Option Name → List Entry → Option Name
 unknown_of_entries known least entries = fold (λ least e. or_unknown known least e.criteria) least entries
 
 -- of one handed in and of what some policies name
-abbrev pub unknown_of_policies : (List ℕ → Bool) → Option (List ℕ) → List KeyedPolicy → Option (List ℕ)
+abbrev pub unknown_of_policies : (Name → Bool) → Option Name → List KeyedPolicy → Option Name
 unknown_of_policies known least policies = fold (λ least k. or_unknown known least (names_in k.policy)) least policies
 
 -- of one handed in and of what the maps of some peers lead to
-abbrev pub unknown_of_targets : (List ℕ → Bool) → Option (List ℕ) → List PeerSettings → Option (List ℕ)
+abbrev pub unknown_of_targets : (Name → Bool) → Option Name → List PeerSettings → Option Name
 unknown_of_targets known least peers = fold (λ least p. or_unknown known least (targets p.map)) least peers
 
 -- the least name that isn't known, of what criteria imply, of what own entries and exemptions and policies name, and of
 -- what the maps of peers lead to
-abbrev pub unknown_of_files : (List ℕ → Bool) → FilesValue → Option (List ℕ)
+abbrev pub unknown_of_files : (Name → Bool) → FilesValue → Option Name
 unknown_of_files known f =
     unknown_of_targets known
     (unknown_of_policies known (unknown_of_entries known (least_undefined known f.criteria) f.entries) f.policies)

@@ -4,6 +4,7 @@ use Rattle.std.specs.List.{All}
 use Rattle.vet_base.specs.Day.{DayValue}
 use Rattle.vet_base.specs.FurtherCriteria.{further}
 use Rattle.vet_base.specs.Items.{SameItems}
+use Rattle.vet_base.specs.Words.{Name}
 use Rattle.vet_entries.specs.declared.entry.Source.TheVariants.{Own}
 use Rattle.vet_entries.specs.declared.held_peer.HeldPeer.{HeldPeer}
 use Rattle.vet_entries.specs.HeldPeer.{as_peers}
@@ -61,7 +62,7 @@ pub record SayTheSame (f g : FilesValue) : Type 0 where
   pub entries : SameItems f.entries g.entries
   pub settings : f.settings ≡ g.settings
   pub peers : map (λ (p : ImportedPeer). p.name) f.contents ≡ map (λ (p : ImportedPeer). p.name) g.contents
-  pub contents : (name : List ℕ) → SameContents (content_for f.contents name) (content_for g.contents name)
+  pub contents : (name : Name) → SameContents (content_for f.contents name) (content_for g.contents name)
   pub publishers : f.publishers ≡ g.publishers
   pub policies : f.policies ≡ g.policies
   pub tool : tool_of_files f ≡ tool_of_files g

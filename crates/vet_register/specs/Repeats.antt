@@ -1,6 +1,7 @@
 -- When an import is told that its content is held already (ours).
 use Rattle.std.specs.Prelude.{◌≡◌, ◌↔◌, ℕ, false, List, Some, None, Ok}
 use Rattle.std.specs.List.{All}
+use Rattle.vet_base.specs.Words.{Name}
 use Rattle.vet_base.specs.declared.criterion.Criterion.{Criterion}
 use Rattle.vet_base.specs.CriteriaChanges.{is_built_in}
 use Rattle.vet_base.specs.Day.{DayValue}
@@ -19,7 +20,7 @@ use Rattle.vet_register.specs.State.{State}
 use Rattle.vet_register.specs.Verdict.{verdict}
 
 -- the command to import a content on a day
-abbrev pub import_on : DayValue → List ℕ → PeerContentValue → Command
+abbrev pub import_on : DayValue → Name → PeerContentValue → Command
 import_on day name content = record { day = day; action = ImportPeer name content }
 
 -- a command is told that its content is held already, and changes nothing
@@ -29,7 +30,7 @@ ChangesNothing s c = (verdict s c ≡ Ok (Already None)) × (after s c ≡ s)
 -- an import from a held peer is told so just where the criteria and the entries are those held of it, in whatever order
 abbrev pub HeldContentIsAlready : Type 0
 HeldContentIsAlready =
-    (s : State) (day : DayValue) (name : List ℕ) (content : PeerContentValue) (peer : HeldPeer)
+    (s : State) (day : DayValue) (name : Name) (content : PeerContentValue) (peer : HeldPeer)
     (criteria : List Criterion)
     → IsPeerContent content.criteria content.entries
     → peer_of s.held.facts.peers name ≡ Some peer
@@ -43,7 +44,7 @@ HeldContentIsAlready =
 -- after an import, an import of the same criteria and the same entries, in whatever order, changes nothing
 abbrev pub RepeatedImportIsAlready : Type 0
 RepeatedImportIsAlready =
-    (s : State) (day later : DayValue) (name : List ℕ) (content again : PeerContentValue)
+    (s : State) (day later : DayValue) (name : Name) (content again : PeerContentValue)
     → IsPeerContent content.criteria content.entries
     → IsPeerContent again.criteria again.entries
     → SameItems again.criteria content.criteria

@@ -4,6 +4,7 @@ use Rattle.std.specs.List.{All, AllPairs, list_any}
 use Rattle.std.specs.Ordering.{nat_cmp}
 use Rattle.std.specs.Cmp.Lexicographic.{slice_cmp}
 use Rattle.std.specs.declared.cmp.Ordering.TheVariants.{Less}
+use Rattle.vet_base.specs.Words.{Name}
 use Rattle.vet_base.specs.declared.limits.TheConstants.{MOST_ENTRIES, MOST_MOVES, MOST_PEERS, MOST_POLICIES}
 use Rattle.vet_base.specs.declared.limits.TheConstants.{MOST_PROJECTS, MOST_PUBLISHERS, LAST_STEP, LAST_NUMBER}
 use Rattle.vet_base.specs.Criteria.{Criteria, IsTable}
@@ -71,7 +72,7 @@ pub record AreEntries (source : Source) (entries : List HeldEntry) (next : ℕ) 
   pub numbers_given : All (IsGiven next) entries
 
 -- what is held of a peer is what some content that a reader can give holds: its criteria, and its entries as the peer's
-pub record IsOfContent (name : List ℕ) (content : PeerContentValue) (held : HoldingValue) : Type 0 where
+pub record IsOfContent (name : Name) (content : PeerContentValue) (held : HoldingValue) : Type 0 where
   pub readable : IsPeerContent content.criteria content.entries
   pub criteria : held.table ≡ defined content.criteria
   pub entries : SameItems (as_peers name content.entries) (map (λ (h : HeldEntry). h.entry) held.entries)

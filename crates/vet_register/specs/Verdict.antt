@@ -5,6 +5,7 @@ use Rattle.std.specs.Prelude.{None, Ok, if◌then◌else◌, length, option_map,
 use Rattle.std.specs.List.{list_any}
 use Rattle.std.specs.Ordering.{int_cmp, is_lt}
 use Rattle.std.specs.FinMap as table
+use Rattle.vet_base.specs.Words.{Name}
 use Rattle.vet_base.specs.declared.limits.TheConstants.{MOST_ENTRIES, MOST_PEERS, MOST_POLICIES, MOST_PROJECTS}
 use Rattle.vet_base.specs.declared.limits.TheConstants.{MOST_PUBLISHERS, MOST_WINDOW_DAYS, LAST_STEP, LAST_NUMBER}
 use Rattle.vet_base.specs.declared.refusal.Limit.TheVariants as limit
@@ -77,23 +78,23 @@ abbrev pub entry_limit : ℕ → Told (Unit {0})
 entry_limit count = refuse_if (nat_lt MOST_ENTRIES count) (TooLarge limit.Entries)
 
 -- how many entries there are of all sources but one peer
-abbrev pub entries_beside : Facts → List ℕ → ℕ
+abbrev pub entries_beside : Facts → Name → ℕ
 entries_beside facts name = length facts.entries + entries_of_peers (without_peer name facts.peers)
 
 -- the limits of an import of so many entries, so many of them new
-abbrev pub import_limits : State → List ℕ → ℕ → ℕ → Told (Unit {0})
+abbrev pub import_limits : State → Name → ℕ → ℕ → Told (Unit {0})
 import_limits s name count new =
     entry_limit (entries_beside s.held.facts name + count) >>= λ _. step_limit s >>= λ _. number_limit s new
 
 -- one peer more, if it is a new one, is not too many
-abbrev pub peer_limit : State → List ℕ → Told (Unit {0})
+abbrev pub peer_limit : State → Name → Told (Unit {0})
 peer_limit s name =
     refuse_if
     (is_none (peer_of s.held.facts.peers name) && nat_lt MOST_PEERS (length s.held.facts.peers + 1))
     (TooLarge limit.Peers)
 
 -- with these records for a package there are not too many
-abbrev pub publisher_limit : State → List ℕ → List Publisher → Told (Unit {0})
+abbrev pub publisher_limit : State → Name → List Publisher → Told (Unit {0})
 publisher_limit s name records =
     refuse_if (nat_lt MOST_PUBLISHERS (records_total (with_records name records s.held.facts.publishers)))
     (TooLarge limit.Publishers)
@@ -106,7 +107,7 @@ policy_limit s key =
     (TooLarge limit.Policies)
 
 -- nor one project more
-abbrev pub project_limit : State → List ℕ → Told (Unit {0})
+abbrev pub project_limit : State → Name → Told (Unit {0})
 project_limit s name =
     refuse_if
     (is_none (project_at s.held.projects name) && nat_lt MOST_PROJECTS (length s.held.projects + 1))
@@ -152,14 +153,14 @@ limits s (Desk command) =
 limits s _ = step_limit s
 
 -- a peer of a name is held
-abbrev pub held_peer : State → List ℕ → Told (Unit {0})
+abbrev pub held_peer : State → Name → Told (Unit {0})
 held_peer s name = refuse_if (is_none (peer_of s.held.facts.peers name)) UnknownPeer
 
 -- a policy of a key is held, and a project of a name
 abbrev pub held_policy : State → PolicyKey → Told (Unit {0})
 held_policy s key = refuse_if (is_none (policy_at s.held.policies key)) UnknownPolicy
 
-abbrev pub held_project : State → List ℕ → Told (Unit {0})
+abbrev pub held_project : State → Name → Told (Unit {0})
 held_project s name = refuse_if (is_none (project_at s.held.projects name)) UnknownProject
 
 -- each criterion that files name is one that they define or a built-in one, whatever was held before; and each peer of
@@ -207,7 +208,7 @@ kind_rules day (Trusted window) = window_rules day window
 kind_rules day _ = Ok tt
 
 -- an own entry, a target of a peer's map or a policy names a criterion, or a review that isn't closed
-abbrev pub is_used : State → List ℕ → Bool
+abbrev pub is_used : State → Name → Bool
 is_used s name =
     is_named s.held.facts name || (list_any (policy_names name) s.held.policies || are_open_for s.desk.reviews name)
 

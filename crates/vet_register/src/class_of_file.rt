@@ -17,10 +17,11 @@ use std::alloc::Global;
 use vet_base::criteria_table::CriteriaTable;
 use vet_base::criterion::Criterion;
 use vet_base::defined::lesser;
-use vet_base::limits::{MOST_CRITERIA, MOST_INPUT_BYTES};
+use vet_base::document::check_length;
+use vet_base::limits::MOST_CRITERIA;
 use vet_base::name::{Name, PackageName};
 use vet_base::names::Names;
-use vet_base::refusal::{Limit, Refusal};
+use vet_base::refusal::Refusal;
 use vet_base::version::VetVersion;
 use vet_demand::pair::Pair;
 use vet_entries::entry::Entry;
@@ -68,9 +69,7 @@ fn read_content(alloc: Global, file: &[u8]) -> Result<AuditsContent, Refusal>
     ensures told { Gives (λ content. content) (content_told file.now) result }
     ensures further { IfOk result (λ content. All (λ c. is_built_in c.name ≡ false) content.criteria) }
 {
-    if file.len() > MOST_INPUT_BYTES {
-        return Err(Refusal::TooLarge(Limit::Input));
-    }
+    check_length(file)?;
     let found = read_audits(alloc, file)?;
     Ok(found.content)
 }

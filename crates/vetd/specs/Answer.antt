@@ -2,6 +2,7 @@
 use Rattle.std.specs.Prelude.{◌≡◌, ◌≢◌, ℕ, ◌+◌, List, Option, Some, None, IfSome, take, Ok, Err}
 use Rattle.std.specs.Io.KnownBytes.{Appends, Keeps}
 use Rattle.vet_base.specs.Gives.{Told}
+use Rattle.vet_base.specs.Words.{Bytes, Text}
 use Rattle.vet_base.specs.declared.limits.TheConstants.{MOST_INPUT_BYTES}
 use Rattle.vet_base.specs.declared.refusal.Refusal.{Refusal}
 use Rattle.vet_base.specs.declared.refusal.Refusal.TheVariants.{NoMemory}
@@ -11,47 +12,47 @@ use Rattle.vetd.specs.declared.answer.TheConstants.{PRINTED, REFUSED, EXPLAINED}
 
 -- what a run answers: a text, a refusal, or an explanation of the command line
 pub data Answer : Type 0 where
-  Prints : List ℕ → Answer
+  Prints : Text → Answer
   Refuses : Refusal → Answer
   Explains : Answer
 
 -- a text is printed, as this view sees it, and a refusal is told
-abbrev pub answer_for : {A : Type 0} → (A → List ℕ) → Told A → Answer
+abbrev pub answer_for : {A : Type 0} → (A → Text) → Told A → Answer
 answer_for text (Ok told) = Prints (text told)
 answer_for text (Err refusal) = Refuses refusal
 
 -- what a run reads of its input: at most a byte more than a file may have
-abbrev pub input_read : List ℕ → List ℕ
+abbrev pub input_read : Bytes → Bytes
 input_read input = take (MOST_INPUT_BYTES + 1) input
 
 -- what words ask for: the text that is told of what was read
 abbrev pub Telling : Type 0
-Telling = List ℕ → Told (List ℕ)
+Telling = Bytes → Told Text
 
 -- the answer to what the words ask for and the input
-abbrev pub answer_of : Option Telling → List ℕ → Answer
+abbrev pub answer_of : Option Telling → Bytes → Answer
 answer_of (Some telling) input = answer_for (λ text. text) (telling (input_read input))
 answer_of None input = Explains
 
 -- the input is what the reader holds, where the reader tells it
-abbrev pub IsInput : Option (List ℕ) → List ℕ → Type 0
+abbrev pub IsInput : Option Bytes → Bytes → Type 0
 IsInput known input = IfSome known (λ bytes. input ≡ bytes)
 
 -- this holds of the answer to what the words ask for and the input
-abbrev pub Answers : Option (List ℕ) → Option Telling → (Answer → Type 0) → Type 0
-Answers known asked Holds = (input : List ℕ) × (IsInput known input × Holds (answer_of asked input))
+abbrev pub Answers : Option Bytes → Option Telling → (Answer → Type 0) → Type 0
+Answers known asked Holds = (input : Bytes) × (IsInput known input × Holds (answer_of asked input))
 
 -- the status, and what was written to the output and to the errors. Want of memory is never told so.
-abbrev pub Says : Answer → ℕ → Option (List ℕ) → Option (List ℕ) → Option (List ℕ) → Option (List ℕ) → Type 0
+abbrev pub Says : Answer → ℕ → Option Bytes → Option Bytes → Option Bytes → Option Bytes → Type 0
 Says (Prints text) status out out' errors errors' = (status ≡ PRINTED) × Appends out out' text × Keeps errors errors'
 Says (Refuses refusal) status out out' errors errors' =
     (status ≡ REFUSED) × Keeps out out' × Appends errors errors' (refusal_line refusal) × (refusal ≢ NoMemory)
 Says Explains status out out' errors errors' =
-    (status ≡ EXPLAINED) × Keeps out out' × ((text : List ℕ) × Appends errors errors' text)
+    (status ≡ EXPLAINED) × Keeps out out' × ((text : Text) × Appends errors errors' text)
 
 -- what was written where a write failed
-abbrev pub Stops : Answer → Option (List ℕ) → Option (List ℕ) → Option (List ℕ) → Option (List ℕ) → Type 0
+abbrev pub Stops : Answer → Option Bytes → Option Bytes → Option Bytes → Option Bytes → Type 0
 Stops (Prints text) out out' errors errors' = AppendsPart out out' text × Keeps errors errors'
 Stops (Refuses refusal) out out' errors errors' =
     Keeps out out' × AppendsPart errors errors' (refusal_line refusal) × (refusal ≢ NoMemory)
-Stops Explains out out' errors errors' = Keeps out out' × ((text : List ℕ) × AppendsPart errors errors' text)
+Stops Explains out out' errors errors' = Keeps out out' × ((text : Text) × AppendsPart errors errors' text)

@@ -1,6 +1,7 @@
 -- What `class` prints of an audits file (ours).
 use Rattle.std.specs.Prelude.{ℕ, List, ◌++◌, Ok, codes}
 use Rattle.vet_base.specs.Gives.{◌>>=◌}
+use Rattle.vet_base.specs.Words.{Text}
 use Rattle.vet_graph.specs.Class.{class_word}
 use Rattle.vet_graph.specs.declared.class.Class.{Class}
 use Rattle.vet_register.specs.ClassOfFile.{class_told}
@@ -8,7 +9,7 @@ use Rattle.vetd.specs.Answer.{Telling}
 use Rattle.vetd.specs.Words.{AskedWords}
 
 -- the line of a class: its word
-abbrev pub class_line : Class → List ℕ
+abbrev pub class_line : Class → Text
 class_line class = class_word class ++ codes "\n"
 
 -- the line of the class that is asked for

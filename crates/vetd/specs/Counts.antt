@@ -2,6 +2,7 @@
 use Rattle.std.specs.Prelude.{ℕ, List, ◌++◌, codes, length}
 use Rattle.std.specs.Fmt.{decimal}
 use Rattle.std.specs.List.{sum_by}
+use Rattle.vet_base.specs.Words.{Text}
 use Rattle.vet_entries.specs.PublisherRecords.{records_total}
 use Rattle.vet_files.specs.declared.audits_file.AuditsContent.{AuditsContent}
 use Rattle.vet_files.specs.declared.config_file.ConfigContent.{ConfigContent}
@@ -46,19 +47,19 @@ counts_of_imports content = record {
 }
 
 -- what is printed of what a file holds, and of what was passed over in it
-abbrev pub entries_text : Counts → List ℕ
+abbrev pub entries_text : Counts → Text
 entries_text counts = codes "criteria " ++ (decimal counts.criteria ++ (codes " entries " ++ (decimal counts.entries
     ++ (codes " publishers " ++ decimal counts.publishers))))
 
-abbrev pub settings_text : Counts → List ℕ
+abbrev pub settings_text : Counts → Text
 settings_text counts = codes "policies " ++ (decimal counts.policies ++ (codes " peers " ++ decimal counts.peers))
 
-abbrev pub notices_text : Notices → List ℕ
+abbrev pub notices_text : Notices → Text
 notices_text notices = codes "keys " ++ (decimal notices.keys ++ (codes " skipped " ++ (decimal notices.skipped
     ++ (codes " doubles " ++ decimal notices.doubles))))
 
 -- the line of a file
-abbrev pub counts_line : Counts → Notices → List ℕ
+abbrev pub counts_line : Counts → Notices → Text
 counts_line counts notices =
     codes "read " ++ (entries_text counts ++ (codes " " ++ (settings_text counts
     ++ (codes " " ++ (notices_text notices ++ codes "\n")))))

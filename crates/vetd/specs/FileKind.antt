@@ -3,9 +3,10 @@ use Rattle.std.specs.Prelude.{ℕ, List, Option, Some, None, codes, if◌then◌
 use Rattle.std.specs.Str.{bytes_eq}
 use Rattle.vetd.specs.declared.file_kind.FileKind.{FileKind}
 use Rattle.vetd.specs.declared.file_kind.FileKind.TheVariants.{Audits, Config, Imports}
+use Rattle.vet_base.specs.Words.{Text}
 
 -- the kind that a word names
-abbrev pub file_kind : List ℕ → Option FileKind
+abbrev pub file_kind : Text → Option FileKind
 file_kind word =
     if bytes_eq word (codes "audits") then Some Audits
     else (if bytes_eq word (codes "config") then Some Config

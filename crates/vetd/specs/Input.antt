@@ -1,10 +1,11 @@
 -- What reads take, and how many are made (ours).
 use Rattle.std.specs.Prelude.{ℕ, ◌≤◌, List, Option, length}
 use Rattle.std.specs.Io.KnownBytes.{Consumes}
+use Rattle.vet_base.specs.Words.{Bytes}
 
 -- no more than so many bytes were read
-abbrev pub TakesAtMost : ℕ → Option (List ℕ) → Option (List ℕ) → Type 0
-TakesAtMost limit known known' = (bytes : List ℕ) × ((length bytes ≤ limit) × Consumes known known' bytes)
+abbrev pub TakesAtMost : ℕ → Option Bytes → Option Bytes → Type 0
+TakesAtMost limit known known' = (bytes : Bytes) × ((length bytes ≤ limit) × Consumes known known' bytes)
 
 -- a reader, and how many reads were made of it
 pub record Counted (R : Type 0) : Type 0 where

@@ -2,8 +2,9 @@
 use Rattle.std.specs.Prelude.{ℕ, List, codes}
 use Rattle.vetd.specs.declared.io_fault.IoFault.{IoFault}
 use Rattle.vetd.specs.declared.io_fault.IoFault.TheVariants.{Input, Output, Endless, NoMemory}
+use Rattle.vet_base.specs.Words.{Text}
 
-abbrev pub fault_text : IoFault → List ℕ
+abbrev pub fault_text : IoFault → Text
 fault_text Input = codes "fault: input"
 fault_text Output = codes "fault: output"
 fault_text Endless = codes "fault: input"

@@ -2,12 +2,13 @@
 use Rattle.std.specs.Prelude.{ℕ, List, [], ◌++◌, codes}
 use Rattle.std.specs.Fmt.{decimal}
 use Rattle.vet_base.specs.Refusal.{refusal_number, refusal_name, limit_word}
+use Rattle.vet_base.specs.Words.{Text}
 use Rattle.vet_base.specs.declared.refusal.Refusal.{Refusal}
 use Rattle.vet_base.specs.declared.refusal.Refusal.TheVariants.{UnknownCriterion, UnknownNode, TwoParties, TooLarge}
 use Rattle.vet_base.specs.declared.refusal.Refusal.TheVariants.{CsvRefused, FieldRefused}
 
 -- the details, each after a space
-abbrev pub refusal_details : Refusal → List ℕ
+abbrev pub refusal_details : Refusal → Text
 refusal_details (UnknownCriterion name) = codes " " ++ name
 refusal_details (UnknownNode row) = codes " " ++ decimal row
 refusal_details (TwoParties row) = codes " " ++ decimal row
@@ -17,6 +18,6 @@ refusal_details (FieldRefused path key) = codes " " ++ (path ++ (codes " " ++ ke
 refusal_details _ = []
 
 -- the line: the number, the name and the details
-abbrev pub refusal_line : Refusal → List ℕ
+abbrev pub refusal_line : Refusal → Text
 refusal_line refusal = codes "refused " ++ (decimal (refusal_number refusal)
     ++ (codes " " ++ (refusal_name refusal ++ (refusal_details refusal ++ codes "\n"))))

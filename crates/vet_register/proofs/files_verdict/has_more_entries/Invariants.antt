@@ -5,4 +5,5 @@ use Rattle.vet_register.specs.Replacing.{count_of_peer}
 use Rattle.vet_register.proofs.files_verdict.has_more_entries.Given as goal
 
 abbrev pub invariant-peers : goal.invariant-peers
-invariant-peers l = l.room + (length l.files.entries + sum_by (count_of_peer l.files.contents) (take l.settings-index l.peers)) ≡ l.most
+invariant-peers l = l.room +
+    (length l.files.entries + sum_by (count_of_peer l.files.contents) (take l.settings-index l.peers)) ≡ l.most

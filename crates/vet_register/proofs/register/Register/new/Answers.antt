@@ -12,7 +12,8 @@ invariant_of-result g c =
     let law = c.nothing_is_demanded.ensures in
     let held : nothing_held ≡ content_of c.in_ok-held.held = sym c.in_ok-held.ensures.ok in
     let none : demand_in nothing_held ≡ [] = law [] built_in_criteria in
-    let kept = subst (λ d. g.K.Keeper.keeping.keeps c.in_ok-keeper.keeper no_facts d) (sym none) (c.in_ok-keeper.ensures.keeps no_facts c.nothing_vets_nothing.ensures.gives) in
+    let kept = subst (λ d. g.K.Keeper.keeping.keeps c.in_ok-keeper.keeper no_facts d) (sym none)
+        (c.in_ok-keeper.ensures.keeps no_facts c.nothing_vets_nothing.ensures.gives) in
     let same : start c.args.moves_limit ≡ record {
       held = content_of c.in_ok-held.held;
       desk = c.new-2.result.content;
@@ -32,7 +33,9 @@ invariant_of-result g c =
     } in (
       (
         subst (λ h. g.K.Keeper.keeping.keeps c.in_ok-keeper.keeper h.facts (demand_in h)) held kept,
-        (c.in_ok-keeper.ensures.standing ∙ sym (nothing_stands law) ∙ ap standing_in held, c.none.ensures ∙ sym none ∙ ap demand_in held),
+        (c.in_ok-keeper.ensures.standing ∙ sym (nothing_stands law) ∙ ap standing_in held, c.none.ensures ∙ sym none ∙
+            ap demand_in held),
       ),
-      subst IsSound same (start_is_sound law c.args.moves_limit (subst (λ h. IsTable h.facts.criteria) (sym held) c.in_ok-held.ensures.table) c.requires),
+      subst IsSound same (start_is_sound law c.args.moves_limit
+          (subst (λ h. IsTable h.facts.criteria) (sym held) c.in_ok-held.ensures.table) c.requires),
     )
