@@ -53,7 +53,8 @@ none_found : (nodes : List NumberedNode) (n : NumberedNode)
     → ((m : NumberedNode) → Contains nodes m → numbered_cmp n m ≡ Equal → ⊥)
     → find (λ m. is_eq (numbered_cmp n m)) nodes ≡ None
 none_found [] n h = refl
-none_found (x ∷ rest) n h = step (numbered_cmp n x) refl (none_found rest n (λ m held. h m (Contains-later x m rest held)))
+none_found (x ∷ rest) n h = step (numbered_cmp n x) refl
+    (none_found rest n (λ m held. h m (Contains-later x m rest held)))
   where
     step : (r : Ordering) → numbered_cmp n x ≡ r → find (λ m. is_eq (numbered_cmp n m)) rest ≡ None
         → cond (is_eq r) (Some x) (find (λ m. is_eq (numbered_cmp n m)) rest) ≡ None

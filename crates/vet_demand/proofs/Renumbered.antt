@@ -145,7 +145,8 @@ placed_edges place (s ∷ rest) between h = step (placed place s.edge) refl (pla
             → (f : Edge) × Contains (s.edge ∷ edges_of rest) f × (placed place f ≡ Some r)
         last r behind (inl here) = (s.edge, Contains-here s.edge (edges_of rest), at ∙ ap (λ (o : Edge). Some o) here)
         last r behind (inr there) =
-            (let (f, held, placed_f) = behind.only r there in (f, Contains-later s.edge f (edges_of rest) held, placed_f))
+            (let (f, held, placed_f) = behind.only r there in
+                (f, Contains-later s.edge f (edges_of rest) held, placed_f))
 
 -- edges that all have places are placed
 pub all_placed : (place : ℕ → Option ℕ) (edges : List StatedEdge)

@@ -133,7 +133,8 @@ impl EntryFacts {
         entries: Vec<Entry>,
     ) -> Result<EntryFacts, Refusal>
         ensures ok { IfOk result (λ f.
-            f.content ≡ record { criteria = criteria; entries = numbered 1 entries.items; peers = []; publishers = [] }) }
+            f.content
+                ≡ record { criteria = criteria; entries = numbered 1 entries.items; peers = []; publishers = [] }) }
         ensures memory { IfErr result (λ e. e ≡ Refusal.NoMemory) }
     {
         Ok(EntryFacts {
@@ -226,7 +227,8 @@ impl EntryFacts {
     /// look at each peer.
     pub fn entries_beside(&self, name: &Name) -> usize
         requires { entries_total self.now.content < 2 ^ 64 }
-        ensures { result ≡ length self.now.content.entries + entries_of_peers (without_peer name.now self.now.content.peers) }
+        ensures { result
+            ≡ length self.now.content.entries + entries_of_peers (without_peer name.now self.now.content.peers) }
     {
         let _ = self.peers();
         self.entries_total() - self.entries_of(name)

@@ -226,7 +226,8 @@ fn see<'a>(
     seen: &mut HashMap<Said<'a>, bool>,
     entries: &'a [Entry],
 ) -> Result<Vec<bool>, AllocError>
-    ensures fresh { IfOk result (λ fresh. fresh.items ≡ map (λ e. is_none (get entry_eq seen.old (own e))) entries.now) }
+    ensures fresh { IfOk result (λ fresh.
+        fresh.items ≡ map (λ e. is_none (get entry_eq seen.old (own e))) entries.now) }
     ensures seen { OnOk result ((q : Entry) → get entry_eq seen.new q
         ≡ option_map (λ before. before || list_any (λ e. entry_eq (own e) q) entries.now) (get entry_eq seen.old q)) }
 {

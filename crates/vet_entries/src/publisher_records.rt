@@ -276,12 +276,15 @@ pub fn records_after_setting(
     package: &PackageName,
     publishers: &Publishers,
 )
-    ensures own { records_of (with_records «package».now publishers.now records.now.items) «package».now ≡ publishers.now }
+    ensures own { records_of (with_records «package».now publishers.now records.now.items) «package».now
+        ≡ publishers.now }
     ensures others { (other : List ℕ) → (other ≡ «package».now → ⊥)
-        → records_of (with_records «package».now publishers.now records.now.items) other ≡ records_of records.now.items other }
+        → records_of (with_records «package».now publishers.now records.now.items) other
+            ≡ records_of records.now.items other }
     ensures by_name { IsByName (with_records «package».now publishers.now records.now.items) }
     ensures held { length (records_of records.now.items «package».now) ≤ records_total records.now.items }
-    ensures total { records_total (with_records «package».now publishers.now records.now.items) + length (records_of records.now.items «package».now)
+    ensures total { records_total (with_records «package».now publishers.now records.now.items)
+        + length (records_of records.now.items «package».now)
         ≡ records_total records.now.items + length publishers.now }
     ensures again { records_of records.now.items «package».now ≡ publishers.now
         → with_records «package».now publishers.now records.now.items ≡ records.now.items }

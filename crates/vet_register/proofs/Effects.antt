@@ -423,7 +423,8 @@ counted_after s day (Desk command) p own given h few = added_counted s (added_by
     (passed_at_desk s day command p).entry few
 counted_after s day ClosePeriod p own given h few = few
 
--- what is held after a command, if its criteria and its publisher records are sound, and what is imported or put in place is what a reader gives
+-- what is held after a command, if its criteria and its publisher records are sound, and what is imported or put in
+-- place is what a reader gives
 pub sound_effect : (s : State) (day : DayValue) (a : Action) → judged s day a ≡ Ok Accepted → AreSound s.held.facts
     s.next_entry
     → AreKnownTo s.held.facts.criteria s.desk.reviews → IsGivenContent a

@@ -56,7 +56,8 @@ content_readable f is name = by (item_of R imported_name f.contents name) refl
     by (Some x) e = (item_found R imported_name
         (λ (p : ImportedPeer). IsPeerContent p.content.criteria p.content.entries) f.contents name x is.readable e).1
 
--- entries that were among some, or are new, are apart from such others, where those are, and the first end below the others'
+-- entries that were among some, or are new, are apart from such others, where those are, and the first end below the
+-- others'
 -- new ones
 both_apart : (k m : ℕ) (hs xs is ys : List HeldEntry) → ((h : HeldEntry) → IsIn h xs → IsIn h hs ⊎ (k ≤ h.number)) →
     ((h : HeldEntry) → IsIn h ys → IsIn h is ⊎ (m ≤ h.number))

@@ -117,7 +117,8 @@ projects_after s day (ReplaceFiles f) p h = h
 projects_after s day (Desk command) p h = h
 projects_after s day ClosePeriod p h = h
 
--- all that is held after a command, if its criteria and its publisher records are sound, and what is imported is what a reader gives
+-- all that is held after a command, if its criteria and its publisher records are sound, and what is imported is
+-- what a reader gives
 pub sound_held : (s : State) (day : DayValue) (a : Action) → judged s day a ≡ Ok Accepted → IsSound s → IsGivenContent a
     → IsTable (facts_after s a).criteria → ArePublishers (facts_after s a).publishers → IsSoundHeld (held_after s a)
         (number_after s a)

@@ -27,7 +27,8 @@ lesser-None (Some a) (Some b) e = elim (cases_Bool (is_lt (slice_cmp nat_cmp b a
   | inr above ↦ let e' = rw above at e in cc e'
 ]
 
--- where no name is unknown of one handed in and of some things, none was handed in, and each of them names known ones alone
+-- where no name is unknown of one handed in and of some things, none was handed in, and each of them names known
+-- ones alone
 module _ {X : Type 0} (known : List ℕ → Bool) (names : X → NameSet) where
   abbrev pub HasKnown : X → Type 0
   HasKnown x = find (λ n. not (known n)) (members (names x)) ≡ None

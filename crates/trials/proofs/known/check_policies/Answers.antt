@@ -7,8 +7,10 @@ use Rattle.trials.proofs.known.check_policies.Goals as goal
 
 pub policies-preserved : goal.policies-preserved
 policies-preserved c =
-    known_more c.args.criteria.now c.args.policies.now c.policies.held-index c.held-item.result c.policies-test.true c.held-item.is c.policies.invariant
+    known_more c.args.criteria.now c.args.policies.now c.policies.held-index c.held-item.result c.policies-test.true
+        c.held-item.is c.policies.invariant
     (sym c.least_unknown_of.ensures ∙ ap option_copied c.in_default.is)
 
 pub returns : goal.returns
-returns c = subst (PoliciesAreKnown c.args.criteria.now) (take_all c.policies.held-index c.args.policies.now c.policies-test.false) c.policies.invariant
+returns c = subst (PoliciesAreKnown c.args.criteria.now)
+    (take_all c.policies.held-index c.args.policies.now c.policies-test.false) c.policies.invariant
