@@ -296,4 +296,4 @@ holds_its_content name next held content = (entries_are_held (Peer name) next he
 pub holds_each_once : ImportHoldsEachOnce
 holds_each_once name next held content is =
     entries_stand_once (Peer name) next held content.entries
-    (λ k d l. is_own_entry (get_or content.entries k d) (is.given k d l)) is.once
+    (λ k d l. is_own_entry (get_or content.entries k d) (is.kinds k d l)) is.once

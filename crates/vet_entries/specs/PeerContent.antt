@@ -40,12 +40,11 @@ is_peer_kind (Exemption v s) = false
 abbrev pub is_peer_entry : Entry → Bool
 is_peer_entry e = is_own e.source && is_peer_kind e.kind
 
--- no criterion is named as a built-in one or as another, there are not too many, and each entry is one that a peer's
--- file
--- gives, and stands once
+-- no criterion is named as a built-in one or as another, there are not too many, and each entry is one that a
+-- peer's file gives, and stands once
 pub record IsPeerContent (criteria : List Criterion) (entries : List Entry) : Type 0 where
   pub further : All (λ c. is_built_in c.name ≡ false) criteria
   pub named_once : NamedOnce (λ (c : Criterion). c.name) criteria
   pub few : length criteria ≤ MOST_PEER_CRITERIA
-  pub given : All (λ e. is_peer_entry e ≡ true) entries
+  pub kinds : All (λ e. is_peer_entry e ≡ true) entries
   pub once : distinct entries ≡ entries

@@ -11,9 +11,9 @@ abbrev pub IsInOrder : List Publisher → Type 0
 IsInOrder records = AllPairs (λ p q. publisher_cmp p q ≡ Less) records
 
 -- the records of a list, each once, in order
-pub record AreTheRecords (given records : List Publisher) : Type 0 where
+pub record AreTheRecords (publishers records : List Publisher) : Type 0 where
   pub in_order : IsInOrder records
-  pub same : (p : Publisher) → Contains records p ↔ Contains given p
+  pub same : (p : Publisher) → Contains records p ↔ Contains publishers p
 
 -- whether two lists have the same records at the same places
 abbrev pub publishers_eq : List Publisher → List Publisher → Bool

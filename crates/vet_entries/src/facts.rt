@@ -134,7 +134,7 @@ impl EntryFacts {
     ) -> Result<EntryFacts, Refusal>
         ensures ok { IfOk result (λ f.
             f.content
-                ≡ record { criteria = criteria; entries = numbered 1 entries.items; peers = []; publishers = [] }) }
+            ≡ record { criteria = criteria; entries = numbered 1 entries.items; peers = []; publishers = [] }) }
         ensures memory { IfErr result (λ e. e ≡ Refusal.NoMemory) }
     {
         Ok(EntryFacts {

@@ -280,7 +280,7 @@ pub fn records_after_setting(
         ≡ publishers.now }
     ensures others { (other : List ℕ) → (other ≡ «package».now → ⊥)
         → records_of (with_records «package».now publishers.now records.now.items) other
-            ≡ records_of records.now.items other }
+        ≡ records_of records.now.items other }
     ensures by_name { IsByName (with_records «package».now publishers.now records.now.items) }
     ensures held { length (records_of records.now.items «package».now) ≤ records_total records.now.items }
     ensures total { records_total (with_records «package».now publishers.now records.now.items)

@@ -22,7 +22,7 @@ use Rattle.vet_files.specs.AuditsTable.{audits_file_table, criteria_table, crite
 use Rattle.vet_files.specs.Config.{exemption_told}
 use Rattle.vet_files.specs.EntryTables.{entry_table, is_listed, listed_entries, package_lists}
 use Rattle.vet_files.specs.Keys.{unknown_keys}
-use Rattle.vet_files.specs.Lists.{Reading, nothing, one, onto, table_at, table_of}
+use Rattle.vet_files.specs.Lists.{Reading, nothing, found_one, found_with, table_at, table_of}
 use Rattle.vet_files.specs.Notices.{no_notices, only_keys}
 use Rattle.vet_files.specs.ReadAgain.{ReadsCriterion, ReadsEntry, is_taken, reading_of}
 use Rattle.vet_files.specs.SameContent.{AreFew, CanStand, is_entry_of, is_kind_of, taken}
@@ -170,7 +170,7 @@ module _ (whose : Whose) (path prefix : List ℕ) (exclude : NameSet) (criteria 
           (All-IsIn (λ x. is_entry_of whose x ≡ true) e entries can.kinds held) in
           let again : ReadsEntry e = All-IsIn ReadsEntry e (listed which) reads among in (
             again.named,
-            λ path. subst (λ (read : Reading Entry). read e.«package» path (entry_table e) ≡ Ok (one e 0))
+            λ path. subst (λ (read : Reading Entry). read e.«package» path (entry_table e) ≡ Ok (found_one e 0))
                 (read_there whose which e.kind there)
                 (again.read whose own (is_kind-taken whose e.kind of_kind) path),
           )
@@ -265,7 +265,7 @@ module _ (whose : Whose) (path prefix : List ℕ) (exclude : NameSet) (criteria 
         record { criteria = in_order; entries = (audits ++ wildcards) ++ trusted },
         (
           (λ i. told i >>= λ cs. told_audits i >>= λ first. told_wildcards i >>= λ second. told_trusted i >>= λ third.
-              Ok (audits_content cs (onto (onto first second) third) (only_keys (unknown i)))),
+              Ok (audits_content cs (found_with (found_with first second) third) (only_keys (unknown i)))),
           (
             sorted-SameItems (λ (c : Criterion). c.name) criteria can.named_once,
             same_entries audits wildcards trusted

@@ -20,7 +20,7 @@ use Rattle.vet_files.specs.Audits.{or_none}
 use Rattle.vet_files.specs.Config.{peer_told, policy_told}
 use Rattle.vet_files.specs.ConfigTable.{dependencies_table, mapped_table, peer_fields, peer_table, policy_fields, policy_table}
 use Rattle.vet_files.specs.Field.{a_flag, a_text, names, package_names, texts}
-use Rattle.vet_files.specs.Lists.{one}
+use Rattle.vet_files.specs.Lists.{found_one}
 use Rattle.vet_files.specs.Maps.{criteria_map, dependency_criteria, or_no_dependencies, or_no_map}
 use Rattle.vet_files.specs.Notices.{no_notices}
 use Rattle.vet_files.specs.ReadAgain.{IsReadAs}
@@ -92,7 +92,8 @@ pub peer_read : (p : PeerSettings) (mapped : Option NamesByName) (exclude : Opti
     → option_map list_data exclude ≡ some_list p.exclude → or_none exclude ≡ p.exclude
     → IfSome mapped (λ m. IsReadAs criteria_map (table (mapped_table m)) m)
     → IfSome exclude (λ s. IsReadAs package_names (list_data s) s)
-    → IsReadAs texts (set_data p.url) p.url → (path : List ℕ) → peer_told p.name path (peer_table p) ≡ Ok (one p 0)
+    → IsReadAs texts (set_data p.url) p.url → (path : List ℕ) → peer_told p.name path (peer_table p) ≡ Ok
+    (found_one p 0)
 peer_read p mapped exclude map_written map_is exclude_written exclude_is map_read exclude_read url_read path =
     let fs = peer_fields p in
     let ms = peer_table p in

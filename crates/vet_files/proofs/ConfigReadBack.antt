@@ -28,7 +28,7 @@ use Rattle.vet_files.specs.ConfigTable.{cargo_vet_table, config_fields, config_t
 use Rattle.vet_files.specs.EntryTables.{entry_table, is_listed, listed_entries}
 use Rattle.vet_files.specs.Field.{a_text, names, optional}
 use Rattle.vet_files.specs.Keys.{unknown_keys}
-use Rattle.vet_files.specs.Lists.{nothing, one}
+use Rattle.vet_files.specs.Lists.{nothing, found_one}
 use Rattle.vet_files.specs.Notices.{no_notices}
 use Rattle.vet_files.specs.ReadAgain.{IsReadAs, ReadsConfig, ReadsEntry, ReadsPeer, ReadsPolicy, reading_of}
 use Rattle.vet_files.specs.SameContent.{IsConfig, SameConfig, is_own_exemption}
@@ -88,7 +88,7 @@ reads_exemption : (e : Entry) → is_own_exemption e ≡ true → ReadsEntry e �
 reads_exemption e stands reads =
     let (own, exempts) = and_parts (is_own e.source) (is_listed Exemptions e.kind) stands in (
       reads.named,
-      λ path. subst (λ read. read e.«package» path (entry_table e) ≡ Ok (one e 0))
+      λ path. subst (λ read. read e.«package» path (entry_table e) ≡ Ok (found_one e 0))
           (exemption_reading e.kind exempts) (reads.read Ours own refl path),
     )
 

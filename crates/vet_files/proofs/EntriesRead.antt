@@ -21,7 +21,7 @@ use Rattle.vet_entries.specs.declared.kind.Window.{Window}
 use Rattle.vet_files.specs.Audits.{audit_kind, audit_of, audit_told, first_key, is_no, is_withheld, own_entry, subject_told, trusted_of, wildcard_of, window_told}
 use Rattle.vet_files.specs.EntryTables.{entry_fields, some_flag, some_text}
 use Rattle.vet_files.specs.Field.{a_day, a_delta, a_flag, a_requirement, a_text, a_user, a_version, names, texts}
-use Rattle.vet_files.specs.Lists.{one, skipped}
+use Rattle.vet_files.specs.Lists.{found_one, skipped}
 use Rattle.vet_files.specs.OfKind.{of_kind}
 use Rattle.vet_files.specs.ReadAgain.{IsReadAs, ReadsEntry, is_taken, reading_of}
 use Rattle.vet_files.specs.Tables.{fields, set_data, some_set}
@@ -68,14 +68,14 @@ abbrev KindRead : Entry → Kind → Type 0
 KindRead e what =
     (whose : Whose) → is_taken whose what ≡ true → (path : List ℕ)
     → reading_of whose what e.«package» path (fields (fields_of e what))
-    ≡ Ok (one (own_entry e.«package» what e.criteria e.notes) 0)
+    ≡ Ok (found_one (own_entry e.«package» what e.criteria e.notes) 0)
 
 of_own : (e : Entry) (what : Kind) → is_package_name e.«package» ≡ true → KindRead e what → ReadsEntry (of_kind e what)
 of_own e what named reads = record {
   named = named;
   read = λ whose own taken path. (
       reads whose taken path
-      ∙ ap (λ s. Ok (one (record {
+      ∙ ap (λ s. Ok (found_one (record {
         source = s;
         «package» = e.«package»;
         kind = what;
@@ -110,7 +110,7 @@ audit_read : (e : Entry) (a : Audit) (whose : Whose) (path : List ℕ) (fs : Fie
     → is_peer_kind (audit_kind what a) ≡ may_import a.importable
     → is_taken whose (audit_kind what a) ≡ true → ValuesRead e → FlagRead a.importable → WhoRead a.who
     → audit_told whose e.«package» path (fields fs)
-    ≡ Ok (one (own_entry e.«package» (audit_kind what a) e.criteria e.notes) 0)
+    ≡ Ok (found_one (own_entry e.«package» (audit_kind what a) e.criteria e.notes) 0)
 audit_read e a whose path fs first what at is_first told same taken values importable who =
     let ms = fields fs in
     let importable_at = get_field (codes "importable") fs ∙ at.importable in
@@ -207,7 +207,7 @@ wildcard_read e w g values window renew who = of_own e (Wildcard w g) values.nam
 
 trusted_of_read : (e : Entry) (w : Window) (path : List ℕ) → ValuesRead e → WindowRead w
     → trusted_of e.«package» path (fields (fields_of e (Trusted w)))
-    ≡ Ok (one (own_entry e.«package» (Trusted w) e.criteria e.notes) 0)
+    ≡ Ok (found_one (own_entry e.«package» (Trusted w) e.criteria e.notes) 0)
 trusted_of_read e w path values window =
     let fs = fields_of e (Trusted w) in
     let ms = fields fs in

@@ -17,7 +17,7 @@ use Rattle.vet_files.specs.EntryTables.{listed_entries}
 use Rattle.vet_files.specs.Imports.{imported_told, imports_file_told, next_imported, next_publishers, peer_value, publisher_told, published, publishers_told}
 use Rattle.vet_files.specs.ImportsTable.{excluded_of, imported_peer_table, imports_fields, imports_table, publisher_items, publisher_table, publishers_table}
 use Rattle.vet_files.specs.Keys.{unknown_keys}
-use Rattle.vet_files.specs.Lists.{each_once, nothing, onto, path_below}
+use Rattle.vet_files.specs.Lists.{each_once, nothing, found_with, path_below}
 use Rattle.vet_files.specs.Notices.{no_notices}
 use Rattle.vet_files.specs.Publishers.{in_order}
 use Rattle.vet_files.specs.ReadAgain.{ReadsCriterion, ReadsEntry, ReadsImports, ReadsPublisher}
@@ -57,7 +57,7 @@ package_read p has reads found =
       tables_read publisher_told (codes "publisher") p.«package» publisher_table p.publishers
           (λ k d l. (reads.1 k d l).read p.«package»),
     )
-    (ap (λ more. Ok (onto (all_of found) (published p.«package» more))) (each_once-same p.publishers has.1)
+    (ap (λ more. Ok (found_with (all_of found) (published p.«package» more))) (each_once-same p.publishers has.1)
     ∙ ap (λ l. Ok (all_of (found ++ l))) (with_any-one p has.0))
 
 abbrev name_of_package : PackagePublishers → List ℕ

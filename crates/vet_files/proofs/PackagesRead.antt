@@ -15,8 +15,8 @@ use Rattle.vet_entries.specs.Entry.{entry_eq}
 use Rattle.vet_entries.specs.declared.entry.Entry.{Entry}
 use Rattle.vet_files.specs.Audits.{next_package}
 use Rattle.vet_files.specs.EntryTables.{entry_items, entry_table, of_package, package_lists}
-use Rattle.vet_files.specs.Lists.{Reading, each_once, next_table, nothing, one, onto, table_of, tables_of_package}
-use Rattle.vet_files.specs.Notices.{no_notices, only_doubles, together}
+use Rattle.vet_files.specs.Lists.{Reading, each_once, next_table, nothing, found_one, found_with, table_of, tables_of_package}
+use Rattle.vet_files.specs.Notices.{no_notices, only_doubles, sum_of_notices}
 use Rattle.vet_files.specs.Tables.{members_from, unless_empty}
 use Rattle.vet_files.specs.Walk.{each_item, each_member}
 use Rattle.vet_files.specs.declared.found.Found.{Found}
@@ -38,7 +38,7 @@ unless_empty-read path key (member k d rest) = refl
 module _ {A : Type 0} (read : Reading A) (path name : List ℕ) (table_for : A → Members) where
   -- the table is read as what it is the table of, wherever it stands
   abbrev IsRead : A → Type 0
-  IsRead x = (path : List ℕ) → read name path (table_for x) ≡ Ok (one x 0)
+  IsRead x = (path : List ℕ) → read name path (table_for x) ≡ Ok (found_one x 0)
 
   abbrev items : List A → Items
   items xs = items_of (map (λ x. table (table_for x)) xs)
@@ -111,14 +111,14 @@ each_once-same : (es : List Entry) → distinct es ≡ es → each_once distinct
 each_once-same es once =
     let no_doubles : length es - length (distinct es) ≡ 0 =
     (let long : length (distinct es) ≡ length es = ap length once in omega (arith, long)) in
-    λ i. record { content = once i; notices = together no_notices (only_doubles (no_doubles i)) }
+    λ i. record { content = once i; notices = sum_of_notices no_notices (only_doubles (no_doubles i)) }
 
 -- ---- a package's list
 
 -- an entry of a package, which is read from its table
 abbrev pub IsReadBy : Reading Entry → Entry → Type 0
 IsReadBy read e = (is_package_name e.«package» ≡ true)
-    × ((path : List ℕ) → read e.«package» path (entry_table e) ≡ Ok (one e 0))
+    × ((path : List ℕ) → read e.«package» path (entry_table e) ≡ Ok (found_one e 0))
 
 of_its_package : (name : List ℕ) (es : List Entry) (e : Entry) → IsIn e (of_package name es) → name ≡ e.«package»
 of_its_package name es e among = (bytes_decides name e.«package»).0
@@ -132,12 +132,13 @@ in_its_package name es e among same = IsIn-filter (λ x. bytes_eq name x.«packa
 module _ (read : Reading Entry) (path : List ℕ) (es : List Entry) (once : distinct es ≡ es)
     (each : All (IsReadBy read) es) where
   abbrev IsReadAt : List ℕ → Entry → Type 0
-  IsReadAt name e = (path : List ℕ) → read name path (entry_table e) ≡ Ok (one e 0)
+  IsReadAt name e = (path : List ℕ) → read name path (entry_table e) ≡ Ok (found_one e 0)
 
   package_read : (name : List ℕ) → All (IsReadAt name) (of_package name es)
   package_read name =
       All-each_IsIn (IsReadAt name) (of_package name es)
-      (λ e among path. subst (λ n. read n path (entry_table e) ≡ Ok (one e 0)) (sym (of_its_package name es e among))
+      (λ e among path. subst (λ n. read n path (entry_table e) ≡ Ok (found_one e 0))
+      (sym (of_its_package name es e among))
       ((All-IsIn (IsReadBy read) e es each (IsIn-of_filter (λ x. bytes_eq name x.«package») e es among).0).1 path))
 
   tables_of_package-read : (name : List ℕ) → is_package_name name ≡ true
@@ -150,7 +151,7 @@ module _ (read : Reading Entry) (path : List ℕ) (es : List Entry) (once : dist
       ≡ Ok (all_of (found ++ of_package name es))
   next_package-read found name named =
       rw (tables_of_package-read name named)
-      (ap (λ more. Ok (onto (all_of found) more))
+      (ap (λ more. Ok (found_with (all_of found) more))
       (each_once-same (of_package name es) (distinct-filter (λ e. bytes_eq name e.«package») es once)))
 
   -- ---- the lists of some packages

@@ -9,9 +9,9 @@ use Rattle.vet_files.specs.declared.read.whose.Whose.TheVariants.{Peers}
 pub can-stand : (criteria : List Criterion) (entries : List Entry) → IsPeerContent criteria entries
     → CanStand Peers criteria entries
 can-stand criteria entries is =
-    record { further = is.further; named_once = is.named_once; few = is.few; kinds = is.given; once = is.once }
+    record { further = is.further; named_once = is.named_once; few = is.few; kinds = is.kinds; once = is.once }
 
 pub is-content : (criteria : List Criterion) (entries : List Entry) → CanStand Peers criteria entries
     → IsPeerContent criteria entries
 is-content criteria entries can =
-    record { further = can.further; named_once = can.named_once; few = can.few; given = can.kinds; once = can.once }
+    record { further = can.further; named_once = can.named_once; few = can.few; kinds = can.kinds; once = can.once }

@@ -9,7 +9,7 @@ use Rattle.vet_files.specs.declared.keys.TableKind.TheVariants as kind
 use Rattle.vet_files.specs.Field.{a_day, a_text, a_user, a_version}
 use Rattle.vet_files.specs.Imports.{publisher_told}
 use Rattle.vet_files.specs.ImportsTable.{publisher_fields, publisher_items, publisher_table}
-use Rattle.vet_files.specs.Lists.{one}
+use Rattle.vet_files.specs.Lists.{found_one}
 use Rattle.vet_files.specs.ReadAgain.{IsReadAs}
 use Rattle.vet_files.proofs.Fields.{get_field, none_unknown}
 use Rattle.vet_files.proofs.KeysRead.{optional_read, required_read}
@@ -18,7 +18,7 @@ pub publisher_read : (p : Publisher) → IsReadAs a_user (integer (pos p.user)) 
     → IfSome p.login (λ x. IsReadAs a_text (string x) x)
     → IfSome p.name (λ x. IsReadAs a_text (string x) x) → IsReadAs a_version (string (version_text p.version)) p.version
     → IsReadAs a_day (string (day_text p.day)) p.day → (name path : List ℕ)
-    → publisher_told name path (publisher_table p) ≡ Ok (one p 0)
+    → publisher_told name path (publisher_table p) ≡ Ok (found_one p 0)
 publisher_read p user login full version day name path =
     let fs = publisher_fields p in
     let ms = publisher_table p in

@@ -23,7 +23,7 @@ use Rattle.vet_files.specs.Audits.{entries_of, or_none}
 use Rattle.vet_files.specs.Config.{config_file_told, exemption_told, new_key, next_peer, next_policy, peer_told, peers_told, policies_told, policy_told, settings_told, vet_version_told}
 use Rattle.vet_files.specs.EntryTables.{is_listed}
 use Rattle.vet_files.specs.Field.{fault, names, optional, package_names, required, texts}
-use Rattle.vet_files.specs.Lists.{listed, nothing, onto, path_below, table_at}
+use Rattle.vet_files.specs.Lists.{listed, nothing, found_with, path_below, table_at}
 use Rattle.vet_files.specs.Maps.{criteria_map, or_no_map}
 use Rattle.vet_files.specs.Notices.{no_notices}
 use Rattle.vet_files.specs.SameContent.{IsConfig, is_own_exemption}
@@ -64,7 +64,7 @@ peer-named name path ms =
 next_peer-appends : (found : Found (List PeerSettings)) (name : List ℕ) (d : Data)
     → IfOk (next_peer found name d) (AppendsPeers found name)
 next_peer-appends found name d =
-    cond_both (is_name name) (settings_told name d >>= (λ more. Ok (onto found (listed more))))
+    cond_both (is_name name) (settings_told name d >>= (λ more. Ok (found_with found (listed more))))
     (Err (fault (codes "imports") name)) (λ r. IfOk r (AppendsPeers found name))
     (λ _. bind-keeps (OneNamed name) (AppendsPeers found name) (settings_told name d) _
     (bind-gives (OneNamed name) (found_or (fault (codes "imports") name) (as_table d))

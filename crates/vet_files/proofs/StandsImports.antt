@@ -17,7 +17,7 @@ use Rattle.vet_files.specs.declared.imports_file.ImportsContent.{ImportsContent}
 use Rattle.vet_files.specs.declared.read.whose.Whose.TheVariants.{Peers}
 use Rattle.vet_files.specs.Field.{fault}
 use Rattle.vet_files.specs.Imports.{imported_at, imported_from, imported_table, imported_told, imports_file_told, next_imported, next_publishers, peer_file_told, publisher_told, publishers_told}
-use Rattle.vet_files.specs.Lists.{listed, nothing, onto, path_below, table_at, tables_of_package}
+use Rattle.vet_files.specs.Lists.{listed, nothing, found_with, path_below, table_at, tables_of_package}
 use Rattle.vet_files.specs.Publishers.{in_order}
 use Rattle.vet_files.specs.SameContent.{CanStand, HasRecords, IsImports}
 use Rattle.vet_files.specs.Walk.{each_member}
@@ -107,7 +107,7 @@ imported_at-stands name d rise =
 next_imported-appends : (found : Found (List ImportedPeer)) (name : List ℕ) (d : Data) → Rises d
     → IfOk (next_imported found name d) (AppendsPeers found name)
 next_imported-appends found name d rise =
-    cond_both (is_name name) (imported_at name d >>= (λ more. Ok (onto found (listed more))))
+    cond_both (is_name name) (imported_at name d >>= (λ more. Ok (found_with found (listed more))))
     (Err (fault (codes "audits") name)) (λ r. IfOk r (AppendsPeers found name))
     (λ _. bind-keeps (OneStands name) (AppendsPeers found name) (imported_at name d) _ (imported_at-stands name d rise)
     (λ more stands. (option_to_list more.content, (refl, stands))))

@@ -33,8 +33,8 @@ use Rattle.vet_files.specs.declared.read.whose.Whose.{Whose}
 use Rattle.vet_files.specs.declared.read.whose.Whose.TheVariants.{Ours, Peers}
 use Rattle.vet_files.specs.Field.{a_day, a_delta, a_flag, a_requirement, a_text, a_user, a_version, fault, names, optional, required, texts}
 use Rattle.vet_files.specs.Keys.{unknown_keys}
-use Rattle.vet_files.specs.Lists.{Reading, each_once, listed, nothing, one, onto, path_below, skipped, table_at, tables_of_package}
-use Rattle.vet_files.specs.Notices.{one_key, only_keys, together}
+use Rattle.vet_files.specs.Lists.{Reading, each_once, listed, nothing, found_one, found_with, path_below, skipped, table_at, tables_of_package}
+use Rattle.vet_files.specs.Notices.{one_key, only_keys, sum_of_notices}
 use Rattle.vet_files.specs.Walk.{each_member}
 
 -- names and texts that need not be there are none
@@ -49,7 +49,7 @@ criterion_told name path ms =
     optional a_text path (codes "description") ms >>= λ description.
     optional a_text path (codes "description-url") ms >>= λ url.
     optional names path (codes "implies") ms >>= λ implies.
-    Ok (one (record { name = name; description = description; url = url; implies = or_none implies })
+    Ok (found_one (record { name = name; description = description; url = url; implies = or_none implies })
     (unknown_keys kind.Criterion ms))
 
 -- a peer's file may define so many criteria
@@ -66,14 +66,14 @@ abbrev pub further_criterion : Whose → Path → Name → Found (List Criterion
 further_criterion whose path name found table =
     room_for_criterion whose (length found.content) >>= λ _.
     criterion_at path name table >>= λ more.
-    Ok (onto found (listed more))
+    Ok (found_with found (listed more))
 
 -- a table named after a built-in criterion is passed over as a whole
 abbrev pub built_in_criterion : Path → Name → Found (List Criterion) → Option Members
     → Told (Found (List Criterion))
 built_in_criterion path name found table =
     found_or (fault path name) table >>= λ _.
-    Ok (record { content = found.content; notices = together found.notices one_key })
+    Ok (record { content = found.content; notices = sum_of_notices found.notices one_key })
 
 abbrev pub next_criterion : Whose → Path → Found (List Criterion) → Name → Data → Told (Found (List Criterion))
 next_criterion whose path found name d =
@@ -139,7 +139,8 @@ audit_of_subject name path ms criteria what =
     optional texts path (codes "who") ms >>= λ who.
     optional a_text path (codes "notes") ms >>= λ notes.
     optional a_flag path (codes "importable") ms >>= λ importable.
-    Ok (one (own_entry name (audit_kind what (record { who = or_none who; importable = importable })) criteria notes)
+    Ok (found_one (own_entry name (audit_kind what (record { who = or_none who; importable = importable })) criteria
+    notes)
     (unknown_keys kind.Audit ms))
 
 abbrev pub audit_of : Name → Path → Members → Option SubjectKey → Told (Found (Option Entry))
@@ -168,7 +169,7 @@ wildcard_of_window name path ms criteria window =
     optional texts path (codes "who") ms >>= λ who.
     optional a_flag path (codes "renew") ms >>= λ renew.
     optional a_text path (codes "notes") ms >>= λ notes.
-    Ok (one (own_entry name (entry.Wildcard window (record { who = or_none who; renew = renew })) criteria notes)
+    Ok (found_one (own_entry name (entry.Wildcard window (record { who = or_none who; renew = renew })) criteria notes)
     (unknown_keys kind.Wildcard ms))
 
 abbrev pub wildcard_of : Name → Path → Members → Told (Found (Option Entry))
@@ -185,7 +186,7 @@ trusted_of name path ms =
     required names path (codes "criteria") ms >>= λ criteria.
     window_told path ms >>= λ window.
     optional a_text path (codes "notes") ms >>= λ notes.
-    Ok (one (own_entry name (entry.Trusted window) criteria notes) (unknown_keys kind.Trusted ms))
+    Ok (found_one (own_entry name (entry.Trusted window) criteria notes) (unknown_keys kind.Trusted ms))
 
 -- one's own trusted publisher with a user
 abbrev pub is_trusted : Whose → Members → Bool
@@ -201,13 +202,13 @@ trusted_told whose name path ms = if is_trusted whose ms then trusted_of name pa
 abbrev pub next_package : Reading Entry → Path → Found (List Entry) → Name → Data → Told (Found (List Entry))
 next_package read path found name d =
     tables_of_package read path name d >>= λ more.
-    Ok (onto found (each_once distinct more))
+    Ok (found_with found (each_once distinct more))
 
 -- criteria and entries, and all that was passed over
 abbrev pub audits_content : Found (List Criterion) → Found (List Entry) → Notices → Found AuditsContent
 audits_content criteria entries keys = record {
   content = record { criteria = criteria.content; entries = entries.content };
-  notices = together (together criteria.notices entries.notices) keys;
+  notices = sum_of_notices (sum_of_notices criteria.notices entries.notices) keys;
 }
 
 -- the entries of all packages of a file's table of lists
@@ -223,14 +224,14 @@ abbrev pub trusted_entries_told : Whose → Path → Path → Members → Found 
     → Told (Found AuditsContent)
 trusted_entries_told whose path prefix ms criteria entries =
     entries_of (trusted_told whose) path prefix (codes "trusted") ms >>= λ trusted.
-    Ok (audits_content criteria (onto entries trusted) (only_keys (unknown_keys kind.AuditsFile ms)))
+    Ok (audits_content criteria (found_with entries trusted) (only_keys (unknown_keys kind.AuditsFile ms)))
 
 -- what an audits file holds that has these criteria and audits
 abbrev pub further_entries_told : Whose → Path → Path → Members → Found (List Criterion) → Found (List Entry)
     → Told (Found AuditsContent)
 further_entries_told whose path prefix ms criteria audits =
     entries_of wildcard_told path prefix (codes "wildcard-audits") ms >>= λ wildcards.
-    trusted_entries_told whose path prefix ms criteria (onto audits wildcards)
+    trusted_entries_told whose path prefix ms criteria (found_with audits wildcards)
 
 -- what an audits file holds. Its tables stand in one of a path, and their paths begin with a prefix.
 abbrev pub audits_file_told : Whose → Path → Path → Members → Told (Found AuditsContent)

@@ -20,9 +20,9 @@ use Rattle.vet_files.specs.declared.keys.TableKind.TheVariants as kind
 use Rattle.vet_files.specs.declared.notices.Notices.{Notices}
 use Rattle.vet_files.specs.Field.{a_flag, a_text, a_version, fault, names, optional, package_names, required, texts}
 use Rattle.vet_files.specs.Keys.{unknown_keys}
-use Rattle.vet_files.specs.Lists.{Reading, listed, nothing, one, onto, path_below, table_at}
+use Rattle.vet_files.specs.Lists.{Reading, listed, nothing, found_one, found_with, path_below, table_at}
 use Rattle.vet_files.specs.Maps.{criteria_map, dependency_criteria, or_no_dependencies, or_no_map}
-use Rattle.vet_files.specs.Notices.{no_notices, only_keys, together}
+use Rattle.vet_files.specs.Notices.{no_notices, only_keys, sum_of_notices}
 use Rattle.vet_files.specs.Walk.{each_member}
 
 -- ---- `[cargo-vet]`
@@ -41,7 +41,7 @@ abbrev pub peer_told : Name → Path → Members → Told (Found (Option PeerSet
 peer_told name path ms =
     required texts path (codes "url") ms >>= λ url. optional package_names path (codes "exclude") ms >>= λ exclude.
     optional criteria_map path (codes "criteria-map") ms >>= λ mapped.
-    Ok (one (record { name = name; url = url; exclude = or_none exclude; map = or_no_map mapped })
+    Ok (found_one (record { name = name; url = url; exclude = or_none exclude; map = or_no_map mapped })
     (unknown_keys kind.Peer ms))
 
 abbrev pub settings_told : Name → Data → Told (Found (Option PeerSettings))
@@ -50,7 +50,8 @@ settings_told name d = found_or (fault (codes "imports") name) (as_table d) >>= 
 
 -- one more peer
 abbrev pub next_peer : Found (List PeerSettings) → Name → Data → Told (Found (List PeerSettings))
-next_peer found name d = if is_name name then settings_told name d >>= (λ more. Ok (onto found (listed more))) else Err
+next_peer found name d = if is_name name then settings_told name d >>= (λ more. Ok (found_with found (listed more)))
+    else Err
     (fault (codes "imports") name)
 
 abbrev pub peers_told : Members → Told (Found (List PeerSettings))
@@ -97,7 +98,7 @@ policy_at text d = found_or (fault (codes "policy") text) (as_table d) >>= polic
 
 abbrev pub policy_onto : Found (List KeyedPolicy) → PolicyKey → Found Policy → Found (List KeyedPolicy)
 policy_onto found key more =
-    record { content = with_policy found.content key more.content; notices = together found.notices more.notices }
+    record { content = with_policy found.content key more.content; notices = sum_of_notices found.notices more.notices }
 
 abbrev pub next_policy : Found (List KeyedPolicy) → Text → Data → Told (Found (List KeyedPolicy))
 next_policy found text d =
@@ -117,7 +118,7 @@ exemption_told name path ms =
     required a_version path (codes "version") ms >>= λ version.
     required names path (codes "criteria") ms >>= λ criteria.
     optional a_flag path (codes "suggest") ms >>= λ suggest. optional a_text path (codes "notes") ms >>= λ notes.
-    Ok (one (own_entry name (Exemption version suggest) criteria notes) (unknown_keys kind.Exemption ms))
+    Ok (found_one (own_entry name (Exemption version suggest) criteria notes) (unknown_keys kind.Exemption ms))
 
 -- ---- the file
 
@@ -136,7 +137,8 @@ config_lists_told version default settings keys ms =
             policies.content;
         exemptions = exemptions.content;
       };
-      notices = together (together (together settings peers.notices) (together policies.notices exemptions.notices))
+      notices = sum_of_notices
+          (sum_of_notices (sum_of_notices settings peers.notices) (sum_of_notices policies.notices exemptions.notices))
           keys;
     })
 

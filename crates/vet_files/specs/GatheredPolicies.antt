@@ -10,7 +10,7 @@ use Rattle.vet_demand.specs.declared.policies.KeyedPolicy.{KeyedPolicy}
 use Rattle.vet_demand.specs.declared.policy.Policy.{Policy}
 use Rattle.vet_demand.specs.declared.policy_key.PolicyKey.{PolicyKey}
 use Rattle.vet_files.specs.Config.{new_key_told, policy_at}
-use Rattle.vet_files.specs.Notices.{together}
+use Rattle.vet_files.specs.Notices.{sum_of_notices}
 use Rattle.vet_files.specs.declared.found.Found.{Found}
 
 -- a set has the keys of these policies, and no others
@@ -21,7 +21,7 @@ AreTheKeys keys policies = (k : PolicyKey) → contains policy_key_cmp keys k �
 abbrev pub policy_behind : Found (List KeyedPolicy) → PolicyKey → Found Policy → Found (List KeyedPolicy)
 policy_behind found key more = record {
   content = found.content ++ record { key = key; policy = more.content } ∷ [];
-  notices = together found.notices more.notices;
+  notices = sum_of_notices found.notices more.notices;
 }
 
 abbrev pub next_gathered : Found (List KeyedPolicy) → Text → Data → Told (Found (List KeyedPolicy))

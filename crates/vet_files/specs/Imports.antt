@@ -18,8 +18,8 @@ use Rattle.vet_files.specs.declared.keys.TableKind.TheVariants as kind
 use Rattle.vet_files.specs.declared.read.whose.Whose.TheVariants.{Peers}
 use Rattle.vet_files.specs.Field.{a_day, a_text, a_user, a_version, fault, optional, required}
 use Rattle.vet_files.specs.Keys.{unknown_keys}
-use Rattle.vet_files.specs.Lists.{Reading, each_once, listed, nothing, one, onto, path_below, skipped, table_at, tables_of_package}
-use Rattle.vet_files.specs.Notices.{only_keys, together}
+use Rattle.vet_files.specs.Lists.{Reading, each_once, listed, nothing, found_one, found_with, path_below, skipped, table_at, tables_of_package}
+use Rattle.vet_files.specs.Notices.{only_keys, sum_of_notices}
 use Rattle.vet_files.specs.Walk.{each_member}
 
 -- ---- `publisher`
@@ -30,7 +30,7 @@ publisher_of path ms =
     required a_day path (codes "when") ms >>= λ day.
     required a_user path (codes "user-id") ms >>= λ user.
     optional a_text path (codes "user-login") ms >>= λ login. optional a_text path (codes "user-name") ms >>= λ name.
-    Ok (one (record { version = version; user = user; day = day; login = login; name = name })
+    Ok (found_one (record { version = version; user = user; day = day; login = login; name = name })
     (unknown_keys kind.Publisher ms))
 
 -- a record with a user
@@ -44,7 +44,7 @@ published name found = record { content = with_any name found.content; notices =
 abbrev pub next_publishers : Found (List PackagePublishers) → Name → Data → Told (Found (List PackagePublishers))
 next_publishers found name d =
     tables_of_package publisher_told (codes "publisher") name d >>= λ more.
-    Ok (onto found (published name (each_once in_order more)))
+    Ok (found_with found (published name (each_once in_order more)))
 
 abbrev pub publishers_told : Members → Told (Found (List PackagePublishers))
 publishers_told ms = table_at (codes "top") (codes "publisher") ms >>= each_member next_publishers nothing
@@ -82,7 +82,8 @@ imported_at name d = found_or (fault (codes "audits") name) (as_table d) >>= imp
 
 -- one more peer
 abbrev pub next_imported : Found (List ImportedPeer) → Name → Data → Told (Found (List ImportedPeer))
-next_imported found name d = if is_name name then imported_at name d >>= (λ more. Ok (onto found (listed more))) else
+next_imported found name d = if is_name name then imported_at name d >>= (λ more. Ok (found_with found (listed more)))
+    else
     Err (fault (codes "audits") name)
 
 abbrev pub imported_told : Members → Told (Found (List ImportedPeer))
@@ -96,7 +97,8 @@ imports_file_told ms =
     publishers_told ms >>= λ publishers. imported_told ms >>= λ peers.
     Ok (record {
       content = record { publishers = publishers.content; peers = peers.content };
-      notices = together (together publishers.notices peers.notices) (only_keys (unknown_keys kind.ImportsFile ms));
+      notices = sum_of_notices (sum_of_notices publishers.notices peers.notices)
+          (only_keys (unknown_keys kind.ImportsFile ms));
     })
 
 -- the content of an imports file

@@ -8,7 +8,7 @@ use Rattle.vet_base.specs.Name.{is_package_name}
 use Rattle.vet_base.specs.Words.{Key, Name, Path}
 use Rattle.vet_files.specs.declared.found.Found.{Found}
 use Rattle.vet_files.specs.Field.{fault}
-use Rattle.vet_files.specs.Notices.{no_notices, one_skipped, only_doubles, only_keys, together}
+use Rattle.vet_files.specs.Notices.{no_notices, one_skipped, only_doubles, only_keys, sum_of_notices}
 use Rattle.vet_files.specs.Walk.{KeysRise, each_item}
 
 -- nothing was found
@@ -16,12 +16,13 @@ abbrev pub nothing : {A : Type 0} → Found (List A)
 nothing = record { content = []; notices = no_notices }
 
 -- what was found, and then more
-abbrev pub onto : {A : Type 0} → Found (List A) → Found (List A) → Found (List A)
-onto found more = record { content = found.content ++ more.content; notices = together found.notices more.notices }
+abbrev pub found_with : {A : Type 0} → Found (List A) → Found (List A) → Found (List A)
+found_with found more = record
+    { content = found.content ++ more.content; notices = sum_of_notices found.notices more.notices }
 
 -- one, with so many unknown keys; and none, where it is skipped
-abbrev pub one : {A : Type 0} → A → ℕ → Found (Option A)
-one x keys = record { content = Some x; notices = only_keys keys }
+abbrev pub found_one : {A : Type 0} → A → ℕ → Found (Option A)
+found_one x keys = record { content = Some x; notices = only_keys keys }
 
 abbrev pub skipped : {A : Type 0} → Found (Option A)
 skipped = record { content = None; notices = one_skipped }
@@ -33,7 +34,7 @@ listed found = record { content = option_to_list found.content; notices = found.
 abbrev pub each_once : {A : Type 0} → (List A → List A) → Found (List A) → Found (List A)
 each_once distinct found = record {
   content = distinct found.content;
-  notices = together found.notices (only_doubles (length found.content - length (distinct found.content)));
+  notices = sum_of_notices found.notices (only_doubles (length found.content - length (distinct found.content)));
 }
 
 -- the table at a key; a missing one is empty
@@ -64,7 +65,7 @@ Reading A = Name → Path → Members → Told (Found (Option A))
 abbrev pub next_table : {A : Type 0} → Reading A → Path → Name → Found (List A) → ℕ → Data → Told (Found (List A))
 next_table read path name found place d =
     found_or (fault path name) (as_table d) >>= read name (path_in_list path name place) >>= λ more.
-    Ok (onto found (listed more))
+    Ok (found_with found (listed more))
 
 -- the tables of a package: a list of them at the package's name
 abbrev pub tables_of_package : {A : Type 0} → Reading A → Path → Name → Data → Told (Found (List A))

@@ -20,5 +20,5 @@ abbrev pub only_doubles : ℕ → Notices
 only_doubles n = record { keys = 0; skipped = 0; doubles = n }
 
 -- what both passed over
-abbrev pub together : Notices → Notices → Notices
-together a b = record { keys = a.keys + b.keys; skipped = a.skipped + b.skipped; doubles = a.doubles + b.doubles }
+abbrev pub sum_of_notices : Notices → Notices → Notices
+sum_of_notices a b = record { keys = a.keys + b.keys; skipped = a.skipped + b.skipped; doubles = a.doubles + b.doubles }

@@ -33,7 +33,7 @@ use Rattle.vet_files.specs.EntryTables.{entry_table, listed_entries}
 use Rattle.vet_files.specs.Field.{a_text, names}
 use Rattle.vet_files.specs.Imports.{publisher_told}
 use Rattle.vet_files.specs.ImportsTable.{excluded_of, publisher_table}
-use Rattle.vet_files.specs.Lists.{Reading, one}
+use Rattle.vet_files.specs.Lists.{Reading, found_one}
 use Rattle.vet_files.specs.Notices.{no_notices}
 use Rattle.vet_files.specs.Tables.{set_data}
 
@@ -64,15 +64,15 @@ is_taken Peers kind = is_peer_kind kind
 pub record ReadsEntry (e : Entry) : Type 0 where
   pub named : is_package_name e.«package» ≡ true
   pub read : (whose : Whose) → is_own e.source ≡ true → is_taken whose e.kind ≡ true
-      → (path : Path) → reading_of whose e.kind e.«package» path (entry_table e) ≡ Ok (one e 0)
+      → (path : Path) → reading_of whose e.kind e.«package» path (entry_table e) ≡ Ok (found_one e 0)
 
 pub record ReadsCriterion (c : Criterion) : Type 0 where
   pub named : is_name c.name ≡ true
-  pub read : (path : Path) → criterion_told c.name path (criterion_table c) ≡ Ok (one c 0)
+  pub read : (path : Path) → criterion_told c.name path (criterion_table c) ≡ Ok (found_one c 0)
 
 pub record ReadsPeer (p : PeerSettings) : Type 0 where
   pub named : is_name p.name ≡ true
-  pub read : (path : Path) → peer_told p.name path (peer_table p) ≡ Ok (one p 0)
+  pub read : (path : Path) → peer_told p.name path (peer_table p) ≡ Ok (found_one p 0)
 
 pub record ReadsPolicy (p : KeyedPolicy) : Type 0 where
   pub keyed : read_key (key_text p.key) ≡ Some p.key
@@ -80,7 +80,7 @@ pub record ReadsPolicy (p : KeyedPolicy) : Type 0 where
       ≡ Ok (record { content = p.policy; notices = no_notices })
 
 pub record ReadsPublisher (p : Publisher) : Type 0 where
-  pub read : (name : Name) (path : Path) → publisher_told name path (publisher_table p) ≡ Ok (one p 0)
+  pub read : (name : Name) (path : Path) → publisher_told name path (publisher_table p) ≡ Ok (found_one p 0)
 
 -- ---- the tables of a file
 

@@ -113,7 +113,7 @@ fn read_further_entries(
         "wildcard-audits",
         file,
     )?;
-    let entries = audits.onto(wildcards)?;
+    let entries = audits.followed_by(wildcards)?;
     read_trusted_entries(alloc, whose, path, prefix, file, criteria, entries)
 }
 
@@ -133,7 +133,7 @@ fn read_trusted_entries(
 {
     let keys = unknown_keys(TableKind::AuditsFile, file)?;
     let trusted = read_entries(alloc, &ReadTrusted { whose }, path, prefix, "trusted", file)?;
-    let entries = entries.onto(trusted)?;
+    let entries = entries.followed_by(trusted)?;
     let notices = criteria.notices.and_both(entries.notices, keys)?;
     Ok(Found {
         content: AuditsContent {

@@ -5,7 +5,7 @@ ghost use Rattle.toml.specs.View.{table_view};
 ghost use Rattle.vet_base.specs.Gives.{Gives};
 ghost use Rattle.vet_files.specs.Config.{config_file_told, config_lists_told, config_told, exemption_told, vet_version_told};
 ghost use Rattle.vet_files.specs.ConfigTable.{config_table};
-ghost use Rattle.vet_files.specs.Notices.{together};
+ghost use Rattle.vet_files.specs.Notices.{sum_of_notices};
 ghost use Rattle.vet_files.specs.ReadAgain.{GivesBack};
 ghost use Rattle.vet_files.specs.SameContent.{IsConfig, SameConfig};
 
@@ -133,7 +133,7 @@ fn with_rules(
     exemptions: Notices,
     keys: Notices,
 ) -> Result<Notices, Refusal>
-    ensures ok { IfOk result (λ n. n ≡ together (together settings (together policies exemptions)) keys) }
+    ensures ok { IfOk result (λ n. n ≡ sum_of_notices (sum_of_notices settings (sum_of_notices policies exemptions)) keys) }
     ensures memory { IfErr result (λ e. e ≡ Refusal.NoMemory) }
 {
     let rules = policies.and(exemptions)?;

@@ -1,6 +1,6 @@
 //! What a reader finds.
 ghost use Rattle.std.specs.Prelude.{◌≡◌, IfOk};
-ghost use Rattle.vet_files.specs.Lists.{listed, nothing, onto};
+ghost use Rattle.vet_files.specs.Lists.{listed, nothing, found_with};
 
 use crate::listed::Listed;
 use crate::notices::Notices;
@@ -25,8 +25,8 @@ impl<T: Drop> Found<Listed<T>> {
     }
 
     /// What was found, and then more.
-    pub(crate) fn onto(self, more: Found<Listed<T>>) -> Result<Found<Listed<T>>, AllocError>
-        ensures { IfOk result (λ f. f ≡ onto self more) }
+    pub(crate) fn followed_by(self, more: Found<Listed<T>>) -> Result<Found<Listed<T>>, AllocError>
+        ensures { IfOk result (λ f. f ≡ found_with self more) }
     {
         Ok(Found {
             content: self.content.followed_by(more.content)?,
@@ -36,7 +36,7 @@ impl<T: Drop> Found<Listed<T>> {
 
     /// What was found, and then one more, or one that was skipped.
     pub(crate) fn with(self, more: Found<Option<T>>) -> Result<Found<Listed<T>>, AllocError>
-        ensures { IfOk result (λ f. f ≡ onto self (listed more)) }
+        ensures { IfOk result (λ f. f ≡ found_with self (listed more)) }
     {
         Ok(Found {
             content: self.content.with(more.content)?,

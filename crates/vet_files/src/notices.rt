@@ -1,6 +1,6 @@
 //! What a reader passed over.
 ghost use Rattle.std.specs.Prelude.{◌≡◌, ◌+◌, IfOk};
-ghost use Rattle.vet_files.specs.Notices.{no_notices, one_key, one_skipped, only_doubles, together};
+ghost use Rattle.vet_files.specs.Notices.{no_notices, one_key, one_skipped, only_doubles, sum_of_notices};
 
 use std::alloc::AllocError;
 
@@ -62,7 +62,7 @@ impl Notices {
 
     /// What both passed over. Refused where a count would pass 2^64 - 1, for which no memory holds the file.
     pub(crate) fn and(self, other: Notices) -> Result<Notices, AllocError>
-        ensures { IfOk result (λ n. n ≡ together self other) }
+        ensures { IfOk result (λ n. n ≡ sum_of_notices self other) }
     {
         Ok(Notices {
             keys: sum(self.keys, other.keys)?,
@@ -73,7 +73,7 @@ impl Notices {
 
     /// What all three passed over. Refused as `and` is.
     pub(crate) fn and_both(self, other: Notices, further: Notices) -> Result<Notices, AllocError>
-        ensures { IfOk result (λ n. n ≡ together (together self other) further) }
+        ensures { IfOk result (λ n. n ≡ sum_of_notices (sum_of_notices self other) further) }
     {
         self.and(other)?.and(further)
     }

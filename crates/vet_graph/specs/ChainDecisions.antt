@@ -14,7 +14,7 @@ use Rattle.vet_base.specs.VersionOrderLaws.{same_or_other, version_eq-Decides}
 use Rattle.vet_entries.specs.declared.step.Step.{Step}
 use Rattle.vet_graph.specs.Chain.{Condemned, EndsReviewed, HasCleanChain, HasNoExempt, IsChain, IsClean, Leads}
 use Rattle.vet_graph.specs.Class.{IsConflicting}
-use Rattle.vet_graph.specs.Decisions.{Answer, both, all_three, each, each_pair, is_true, lists_up_to, opposite, same_answer, some}
+use Rattle.vet_graph.specs.Decisions.{Answer, answer_of_both, all_three, each, each_pair, is_true, lists_up_to, opposite, same_answer, some}
 use Rattle.vet_graph.specs.DecisionsLaws.{All-lists_up_to, Contains-lists_up_to}
 use Rattle.vet_graph.specs.ListLaws.{AllPairs-map, Contains-map}
 
@@ -26,7 +26,7 @@ same_place (Some x) (Some y) = same_answer (λ e. ap (λ (w : VersionValue). Som
 
 pub leads : (at : Option VersionValue) (chain : List Step) (v : VersionValue) → Answer (Leads at chain v)
 leads at [] v = same_place at (Some v)
-leads at (s ∷ rest) v = both (same_place s.origin at) (leads (Some s.target) rest v)
+leads at (s ∷ rest) v = answer_of_both (same_place s.origin at) (leads (Some s.target) rest v)
 
 -- a chain has no more steps than the package
 length-le_from_chain : (steps : List Step) (c : ℕ) (v : VersionValue) (chain : List Step) → IsChain steps c v chain
@@ -72,7 +72,7 @@ some_chain steps c v P a =
       ((h.1.for_criterion, h.1.leads, h.1.once), h.2),
     ))
     (some (λ chain. IsChainTest c v chain × P chain)
-    (λ chain. both
+    (λ chain. answer_of_both
     (all_three (each (λ s. has c s.criteria ≡ true) (λ s. is_true (has c s.criteria) true) chain)
     (leads None chain v)
     (each_pair (λ s t. s.target ≢ t.target) (λ s t. opposite (same_or_other s.target t.target)) chain)) (a chain))
@@ -81,7 +81,7 @@ some_chain steps c v P a =
 pub conflicting : (steps : List Step) (condemned : Condemned) (c : ℕ) (v : VersionValue)
     → Answer (IsConflicting steps condemned c v)
 conflicting steps condemned c v =
-    both (is_true (condemned c v) true)
+    answer_of_both (is_true (condemned c v) true)
     (same_answer (λ h. (h.0, h.1)) (λ h. (h.0, h.1, tt)) (some_chain steps c v (λ _. Unit {0}) (λ _. inl tt)))
 
 pub some_clean_chain : (steps : List Step) (condemned : Condemned) (c : ℕ) (v : VersionValue) (P : List Step → Type 0)
@@ -89,7 +89,8 @@ pub some_clean_chain : (steps : List Step) (condemned : Condemned) (c : ℕ) (v 
 some_clean_chain steps condemned c v P a =
     same_answer (λ h. (h.0, h.1, h.2.0, h.2.1)) (λ h. (h.0, h.1, (h.2, h.3)))
     (some_chain steps c v (λ chain. IsClean condemned c chain × P chain)
-    (λ chain. both (each (λ s. condemned c s.target ≡ false) (λ s. is_true (condemned c s.target) false) chain)
+    (λ chain. answer_of_both
+        (each (λ s. condemned c s.target ≡ false) (λ s. is_true (condemned c s.target) false) chain)
     (a chain)))
 
 cons_injective : {X : Type 0} (x y : X) (xs ys : List X) → x ∷ xs ≡ y ∷ ys → (x ≡ y) × (xs ≡ ys)

@@ -16,13 +16,14 @@ pub same_answer : {P Q : Type 0} → (P → Q) → (Q → P) → Answer P → An
 same_answer f g (inl p) = inl (f p)
 same_answer f g (inr n) = inr (λ q. n (g q))
 
-pub both : {P Q : Type 0} → Answer P → Answer Q → Answer (P × Q)
-both (inl p) (inl q) = inl (p, q)
-both (inl p) (inr n) = inr (λ h. n h.1)
-both (inr n) a = inr (λ h. n h.0)
+pub answer_of_both : {P Q : Type 0} → Answer P → Answer Q → Answer (P × Q)
+answer_of_both (inl p) (inl q) = inl (p, q)
+answer_of_both (inl p) (inr n) = inr (λ h. n h.1)
+answer_of_both (inr n) a = inr (λ h. n h.0)
 
 pub all_three : {P Q R : Type 0} → Answer P → Answer Q → Answer R → Answer (P × Q × R)
-all_three a b c = same_answer (λ h. (h.0, h.1.0, h.1.1)) (λ h. (h.0, (h.1, h.2))) (both a (both b c))
+all_three a b c = same_answer (λ h. (h.0, h.1.0, h.1.1)) (λ h. (h.0, (h.1, h.2)))
+    (answer_of_both a (answer_of_both b c))
 
 pub opposite : {P : Type 0} → Answer P → Answer (P → ⊥)
 opposite (inl p) = inr (λ n. n p)
@@ -37,7 +38,7 @@ is_true false false = inl refl
 pub each : {X : Type 0} (P : X → Type 0) → ((x : X) → Answer (P x)) → (xs : List X) → Answer (All P xs)
 each P a [] = inl (All-nil P)
 each P a (x ∷ xs) = same_answer (λ h. All-cons P x xs h.0 h.1) (λ h. (All-head P x xs h, All-tail P x xs h))
-    (both (a x) (each P a xs))
+    (answer_of_both (a x) (each P a xs))
 
 some_more : {X : Type 0} (P : X → Type 0) (x : X) (xs : List X) → Answer (P x) → Answer ((y : X) × Contains xs y × P y)
     → Answer ((y : X) × Contains (x ∷ xs) y × P y)
@@ -55,7 +56,7 @@ pub each_pair : {X : Type 0} (R : X → X → Type 0) → ((x y : X) → Answer 
     → Answer (AllPairs R xs)
 each_pair R a [] = inl (λ i j d l m. absurd (omega arith))
 each_pair R a (x ∷ xs) = same_answer (λ h. AllPairs-cons R x xs h.0 h.1)
-    (λ h. (pairs_head R x xs h, pairs_tail R x xs h)) (both (each (R x) (a x) xs) (each_pair R a xs))
+    (λ h. (pairs_head R x xs h, pairs_tail R x xs h)) (answer_of_both (each (R x) (a x) xs) (each_pair R a xs))
 
 -- all lists of at most n of the elements
 unfoldable pub lists_up_to : {X : Type 0} → ℕ → List X → List (List X)

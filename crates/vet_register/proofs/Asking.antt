@@ -145,7 +145,7 @@ module _ {K : Type 0} (r : RegisterView K) (day : DayValue) (a : Action) where
   pub effect_is : (s : State) (e : Effect) → r.state ≡ s → edited e.edit s.held ≡ held_after s a
       → desk_edited e.desk s.desk ≡ desk_by s day a → e.number ≡ number_given s a → e.next_entry ≡ number_after s a
       → Fits e.edit (held_room r) → HoldsDesk e.desk (desk_room r) → IsSoundHeld (held_after s a) (number_after s a) →
-          IsEffect r day a e
+      IsEffect r day a e
   effect_is s e stays held desk number next fits holds sound =
       let same : s ≡ r.state = sym stays in
       record {
@@ -170,16 +170,21 @@ module _ {K : Type 0} (r : RegisterView K) (day : DayValue) (a : Action) where
   pub facts_effect : (s : State) (change : Edit) (number : Option ℕ) (next : ℕ) → r.state ≡ s → IsSound s → judged s
       day a ≡ Ok Accepted
       → IsGivenContent a → facts.edited change s.held.facts ≡ facts_after s a → policies_by a s.held.policies ≡
-          s.held.policies
+      s.held.policies
       → projects_by a s.held.projects ≡ s.held.projects → settings_by a s.held.settings ≡ s.held.settings → desk_by s
-          day a ≡ s.desk → number ≡ number_given s a → next ≡ number_after s a → facts.Fits change (held_room r).facts
+      day a ≡ s.desk → number ≡ number_given s a → next ≡ number_after s a → facts.Fits change (held_room r).facts
       → IsTable (facts_after s a).criteria → ArePublishers (facts_after s a).publishers
       → IsEffect r day a (record { edit = edit.Facts change; desk = None; number = number; next_entry = next })
   facts_effect s change number next stays sound told given becomes policies projects settings desk numbered follows
       fits is are =
       held_effect s (record { edit = edit.Facts change; desk = None; number = number; next_entry = next }) stays
-      (λ i. record { facts = becomes i; policies = sym policies i; projects = sym projects i; settings = sym settings
-          i }) refl desk numbered follows fits
+      (λ i. record {
+        facts = becomes i;
+        policies = sym policies i;
+        projects = sym projects i;
+        settings = sym settings
+            i;
+      }) refl desk numbered follows fits
       (sound_held s day a told sound given is are)
 
 -- ---- what was passed
@@ -195,7 +200,7 @@ set_passed s day c told =
     let p = passed s day (SetCriterion c) told in
     let l = then_told (set_limits s.held.facts.criteria c.name) (λ _. step_limit s) tt p.limits in
     ap (λ t. t >>= λ _. set_references s.held.facts.criteria c >>= λ _. set_rules c.name) l.0 ∙ ap
-        (λ t. t >>= λ _. set_rules c.name) p.references ∙ p.rules
+    (λ t. t >>= λ _. set_rules c.name) p.references ∙ p.rules
 
 -- so does the name of one that is removed
 pub remove_passed : (s : State) (day : DayValue) (n : List ℕ) → judged s day (RemoveCriterion n) ≡ Ok Accepted →
@@ -213,9 +218,11 @@ module _ (s : State) (day : DayValue) (name : List ℕ) (records : List Publishe
 
   -- publisher records that are set can be counted
   pub records_counted : records_total (with_records name records s.held.facts.publishers) < 2 ^ 64
-  records_counted = omega
-      (arith, ltb-false MOST_PUBLISHERS (records_total (with_records name records s.held.facts.publishers))
-          (not_refused _ (TooLarge limit.Publishers) limited))
+  records_counted = omega (
+    arith,
+    ltb-false MOST_PUBLISHERS (records_total (with_records name records s.held.facts.publishers))
+        (not_refused _ (TooLarge limit.Publishers) limited),
+  )
 
   -- they are sound
   pub records_sound : ArePublishers s.held.facts.publishers → Publishers.IsInOrder records → IsByName
@@ -227,7 +234,7 @@ module _ (s : State) (day : DayValue) (name : List ℕ) (records : List Publishe
   pub records_differ : records_of s.held.facts.publishers name ≡ [] → records ≡ [] → ⊥
   records_differ none no_new =
       differs (publishers_eq (records_of s.held.facts.publishers name) records)
-          ((publishers_eq-Decides _ _).1 (none ∙ sym no_new)) (passed s day (SetPublishers name records) told).held
+      ((publishers_eq-Decides _ _).1 (none ∙ sym no_new)) (passed s day (SetPublishers name records) told).held
     where
       nothing : Option (Option ℕ)
       nothing = None

@@ -55,12 +55,12 @@ module _ (s : State) (command : DeskCommand) where
   pub rules_left : desk_limits s.desk command ≡ Ok tt → step_before_rules s command ≡ Ok tt → desk_number s.desk
       command ≡ Ok tt
       → desk_references s.held.facts.criteria s.desk command ≡ Ok tt → asked_before s command ≡ desk_rules
-          (demanded s) s.desk command
+      (demanded s) s.desk command
   rules_left few step number references =
       let last = desk_rules (demanded s) s.desk command in
       let third = desk_references s.held.facts.criteria s.desk command in
       ap (λ t. (t >>= λ _. step_before_rules s command >>= λ _. desk_number s.desk command) >>= λ _. third >>= λ _.
-          last) few
+      last) few
       ∙ ap (λ t. (t >>= λ _. desk_number s.desk command) >>= λ _. third >>= λ _. last) step
       ∙ ap (λ t. t >>= λ _. third >>= λ _. last) number ∙ ap (λ t. t >>= λ _. last) references
 
@@ -70,7 +70,7 @@ module _ (s : State) (command : DeskCommand) where
       ap (λ b. held_or (cond b (Some None) None) (checked s day (Desk command))) new
       ∙ ap (λ t. t >>= λ _. Ok Accepted)
       (in_turn (limits s (Desk command)) (references s (Desk command)) (desk_rules (demanded s) s.desk command)
-          (limits_after_rules s command))
+      (limits_after_rules s command))
 
   -- what was asked before was passed: the limits after rules are left
   judged_after : (day : DayValue) → desk_held s.desk command ≡ false → asked_before s command ≡ Ok tt → judged s day
@@ -87,10 +87,10 @@ module _ (s : State) (command : DeskCommand) where
       → desk_verdict s.held.facts.criteria (demanded s) s.desk command ≡ Ok at_desk.Accepted
   desk_accepts new passed =
       let l = then_told (limits s (Desk command))
-          (λ _. references s (Desk command) >>= λ _. desk_rules (demanded s) s.desk command) tt passed in
+      (λ _. references s (Desk command) >>= λ _. desk_rules (demanded s) s.desk command) tt passed in
       let r = then_told (references s (Desk command)) (λ _. desk_rules (demanded s) s.desk command) tt l.1 in
       let few = then_told (desk_limits s.desk command)
-          (λ _. step_before_rules s command >>= λ _. desk_number s.desk command) tt l.0 in
+      (λ _. step_before_rules s command >>= λ _. desk_number s.desk command) tt l.0 in
       let number = then_told (step_before_rules s command) (λ _. desk_number s.desk command) tt few.1 in
       ap (λ b. already_or b (desk_checked s.held.facts.criteria (demanded s) s.desk command)) new
       ∙ ap (already_or false) (passes_desk s command few.0 number.1 r.0 r.1)
@@ -107,7 +107,7 @@ module _ {K : Type 0} (r : RegisterView K) (s : State) (day : DayValue) (command
       (refused_first (asked_before s command) (λ _. limits_after_rules s command) f h) in
       exactly r day (Desk command) s (judged s day (Desk command)) (Err f)
       (refused r day (Desk command) (judged s day (Desk command)) f
-          (subst (λ (t : Told Answer). Answers t (Err f)) (sym (judged_in_turn s command day new)) told))
+      (subst (λ (t : Told Answer). Answers t (Err f)) (sym (judged_in_turn s command day new)) told))
 
   module _ (passed : asked_before s command ≡ Ok tt) where
     -- or memory is wanting
@@ -121,7 +121,7 @@ module _ {K : Type 0} (r : RegisterView K) (s : State) (day : DayValue) (command
         by false is =
             no_memory r day (Desk command) (judged s day (Desk command)) f
             (accepted_after s command day new passed
-                (ap (λ b. cond b (entry_limits s (added_by s command)) (Ok tt)) is)) lacks
+            (ap (λ b. cond b (entry_limits s (added_by s command)) (Ok tt)) is)) lacks
 
     -- a refusal by the limits after rules
     pub refused_last : (f : Refusal) → (f ≡ NoMemory) ⊎ (limits_after_rules s command ≡ Err f) → Asks s r day
@@ -129,10 +129,10 @@ module _ {K : Type 0} (r : RegisterView K) (s : State) (day : DayValue) (command
     refused_last f (inl lacks) = wanting f lacks
     refused_last f (inr told) =
         let is : judged s day (Desk command) ≡ Err f = judged_after s command day new passed ∙ ap
-            (λ t. t >>= λ _. Ok Accepted) told in
+        (λ t. t >>= λ _. Ok Accepted) told in
         exactly r day (Desk command) s (judged s day (Desk command)) (Err f)
         (refused r day (Desk command) (judged s day (Desk command)) f
-            (answers_itself (judged s day (Desk command)) (Err f) (sym is)))
+        (answers_itself (judged s day (Desk command)) (Err f) (sym is)))
 
 some_mapped : {A B : Type 0} (f : A → B) (o : Option A) → is_some (option_map f o) ≡ is_some o
 some_mapped f None = refl
@@ -142,11 +142,11 @@ some_mapped f (Some x) = refl
 pub desk_effective : {K : Type 0} (r : RegisterView K) (s : State) (day : DayValue) (command : DeskCommand)
     (change : DeskChange) (e : Effect) → r.state ≡ s → IsSound s
     → judged s day (Desk command) ≡ Ok Accepted → IsDeskChange (desk_room r) day command change → IsDeskEffect r
-        command change e → IsEffect r day (Desk command) e
+    command change e → IsEffect r day (Desk command) e
 desk_effective r s day command change e stays sound told prepared h =
     let here : IsSound r.state = subst IsSound (sym stays) sound in
     let accepted : judged r.state day (Desk command) ≡ Ok Accepted = subst
-        (λ (t : State). judged t day (Desk command) ≡ Ok Accepted) (sym stays) told in
+    (λ (t : State). judged t day (Desk command) ≡ Ok Accepted) (sym stays) told in
     let made = added_by r.state command in
     let facts = r.state.held.facts in
     record {

@@ -62,8 +62,13 @@ start_is_sound law limit t l = record {
   desk = record {
     desk = record {
       members = record { by_name = λ i j x a b. absurd (omega arith); few = omega arith };
-      reviews = record { numbers_rise = λ i j x a b. absurd (omega arith); numbers_given = All-nil _; by_members =
-          All-nil _; few = omega arith };
+      reviews = record {
+        numbers_rise = λ i j x a b. absurd (omega arith);
+        numbers_given = All-nil _;
+        by_members =
+            All-nil _;
+        few = omega arith;
+      };
       next_number = omega arith;
     };
     known = All-nil _;

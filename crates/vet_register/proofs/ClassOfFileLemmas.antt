@@ -27,7 +27,7 @@ all_defined table word content e =
     let implied = least_undefined (map.contains_key table) content.criteria in
     let least = lesser (unknown_in (map.contains_key table) word) implied in
     (lesser-None (unknown_in (map.contains_key table) word) implied
-        (none_left (map.contains_key table) (λ (e : Entry). e.criteria) least content.entries e).0).1
+    (none_left (map.contains_key table) (λ (e : Entry). e.criteria) least content.entries e).0).1
 
 -- ---- what the names that are known tell
 
@@ -42,7 +42,7 @@ by_table has word content same = ap (λ k. unknown_name k word content) (λ i n.
 -- there are few criteria, and no name is unknown
 pub passed : (word : List ℕ) (content : AuditsContent) → checked word content ≡ Ok tt
     → (nat_lt MOST_CRITERIA (map.len (defined content.criteria)) ≡ false) ×
-        (unknown_name (map.contains_key (defined content.criteria)) word content ≡ None)
+    (unknown_name (map.contains_key (defined content.criteria)) word content ≡ None)
 passed word content e = elim (cases_Bool (nat_lt MOST_CRITERIA (map.len (defined content.criteria)))) [
   | inl many ↦ let e' = rw many at e in cc e'
   | inr few ↦ (few, all_known _ (let e' = rw few at e in e'))

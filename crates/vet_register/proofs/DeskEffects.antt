@@ -97,11 +97,11 @@ module _ (s : State) (day : DayValue) (h : IsSound s) where
   sound_desk (SetCriterion c) p =
       same_desk s _ _ h.desk (omega arith)
       (All-weaker (IsKnownTo criteria) (IsKnownTo _)
-          (λ (r : Review). λ k unclosed. stays_known criteria c r.criteria (k unclosed)) s.desk.reviews h.desk.known)
+      (λ (r : Review). λ k unclosed. stays_known criteria c r.criteria (k unclosed)) s.desk.reviews h.desk.known)
   sound_desk (RemoveCriterion n) p =
       same_desk s _ _ h.desk (omega arith)
       (unnamed_may_go criteria _ n s.desk.reviews (λ (names : NameSet). known_without criteria n names)
-          (unused s day n p.rules).reviews h.desk.known)
+      (unused s day n p.rules).reviews h.desk.known)
   sound_desk (AddEntry e) p = same_desk s _ _ h.desk (omega arith) h.desk.known
   sound_desk (DropEntry n) p = same_desk s _ _ h.desk (omega arith) h.desk.known
   sound_desk (SetPeer settings) p = same_desk s _ _ h.desk (omega arith) h.desk.known
@@ -115,13 +115,13 @@ module _ (s : State) (day : DayValue) (h : IsSound s) where
   sound_desk (ReplaceFiles f) p =
       same_desk s _ _ h.desk (omega arith)
       ((known_is_not_beyond (defined f.criteria) s.desk.reviews).0
-          (not_refused (are_open_beyond (defined f.criteria) s.desk.reviews) CriterionInUse p.rules))
+      (not_refused (are_open_beyond (defined f.criteria) s.desk.reviews) CriterionInUse p.rules))
   sound_desk (Desk command) p =
       let checked = (passed_at_desk s day command p).checked in
       let entry = entry_number s command in
       let later = number_after s (Desk command) in
       subst (λ (t : Criteria). IsSoundAtDesk t (desk_by s day (Desk command)) later)
-          (sym (same_criteria s.next_entry (added_by s command) s.held.facts)) (record {
+      (sym (same_criteria s.next_entry (added_by s command) s.held.facts)) (record {
         desk = stays_sound criteria (demanded s) s.desk day entry command checked h.desk.desk;
         known = stay_known criteria (demanded s) s.desk day entry command checked h.desk.known;
         entries_given = stay_given s.next_entry later s.desk day entry command (omega arith)

@@ -63,9 +63,9 @@ dropped_at n (h ∷ entries) rise l = elim (cases_Bool (has_number n h)) [
   | inl same ↦ rw same (sym (others_later n h entries same (AllPairs-head Rise h entries rise)))
   | inr other ↦
       (let place : position_or_len (has_number n) (h ∷ entries) ≡ suc (position_or_len (has_number n) entries) = rw
-          other (omega arith) in
+      other (omega arith) in
       let kept : filter (λ x. not (has_number n x)) (h ∷ entries) ≡ h ∷ filter (λ x. not (has_number n x)) entries =
-          rw other refl in
+      rw other refl in
       let rest = dropped_at n entries (AllPairs-tail Rise h entries rise) (omega (arith, l, place)) in
       ap (remove (h ∷ entries)) place ∙ remove_here h entries _ ∙ ap (λ es. h ∷ es) rest ∙ sym kept)
 ]
@@ -75,9 +75,9 @@ pub dropped : (n place : ℕ) (entries : List HeldEntry) → AllPairs Rise entri
     → remove entries place ≡ filter (λ h. not (has_number n h)) entries
 dropped n place entries rise e =
     let at = some_place (has_number n) (ltb (position_or_len (has_number n) entries) (length entries))
-        (position_or_len (has_number n) entries) place e in
+    (position_or_len (has_number n) entries) place e in
     ap (remove entries) (sym at.1) ∙ dropped_at n entries rise
-        (ltb-true (position_or_len (has_number n) entries) (length entries) at.0)
+    (ltb-true (position_or_len (has_number n) entries) (length entries) at.0)
 
 -- ---- what a command that drops an entry is told
 
@@ -93,7 +93,7 @@ unplaced entries n at = sym (some-position (has_number n) entries) ∙ ap is_som
 pub place_within : (entries : List HeldEntry) (n place : ℕ) → place_of entries n ≡ Some place → place < length entries
 place_within entries n place e =
     let at = some_place (has_number n) (ltb (position_or_len (has_number n) entries) (length entries))
-        (position_or_len (has_number n) entries) place e in
+    (position_or_len (has_number n) entries) place e in
     subst (λ k. k < length entries) at.1 (ltb-true (position_or_len (has_number n) entries) (length entries) at.0)
 
 pub drop_passes : (s : State) (day : DayValue) (n place : ℕ) → step_limit s ≡ Ok tt → place_of s.held.facts.entries n
@@ -105,7 +105,7 @@ pub drop_refused : (s : State) (day : DayValue) (n : ℕ) → place_of s.held.fa
 drop_refused s day n at told =
     let r = then_told (step_limit s) (λ _. references s (DropEntry n) >>= λ _. rules s day (DropEntry n)) tt told in
     let held = not_refused (not (list_any (has_number n) s.held.facts.entries)) UnknownEntry
-        (then_told (references s (DropEntry n)) (λ _. rules s day (DropEntry n)) tt r.1).0 in
+    (then_told (references s (DropEntry n)) (λ _. rules s day (DropEntry n)) tt r.1).0 in
     false≢true (sym held ∙ ap not (unplaced s.held.facts.entries n at))
 
 -- what is answered without a refusal passed

@@ -121,7 +121,7 @@ passes_desk s command limits number references rules =
     let last = desk_rules (demanded s) s.desk command in
     let third = desk_references s.held.facts.criteria s.desk command in
     ap (λ t. t >>= λ _. desk_number s.desk command >>= λ _. third >>= λ _. last) limits ∙ ap
-        (λ t. t >>= λ _. third >>= λ _. last) number
+    (λ t. t >>= λ _. third >>= λ _. last) number
     ∙ ap (λ t. t >>= λ _. last) references ∙ rules
 
 -- what the desk asks, a step and, where an entry is added, room and a number for it
@@ -240,10 +240,10 @@ one_more n e entries h other =
       from = All-append (IsFrom Own) entries (new ∷ []) h.from (All-cons (IsFrom Own) new [] refl (All-nil _));
       different = AllPairs-append Differ entries (new ∷ []) h.different (AllPairs-single Differ new)
           (All-weaker (λ x. x.entry ≢ own e) (λ x. All (Differ x) (new ∷ []))
-              (λ x d. All-cons (Differ x) new [] d (All-nil _)) entries other);
+          (λ x d. All-cons (Differ x) new [] d (All-nil _)) entries other);
       numbers_rise = AllPairs-append Rise entries (new ∷ []) h.numbers_rise (AllPairs-single Rise new)
           (All-weaker (IsGiven n) (λ x. All (Rise x) (new ∷ [])) (λ x d. All-cons (Rise x) new [] d (All-nil _))
-              entries h.numbers_given);
+          entries h.numbers_given);
       numbers_given = All-append (IsGiven (n + 1)) entries (new ∷ [])
           (All-weaker (IsGiven n) (IsGiven (n + 1)) (λ x p. omega (arith, p)) entries h.numbers_given)
           (All-cons (IsGiven (n + 1)) new [] (omega arith) (All-nil _));
@@ -270,13 +270,13 @@ module _ (s : State) where
 
   added_beside : (o : Option Entry) → PeersSound s.held.facts.entries s.held.facts.peers s.next_entry
       → PeersSound (with_entry s.next_entry o s.held.facts).entries (with_entry s.next_entry o s.held.facts).peers
-          (s.next_entry + option_map_or (λ _. 1) o 0)
+      (s.next_entry + option_map_or (λ _. 1) o 0)
   added_beside None h = own_changed s.held.facts.entries s.held.facts.entries s.held.facts.peers s.next_entry _
       (omega arith) (λ x i. inl i) h
   added_beside (Some e) h =
       let new : HeldEntry = record { number = s.next_entry; entry = own e } in
       own_changed s.held.facts.entries (s.held.facts.entries ++ new ∷ []) s.held.facts.peers s.next_entry
-          (s.next_entry + 1) (omega arith)
+      (s.next_entry + 1) (omega arith)
       (λ x i. elim (in_append s.held.facts.entries (new ∷ []) x i) [
         | inl held ↦ inl held
         | inr last ↦ elim last [
@@ -309,12 +309,12 @@ entries_after s day (RemoveCriterion n) p given h = later_entries Own s.held.fac
 entries_after s day (AddEntry e) p given h =
     let none = none_under (number_of s.held.facts.entries e) p.held in
     added_entries s (Some e)
-        (λ x same. (let is : e ≡ x = cc same in subst (λ (y : Entry). number_of s.held.facts.entries y ≡ None) is
-            none)) h
+    (λ x same. (let is : e ≡ x = cc same in subst (λ (y : Entry). number_of s.held.facts.entries y ≡ None) is
+    none)) h
 entries_after s day (DropEntry n) p given h =
     let keeps : HeldEntry → Bool = λ h. not (has_number n h) in
     later_entries Own (filter keeps s.held.facts.entries) s.next_entry _ (omega arith)
-        (same_entries s.held.facts.entries s.next_entry keeps h)
+    (same_entries s.held.facts.entries s.next_entry keeps h)
 entries_after s day (SetPeer settings) p given h = later_entries Own s.held.facts.entries s.next_entry _ (omega arith) h
 entries_after s day (DropPeer n) p given h = later_entries Own s.held.facts.entries s.next_entry _ (omega arith) h
 entries_after s day (ImportPeer n content) p given h = later_entries Own s.held.facts.entries s.next_entry _
@@ -342,24 +342,24 @@ stay s m above h = own_changed s.held.facts.entries s.held.facts.entries s.held.
 peers_after : (s : State) (day : DayValue) (a : Action) → Passed s day a → AreEntries Own s.held.facts.entries
     s.next_entry → IsGivenContent a
     → PeersSound s.held.facts.entries s.held.facts.peers s.next_entry → PeersSound (facts_after s a).entries
-        (facts_after s a).peers (number_after s a)
+    (facts_after s a).peers (number_after s a)
 peers_after s day (SetCriterion c) p own given h = stay s _ (omega arith) h
 peers_after s day (RemoveCriterion n) p own given h = stay s _ (omega arith) h
 peers_after s day (AddEntry e) p mine given h = added_beside s (Some e) h
 peers_after s day (DropEntry n) p own given h =
     let keeps : HeldEntry → Bool = λ h. not (has_number n h) in
     own_changed s.held.facts.entries (filter keeps s.held.facts.entries) s.held.facts.peers s.next_entry _
-        (omega arith) (λ x i. inl (in_filter keeps s.held.facts.entries x i).0) h
+    (omega arith) (λ x i. inl (in_filter keeps s.held.facts.entries x i).0) h
 peers_after s day (SetPeer settings) p own given h =
     let l = then_told (peer_limit s settings.name) (λ _. step_limit s) tt p.limits in
     settings_set s.held.facts.entries s.held.facts.peers settings s.next_entry h _ (omega arith)
     (not_refused (is_none (peer_of s.held.facts.peers settings.name) && nat_lt MOST_PEERS
-        (length s.held.facts.peers + 1)) (TooLarge limit.Peers) l.0)
+    (length s.held.facts.peers + 1)) (TooLarge limit.Peers) l.0)
 peers_after s day (DropPeer n) p own given h = dropped_peer s.held.facts.entries s.held.facts.peers n s.next_entry _
     (omega arith) h
 peers_after s day (ImportPeer n content) p own given h =
     imported_peer s.held.facts.entries s.held.facts.peers n s.next_entry content h own.numbers_given given
-        (peer_of s.held.facts.peers n) refl
+    (peer_of s.held.facts.peers n) refl
     (not_refused (is_none (peer_of s.held.facts.peers n)) UnknownPeer p.references)
 peers_after s day (SetPublishers n records) p own given h = stay s _ (omega arith) h
 peers_after s day (SetPolicy policy) p own given h = stay s _ (omega arith) h
@@ -376,21 +376,21 @@ peers_after s day ClosePeriod p own given h = stay s _ (omega arith) h
 import_counted : (s : State) (name : List ℕ) (content : PeerContentValue) → PeersSound s.held.facts.entries
     s.held.facts.peers s.next_entry
     → IsPeerContent content.criteria content.entries → length s.held.facts.entries + entries_of_peers
-        (without_peer name s.held.facts.peers) + length content.entries ≤ MOST_ENTRIES
+    (without_peer name s.held.facts.peers) + length content.entries ≤ MOST_ENTRIES
     → (o : Option HeldPeer) → peer_of s.held.facts.peers name ≡ o → is_none o ≡ false
     → length s.held.facts.entries + entries_of_peers
-        (with_content_of o (imported name s.next_entry content (holding_or_none o)) s.held.facts.peers) ≤ MOST_ENTRIES
+    (with_content_of o (imported name s.next_entry content (holding_or_none o)) s.held.facts.peers) ≤ MOST_ENTRIES
 import_counted s name content h is few None e some = absurd (false≢true (sym some))
 import_counted s name content h is few (Some x) e some =
     let peers = s.held.facts.peers in
     let same : x.settings.name ≡ name = found_name peers name x e in
     let new : HeldPeer = record x { content = imported name s.next_entry content x.content } in
     let different : AllDiffer x.content.entries =
-        (in_all (IsSoundPeer s.next_entry) peers h.are.sound x (found_in peers name x e)).entries.different in
+    (in_all (IsSoundPeer s.next_entry) peers h.are.sound x (found_in peers name x e)).entries.different in
     let count : length new.content.entries ≡ length content.entries =
-        (holds_each_once name s.next_entry x.content.entries content is different).1 in
+    (holds_each_once name s.next_entry x.content.entries content is different).1 in
     let held : length (holding_or_none (peer_of peers name)).entries ≡ length x.content.entries = ap
-        (λ o. length (holding_or_none o).entries) e in
+    (λ o. length (holding_or_none o).entries) e in
     let at : length (holding_or_none (peer_of peers x.settings.name)).entries ≡ length x.content.entries =
     ap (λ o. length (holding_or_none o).entries) (ap (peer_of peers) same ∙ e) in
     omega (arith, few, count, held, at, entries_with peers new h.are.by_name, entries_without peers name h.are.by_name)
@@ -405,7 +405,7 @@ counted_after s day (DropEntry n) p own given h few = omega
     (arith, few, filter-fewer (λ h. not (has_number n h)) s.held.facts.entries)
 counted_after s day (SetPeer settings) p own given h few =
     let new : HeldPeer = record
-        { settings = settings; content = holding_or_none (peer_of s.held.facts.peers settings.name) } in
+    { settings = settings; content = holding_or_none (peer_of s.held.facts.peers settings.name) } in
     omega (arith, few, entries_with s.held.facts.peers new h.are.by_name)
 counted_after s day (DropPeer n) p own given h few = omega
     (arith, few, entries_without s.held.facts.peers n h.are.by_name)
@@ -429,11 +429,11 @@ pub sound_effect : (s : State) (day : DayValue) (a : Action) → judged s day a 
     s.next_entry
     → AreKnownTo s.held.facts.criteria s.desk.reviews → IsGivenContent a
     → IsTable (facts_after s a).criteria → ArePublishers (facts_after s a).publishers → AreSound (facts_after s a)
-        (number_after s a)
+    (number_after s a)
 sound_effect s day a e h at given is are =
     let p = passed s day a e in
     let now : PeersSound s.held.facts.entries s.held.facts.peers s.next_entry = record
-        { are = h.peers; apart = h.apart } in
+    { are = h.peers; apart = h.apart } in
     let after = peers_after s day a p h.entries given now in
     record {
       criteria = is;

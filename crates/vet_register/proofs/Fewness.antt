@@ -22,7 +22,7 @@ module _ {K E : Type 0} (cmp : K → K → Ordering) (total : IsTotalOrder cmp)
   -- where the key is held, or there is room below the limit, one more is within it
   pub few_with : (most : ℕ) (items : List E) (e : E) → IsByKey cmp key items → length items ≤ most
       → (is_none (item_of cmp key items (key e)) && nat_lt most (length items + 1)) ≡ false → length
-          (with_item cmp key items e) ≤ most
+      (with_item cmp key items e) ≤ most
   few_with most items e up few limit = by (item_of cmp key items (key e)) (sum_with cmp total only key one items e up)
       limit
     where

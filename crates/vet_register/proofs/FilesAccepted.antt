@@ -55,8 +55,12 @@ module _ (peers : List HeldPeer) (contents : List ImportedPeer) where
       (new_of_peer peers contents) ps
   new_among [] = refl
   new_among (p ∷ ps) =
-      omega (arith, sum_by-cons new_count (compared_peer peers contents p) (map (compared_peer peers contents) ps),
-          new_among ps, sum_by-cons (new_of_peer peers contents) p ps)
+      omega (
+        arith,
+        sum_by-cons new_count (compared_peer peers contents p) (map (compared_peer peers contents) ps),
+        new_among ps,
+        sum_by-cons (new_of_peer peers contents) p ps,
+      )
 
   -- settings and content are held just where the settings are, and nothing changes by the content
   one_held : (p : PeerSettings) → (has_settings peers p && (compared_peer peers contents p).is_same) ≡ has_peer peers
@@ -65,19 +69,19 @@ module _ (peers : List HeldPeer) (contents : List ImportedPeer) where
     where
       by : (o : Option HeldPeer) →
           (option_map_or (λ (x : HeldPeer). settings_eq x.settings p) o false && same_content p.name
-              (holding_or_none o) (content_for contents p.name))
+          (holding_or_none o) (content_for contents p.name))
           ≡ (option_map_or (λ (x : HeldPeer). settings_eq x.settings p) o false && option_map_or
-              (λ (x : HeldPeer). same_content p.name x.content (content_for contents p.name)) o false)
+          (λ (x : HeldPeer). same_content p.name x.content (content_for contents p.name)) o false)
       by None = refl
       by (Some x) = refl
 
   pub each_held : (ps : List PeerSettings)
       → (list_all (has_settings peers) ps && list_all (λ (c : ComparisonValue). c.is_same)
-          (map (compared_peer peers contents) ps)) ≡ list_all (has_peer peers contents) ps
+      (map (compared_peer peers contents) ps)) ≡ list_all (has_peer peers contents) ps
   each_held [] = refl
   each_held (p ∷ ps) =
       both (has_settings peers p) (list_all (has_settings peers) ps) (compared_peer peers contents p).is_same
-          (list_all (λ (c : ComparisonValue). c.is_same) (map (compared_peer peers contents) ps))
+      (list_all (λ (c : ComparisonValue). c.is_same) (map (compared_peer peers contents) ps))
       ∙ (λ i. one_held p i && each_held ps i)
     where
       both : (a b c d : Bool) → ((a && b) && (c && d)) ≡ ((a && c) && (b && d))
@@ -91,8 +95,13 @@ pub files_new : (s : State) (f : FilesValue) (c : FilesComparison) → IsCompare
     → c.own.new_count + sum_by (λ (v : ComparisonValue). v.new_count) c.peers.items ≡ new_of_files s.held.facts f
 files_new s f c h =
     let facts = s.held.facts in
-    omega (arith, ap (λ (v : ComparisonValue). v.new_count) h.own, ap (sum_by (λ (v : ComparisonValue). v.new_count))
-        h.peers, new_among facts.peers f.contents f.settings)
+    omega (
+      arith,
+      ap (λ (v : ComparisonValue). v.new_count) h.own,
+      ap (sum_by (λ (v : ComparisonValue). v.new_count))
+          h.peers,
+      new_among facts.peers f.contents f.settings,
+    )
 
 -- and there are numbers for them
 pub files_numbered : (s : State) (day : DayValue) (f : FilesValue) (c : FilesComparison) → AreAccepted s day f c
@@ -140,7 +149,7 @@ pub judged_by : (s : State) (day : DayValue) (f : FilesValue) → has_files s.he
     → judged s day (ReplaceFiles f) ≡ (checked s day (ReplaceFiles f) >>= λ _. Ok Accepted)
 judged_by s day f none = ap
     (λ b. held_or (cond b (Some None) (let free : Option (Option ℕ) = None in free)) (checked s day (ReplaceFiles f)))
-        none
+    none
 
 pub refused_files : (s : State) (day : DayValue) (f : FilesValue) (e : Refusal) → has_files s.held f ≡ false
     → Gives (λ u. u) (checked s day (ReplaceFiles f)) (Err e) → (e ≡ NoMemory) ⊎ (judged s day (ReplaceFiles f) ≡ Err e)
@@ -157,6 +166,10 @@ no_more_new facts f =
       sum_by-le-sum_by (new_of_peer facts.peers f.contents) (count_of_peer f.contents) f.settings (λ p.
           (let held = (held_of_peer facts.peers p).entries in
           let entries = (content_for f.contents p.name).entries in
-          omega (arith, filter-fewer (is_new held) (as_peers p.name entries), length-map entries
-              (of_source (Peer p.name))))),
+          omega (
+            arith,
+            filter-fewer (is_new held) (as_peers p.name entries),
+            length-map entries
+                (of_source (Peer p.name)),
+          ))),
     )

@@ -41,9 +41,10 @@ peer_before peers next are p = by (peer_of peers p.name) refl
         All (IsGiven next) (holding_or_none o).entries
     by None e = (All-nil (IsFrom (Peer p.name)), All-nil (IsGiven next))
     by (Some x) e =
-        let entries = (found_sound peers p.name next x are e).entries in
-        (subst (λ name. All (IsFrom (Peer name)) x.content.entries) (found_name peers p.name x e) entries.from,
-            entries.numbers_given)
+        let entries = (found_sound peers p.name next x are e).entries in (
+          subst (λ name. All (IsFrom (Peer name)) x.content.entries) (found_name peers p.name x e) entries.from,
+          entries.numbers_given,
+        )
 
 -- a reader can give what the imports file says of a peer
 pub content_readable : (f : FilesValue) → IsFiles f → (name : List ℕ) → IsPeerContent
@@ -69,7 +70,7 @@ both_apart k m hs xs is ys from_xs from_ys apart given below =
 
 pub files_entries : (s : State) (f : FilesValue) → IsFiles f → AreEntries Own s.held.facts.entries s.next_entry
     → AreEntries Own (entries_after Own s.next_entry s.held.facts.entries f.entries)
-        (s.next_entry + new_of_files s.held.facts f)
+    (s.next_entry + new_of_files s.held.facts f)
 files_entries s f is h =
     let own = s.held.facts.entries in
     let end = s.next_entry + new_own s.held.facts f in
@@ -89,7 +90,7 @@ files_entries s f is h =
 module _ (own : List HeldEntry) (peers : List HeldPeer) (next : ℕ) (h : PeersSound own peers next)
     (contents : List ImportedPeer)
     (readable : (name : List ℕ) → IsPeerContent (content_for contents name).criteria
-        (content_for contents name).entries) where
+    (content_for contents name).entries) where
   abbrev before : PeerSettings → List HeldEntry
   before p = (held_of_peer peers p).entries
 
@@ -119,7 +120,7 @@ module _ (own : List HeldEntry) (peers : List HeldPeer) (next : ℕ) (h : PeersS
   one_sound k above p =
       let x = set_to own peers p next h (peer_of peers p.name) in
       imported_sound k x (content_for contents p.name) (readable p.name)
-          (later_peer next k above x (set_sound own peers p next h (peer_of peers p.name) refl))
+      (later_peer next k above x (set_sound own peers p next h (peer_of peers p.name) refl))
 
   each_sound : (k : ℕ) → next ≤ k → (ps : List PeerSettings) → All (IsSoundPeer (k + sum_by fresh ps)) (after k ps)
   each_sound k above [] = All-nil _
@@ -130,7 +131,7 @@ module _ (own : List HeldEntry) (peers : List HeldPeer) (next : ℕ) (h : PeersS
       All-cons (IsSoundPeer end) (peer_after k peers contents p) (after j ps)
       (later_peer j end (omega (arith, sum)) (peer_after k peers contents p) (one_sound k above p))
       (All-weaker (IsSoundPeer (j + sum_by fresh ps)) (IsSoundPeer end)
-          (later_peer (j + sum_by fresh ps) end (omega (arith, sum))) (after j ps)
+      (later_peer (j + sum_by fresh ps) end (omega (arith, sum))) (after j ps)
       (each_sound j (omega (arith, above)) ps))
 
   -- each has settings that are given, and entries that were held under them, or have new numbers
@@ -166,7 +167,7 @@ module _ (own : List HeldEntry) (peers : List HeldPeer) (next : ℕ) (h : PeersS
       both_apart k (k + fresh p) (before p) (theirs (peer_after k peers contents p)) (before q.settings) (theirs q)
       (number_kept p.name k (before p) (content_for contents p.name).entries) from.1
       (before_apart p q.settings
-          (other_names p.name q.settings.name (in_all (Before p) ps (pairs_head Before p ps up) q.settings from.0)))
+      (other_names p.name q.settings.name (in_all (Before p) ps (pairs_head Before p ps up) q.settings from.0)))
       (before_given k above q.settings) (one_sound k above p).entries.numbers_given
 
   each_apart : (k : ℕ) → next ≤ k → (ps : List PeerSettings) → IsByKey R settings_name ps → AllPairs ShareNone
@@ -177,10 +178,10 @@ module _ (own : List HeldEntry) (peers : List HeldPeer) (next : ℕ) (h : PeersS
       let rest = after (k + fresh p) ps in
       AllPairs-cons ShareNone first (map theirs rest)
       (all_in (ShareNone first) (map theirs rest)
-          (λ ys i. (let m = in_map theirs rest ys i in subst (ShareNone first) (sym m.1.1)
-              (one_apart k above p ps up m.0 m.1.0))))
+      (λ ys i. (let m = in_map theirs rest ys i in subst (ShareNone first) (sym m.1.1)
+      (one_apart k above p ps up m.0 m.1.0))))
       (each_apart (k + fresh p) (omega (arith, above)) ps
-          (pairs_tail (λ (a b : PeerSettings). R a.name b.name ≡ Less) p ps up))
+      (pairs_tail (λ (a b : PeerSettings). R a.name b.name ≡ Less) p ps up))
 
   as_many : (k : ℕ) (ps : List PeerSettings) → length (after k ps) ≡ length ps
   as_many k [] = refl
@@ -211,13 +212,13 @@ module _ (own : List HeldEntry) (peers : List HeldPeer) (next : ℕ) (h : PeersS
   own_and_each k above ps mine from below q i =
       both_apart next k own mine (before q.settings) (theirs q) from (each_from k ps q i).1
       (set_from_own own peers q.settings next h (peer_of peers q.settings.name) refl)
-          (before_given next (omega arith) q.settings) below
+      (before_given next (omega arith) q.settings) below
 
 pub files_peers : (s : State) (f : FilesValue) → IsFiles f → AreEntries Own s.held.facts.entries s.next_entry →
     PeersSound s.held.facts.entries s.held.facts.peers s.next_entry
     → length f.settings ≤ MOST_PEERS
     → PeersSound (facts_of_files s.next_entry f s.held.facts).entries
-        (facts_of_files s.next_entry f s.held.facts).peers (s.next_entry + new_of_files s.held.facts f)
+    (facts_of_files s.next_entry f s.held.facts).peers (s.next_entry + new_of_files s.held.facts f)
 files_peers s f is mine h few =
     let facts = s.held.facts in
     let next = s.next_entry in
@@ -241,7 +242,7 @@ files_peers s f is mine h few =
           subst (ShareNone own_after) (sym m.1.1)
           (own_and_each facts.entries facts.peers next h f.contents readable k above f.settings own_after
           (entry_keeps_number Own next facts.entries f.entries)
-              (entries_keep_order Own next facts.entries f.entries mine.numbers_rise mine.numbers_given).1 m.0 m.1.0))))
+          (entries_keep_order Own next facts.entries f.entries mine.numbers_rise mine.numbers_given).1 m.0 m.1.0))))
           (each_apart facts.entries facts.peers next h f.contents readable k above f.settings is.settings_by_name);
     }
 

@@ -28,13 +28,13 @@ module _ (peers : List HeldPeer) (contents : List ImportedPeer) where
   -- one peer more is numbered behind those before it
   after_push : (next : ℕ) (before : List PeerSettings) (p : PeerSettings)
       → after next (before ++ p ∷ []) ≡ after next before ++ peer_after (next + sum_by fresh before) peers contents p
-          ∷ []
+      ∷ []
   after_push next [] p = ap (λ k. peer_after k peers contents p ∷ []) (omega arith)
   after_push next (q ∷ before) p =
       ap (λ rest. peer_after next peers contents q ∷ rest)
       (after_push (next + fresh q) before p
       ∙ ap (λ k. after (next + fresh q) before ++ peer_after k peers contents p ∷ [])
-          (omega (arith, sum_by-cons fresh q before)))
+      (omega (arith, sum_by-cons fresh q before)))
 
   -- the peers after, up to one place more
   pub after_more : (next k : ℕ) (settings : List PeerSettings) (i : ℕ) (p : PeerSettings) → i < length settings → p ≡
@@ -52,7 +52,7 @@ module _ (peers : List HeldPeer) (contents : List ImportedPeer) where
       → sum_by fresh (take (i + 1) settings) ≡ sum_by fresh (take i settings) + fresh p
   new_more settings i p l at =
       ap (sum_by fresh) (take_more settings i p l ∙ ap (λ q. take i settings ++ q ∷ []) (sym at)) ∙ sum_by_push fresh
-          (take i settings) p
+      (take i settings) p
 
   -- no more are new up to a place than there are
   pub new_within : (settings : List PeerSettings) (i : ℕ) → sum_by fresh (take i settings) ≤ sum_by fresh settings
@@ -62,7 +62,7 @@ module _ (peers : List HeldPeer) (contents : List ImportedPeer) where
   module _ (settings given : List PeerSettings) (all : settings ≡ given) (found : List ComparisonValue)
       (of_all : found ≡ map (compared_peer peers contents) given)
       (i : ℕ) (l : i < length settings) (p : PeerSettings) (at : p ≡ get_or settings i p) (c : ComparisonValue)
-          (here : c ≡ get_or found i c) where
+      (here : c ≡ get_or found i c) where
     -- the comparison is that of the peer there
     pub compared_at : c ≡ compared_peer peers contents p
     compared_at =
@@ -77,8 +77,16 @@ module _ (peers : List HeldPeer) (contents : List ImportedPeer) where
     pub numbers_at : (first number end : ℕ) → number ≡ first + sum_by fresh (take i settings) → first + sum_by fresh
         given < end → number + c.new_count < end
     numbers_at first number end is fits =
-        omega (arith, count_at, is, fits, new_more settings i p l at, new_within settings (i + 1), ap (sum_by fresh)
-            all)
+        omega (
+          arith,
+          count_at,
+          is,
+          fits,
+          new_more settings i p l at,
+          new_within settings (i + 1),
+          ap (sum_by fresh)
+              all,
+        )
 
   -- a name that comes before those of settings comes before those of the peers after
   comes_before : (name : List ℕ) (next : ℕ) (settings : List PeerSettings) → All
@@ -87,7 +95,7 @@ module _ (peers : List HeldPeer) (contents : List ImportedPeer) where
   comes_before name next [] h = All-nil _
   comes_before name next (p ∷ rest) h =
       All-cons (λ (q : HeldPeer). R name (peer_name q) ≡ Less) (peer_after next peers contents p)
-          (after (next + fresh p) rest)
+      (after (next + fresh p) rest)
       (All-head (λ q. R name (settings_name q) ≡ Less) p rest h)
       (comes_before name (next + fresh p) rest (All-tail (λ q. R name (settings_name q) ≡ Less) p rest h))
 
@@ -97,11 +105,11 @@ module _ (peers : List HeldPeer) (contents : List ImportedPeer) where
   after_by_name next [] up = pairs_none (λ (a b : HeldPeer). R (peer_name a) (peer_name b) ≡ Less)
   after_by_name next (p ∷ rest) up =
       AllPairs-cons (λ (a b : HeldPeer). R (peer_name a) (peer_name b) ≡ Less) (peer_after next peers contents p)
-          (after (next + fresh p) rest)
+      (after (next + fresh p) rest)
       (comes_before (settings_name p) (next + fresh p) rest
-          (AllPairs-head (λ a b. R (settings_name a) (settings_name b) ≡ Less) p rest up))
+      (AllPairs-head (λ a b. R (settings_name a) (settings_name b) ≡ Less) p rest up))
       (after_by_name (next + fresh p) rest
-          (AllPairs-tail (λ a b. R (settings_name a) (settings_name b) ≡ Less) p rest up))
+      (AllPairs-tail (λ a b. R (settings_name a) (settings_name b) ≡ Less) p rest up))
 
 -- the settings at a place, whatever else would stand there
 pub settings_at : (settings : List PeerSettings) (i : ℕ) (p q : PeerSettings) → i < length settings → p ≡ get_or

@@ -70,13 +70,13 @@ module _ (s : State) (f : FilesValue) where
   files_fit h =
       let first = then_told (counted (defined f.criteria)) (λ _. files_limits s f) tt h in
       let peers = then_told (refuse_if (nat_lt MOST_PEERS (length f.settings)) (TooLarge limit.Peers))
-          (λ _. of_entries) tt first.1 in
+      (λ _. of_entries) tt first.1 in
       let entries = then_told (entry_limit (entries_of_files f)) (λ _. of_publishers) tt peers.1 in
       let records = then_told
-          (refuse_if (nat_lt MOST_PUBLISHERS (records_total f.publishers)) (TooLarge limit.Publishers))
-              (λ _. of_policies) tt entries.1 in
+      (refuse_if (nat_lt MOST_PUBLISHERS (records_total f.publishers)) (TooLarge limit.Publishers))
+      (λ _. of_policies) tt entries.1 in
       let policies = then_told (refuse_if (nat_lt MOST_POLICIES (length f.policies)) (TooLarge limit.Policies))
-          (λ _. of_number) tt records.1 in
+      (λ _. of_number) tt records.1 in
       let step = then_told (step_limit s) (λ _. number_limit s (new_of_files s.held.facts f)) tt policies.1 in
       record {
         criteria = first.0;
@@ -108,11 +108,11 @@ pub files_know : (f : FilesValue) → files_references f ≡ Ok tt → FilesKnow
 files_know f h =
     let has = map.contains_key (defined f.criteria) in
     let none = all_known (unknown_of_files has f)
-        (then_told (known (unknown_of_files has f)) (λ _. refuse_if (not (each_is_set f)) UnknownPeer) tt h).0 in
+    (then_told (known (unknown_of_files has f)) (λ _. refuse_if (not (each_is_set f)) UnknownPeer) tt h).0 in
     let implied = least_undefined has f.criteria in
     let own = unknown_of_entries has implied f.entries in
     let all = none_left has (λ (p : PeerSettings). targets p.map) (unknown_of_policies has own f.policies) f.settings
-        none in
+    none in
     let policies = none_left has (λ (k : KeyedPolicy). names_in k.policy) own f.policies all.0 in
     let entries = none_left has (λ (e : Entry). e.criteria) implied f.entries policies.0 in
     record { implied = entries.0; own = entries.1; policies = policies.1; targets = all.1 }
@@ -124,13 +124,13 @@ files_table f is few know = table_of f.criteria (few_counted (defined f.criteria
 
 targets_stay : (t : Criteria) (peers : List HeldPeer) (contents : List ImportedPeer) (k : ℕ) (ps : List PeerSettings)
     → All (λ (p : PeerSettings). least_unknown t (targets p.map) ≡ None) ps → All (HasKnownTargets t)
-        (peers_after k peers contents ps)
+    (peers_after k peers contents ps)
 targets_stay t peers contents k [] h = All-nil (HasKnownTargets t)
 targets_stay t peers contents k (p ∷ ps) h =
     let IsKnown : PeerSettings → Type 0 = λ p. least_unknown t (targets p.map) ≡ None in
     let next = k + new_of_peer peers contents p in
     All-cons (HasKnownTargets t) (peer_after k peers contents p) (peers_after next peers contents ps)
-        (All-head IsKnown p ps h)
+    (All-head IsKnown p ps h)
     (targets_stay t peers contents next ps (All-tail IsKnown p ps h))
 
 -- what is named is known after
@@ -143,7 +143,7 @@ files_known f know next facts =
           (λ h taken.
           (let e = in_map (of_source Own) f.entries h.entry taken.0 in
           ap (λ (x : Entry). least_unknown t x.criteria) e.1.1 ∙ in_all
-              (λ (e : Entry). least_unknown t e.criteria ≡ None) f.entries know.own e.0 e.1.0))
+          (λ (e : Entry). least_unknown t e.criteria ≡ None) f.entries know.own e.0 e.1.0))
           (entries_after Own next facts.entries f.entries) (entries_are_taken Own next facts.entries f.entries);
       targets = targets_stay t facts.peers f.contents _ f.settings know.targets;
     }

@@ -28,17 +28,17 @@ not_true false h = refl
 pub none_built_in : (criteria : Criteria) → All (λ c. is_built_in c.name ≡ false) (further criteria)
 none_built_in criteria =
     all_in (λ c. is_built_in c.name ≡ false) (further criteria)
-        (λ c i. not_true (is_built_in c.name) (in_filter is_further (table.values criteria) c i).1)
+    (λ c i. not_true (is_built_in c.name) (in_filter is_further (table.values criteria) c i).1)
 
 -- what is found at one name more comes behind what was found before
 pub found_further : (at : List ℕ → Option Criterion) (names : List (List ℕ)) (i : ℕ) (name : List ℕ) → i < length
     names → name ≡ get_or names i name
     → (o : Option Criterion) → o ≡ at name → filter_map at (take i names) ++ cons_option o [] ≡ filter_map at
-        (take (i + 1) names)
+    (take (i + 1) names)
 found_further at names i name l is o found =
     ap (λ x. filter_map at (take i names) ++ cons_option x []) (found ∙ ap at is)
     ∙ sym (ap (filter_map at) (take_more names i name l) ∙ filter_map-append at (take i names)
-        (get_or names i name ∷ []))
+    (get_or names i name ∷ []))
 
 module _ (criteria : Criteria) (is : IsTable criteria) where
   abbrev entries : Entries
@@ -50,7 +50,7 @@ module _ (criteria : Criteria) (is : IsTable criteria) where
   found k d l =
       let e = get_or entries k d in
       table.get-entries criteria e.0 ∙ entry_found e.0 entries e.1 (rising_keys criteria)
-          (k, l, get_or_default entries k e d l)
+      (k, l, get_or_default entries k e d l)
 
   named : (k : ℕ) (d : List ℕ × Criterion) → k < length entries → (get_or entries k d).1.name ≡ (get_or entries k d).0
   named k d l = is.named (get_or entries k d).0 (get_or entries k d).1 (found k d l)
@@ -65,7 +65,7 @@ module _ (criteria : Criteria) (is : IsTable criteria) where
   told k d l =
       let e = get_or entries k d in
       unless (is_built_in e.0) (table.get criteria e.0) e.1 (found k d l) ∙ ap
-          (λ n. cond (not (is_built_in n)) (Some e.1) None) (sym (named k d l))
+      (λ n. cond (not (is_built_in n)) (Some e.1) None) (sym (named k d l))
 
   kept : (b : Bool) (c : Criterion) (rest : List Criterion) → cons_option
       (let o : Option Criterion = cond b (Some c) None in o) rest ≡ cond b (c ∷ rest) rest
@@ -78,12 +78,12 @@ module _ (criteria : Criteria) (is : IsTable criteria) where
   all_told [] h = refl
   all_told (e ∷ es) h =
       ap (λ o. cons_option o (filter_map (further_at criteria) (map (λ x. x.0) es)))
-          (All-head (λ (x : List ℕ × Criterion). further_at criteria x.0 ≡ cond (is_further x.1) (Some x.1) None) e es
-              h)
+      (All-head (λ (x : List ℕ × Criterion). further_at criteria x.0 ≡ cond (is_further x.1) (Some x.1) None) e es
+      h)
       ∙ kept (is_further e.1) e.1 (filter_map (further_at criteria) (map (λ x. x.0) es))
       ∙ ap (λ (cs : List Criterion). cond (is_further e.1) (e.1 ∷ cs) cs)
-          (all_told es (All-tail
-              (λ (x : List ℕ × Criterion). further_at criteria x.0 ≡ cond (is_further x.1) (Some x.1) None) e es h))
+      (all_told es (All-tail
+      (λ (x : List ℕ × Criterion). further_at criteria x.0 ≡ cond (is_further x.1) (Some x.1) None) e es h))
 
   pub further_is : filter_map (further_at criteria) (table.keys criteria) ≡ further criteria
   further_is = all_told entries told
@@ -96,9 +96,12 @@ module _ (criteria : Criteria) (is : IsTable criteria) where
       let b = get_or entries j d in
       let in_front : i < length entries = omega (arith, l, m) in
       other-name (λ (e : List ℕ × Criterion). e.0) a b
-      (rw (sym (get_or-map (λ (e : List ℕ × Criterion). e.0) entries i d d.0 in_front), sym
-          (get_or-map (λ (e : List ℕ × Criterion). e.0) entries j d d.0 m))
-              (rising_keys criteria i j d.0 l (rw length-map m)))
+      (rw (
+        sym (get_or-map (λ (e : List ℕ × Criterion). e.0) entries i d d.0 in_front),
+        sym
+            (get_or-map (λ (e : List ℕ × Criterion). e.0) entries j d d.0 m),
+      )
+      (rising_keys criteria i j d.0 l (rw length-map m)))
       (sym (named i d in_front) ∙ same ∙ named j d m)
 
   pub named_once : NamedOnce (λ c. c.name) (further criteria)

@@ -53,8 +53,12 @@ policies_after : (s : State) (day : DayValue) (a : Action) → Passed s day a �
 policies_after s day (SetCriterion c) p given h = record
     { by_key = h.by_key; known = known_by_more s.held.facts.criteria s.held.policies h.known c.name c; few = h.few }
 policies_after s day (RemoveCriterion n) p given h =
-    record { by_key = h.by_key; known = known_by_fewer s.held.facts.criteria s.held.policies h.known n
-        (unused s day n p.rules).policies; few = h.few }
+    record {
+      by_key = h.by_key;
+      known = known_by_fewer s.held.facts.criteria s.held.policies h.known n
+          (unused s day n p.rules).policies;
+      few = h.few;
+    }
 policies_after s day (AddEntry e) p given h = h
 policies_after s day (DropEntry n) p given h = h
 policies_after s day (SetPeer settings) p given h = h
@@ -71,7 +75,7 @@ policies_after s day (SetPolicy policy) p given h =
       few = few_with policy_key_cmp policy_key_total policy_key_cmp-IsAntisymmetric key_of MOST_POLICIES
           s.held.policies policy h.by_key h.few
           (not_refused (is_none (policy_at s.held.policies policy.key) && nat_lt MOST_POLICIES
-              (length s.held.policies + 1)) (TooLarge limit.Policies) l.0);
+          (length s.held.policies + 1)) (TooLarge limit.Policies) l.0);
     }
 policies_after s day (DropPolicy key) p given h = record {
   by_key = IsByKey-without_item policy_key_cmp key_of s.held.policies key h.by_key;
@@ -81,11 +85,15 @@ policies_after s day (DropPolicy key) p given h = record {
 policies_after s day (LoadProject project) p given h = h
 policies_after s day (DropProject n) p given h = h
 policies_after s day (ReplaceFiles f) p given h =
-    record { by_key = given.policies_by_key; known = files_policies_known f (files_know f p.references); few =
-        (files_fit s f p.limits).policies }
+    record {
+      by_key = given.policies_by_key;
+      known = files_policies_known f (files_know f p.references);
+      few =
+          (files_fit s f p.limits).policies;
+    }
 policies_after s day (Desk command) p given h =
     subst (λ (t : Criteria). ArePolicies t s.held.policies)
-        (sym (same_criteria s.next_entry (added_by s command) s.held.facts)) h
+    (sym (same_criteria s.next_entry (added_by s command) s.held.facts)) h
 policies_after s day ClosePeriod p given h = h
 
 -- the projects after a command
@@ -107,7 +115,7 @@ projects_after s day (LoadProject project) p h =
       by_name = IsByKey-with_item R nat_list_cmp_total only_equal project_name s.held.projects project h.by_name;
       few = few_with R nat_list_cmp_total only_equal project_name MOST_PROJECTS s.held.projects project h.by_name h.few
           (not_refused (is_none (project_at s.held.projects project.name) && nat_lt MOST_PROJECTS
-              (length s.held.projects + 1)) (TooLarge limit.Projects) l.0);
+          (length s.held.projects + 1)) (TooLarge limit.Projects) l.0);
     }
 projects_after s day (DropProject n) p h = record {
   by_name = IsByKey-without_item R project_name s.held.projects n h.by_name;
@@ -121,7 +129,7 @@ projects_after s day ClosePeriod p h = h
 -- what a reader gives
 pub sound_held : (s : State) (day : DayValue) (a : Action) → judged s day a ≡ Ok Accepted → IsSound s → IsGivenContent a
     → IsTable (facts_after s a).criteria → ArePublishers (facts_after s a).publishers → IsSoundHeld (held_after s a)
-        (number_after s a)
+    (number_after s a)
 sound_held s day a told h given is are =
     let p = passed s day a told in
     record {
@@ -136,11 +144,11 @@ pub policy_held : (s : State) (day : DayValue) (key : PolicyKey) → judged s da
 policy_held s day key told =
     some_item (policy_at s.held.policies key)
     (not_refused (is_none (policy_at s.held.policies key)) UnknownPolicy
-        (passed s day (DropPolicy key) told).references)
+    (passed s day (DropPolicy key) told).references)
 
 pub project_held : (s : State) (day : DayValue) (name : List ℕ) → judged s day (DropProject name) ≡ Ok Accepted →
     is_some (project_at s.held.projects name) ≡ true
 project_held s day name told =
     some_item (project_at s.held.projects name)
     (not_refused (is_none (project_at s.held.projects name)) UnknownProject
-        (passed s day (DropProject name) told).references)
+    (passed s day (DropProject name) told).references)

@@ -86,8 +86,8 @@ all_held {X} E decides xs ys differ held long y i = by (list_any (E y) xs) refl
         let more : length (y ∷ xs) ≤ length ys =
         no_longer (y ∷ xs) ys
         (AllPairs-cons (λ a b. a ≢ b) y xs
-            (all_in (λ x. y ≢ x) xs (λ x j same. false≢true (sym t ∙ in_any (E y) xs x j ((decides y x).1 same))))
-                differ)
+        (all_in (λ x. y ≢ x) xs (λ x j same. false≢true (sym t ∙ in_any (E y) xs x j ((decides y x).1 same))))
+        differ)
         (λ z j. elim j [ inl e ↦ subst (λ (w : X). IsIn w ys) (sym e) i | inr k ↦ held z k ]) in
         absurd (omega (arith, more, long))
 
@@ -105,21 +105,21 @@ module _ {X : Type 0} (name : X → List ℕ) where
   own_found xs up = in_all (λ y. item_of R name xs (name y) ≡ Some y) xs (λ k d l.
       (let y = get_or xs k d in
       item_at R nat_list_cmp_total only_equal name xs (name y) k y up (l, λ e. ap name (get_or_default xs k e d l))
-          (get_or_default xs k y d l)))
+      (get_or_default xs k y d l)))
 
   carried : (xs ys : List X) → IsByKey R name ys → ((x : X) → IsIn x xs → IsIn x ys) → (k : List ℕ) (x : X) → item_of
       R name xs k ≡ Some x → item_of R name ys k ≡ Some x
   carried xs ys up held k x at =
       let found = item_found R name (λ z. IsIn z xs) xs k x (all_in (λ z. IsIn z xs) xs (λ z i. i)) at in
       ap (item_of R name ys) (sym (only_equal (name x) k (equal (R (name x) k) found.0))) ∙ own_found ys up x
-          (held x found.1)
+      (held x found.1)
 
   -- the same things are the same list
   same_in_order : (xs ys : List X) → IsByKey R name xs → IsByKey R name ys → SameItems xs ys → xs ≡ ys
   same_in_order xs ys up above same =
       same_items R nat_list_cmp_total only_equal name xs ys up above
       (λ k. alike (item_of R name xs k) (item_of R name ys k) (carried xs ys above same.0 k)
-          (carried ys xs up same.1 k))
+      (carried ys xs up same.1 k))
 
 -- ---- criteria
 
@@ -135,7 +135,7 @@ as_many : (es : Entries) → All HasItsName es → length (filter (λ n. not (is
 as_many [] h = refl
 as_many (e ∷ es) h =
     ap (λ n. length (cond (not (is_built_in n)) (e.0 ∷ names) names)) (sym (All-head HasItsName e es h)) ∙ one
-        (is_further e.1) (as_many es (All-tail HasItsName e es h))
+    (is_further e.1) (as_many es (All-tail HasItsName e es h))
   where
     names : List (List ℕ)
     names = filter (λ n. not (is_built_in n)) (map (λ x. x.0) es)
@@ -160,7 +160,7 @@ module _ (criteria : Criteria) (is : IsTable criteria) where
   stands k d l =
       let e = get_or entries k d in
       table.get-entries criteria e.0 ∙ entry_found e.0 entries e.1 (rising_keys criteria)
-          (k, l, get_or_default entries k e d l)
+      (k, l, get_or_default entries k e d l)
 
   named : All HasItsName entries
   named k d l = (let e = get_or entries k d in is.named e.0 e.1 (stands k d l))
@@ -171,7 +171,7 @@ module _ (criteria : Criteria) (is : IsTable criteria) where
       let e = in_map (λ (x : List ℕ × Criterion). x.1) entries c i in
       let name : e.0.1.name ≡ e.0.0 = in_all HasItsName entries named e.0 e.1.0 in
       let at : table.get criteria e.0.0 ≡ Some e.0.1 = in_all
-          (λ (x : List ℕ × Criterion). table.get criteria x.0 ≡ Some x.1) entries stands e.0 e.1.0 in
+      (λ (x : List ℕ × Criterion). table.get criteria x.0 ≡ Some x.1) entries stands e.0 e.1.0 in
       subst (λ (x : Criterion). table.get criteria x.name ≡ Some x) (sym e.1.1) (ap (table.get criteria) name ∙ at)
 
   found_value : (c : Criterion) → table.get criteria c.name ≡ Some c → IsIn c (table.values criteria)
@@ -179,14 +179,14 @@ module _ (criteria : Criteria) (is : IsTable criteria) where
       let at = found_entry c.name entries c (sym (table.get-entries criteria c.name) ∙ h) in
       map_in (λ (x : List ℕ × Criterion). x.1) entries (c.name, c)
       (subst (λ (x : List ℕ × Criterion). IsIn x entries) at.2
-          (all_in (λ x. IsIn x entries) entries (λ x i. i) at.0 (c.name, c) at.1))
+      (all_in (λ x. IsIn x entries) entries (λ x i. i) at.0 (c.name, c) at.1))
 
   criterion_decided : (c : Criterion) → Decides (is_held criteria c) (IsIn c (further criteria))
   criterion_decided c = (
     by (is_built_in c.name) refl,
     λ i. (let among = in_filter is_further (table.values criteria) c i in
         cond-false (is_built_in c.name) false (option_eq criterion_eq (table.get criteria c.name) (Some c))
-            (not-true (is_built_in c.name) among.1)
+        (not-true (is_built_in c.name) among.1)
         ∙ (options_decide criterion_eq-Decides (table.get criteria c.name) (Some c)).1 (value_found c among.0)),
   )
     where
@@ -195,8 +195,8 @@ module _ (criteria : Criteria) (is : IsTable criteria) where
       by true e t = absurd (false≢true t)
       by false e t =
           filter_in is_further (table.values criteria) c
-              (found_value c ((options_decide criterion_eq-Decides (table.get criteria c.name) (Some c)).0 t))
-                  (ap not e)
+          (found_value c ((options_decide criterion_eq-Decides (table.get criteria c.name) (Some c)).0 t))
+          (ap not e)
 
   -- some are held, and no others, just where they are those beside the built-in ones
   criteria_decided : (cs : List Criterion) → NamedOnce (λ c. c.name) cs → Decides (has_criteria criteria cs)
@@ -227,7 +227,7 @@ entry_decided : (held : List HeldEntry) (e : Entry) → Decides (replaced.is_hel
 entry_decided held e = (
   λ t. (let h = any_in (λ (g : HeldEntry). entry_eq g.entry e) held t in
       subst (λ x. IsIn x (entries_of held)) ((entry_eq-Decides h.0.entry e).0 h.1.1)
-          (map_in (λ (g : HeldEntry). g.entry) held h.0 h.1.0)),
+      (map_in (λ (g : HeldEntry). g.entry) held h.0 h.1.0)),
   λ i. (let h = in_map (λ (g : HeldEntry). g.entry) held e i in
       in_any (λ (g : HeldEntry). entry_eq g.entry e) held h.0 h.1.0 ((entry_eq-Decides h.0.entry e).1 (sym h.1.1))),
 )
@@ -238,8 +238,11 @@ entries_decided : (source : Source) (held : List HeldEntry) (entries : List Entr
 entries_decided source held entries =
     let theirs = as_of source entries in
     Decides-like (same_entries source held entries)
-    (λ h. (h.1, λ e i. (let x = in_map (λ (g : HeldEntry). g.entry) held e i in subst (λ y. IsIn y theirs) (sym x.1.1)
-        (h.0 x.0 x.1.0))))
+    (λ h. (
+      h.1,
+      λ e i. (let x = in_map (λ (g : HeldEntry). g.entry) held e i in subst (λ y. IsIn y theirs) (sym x.1.1)
+          (h.0 x.0 x.1.0)),
+    ))
     (λ same. (λ h i. same.1 h.entry (map_in (λ (g : HeldEntry). g.entry) held h i), same.0))
     (Decides-and (list_all (comes_again theirs) held) (list_all (replaced.is_held held) theirs)
     (each_decides (comes_again theirs) (λ h. IsIn h.entry theirs) (again_decided theirs) held)
@@ -255,7 +258,7 @@ defined_again next x sound =
     let more = further_are_defined cs can.named_once can.further in
     let again : defined cs ≡ defined (further (defined cs)) =
     (same_definitions cs (further (defined cs)) can.named_once more.1 can.further (none_built_in (defined cs))).1
-        (more.0.1, more.0.0) in
+    (more.0.1, more.0.0) in
     sound.content.1.criteria ∙ again ∙ ap (λ t. defined (further t)) (sym sound.content.1.criteria)
 
 module _ (peers : List HeldPeer) (next : ℕ) (are : ArePeers peers next) (f : FilesValue) (is : IsFiles f) where
@@ -282,7 +285,7 @@ module _ (peers : List HeldPeer) (next : ℕ) (are : ArePeers peers next) (f : F
 
       by : (o : Option HeldPeer) → peer_of peers p.name ≡ o
           → Decides (option_map_or (λ (x : HeldPeer). settings_eq x.settings p) o false && option_map_or (holds p) o
-              false) (IsSaid o p)
+          false) (IsSaid o p)
       by None e = (λ t. absurd (false≢true t), λ said. cc said.1.0)
       by (Some x) e =
           let content = content_decided x (found_sound peers p.name next x are e) in
@@ -295,7 +298,7 @@ module _ (peers : List HeldPeer) (next : ℕ) (are : ArePeers peers next) (f : F
                 let its : x.settings ≡ p = ap settings_of this ∙ said.1.1.0 in
                 and_from (settings_eq x.settings p) (holds p x) (same.1 its)
                 (subst (λ q. holds q x ≡ true) its
-                    (content.1 (subst (SaysWhatIsHeld f.contents) (sym this) said.1.1.1)))),
+                (content.1 (subst (SaysWhatIsHeld f.contents) (sym this) said.1.1.1)))),
           )
 
   abbrev AllSaid : Type 0
@@ -306,13 +309,13 @@ module _ (peers : List HeldPeer) (next : ℕ) (are : ArePeers peers next) (f : F
       let all = map settings_of peers in
       let held : (p : PeerSettings) → IsIn p f.settings → IsIn p all =
       λ p i. (let x = said p i in subst (λ q. IsIn q all) x.1.1.0
-          (map_in settings_of peers x.0 (found_in peers p.name x.0 x.1.0))) in
+      (map_in settings_of peers x.0 (found_in peers p.name x.0 x.1.0))) in
       same_in_order settings_name f.settings all is.settings_by_name
-          (AllPairs-map settings_of (λ a b. R (settings_name a) (settings_name b) ≡ Less) peers are.by_name) (
+      (AllPairs-map settings_of (λ a b. R (settings_name a) (settings_name b) ≡ Less) peers are.by_name) (
         held,
         all_held settings_eq settings_eq-Decides f.settings all
             (λ i j d l m same. other_names _ _ (is.settings_by_name i j d l m) (ap settings_name same)) held
-                (long ∙ sym (length-map peers settings_of)),
+            (long ∙ sym (length-map peers settings_of)),
       )
 
   all_say : f.settings ≡ map settings_of peers → AllSaid → All (SaysWhatIsHeld f.contents) peers
@@ -339,11 +342,11 @@ module _ (peers : List HeldPeer) (next : ℕ) (are : ArePeers peers next) (f : F
       (λ h. (let same = those h.0 h.1.0 in (same, (h.1.1, all_say same h.1.0))))
       (λ w. (ap length w.0 ∙ length-map peers settings_of, (each_said w.0 w.1.1, w.1.0)))
       (Decides-and (length f.settings == length peers)
-          (list_all (has_peer peers f.contents) f.settings && each_is_set f)
+      (list_all (has_peer peers f.contents) f.settings && each_is_set f)
       (Decides-eqb (length f.settings) (length peers))
       (Decides-and (list_all (has_peer peers f.contents) f.settings) (each_is_set f)
       (each_decides (has_peer peers f.contents) (λ p. IsSaid (peer_of peers p.name) p) peer_decided f.settings)
-          (λ t. t, λ t. t)))
+      (λ t. t, λ t. t)))
 
 -- ---- all that files say
 
@@ -363,11 +366,16 @@ files_decided held next sound f is =
       policies = sym h.1.1.1.1.0;
       tool = sym h.1.1.1.1.1;
     })
-    (λ w. (w.criteria, (w.entries,
-        ((w.settings, (w.set, w.contents)), (sym w.publishers, (sym w.policies, sym w.tool))))))
+    (λ w. (
+      w.criteria,
+      (
+        w.entries,
+        ((w.settings, (w.set, w.contents)), (sym w.publishers, (sym w.policies, sym w.tool))),
+      ),
+    ))
     (Decides-and _ _ (criteria_decided facts.criteria sound.facts.criteria f.criteria is.named_once)
     (Decides-and _ _ (entries_decided Own facts.entries f.entries)
     (Decides-and _ _ (peers_decided facts.peers next sound.facts.peers f is)
     (Decides-and _ _ (pointwise_decides package_eq-Decides facts.publishers f.publishers)
     (Decides-and _ _ (policies_eq-Decides held.policies f.policies)
-        (tool_eq-Decides held.settings (tool_of_files f)))))))
+    (tool_eq-Decides held.settings (tool_of_files f)))))))

@@ -33,7 +33,7 @@ pub found_from : (peers : List HeldPeer) (next : ℕ) (name : List ℕ) (p : Hel
     → All (IsFrom (Peer name)) p.content.entries
 found_from peers next name p are found =
     subst (λ n. All (IsFrom (Peer n)) p.content.entries) (found_name peers name p found)
-        (found_sound peers name next p are found).entries.from
+    (found_sound peers name next p are found).entries.from
 
 pub found_given : (peers : List HeldPeer) (next : ℕ) (name : List ℕ) (p : HeldPeer) → ArePeers peers next → peer_of
     peers name ≡ Some p
@@ -52,7 +52,7 @@ new_to_none name entries = ap length (all_new (as_peers name entries)) ∙ lengt
 pub judged_unheld : (s : State) (day : DayValue) (name : List ℕ) (content : PeerContentValue) → peer_of
     s.held.facts.peers name ≡ None
     → judged s day (ImportPeer name content) ≡
-        (import_limits s name (length content.entries) (length content.entries) >>= λ _. Err UnknownPeer)
+    (import_limits s name (length content.entries) (length content.entries) >>= λ _. Err UnknownPeer)
 judged_unheld s day name content none = rw (none, new_to_none name content.entries)
     (after (import_limits s name (length content.entries) (length content.entries)))
   where
@@ -65,8 +65,8 @@ pub drop_held : (s : State) (day : DayValue) (name : List ℕ) → judged s day 
     name s.held.facts
 drop_held s day name told =
     some_item (peer_of s.held.facts.peers name)
-        (not_refused (is_none (peer_of s.held.facts.peers name)) UnknownPeer
-            (passed s day (DropPeer name) told).references)
+    (not_refused (is_none (peer_of s.held.facts.peers name)) UnknownPeer
+    (passed s day (DropPeer name) told).references)
 
 -- the numbers that an import gives are within the limit
 pub numbers_fit : (s : State) (day : DayValue) (name : List ℕ) (content : PeerContentValue) → judged s day
@@ -79,7 +79,7 @@ numbers_fit s day name content told =
 pub accepted_import : (s : State) (day : DayValue) (name : List ℕ) (content : PeerContentValue)
     (o : Option ComparisonValue) (c : ComparisonValue) → o ≡ Some c
     → MatchOption o (judged s day (ImportPeer name content) ≡ Ok (Already None)) (IsAccepted s day name content) →
-        IsAccepted s day name content c
+    IsAccepted s day name content c
 accepted_import s day name content None c e h = cc e
 accepted_import s day name content (Some x) c e h = subst (IsAccepted s day name content) (cc e) h
 
@@ -89,5 +89,5 @@ pub numbers_found : (s : State) (day : DayValue) (name : List ℕ) (content : Pe
     → (c.new_count ≡ numbers_given s (ImportPeer name content)) × (s.next_entry + c.new_count ≤ LAST_NUMBER + 1)
 numbers_found s day name content c a =
     let same : c.new_count ≡ numbers_given s (ImportPeer name content) = ap (λ (v : ComparisonValue). v.new_count)
-        a.compared in
+    a.compared in
     (same, omega (arith, same, numbers_fit s day name content a.told))

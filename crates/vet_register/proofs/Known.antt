@@ -71,7 +71,7 @@ pub known_without : (t : Criteria) (n : List ℕ) (names : NameSet) → set.cont
     names ≡ None → least_unknown (table.remove t n) names ≡ None
 known_without t n names unnamed k =
     find-none_among (eq_by_cmp (slice_cmp nat_cmp) n) (λ x. not (table.contains_key t x))
-        (λ x. not (table.contains_key (table.remove t n) x))
+    (λ x. not (table.contains_key (table.remove t n) x))
     (has_beside t n) (members names) (any-members names n ∙ unnamed) k
 
 both_fail : {X : Type 0} (P Q S : X → Type 0) → ((x : X) → P x → Q x → S x) → (xs : List X) → All P xs → All Q xs →
@@ -92,8 +92,8 @@ pub unused : (s : State) (day : DayValue) (n : List ℕ) → rules s day (Remove
 unused s day n h =
     let r = then_told (remove_rules s.held.facts.criteria n) (λ _. refuse_if (is_used s n) CriterionInUse) tt h in
     let facts = neither (is_named s.held.facts n)
-        (list_any (policy_names n) s.held.policies || are_open_for s.desk.reviews n)
-            (not_refused (is_used s n) CriterionInUse r.1) in
+    (list_any (policy_names n) s.held.policies || are_open_for s.desk.reviews n)
+    (not_refused (is_used s n) CriterionInUse r.1) in
     let rest = neither (list_any (policy_names n) s.held.policies) (are_open_for s.desk.reviews n) facts.1 in
     record { facts = facts.0; policies = rest.0; reviews = rest.1 }
 
@@ -109,7 +109,7 @@ imported_known : (t : Criteria) (peers : List HeldPeer) (name : List ℕ) (conte
 imported_known t peers name content k None e = k
 imported_known t peers name content k (Some x) e =
     All-with_item R peer_name (HasKnownTargets t) peers (record x { content = content }) k
-        (item_found R peer_name (HasKnownTargets t) peers name x k e).1
+    (item_found R peer_name (HasKnownTargets t) peers name x k e).1
 
 -- the entry that finishes a review names criteria that are known, as the review isn't closed before
 entry_known : (s : State) (command : DeskCommand) → AreKnownTo s.held.facts.criteria s.desk.reviews → desk_rules
@@ -126,7 +126,7 @@ entry_known s (FinishReview n member reviewed) known rules e is = by (review_of 
     by None found rules is = cc is
     by (Some r) found rules is =
         let right = λ (u : Unit {0}). refuse_if (not (is_assigned_to member r.state)) NotYours >>= λ _. refuse_if
-            (not (version_eq (target_of reviewed) r.version)) WrongTarget in
+        (not (version_eq (target_of reviewed) r.version)) WrongTarget in
         let unclosed = not_refused (is_closed r.state) ReviewClosed (then_told (still_open r) right tt rules).0 in
         let made : entry_by member reviewed r ≡ e = cc is in
         subst (λ (x : Entry). least_unknown s.held.facts.criteria x.criteria ≡ None) made
@@ -144,7 +144,7 @@ of_new facts (Some x) e h = by (number_of facts.entries x) h
 
 with_known : (facts : Facts) (n : ℕ) (o : Option Entry) →
     ((e : Entry) → o ≡ Some e → least_unknown facts.criteria e.criteria ≡ None) → AreKnown facts → AreKnown
-        (with_entry n o facts)
+    (with_entry n o facts)
 with_known facts n None new k = k
 with_known facts n (Some e) new k = record {
   own = All-append (HasKnownCriteria facts.criteria) facts.entries _ k.own
@@ -174,7 +174,7 @@ known_after s day (AddEntry e) k at r u =
     let known = all_known (least_unknown s.held.facts.criteria e.criteria) r in
     with_known s.held.facts s.next_entry (Some e)
     (λ x same. (let is : e ≡ x = cc same in subst
-        (λ (y : Entry). least_unknown s.held.facts.criteria y.criteria ≡ None) is known)) k
+    (λ (y : Entry). least_unknown s.held.facts.criteria y.criteria ≡ None) is known)) k
 known_after s day (DropEntry n) k at r u = record {
   own = All-filter (λ h. not (has_number n h)) (HasKnownCriteria s.held.facts.criteria) s.held.facts.entries k.own;
   targets = k.targets;
@@ -203,5 +203,5 @@ known_after s day (ReplaceFiles f) k at r u = files_known f (files_know f r) s.n
 known_after s day (Desk command) k at r u =
     let rules = then_told (desk_rules (demanded s) s.desk command) (λ _. limits_after_rules s command) tt u in
     with_known s.held.facts s.next_entry (added_by s command)
-        (λ e new. entry_known s command at rules.0 e (of_new s.held.facts (entry_of s.desk command) e new)) k
+    (λ e new. entry_known s command at rules.0 e (of_new s.held.facts (entry_of s.desk command) e new)) k
 known_after s day ClosePeriod k at r u = k

@@ -22,7 +22,7 @@ module _ {X : Type 0} (R : X → X → Type 0) where
   AllPairs-append [] ys h g across = g
   AllPairs-append (x ∷ xs) ys h g across =
       AllPairs-cons R x (xs ++ ys)
-          (All-append (R x) xs ys (AllPairs-head x xs h) (All-head (λ z. All (R z) ys) x xs across))
+      (All-append (R x) xs ys (AllPairs-head x xs h) (All-head (λ z. All (R z) ys) x xs across))
       (AllPairs-append xs ys (AllPairs-tail x xs h) g (All-tail (λ z. All (R z) ys) x xs across))
 
   pub AllPairs-single : (x : X) → AllPairs R (x ∷ [])
@@ -38,7 +38,7 @@ module _ {X Y : Type 0} (f : X → Y) (R : Y → Y → Type 0) where
   AllPairs-map [] h = λ i j d l m. absurd (omega arith)
   AllPairs-map (x ∷ xs) h =
       AllPairs-cons R (f x) (map f xs) (all_of_map (f x) xs (AllPairs-head (λ a b. R (f a) (f b)) x xs h))
-          (AllPairs-map xs (AllPairs-tail (λ a b. R (f a) (f b)) x xs h))
+      (AllPairs-map xs (AllPairs-tail (λ a b. R (f a) (f b)) x xs h))
 
 module _ {X : Type 0} where
   -- what fails one test fails the other

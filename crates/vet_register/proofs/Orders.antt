@@ -16,7 +16,7 @@ use Rattle.vet_register.specs.Verdict.{held_or, limits_after_rules, references, 
 abbrev opened_by : State → DayValue → DeskCommand → Told (Unit {0}) → Told (Unit {0}) → Told (Unit {0}) → Told Answer
 opened_by s day command reviews step number =
     held_or None ((reviews >>= λ _. step >>= λ _. number) >>= λ _. references s (Desk command) >>= λ _. rules s day
-        (Desk command))
+    (Desk command))
 
 pub reviews_before_step : ReviewsBeforeStep
 reviews_before_step s day name version criteria e many =
@@ -33,8 +33,8 @@ number_before_criteria s day name version criteria e few step last =
 pub held_before_step : FinishedIsHeldBeforeStep
 held_before_step s day n member reviewed e unheld =
     ap (λ t. held_or None
-        (t >>= λ _. desk_rules (demanded s) s.desk (FinishReview n member reviewed) >>= λ _. limits_after_rules s
-            (FinishReview n member reviewed))) unheld
+    (t >>= λ _. desk_rules (demanded s) s.desk (FinishReview n member reviewed) >>= λ _. limits_after_rules s
+    (FinishReview n member reviewed))) unheld
 
 pub period_asks_for_step : PeriodAsksForStep
 period_asks_for_step s day = by (step_limit s)

@@ -42,7 +42,7 @@ none_shared xs n a b = false≢true b
 -- numbers that were among others, or are new, are not among entries of lower numbers
 pub share_none : (next : ℕ) (hs xs ys : List HeldEntry) →
     ((h : HeldEntry) → IsIn h xs → IsIn h hs ⊎ (next ≤ h.number)) → ShareNone hs ys → All (IsGiven next) ys →
-        ShareNone xs ys
+    ShareNone xs ys
 share_none next hs xs ys from apart given n a b =
     let x = any_in (has_number n) xs a in
     let y = any_in (has_number n) ys b in
@@ -78,11 +78,11 @@ two_apart (x ∷ xs) h p q (inl a) (inl b) differ = absurd (differ (a ∙ sym b)
 two_apart (x ∷ xs) h p q (inl a) (inr j) differ =
     subst (λ z. ShareNone (theirs z) (theirs q)) (sym a)
     (in_all (ShareNone (theirs x)) (map theirs xs) (pairs_head ShareNone (theirs x) (map theirs xs) h) (theirs q)
-        (map_in theirs xs q j))
+    (map_in theirs xs q j))
 two_apart (x ∷ xs) h p q (inr i) (inl b) differ =
     subst (λ z. ShareNone (theirs p) (theirs z)) (sym b) (shared (theirs x) (theirs p)
     (in_all (ShareNone (theirs x)) (map theirs xs) (pairs_head ShareNone (theirs x) (map theirs xs) h) (theirs p)
-        (map_in theirs xs p i)))
+    (map_in theirs xs p i)))
 two_apart (x ∷ xs) h p q (inr i) (inr j) differ = two_apart xs (pairs_tail ShareNone (theirs x) (map theirs xs) h) p q
     i j differ
 
@@ -110,14 +110,14 @@ other_behind a b h same = false≢true
 pub all_apart : (own : List HeldEntry) (peers : List HeldPeer) → AreByName peers →
     ((p : HeldPeer) → IsIn p peers → ShareNone own (theirs p))
     → ((p q : HeldPeer) → IsIn p peers → IsIn q peers → OfOthers p q → ShareNone (theirs p) (theirs q)) → Sources own
-        peers
+    peers
 all_apart own peers up first two =
     AllPairs-cons ShareNone own (map theirs peers)
     (all_in (ShareNone own) (map theirs peers)
-        (λ ys i. (let m = in_map theirs peers ys i in subst (ShareNone own) (sym m.1.1) (first m.0 m.1.0))))
+    (λ ys i. (let m = in_map theirs peers ys i in subst (ShareNone own) (sym m.1.1) (first m.0 m.1.0))))
     (AllPairs-map theirs ShareNone peers (λ i j d l m.
     two (get_or peers i d) (get_or peers j d) (each i d (omega (arith, l, m))) (each j d m)
-        (other_names _ _ (up i j d l m))))
+    (other_names _ _ (up i j d l m))))
   where
     each : All (λ p. IsIn p peers) peers
     each = all_in (λ p. IsIn p peers) peers (λ p i. i)
@@ -128,15 +128,15 @@ pub in_with : (peers : List HeldPeer) (p x : HeldPeer) → IsIn x (with_peer p p
     (IsIn x peers × OfOthers x p)
 in_with peers p x i = elim
     (in_append (filter (is_before R peer_name (peer_name p)) peers)
-        (p ∷ filter (is_behind R peer_name (peer_name p)) peers) x i) [
-  | inl front ↦ (let f = in_filter (is_before R peer_name (peer_name p)) peers x front in inr
-      (f.0, other_before _ _ f.1))
-  | inr rest ↦ elim rest [
-    | inl same ↦ inl same
-    | inr back ↦ (let f = in_filter (is_behind R peer_name (peer_name p)) peers x back in inr
-        (f.0, other_behind _ _ f.1))
-  ]
-]
+    (p ∷ filter (is_behind R peer_name (peer_name p)) peers) x i) [
+      | inl front ↦ (let f = in_filter (is_before R peer_name (peer_name p)) peers x front in inr
+          (f.0, other_before _ _ f.1))
+      | inr rest ↦ elim rest [
+        | inl same ↦ inl same
+        | inr back ↦ (let f = in_filter (is_behind R peer_name (peer_name p)) peers x back in inr
+            (f.0, other_behind _ _ f.1))
+      ]
+    ]
 
 apart_with : (own : List HeldEntry) (peers : List HeldPeer) (p : HeldPeer) → Sources own peers → AreByName peers →
     ShareNone own (theirs p)
@@ -144,7 +144,7 @@ apart_with : (own : List HeldEntry) (peers : List HeldPeer) (p : HeldPeer) → S
 apart_with own peers p h up first two =
     all_apart own (with_peer p peers) (IsByKey-with_item R nat_list_cmp_total only_equal peer_name peers p up)
     (λ x i. elim (in_with peers p x i)
-        [ inl e ↦ subst (λ z. ShareNone own (theirs z)) (sym e) first | inr k ↦ own_apart own peers h x k.0 ])
+    [ inl e ↦ subst (λ z. ShareNone own (theirs z)) (sym e) first | inr k ↦ own_apart own peers h x k.0 ])
     (λ x y i j differ. pairs x y (in_with peers p x i) (in_with peers p y j) differ)
   where
     pairs : (x y : HeldPeer) → (x ≡ p) ⊎ (IsIn x peers × OfOthers x p) → (y ≡ p) ⊎ (IsIn y peers × OfOthers y p) →
@@ -179,11 +179,15 @@ pub own_changed : (own other : List HeldEntry) (peers : List HeldPeer) (n m : �
     ((h : HeldEntry) → IsIn h other → IsIn h own ⊎ (n ≤ h.number))
     → PeersSound own peers n → PeersSound other peers m
 own_changed own other peers n m above from h = record {
-  are = record { by_name = h.are.by_name; sound = All-weaker (IsSoundPeer n) (IsSoundPeer m) (later_peer n m above)
-      peers h.are.sound; few = h.are.few };
+  are = record {
+    by_name = h.are.by_name;
+    sound = All-weaker (IsSoundPeer n) (IsSoundPeer m) (later_peer n m above)
+        peers h.are.sound;
+    few = h.are.few;
+  };
   apart = all_apart other peers h.are.by_name
       (λ p i. share_none n own other (theirs p) from (own_apart own peers h.apart p i)
-          (in_all (IsSoundPeer n) peers h.are.sound p i).entries.numbers_given)
+      (in_all (IsSoundPeer n) peers h.are.sound p i).entries.numbers_given)
       (peers_apart own peers h.apart);
 }
 
@@ -192,7 +196,7 @@ put_in : (own : List HeldEntry) (peers : List HeldPeer) (p : HeldPeer) (n m : �
     IsSoundPeer m p
     → length (with_peer p peers) ≤ MOST_PEERS → ShareNone own (theirs p)
     → ((x : HeldPeer) → IsIn x peers → OfOthers x p → ShareNone (theirs x) (theirs p)) → PeersSound own
-        (with_peer p peers) m
+    (with_peer p peers) m
 put_in own peers p n m above h sound few first two = record {
   are = record {
     by_name = IsByKey-with_item R nat_list_cmp_total only_equal peer_name peers p h.are.by_name;
@@ -239,69 +243,69 @@ nothing_readable = record {
   further = All-nil _;
   named_once = pairs_none (λ (a b : Criterion). a.name ≡ b.name → ⊥);
   few = omega arith;
-  given = All-nil _;
+  kinds = All-nil _;
   once = refl;
 }
 
 -- where the settings of one are set
 module _ (own : List HeldEntry) (peers : List HeldPeer) (settings : PeerSettings) (n : ℕ) (h : PeersSound own peers n)
-    where
-  abbrev pub set_to : Option HeldPeer → HeldPeer
-  set_to o = record { settings = settings; content = holding_or_none o }
+  where
+    abbrev pub set_to : Option HeldPeer → HeldPeer
+    set_to o = record { settings = settings; content = holding_or_none o }
 
-  pub set_sound : (o : Option HeldPeer) → peer_of peers settings.name ≡ o → IsSoundPeer n (set_to o)
-  set_sound None e = record {
-    entries = record {
-      from = All-nil (IsFrom (Peer settings.name));
-      different = pairs_none Differ;
-      numbers_rise = pairs_none Rise;
-      numbers_given = All-nil (IsGiven n);
-    };
-    content = (
-      no_content,
-      record {
-        readable = nothing_readable;
-        criteria = refl;
-        entries = (λ x i. i, λ x i. i);
-      },
-    );
-  }
-  set_sound (Some x) e =
-      let same : x.settings.name ≡ settings.name = found_name peers settings.name x e in
-      let sound = in_all (IsSoundPeer n) peers h.are.sound x (found_in peers settings.name x e) in
-      record {
-        entries = subst (λ name. AreEntries (Peer name) x.content.entries n) same sound.entries;
-        content = (sound.content.0, subst (λ name. IsOfContent name sound.content.0 x.content) same sound.content.1);
-      }
+    pub set_sound : (o : Option HeldPeer) → peer_of peers settings.name ≡ o → IsSoundPeer n (set_to o)
+    set_sound None e = record {
+      entries = record {
+        from = All-nil (IsFrom (Peer settings.name));
+        different = pairs_none Differ;
+        numbers_rise = pairs_none Rise;
+        numbers_given = All-nil (IsGiven n);
+      };
+      content = (
+        no_content,
+        record {
+          readable = nothing_readable;
+          criteria = refl;
+          entries = (λ x i. i, λ x i. i);
+        },
+      );
+    }
+    set_sound (Some x) e =
+        let same : x.settings.name ≡ settings.name = found_name peers settings.name x e in
+        let sound = in_all (IsSoundPeer n) peers h.are.sound x (found_in peers settings.name x e) in
+        record {
+          entries = subst (λ name. AreEntries (Peer name) x.content.entries n) same sound.entries;
+          content = (sound.content.0, subst (λ name. IsOfContent name sound.content.0 x.content) same sound.content.1);
+        }
 
-  pub set_from_own : (o : Option HeldPeer) → peer_of peers settings.name ≡ o → ShareNone own (theirs (set_to o))
-  set_from_own None e = none_shared own
-  set_from_own (Some x) e = own_apart own peers h.apart x (found_in peers settings.name x e)
+    pub set_from_own : (o : Option HeldPeer) → peer_of peers settings.name ≡ o → ShareNone own (theirs (set_to o))
+    set_from_own None e = none_shared own
+    set_from_own (Some x) e = own_apart own peers h.apart x (found_in peers settings.name x e)
 
-  set_from_others : (o : Option HeldPeer) → peer_of peers settings.name ≡ o → (y : HeldPeer) → IsIn y peers → OfOthers
-      y (set_to o) → ShareNone (theirs y) (theirs (set_to o))
-  set_from_others None e y i differ = none_shared (theirs y)
-  set_from_others (Some x) e y i differ = peers_apart own peers h.apart y x i (found_in peers settings.name x e)
-      (λ same. differ (same ∙ found_name peers settings.name x e))
+    set_from_others : (o : Option HeldPeer) → peer_of peers settings.name ≡ o → (y : HeldPeer) → IsIn y peers → OfOthers
+        y (set_to o) → ShareNone (theirs y) (theirs (set_to o))
+    set_from_others None e y i differ = none_shared (theirs y)
+    set_from_others (Some x) e y i differ = peers_apart own peers h.apart y x i (found_in peers settings.name x e)
+        (λ same. differ (same ∙ found_name peers settings.name x e))
 
-  pub settings_set : (m : ℕ) → n ≤ m → (is_none (peer_of peers settings.name) && nat_lt MOST_PEERS (length peers + 1))
-      ≡ false
-      → PeersSound own (with_settings settings peers) m
-  settings_set m above limit =
-      let o = peer_of peers settings.name in
-      put_in own peers (set_to o) n m above h (later_peer n m above (set_to o) (set_sound o refl))
-      (few_with R nat_list_cmp_total only_equal peer_name MOST_PEERS peers (set_to o) h.are.by_name h.are.few limit)
-          (set_from_own o refl) (set_from_others o refl)
+    pub settings_set : (m : ℕ) → n ≤ m → (is_none (peer_of peers settings.name) && nat_lt MOST_PEERS (length peers + 1))
+        ≡ false
+        → PeersSound own (with_settings settings peers) m
+    settings_set m above limit =
+        let o = peer_of peers settings.name in
+        put_in own peers (set_to o) n m above h (later_peer n m above (set_to o) (set_sound o refl))
+        (few_with R nat_list_cmp_total only_equal peer_name MOST_PEERS peers (set_to o) h.are.by_name h.are.few limit)
+        (set_from_own o refl) (set_from_others o refl)
 
 -- what is imported of a sound peer is sound
 pub imported_sound : (next : ℕ) (x : HeldPeer) (content : PeerContentValue) → IsPeerContent content.criteria
     content.entries → IsSoundPeer next x
     → IsSoundPeer (next + length (new_entries x.settings.name x.content.entries content.entries))
-        (record x { content = imported x.settings.name next content x.content })
+    (record x { content = imported x.settings.name next content x.content })
 imported_sound next x content is sound =
     let name = x.settings.name in
     let order = keeps_order name next x.content.entries content.entries sound.entries.numbers_rise
-        sound.entries.numbers_given in
+    sound.entries.numbers_given in
     let after = entries_after_import name next x.content.entries content.entries in
     record {
       entries = record {
@@ -326,7 +330,7 @@ imported_sound next x content is sound =
 module _ (own : List HeldEntry) (peers : List HeldPeer) (name : List ℕ) (next : ℕ) (content : PeerContentValue)
     (h : PeersSound own peers next)
     (given : All (IsGiven next) own) (is : IsPeerContent content.criteria content.entries) (x : HeldPeer)
-        (found : peer_of peers name ≡ Some x) where
+    (found : peer_of peers name ≡ Some x) where
   same : x.settings.name ≡ name
   same = found_name peers name x found
 
@@ -342,7 +346,7 @@ module _ (own : List HeldEntry) (peers : List HeldPeer) (name : List ℕ) (next 
   import_sound : IsSoundPeer end new_peer
   import_sound =
       subst (λ k. IsSoundPeer (next + length (new_entries k x.content.entries content.entries))
-          (record x { content = imported k next content x.content })) same
+      (record x { content = imported k next content x.content })) same
       (imported_sound next x content is sound)
 
   from_others : (ys : List HeldEntry) → ShareNone (theirs x) ys → All (IsGiven next) ys → ShareNone (theirs new_peer) ys
@@ -353,9 +357,9 @@ module _ (own : List HeldEntry) (peers : List HeldPeer) (name : List ℕ) (next 
   import_stays =
       put_in own peers new_peer next end (omega arith) h import_sound
       (few_over R nat_list_cmp_total only_equal peer_name MOST_PEERS peers new_peer x h.are.by_name h.are.few
-          (ap (peer_of peers) same ∙ found))
+      (ap (peer_of peers) same ∙ found))
       (shared (theirs new_peer) own
-          (from_others own (shared own (theirs x) (own_apart own peers h.apart x (found_in peers name x found))) given))
+      (from_others own (shared own (theirs x) (own_apart own peers h.apart x (found_in peers name x found))) given))
       (λ y i differ. shared (theirs new_peer) (theirs y) (from_others (theirs y)
       (shared (theirs y) (theirs x) (peers_apart own peers h.apart y x i (found_in peers name x found) differ))
       (in_all (IsSoundPeer next) peers h.are.sound y i).entries.numbers_given))
@@ -363,9 +367,9 @@ module _ (own : List HeldEntry) (peers : List HeldPeer) (name : List ℕ) (next 
 pub imported_peer : (own : List HeldEntry) (peers : List HeldPeer) (name : List ℕ) (next : ℕ)
     (content : PeerContentValue) → PeersSound own peers next
     → All (IsGiven next) own → IsPeerContent content.criteria content.entries → (o : Option HeldPeer) → peer_of peers
-        name ≡ o → is_none o ≡ false
+    name ≡ o → is_none o ≡ false
     → PeersSound own (with_content_of o (imported name next content (holding_or_none o)) peers)
-        (next + length (new_entries name (holding_or_none o).entries content.entries))
+    (next + length (new_entries name (holding_or_none o).entries content.entries))
 imported_peer own peers name next content h given is None e some = absurd (false≢true (sym some))
 imported_peer own peers name next content h given is (Some x) e some = import_stays own peers name next content h
     given is x e

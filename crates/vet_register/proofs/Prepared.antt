@@ -54,7 +54,7 @@ becomes_next s c change parts held desk = λ i. record {
 pub is_step : {K U : Type 0} → MoveLaws → (keeping : Keeping K U) (s : State) (c : Command) (change : Change K U) →
     IsSound s
     → judged s c.day c.action ≡ Ok Accepted → IsSoundHeld (held_after s c.action) (number_after s c.action) → AreParts
-        s c change
+    s c change
     → edited change.edit s.held ≡ held_after s c.action → desk_edited change.desk s.desk ≡ desk_by s c.day c.action
     → demand_by change.demand (demanded s) ≡ demand_in (held_after s c.action)
     → IsUpdate keeping s c.action change.update → IsStep keeping s c change
@@ -76,14 +76,14 @@ pub fit_told : (s t : State) (c : Command) (f : Refusal) → t ≡ s → judged 
 fit_told s t c f same told (inl lacks) = inl lacks
 fit_told s t c f same told (inr h) =
     inr (ap (λ t. t >>= fitting s c.action) told ∙ ap (λ t. t >>= λ _. Ok Accepted)
-        (subst (λ (z : State). moves_fit z c.action ≡ Err f) same h))
+    (subst (λ (z : State). moves_fit z c.action ≡ Err f) same h))
 
 -- and told so where they fit
 pub fits_told : (s t : State) (c : Command) → t ≡ s → judged s c.day c.action ≡ Ok Accepted → moves_fit t c.action ≡
     Ok tt → verdict s c ≡ Ok Accepted
 fits_told s t c same told h =
     ap (λ t. t >>= fitting s c.action) told ∙ ap (λ t. t >>= λ _. Ok Accepted)
-        (subst (λ (z : State). moves_fit z c.action ≡ Ok tt) same h)
+    (subst (λ (z : State). moves_fit z c.action ≡ Ok tt) same h)
 
 -- ---- what was prepared before
 

@@ -35,7 +35,7 @@ InOrder held = Publishers.IsInOrder held.publishers
 pub are_publishers : (s : State) (name : List ℕ) (records : List Publisher) → ArePublishers s.held.facts.publishers →
     Publishers.IsInOrder records
     → IsByName (with_records name records s.held.facts.publishers) → publisher_limit s name records ≡ Ok tt →
-        ArePublishers (with_records name records s.held.facts.publishers)
+    ArePublishers (with_records name records s.held.facts.publishers)
 are_publishers s name records are ordered named limited =
     let packages = s.held.facts.publishers in
     record {

@@ -54,15 +54,15 @@ module _ (name : List ℕ) (content : PeerContentValue) (held : HoldingValue) (i
       let among = is.entries.1 h.entry (map_in (λ (g : HeldEntry). g.entry) held.entries h i) in
       let e = in_map (of_source (Peer name)) content.entries h.entry among in
       let its : e.0.source ≡ Own = own_of e.0
-          (in_all (λ x. is_peer_entry x ≡ true) content.entries is.readable.given e.0 e.1.0) in
+      (in_all (λ x. is_peer_entry x ≡ true) content.entries is.readable.kinds e.0 e.1.0) in
       (e.0, (e.1.0, ap own e.1.1 ∙ restored e.0 Own its))
 
-  given : All (λ e. is_peer_entry e ≡ true) (spoken held.entries)
-  given = all_in (λ e. is_peer_entry e ≡ true) (spoken held.entries) (λ e i.
+  kinds : All (λ e. is_peer_entry e ≡ true) (spoken held.entries)
+  kinds = all_in (λ e. is_peer_entry e ≡ true) (spoken held.entries) (λ e i.
       (let h = in_map (λ (g : HeldEntry). own g.entry) held.entries e i in
       let from = from_content h.0 h.1.0 in
       subst (λ x. is_peer_entry x ≡ true) (sym (h.1.1 ∙ from.1.1))
-          (in_all (λ x. is_peer_entry x ≡ true) content.entries is.readable.given from.0 from.1.0)))
+      (in_all (λ x. is_peer_entry x ≡ true) content.entries is.readable.kinds from.0 from.1.0)))
 
   once : NamedOnce (λ c. c.name) (further held.table)
   once = subst (λ t. NamedOnce (λ c. c.name) (further t)) (sym is.criteria)
@@ -73,7 +73,7 @@ module _ (name : List ℕ) (content : PeerContentValue) (held : HoldingValue) (i
       let fewer : length (further held.table) ≤ length content.criteria =
       no_longer (further held.table) content.criteria (items_differ (further held.table) once)
       (λ c i. (further_are_defined content.criteria is.readable.named_once is.readable.further).0.0 c
-          (subst (λ t. IsIn c (further t)) is.criteria i)) in
+      (subst (λ t. IsIn c (further t)) is.criteria i)) in
       let most : length content.criteria ≤ MOST_PEER_CRITERIA = is.readable.few in
       omega (arith, fewer, most)
 
@@ -98,7 +98,7 @@ spoken_differ source held from differ =
     AllPairs-map (λ (h : HeldEntry). own h.entry) IsOther held
     (λ i j d l m same. differ i j d l m
     (sym (restored (get_or held i d).entry source (from i d (omega (arith, l, m)))) ∙ ap (of_source source) same ∙
-        restored (get_or held j d).entry source (from j d m)))
+    restored (get_or held j d).entry source (from j d m)))
 
 -- ---- peers
 
@@ -114,7 +114,7 @@ readable next peer sound =
       further = none_built_in held.table;
       named_once = once name content held is;
       few = few name content held is;
-      given = given name content held is;
+      kinds = kinds name content held is;
       once = each_once (spoken held.entries)
           (spoken_differ (Peer name) held.entries sound.entries.from sound.entries.different);
     }
@@ -123,7 +123,7 @@ pub all_readable : (peers : List HeldPeer) (next : ℕ) → All (IsSoundPeer nex
     (λ p. IsPeerContent (content_of p.content).criteria (content_of p.content).entries) peers
 all_readable peers next sound = all_in
     (λ p. IsPeerContent (content_of p.content).criteria (content_of p.content).entries) peers
-        (λ p i. readable next p (in_all (IsSoundPeer next) peers sound p i))
+    (λ p i. readable next p (in_all (IsSoundPeer next) peers sound p i))
 
 -- ---- the imports file
 
@@ -131,7 +131,7 @@ all_readable peers next sound = all_in
 named : {X : Type 0} (name : X → List ℕ) (xs : List X) → IsByKey (slice_cmp nat_cmp) name xs → NamedOnce name xs
 named name xs up i j d l m same =
     false≢true (sym (ap is_eq (up i j d l m)) ∙ ap (λ n. is_eq (slice_cmp nat_cmp n (name (get_or xs j d)))) same ∙ ap
-        is_eq (tied_itself nat_list_cmp_total (name (get_or xs j d))))
+    is_eq (tied_itself nat_list_cmp_total (name (get_or xs j d))))
 
 not_empty : {X : Type 0} (xs : List X) → 0 < length xs → xs ≡ [] → ⊥
 not_empty xs more none = (let len : length xs ≡ 0 = ap length none in absurd (omega (arith, more, len)))

@@ -119,7 +119,7 @@ repeated_is_already s day later name content again is repeats criteria entries t
     let theirs = same_as_of (Peer name) again.entries content.entries entries in
     let stays : SameItems (as_peers name content.entries) (entries_of held.0.content.entries) =
     subst (λ (h : HoldingValue). SameItems (as_peers name content.entries) (entries_of h.entries)) (sym held.1.1)
-        left.0 in
+    left.0 in
     (held_is_already (next s (import_on day name content)) later name again held.0 content.criteria repeats held.1.0
-        (ap (λ h. h.table) held.1.1) is.named_once is.further).1
+    (ap (λ h. h.table) held.1.1) is.named_once is.further).1
     (criteria, (λ e i. stays.0 e (theirs.0 e i), λ e i. theirs.1 e (stays.1 e i)))

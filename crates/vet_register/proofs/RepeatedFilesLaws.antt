@@ -69,7 +69,7 @@ settings_stay k peers contents (p ∷ ps) = ap (λ (rest : List PeerSettings). p
 set_by_name : (f again : FilesValue) → SayTheSame again f → each_is_set f ≡ true → each_is_set again ≡ true
 set_by_name f again same set =
     let is_set_in : List PeerSettings → List ℕ → Bool = λ settings name. is_some
-        (item_of R settings_name settings name) in
+    (item_of R settings_name settings name) in
     let name_of : ImportedPeer → List ℕ = λ p. p.name in
     sym (list_all-map (is_set_in again.settings) name_of again.contents)
     ∙ (λ i. list_all (is_set_in (same.settings i)) (same.peers i))
@@ -81,8 +81,8 @@ set_accepted : (f : FilesValue) → files_references f ≡ Ok tt → each_is_set
 set_accepted f h =
     let names = known (unknown_of_files (table.contains_key (defined f.criteria)) f) in
     not-false (each_is_set f)
-        (not_refused (not (each_is_set f)) UnknownPeer
-            (then_told names (λ _. refuse_if (not (each_is_set f)) UnknownPeer) tt h).1)
+    (not_refused (not (each_is_set f)) UnknownPeer
+    (then_told names (λ _. refuse_if (not (each_is_set f)) UnknownPeer) tt h).1)
 
 module _ (peers : List HeldPeer) (f again : FilesValue) (is : IsFiles f)
     (same : (name : List ℕ) → SameContents (content_for again.contents name) (content_for f.contents name)) where
@@ -102,7 +102,7 @@ module _ (peers : List HeldPeer) (f again : FilesValue) (is : IsFiles f)
   each_says k (p ∷ ps) =
       let next = k + new_of_peer peers f.contents p in
       All-cons (SaysWhatIsHeld again.contents) (peer_after k peers f.contents p)
-          (peers_after next peers f.contents ps) (one_says k p) (each_says next ps)
+      (peers_after next peers f.contents ps) (one_says k p) (each_says next ps)
 
 -- files that say the same as others say what is held after these
 say_what_is_left : (s : State) (f again : FilesValue) → IsFiles f → SayTheSame again f → each_is_set f ≡ true →
@@ -132,6 +132,6 @@ repeated_files_are_already s day later f again sound is are same told =
     let defines = told_is_table f.criteria (files_table f is fit.criteria (files_know f p.references)) in
     let held = sound_held s day a accepted sound is defines (files_records f is fit.records) in
     let just = just_where_held (next s (replace_on day f)) later (ReplaceFiles again)
-        (has_files (held_after s a) again) refl in
+    (has_files (held_after s a) again) refl in
     just.1 ((files_decided (held_after s a) (number_after s a) held again are).1
-        (say_what_is_left s f again is same (set_accepted f p.references)))
+    (say_what_is_left s f again is same (set_accepted f p.references)))

@@ -67,7 +67,7 @@ pub record MoveLaws : Type 0 where
 sound_standing : DemandIsLeast → (held : HeldValue) (next : ℕ) → IsSoundHeld held next → IsStanding (standing_in held)
 sound_standing least held next h =
     standing_in_order held.facts (demand_in held)
-        (least held.projects held.policies held.facts.criteria h.facts.criteria h.policies.known).in_order
+    (least held.projects held.policies held.facts.criteria h.facts.criteria h.policies.known).in_order
 
 moves_sound : MoveLaws → (s : State) (c : Command) → moves_fit s c.action ≡ Ok tt → IsSoundHeld s.held s.next_entry
     → IsSoundHeld (held_after s c.action) (number_after s c.action) → AreInOrder s.moves s.step s.moves_limit
@@ -75,25 +75,29 @@ moves_sound : MoveLaws → (s : State) (c : Command) → moves_fit s c.action �
 moves_sound laws s c fit before after h = by (ends_period c.action) fit
   where
     ended : AreInOrder [] (s.step + 1) s.moves_limit
-    ended = record { in_order = λ i j d l m. absurd (omega arith); steps = All-nil (IsBy (s.step + 1)); few = omega
-        arith }
+    ended = record {
+      in_order = λ i j d l m. absurd (omega arith);
+      steps = All-nil (IsBy (s.step + 1));
+      few = omega
+          arith;
+    }
 
     recorded_behind : nat_lt s.moves_limit (length s.moves + length (moves_of s c.action)) ≡ false → AreInOrder
         (s.moves ++ records_of s c) (s.step + 1) s.moves_limit
     recorded_behind room =
         let made = laws.differences (standing s) (standing_in (held_after s c.action))
-            (sound_standing laws.least s.held s.next_entry before)
+        (sound_standing laws.least s.held s.next_entry before)
         (sound_standing laws.least (held_after s c.action) (number_after s c.action) after) in
         let more = records_of s c in
         let at_step : All (IsOf (s.step + 1)) more = All-map (IsOf (s.step + 1)) (recorded (s.step + 1) c.day)
-            (moves_of s c.action) (λ k d l. refl) in
+        (moves_of s c.action) (λ k d l. refl) in
         record {
           in_order = AllPairs-append ComesBefore s.moves more h.in_order
               (AllPairs-map (recorded (s.step + 1) c.day) ComesBefore (moves_of s c.action)
-                  (λ i j d l m. inr (refl, made.in_order i j d l m)))
+              (λ i j d l m. inr (refl, made.in_order i j d l m)))
               (All-weaker (IsBy s.step) (λ m. All (ComesBefore m) more)
               (λ m e. All-weaker (IsOf (s.step + 1)) (ComesBefore m) (λ n at. inl (omega (arith, at, e))) more
-                  at_step) s.moves h.steps);
+              at_step) s.moves h.steps);
           steps = All-append (IsBy (s.step + 1)) s.moves more
               (All-weaker (IsBy s.step) (IsBy (s.step + 1)) (λ m e. omega (arith, e)) s.moves h.steps)
               (All-weaker (IsOf (s.step + 1)) (IsBy (s.step + 1)) (λ m e. omega (arith, e)) more at_step);
@@ -137,7 +141,7 @@ balance_sound laws s c b class = by (ends_period c.action) refl
   where
     goes_on : count_in class s.first + arrivals_of class (changes_of (s.moves ++ records_of s c))
         ≡ count_of class (standing_in (held_after s c.action)) + departures_of class
-            (changes_of (s.moves ++ records_of s c))
+        (changes_of (s.moves ++ records_of s c))
     goes_on =
         let law = laws.balance class (standing s) (standing_in (held_after s c.action)) in
         let a = laws.arrivals class (changes_of s.moves) (moves_of s c.action) in
@@ -147,7 +151,7 @@ balance_sound laws s c b class = by (ends_period c.action) refl
     by : (e : Bool) → ends_period c.action ≡ e → count_in class (cond e (counts_of (standing s)) s.first) +
         arrivals_of class (changes_of (cond e [] (s.moves ++ records_of s c)))
         ≡ count_of class (standing_in (held_after s c.action)) + departures_of class
-            (changes_of (cond e [] (s.moves ++ records_of s c)))
+        (changes_of (cond e [] (s.moves ++ records_of s c)))
     by true ends = ap (λ n. n + 0)
         (counted_in class (standing s) ∙ ap (λ h. count_of class (standing_in h)) (sym (ends_only s c.action ends)))
     by false goes = goes_on

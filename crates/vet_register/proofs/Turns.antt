@@ -34,7 +34,7 @@ turn_done s end c o h is becomes = inl
 pub turns_more : (s mid end : State) (commands : List Command) (answers : List (Result Outcome Refusal)) (c : Command)
     (answer : Result Outcome Refusal)
     → AreTurns s commands answers mid → IsTurn mid c answer end → AreTurns s (commands ++ c ∷ [])
-        (answers ++ answer ∷ []) end
+    (answers ++ answer ∷ []) end
 turns_more s mid end [] [] c answer turns turn = (end, (rw (sym turns) turn, refl))
 turns_more s mid end (b ∷ commands) (first ∷ answers) c answer (next_state, (here, rest)) turn =
     (next_state, (here, turns_more next_state mid end commands answers c answer rest turn))

@@ -46,9 +46,11 @@ module _ {X : Type 0} (known : List ℕ → Bool) (names : X → NameSet) where
 none_built_in : (cs : List Criterion) → All (λ c. is_built_in c.name ≡ false) cs → list_any (λ c. is_built_in c.name)
     cs ≡ false
 none_built_in [] h = refl
-none_built_in (c ∷ cs) h = rw
-    (All-head (λ c. is_built_in c.name ≡ false) c cs h, none_built_in cs
-        (All-tail (λ c. is_built_in c.name ≡ false) c cs h)) refl
+none_built_in (c ∷ cs) h = rw (
+  All-head (λ c. is_built_in c.name ≡ false) c cs h,
+  none_built_in cs
+      (All-tail (λ c. is_built_in c.name ≡ false) c cs h),
+) refl
 
 -- criteria that are few, imply known ones alone and are not built in have a table
 pub table_of : (cs : List Criterion) → nat_lt MOST_CRITERIA (table.len (defined cs)) ≡ false → least_undefined

@@ -63,7 +63,7 @@ impl<R: ReadTable<Item = Entry>> ReadMember for ReadPackages<'_, R> {
     ) -> Result<Found<Listed<Entry>>, Refusal> {
         let more = tables_of_package(alloc, self.reader, self.path, key, value)?;
         let more = each_once(alloc, more)?;
-        Ok(found.onto(more)?)
+        Ok(found.followed_by(more)?)
     }
 }
 

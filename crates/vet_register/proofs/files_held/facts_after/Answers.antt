@@ -9,6 +9,6 @@ of_parts-requires-clause-by_number c =
     let held = c.args.facts.now.content.entries in
     let coming = c.entries-2.result.now in
     let after = c.in_ok-entries.ensures.ok ∙ ap (λ hs. entries_after Own c.args.next hs coming)
-        c.entries.ensures.value in
+    c.entries.ensures.value in
     subst AreByNumber (sym after)
-        (c.entries_keep_order.ensures Own c.args.next held coming c.entries.ensures.by_number c.requires.own).0
+    (c.entries_keep_order.ensures Own c.args.next held coming c.entries.ensures.by_number c.requires.own).0

@@ -10,4 +10,4 @@ invariant-peers l =
     let first = l.next + new_own l.facts.content l.files in
     let so_far = take l.place l.settings in
     (l.number ≡ first + sum_by (new_of_peer peers l.files.contents) so_far) ×
-        (l.peers.items ≡ peers_after first peers l.files.contents so_far)
+    (l.peers.items ≡ peers_after first peers l.files.contents so_far)

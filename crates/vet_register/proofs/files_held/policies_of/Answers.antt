@@ -12,7 +12,7 @@ returns c =
     let copied = c.in_ok-policies.ensures.items_if_clones_equal (λ a b h. h) ∙ given in
     let ordered = subst IsInKeyOrder c.policies.ensures c.as_slice.ensures.in_order in
     IfOk-weaker c.of.result (λ p. p.items ≡ all_set policy_key_cmp key_of [] c.in_ok-policies.policies.items)
-        (λ p. p.items ≡ c.args.files.now.policies)
+    (λ p. p.items ≡ c.args.files.now.policies)
     (λ p is. is ∙ ap (all_set policy_key_cmp key_of []) copied ∙ set_in_order policy_key_cmp key_of
-        c.args.files.now.policies ordered)
+    c.args.files.now.policies ordered)
     c.of.ensures

@@ -11,5 +11,5 @@ returns c =
     let table = c.args.table.now in
     let count : List (List ℕ) → ℕ = (λ names. length (filter (λ n. not (is_built_in n)) names)) in
     let counted = eq-eqb (length c.args.criteria.now) (count (map.keys table))
-        (omega (arith, c.if-criteria-further_count.false, c.further_count.ensures ∙ ap count c.names.ensures.names)) in
+    (omega (arith, c.if-criteria-further_count.false, c.further_count.ensures ∙ ap count c.names.ensures.names)) in
     c.are_held.ensures ∙ sym (ap (λ b. b && list_all (is_held table) c.args.criteria.now) counted)

@@ -13,34 +13,34 @@ returns-then-not-have_settings c =
     let peers = c.args.facts.now.content.peers in
     let f = c.args.files.now in
     let settings = ap (list_all (has_settings peers)) (sym c.settings-2.ensures) ∙ sym c.have_settings.ensures ∙
-        c.if-not-have_settings.true in
+    c.if-not-have_settings.true in
     let held = sym (each_held peers f.contents f.settings) ∙ ap
-        (λ b. b && list_all (λ (x : ComparisonValue). x.is_same) (map (compared_peer peers f.contents) f.settings))
-            settings in
+    (λ b. b && list_all (λ (x : ComparisonValue). x.is_same) (map (compared_peer peers f.contents) f.settings))
+    settings in
     sym (second_fails (length f.settings == length peers)
-        (list_all (has_peer peers f.contents) f.settings && each_is_set f) (ap (λ b. b && each_is_set f) held))
+    (list_all (has_peer peers f.contents) f.settings && each_is_set f) (ap (λ b. b && each_is_set f) held))
 
 pub returns-then-not-are_same : goal.returns-then-not-are_same
 returns-then-not-are_same c =
     let peers = c.args.facts.now.content.peers in
     let f = c.args.files.now in
     let same = ap (list_all (λ (x : ComparisonValue). x.is_same)) (sym c.requires) ∙ sym c.are_same.ensures ∙
-        c.if-not-are_same.true in
+    c.if-not-are_same.true in
     let held = sym (each_held peers f.contents f.settings) ∙ second_fails (list_all (has_settings peers) f.settings)
-        (list_all (λ (x : ComparisonValue). x.is_same) (map (compared_peer peers f.contents) f.settings)) same in
+    (list_all (λ (x : ComparisonValue). x.is_same) (map (compared_peer peers f.contents) f.settings)) same in
     sym (second_fails (length f.settings == length peers)
-        (list_all (has_peer peers f.contents) f.settings && each_is_set f) (ap (λ b. b && each_is_set f) held))
+    (list_all (has_peer peers f.contents) f.settings && each_is_set f) (ap (λ b. b && each_is_set f) held))
 
 pub returns : goal.returns
 returns c =
     let peers = c.args.facts.now.content.peers in
     let f = c.args.files.now in
     let settings = ap (list_all (has_settings peers)) (sym c.settings-2.ensures) ∙ sym c.have_settings.ensures ∙
-        c.if-not-have_settings.false in
+    c.if-not-have_settings.false in
     let same = ap (list_all (λ (x : ComparisonValue). x.is_same)) (sym c.requires) ∙ sym c.are_same.ensures ∙
-        c.if-not-are_same.false in
+    c.if-not-are_same.false in
     let held : list_all (has_peer peers f.contents) f.settings ≡ true = sym (each_held peers f.contents f.settings) ∙
-        (λ i. settings i && same i) in
+    (λ i. settings i && same i) in
     let counted = eq-eqb (length f.settings) (length peers)
-        (omega (arith, c.if-settings-peers.false, ap length c.settings.ensures, ap length c.peers.ensures.value)) in
+    (omega (arith, c.if-settings-peers.false, ap length c.settings.ensures, ap length c.peers.ensures.value)) in
     c.each_is_set.ensures ∙ sym (λ i. counted i && (held i && each_is_set f))

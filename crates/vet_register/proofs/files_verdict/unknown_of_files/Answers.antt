@@ -12,7 +12,7 @@ returns c =
     let table : map.contains_key c.args.known.now.table ≡ has = (λ i n. c.requires.table n i) in
     let implied = c.least_undefined-implied.ensures ∙ (λ i. least_undefined (names i) (c.criteria.ensures i)) in
     let own = c.unknown_of_entries-own.ensures ∙ (λ i. unknown_of_entries (names i) (implied i) (c.entries.ensures i))
-        in
+    in
     let held = c.as_slice.ensures.value ∙ c.policies.ensures in
     let policies = c.unknown_of_policies-policies.ensures ∙ (λ i. unknown_of_policies (table i) (own i) (held i)) in
     c.unknown_of_targets.ensures ∙ (λ i. unknown_of_targets (table i) (policies i) (c.settings.ensures i))

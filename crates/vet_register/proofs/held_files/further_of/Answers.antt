@@ -10,7 +10,7 @@ pub returns : goal.returns
 returns c =
     let table = c.args.table.now in
     IfOk-weaker c.further_named.result (λ copies. copies.items ≡ filter_map (further_at table) c.names.result.now)
-        (λ copies. copies.items ≡ further table)
+    (λ copies. copies.items ≡ further table)
     (λ copies is. is ∙ ap (filter_map (further_at table)) c.names.ensures.names ∙ further_is table
-        c.names.ensures.table)
+    c.names.ensures.table)
     c.further_named.ensures

@@ -10,4 +10,4 @@ pub returns-in-None : goal.returns-in-None
 returns-in-None c =
     let within = subst (λ z. z ≤ℤ LAST_DAY_NUMBER) c.number-number.ensures.value c.number-number.ensures.range.1 in
     sym (not_before LAST_DAY_NUMBER (day_number c.args.day +ℤ pos MOST_WINDOW_DAYS) (day_number c.args.last)
-        (c.in-None.ensures.past.0 refl) within)
+    (c.in-None.ensures.past.0 refl) within)

@@ -21,9 +21,9 @@ returns-in_err-number-clause-asked g c =
 pub returns-in_err-edit_adding-clause-asked : goal.returns-in_err-edit_adding-clause-asked
 returns-in_err-edit_adding-clause-asked g c =
     let passed = err_from_is_err_and c.from_residual-in_err-edit_adding.result
-        c.from_residual-in_err-edit_adding.ensures.1 in
+    c.from_residual-in_err-edit_adding.ensures.1 in
     let told : judged c.args.self.now.state c.args.day (action.AddEntry c.args.entry.now) ≡ Ok Accepted = answered _ _
-        c.in_ok-number.ensures ∙ ap Ok c.in_default.is in
+    c.in_ok-number.ensures ∙ ap Ok c.in_default.is in
     rw (passed.1, passed.2) (no_memory _ _ _ _ _ told c.in_err-edit_adding.ensures.memory)
 
 pub returns-clause-asked : goal.returns-clause-asked
@@ -32,7 +32,7 @@ returns-clause-asked g c =
     let asks = action.AddEntry c.args.entry.now in
     let sound : IsSound state = subst (λ (r : RegisterView _). IsSound r.state) c.self.view_is c.self.invariant.1 in
     let told : judged state c.args.day asks ≡ Ok Accepted = answered _ _ c.in_ok-number.ensures ∙ ap Ok
-        c.in_default.is in
+    c.in_default.is in
     let added = c.in_ok-edit_adding.ensures in
     let before : State = record {
       held = content_of c.self.inside.held;
@@ -44,11 +44,12 @@ returns-clause-asked g c =
       moves = c.self.inside.moves.items;
     } in
     let stays = (λ i. record before { held = record (content_of c.self.inside.held) { facts = added.content i } }) ∙
-        ap (λ (r : RegisterView _). r.state) c.self.view_is in
+    ap (λ (r : RegisterView _). r.state) c.self.view_is in
     let edit = subst (λ (r : RegisterView _). edited c.in_ok-edit_adding.field-0 r.state.held.facts
-    ≡ record r.state.held.facts
-        { entries = r.state.held.facts.entries ++ (record { number = r.state.next_entry; entry = c.in_ok-own.own }) ∷
-            [] })
+    ≡ record r.state.held.facts {
+      entries = r.state.held.facts.entries ++ (record { number = r.state.next_entry; entry = c.in_ok-own.own }) ∷
+          [];
+    })
     c.self.view_is added.edit in
     let facts = edit ∙ (λ i. record {
       criteria = state.held.facts.criteria;
@@ -60,11 +61,11 @@ returns-clause-asked g c =
     let held = ap (λ (r : RegisterView _). r.state.next_entry) c.self.view_is in
     let next : c.self.inside.next_entry + 1 ≡ number_after state asks = omega (arith, held) in
     effective _ _ _ _ _ told
-        (facts_effect _ _ asks state c.in_ok-edit_adding.field-0 _ _ stays sound told tt facts refl refl refl refl
-            number next added.fits sound.held.facts.criteria sound.held.facts.publishers)
+    (facts_effect _ _ asks state c.in_ok-edit_adding.field-0 _ _ stays sound told tt facts refl refl refl refl
+    number next added.fits sound.held.facts.criteria sound.held.facts.publishers)
 
 pub edit_adding-requires : goal.edit_adding-requires
 edit_adding-requires g c =
     subst (λ (r : RegisterView _). All (λ h. h.number < r.state.next_entry) r.state.held.facts.entries)
-        (sym c.self.view_is)
+    (sym c.self.view_is)
     (subst (λ (r : RegisterView _). IsSound r.state) c.self.view_is c.self.invariant.1).held.facts.entries.numbers_given

@@ -18,25 +18,25 @@ returns-in_err-check_command-clause-asked g c =
     let state = c.args.self.now.state in
     let command = c.args.command.now in
     let new : desk_held state.desk command ≡ false = ap (λ (r : RegisterView _). desk_held r.state.desk command)
-        (sym c.self.view_is) ∙ sym c.is_held.ensures ∙ c.if-is_held.false in
+    (sym c.self.view_is) ∙ sym c.is_held.ensures ∙ c.if-is_held.false in
     let passed = err_from_is_err_and c.from_residual.result c.from_residual.ensures.1 in
     rw (passed.1, passed.2) (refused_before _ state c.args.day command new _ c.in_err-check_command.ensures)
 
 pub desk_effect-requires-clause-asked : goal.desk_effect-requires-clause-asked
 desk_effect-requires-clause-asked g c =
     subst (λ (t : State). asked_before t c.args.command.now ≡ Ok tt) (sym c.desk_change.ensures.state)
-        (answered _ _ c.in_ok-check_command.ensures)
+    (answered _ _ c.in_ok-check_command.ensures)
 
 pub returns-in_err-effect-clause-asked : goal.returns-in_err-effect-clause-asked
 returns-in_err-effect-clause-asked g c =
     let state = c.args.self.now.state in
     let command = c.args.command.now in
     let new : desk_held state.desk command ≡ false = ap (λ (r : RegisterView _). desk_held r.state.desk command)
-        (sym c.self.view_is) ∙ sym c.is_held.ensures ∙ c.if-is_held.false in
+    (sym c.self.view_is) ∙ sym c.is_held.ensures ∙ c.if-is_held.false in
     let before : asked_before state command ≡ Ok tt = answered _ _ c.in_ok-check_command.ensures in
     let passed = err_from_is_err_and c.from_residual-in_err-effect.result c.from_residual-in_err-effect.ensures.1 in
     let told = subst (λ (t : State). Gives (λ e. tt) (limits_after_rules t command) c.desk_effect.result)
-        c.desk_change.ensures.state c.desk_effect.ensures.told in
+    c.desk_change.ensures.state c.desk_effect.ensures.told in
     rw (passed.1, passed.2) (refused_last _ state c.args.day command new before _
     (subst (λ r. Gives (λ e. tt) (limits_after_rules state command) r) c.in_err-effect.was told))
 
@@ -50,12 +50,12 @@ returns-clause-asked g c =
     let command = c.args.command.now in
     let sound : IsSound state = subst (λ (r : RegisterView _). IsSound r.state) c.self.view_is c.self.invariant.1 in
     let new : desk_held state.desk command ≡ false = ap (λ (r : RegisterView _). desk_held r.state.desk command)
-        (sym c.self.view_is) ∙ sym c.is_held.ensures ∙ c.if-is_held.false in
+    (sym c.self.view_is) ∙ sym c.is_held.ensures ∙ c.if-is_held.false in
     let before : asked_before state command ≡ Ok tt = answered _ _ c.in_ok-check_command.ensures in
     let last : limits_after_rules state command ≡ Ok tt =
     ap (λ (t : State). limits_after_rules t command) (sym c.desk_change.ensures.state) ∙ c.in_ok-effect.ensures.told in
     let told : judged state c.args.day (action.Desk command) ≡ Ok Accepted = accepted_after state command c.args.day
-        new before last in
+    new before last in
     let prepared : IsDeskChange (desk_room c.desk_effect.new.self) c.args.day command c.in_ok-change.change =
     c.desk_effect.ensures.room_stays.1.1 c.args.day command c.in_ok-change.change c.in_ok-change.ensures.change in
     let is = desk_effective c.desk_effect.new.self state c.args.day command c.in_ok-change.change c.in_ok-effect.effect

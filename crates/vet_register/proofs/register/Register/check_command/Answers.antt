@@ -13,17 +13,17 @@ returns g c =
     let command = c.args.command.now in
     let few : desk_limits state.desk command ≡ Ok tt =
     ap (λ (r : RegisterView _). desk_limits r.state.desk command) (sym c.self.view_is) ∙ sym c.check_limits.ensures ∙
-        c.in_ok-check_limits.was in
+    c.in_ok-check_limits.was in
     let step : step_before_rules state command ≡ Ok tt = sym c.check_step_before_rules.ensures ∙
-        c.in_ok-check_step_before_rules.was in
+    c.in_ok-check_step_before_rules.was in
     let number : desk_number state.desk command ≡ Ok tt =
     ap (λ (r : RegisterView _). desk_number r.state.desk command) (sym c.self.view_is) ∙ sym c.check_number.ensures ∙
-        c.in_ok-check_number.was in
+    c.in_ok-check_number.was in
     let table = c.criteria.ensures.value in
     let references : desk_references state.held.facts.criteria state.desk command ≡ Ok tt =
     ap (λ (r : RegisterView _). desk_references r.state.held.facts.criteria r.state.desk command) (sym c.self.view_is)
     ∙ ap (λ t. desk_references t c.self.inside.desk.content command) (sym table) ∙ answered _ _
-        c.in_ok-check_references.ensures in
+    c.in_ok-check_references.ensures in
     let rules : c.check_rules.result ≡ desk_rules (demanded state) state.desk command =
     c.check_rules.ensures ∙ ap (λ d. desk_rules d c.self.inside.desk.content command) c.self.invariant.0.1.1
     ∙ ap (λ (r : RegisterView _). desk_rules (demanded r.state) r.state.desk command) c.self.view_is in

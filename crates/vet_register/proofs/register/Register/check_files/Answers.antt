@@ -21,10 +21,10 @@ returns-in_err-check_references g c day =
     let asked = ap (λ t. (t >>= λ _. files_limits state files) >>= λ _. files_references files >>= λ _. rules) few
     ∙ ap (λ t. t >>= λ _. files_references files >>= λ _. rules) fit in
     let passed = err_from_is_err_and c.from_residual-in_err-check_references.result
-        c.from_residual-in_err-check_references.ensures.1 in
+    c.from_residual-in_err-check_references.ensures.1 in
     rw (passed.1, passed.2)
-        (subst (λ t. Gives (λ u. u) t (Err c.in_err-check_references.field-0.0)) (sym asked)
-            (refuses_first (files_references files) rules _ c.in_err-check_references.ensures))
+    (subst (λ t. Gives (λ u. u) t (Err c.in_err-check_references.field-0.0)) (sym asked)
+    (refuses_first (files_references files) rules _ c.in_err-check_references.ensures))
 
 pub returns : goal.returns
 returns g c day =
@@ -38,6 +38,6 @@ returns g c day =
     ∙ ap (λ t. t >>= λ _. files_references files >>= λ _. rules) fit ∙ ap (λ t. t >>= λ _. rules) known in
     let same = same_beyond c.in_ok-known.known.table (defined files.criteria)
     (λ n. c.in_ok-known.ensures.table n ∙ ap (λ cs. table.contains_key (defined cs) n) c.criteria.ensures)
-        state.desk.reviews in
+    state.desk.reviews in
     let told : c.check_reviews.result ≡ rules = c.check_reviews.ensures ∙ ap (λ b. refuse_if b CriterionInUse) same in
     subst (λ t. Gives (λ u. u) t c.check_reviews.result) (sym asked) (gives_itself rules c.check_reviews.result told)

@@ -10,5 +10,5 @@ new_count-requires g c =
     let state = c.args.self.now.state in
     let files = c.args.files.now in
     let few = ltb-false MOST_ENTRIES (entries_of_files files)
-        (sym c.has_more_entries.ensures ∙ c.if-has_more_entries.false) in
+    (sym c.has_more_entries.ensures ∙ c.if-has_more_entries.false) in
     omega (arith, few, no_more_new state.held.facts files, files_new state files c.args.comparison.now c.requires)

@@ -11,4 +11,4 @@ returns-clause-total g c =
     let held = content_of c.self.inside.held in
     ap total_of (c.counts.ensures.value ∙ ap counts_of c.self.invariant.0.1.0)
     ∙ all_counted c.classes_add_up.ensures held.facts (demand_in held) ∙ ap
-        (λ (r : RegisterView _). length (demanded r.state)) c.self.view_is
+    (λ (r : RegisterView _). length (demanded r.state)) c.self.view_is

@@ -14,15 +14,15 @@ returns-in_err-change-clause-memory g c =
     let command = c.args.command.now in
     let passed = err_from_is_err_and c.from_residual.result c.from_residual.ensures.1 in
     let accepts : desk_verdict c.criteria-criteria.result.now c.self.inside.demand c.self.inside.desk.content command
-        ≡ Ok at_desk.Accepted =
+    ≡ Ok at_desk.Accepted =
     ap (λ t. desk_verdict t c.self.inside.demand c.self.inside.desk.content command) c.criteria-criteria.ensures.value
     ∙ ap (λ d. desk_verdict c.self.inside.held.facts.content.criteria d c.self.inside.desk.content command)
-        c.self.invariant.0.1.1
+    c.self.invariant.0.1.1
     ∙ ap (λ (r : RegisterView _). desk_verdict r.state.held.facts.criteria (demanded r.state) r.state.desk command)
-        c.self.view_is
+    c.self.view_is
     ∙ desk_accepts state command c.requires.new c.requires.asked in
     rw (passed.1, passed.2)
-        (subst (λ t. TellsDesk t (Err c.in_err-change.field-0.0)) accepts c.in_err-change.ensures.told)
+    (subst (λ t. TellsDesk t (Err c.in_err-change.field-0.0)) accepts c.in_err-change.ensures.told)
 
 pub returns-in_err-change-clause-room_stays : goal.returns-in_err-change-clause-room_stays
 returns-in_err-change-clause-room_stays g c =
@@ -32,8 +32,10 @@ returns-in_err-change-clause-room_stays g c =
     let policies = ap (λ (r : RegisterView _). r.room.held.policies) c.self.view_is in
     let projects = ap (λ (r : RegisterView _). r.room.held.projects) c.self.view_is in
     let moves = ap (λ (r : RegisterView _). r.room.moves) c.self.view_is in (
-      ((omega (arith, entries), (omega (arith, peers), omega (arith, packages))),
-          (omega (arith, policies), omega (arith, projects))),
+      (
+        (omega (arith, entries), (omega (arith, peers), omega (arith, packages))),
+        (omega (arith, policies), omega (arith, projects)),
+      ),
       (
         omega (arith, moves),
         subst (λ (d : DeskView). KeepsDeskChanges d c.prepare.new.self)
@@ -49,8 +51,10 @@ returns-clause-room_stays g c =
     let policies = ap (λ (r : RegisterView _). r.room.held.policies) c.self.view_is in
     let projects = ap (λ (r : RegisterView _). r.room.held.projects) c.self.view_is in
     let moves = ap (λ (r : RegisterView _). r.room.moves) c.self.view_is in (
-      ((omega (arith, entries), (omega (arith, peers), omega (arith, packages))),
-          (omega (arith, policies), omega (arith, projects))),
+      (
+        (omega (arith, entries), (omega (arith, peers), omega (arith, packages))),
+        (omega (arith, policies), omega (arith, projects)),
+      ),
       (
         omega (arith, moves),
         subst (λ (d : DeskView). KeepsDeskChanges d c.prepare.new.self)

@@ -16,7 +16,7 @@ pub edit_dropping-requires : goal.edit_dropping-requires
 edit_dropping-requires g c =
     subst (λ (r : RegisterView _). c.in_ok-place.place < length r.state.held.facts.entries) (sym c.self.view_is)
     (place_within c.args.self.now.state.held.facts.entries c.args.number c.in_ok-place.place
-        c.in_ok-place.ensures.place)
+    c.in_ok-place.ensures.place)
 
 pub returns-clause-asked : goal.returns-clause-asked
 returns-clause-asked g c day =
@@ -24,21 +24,25 @@ returns-clause-asked g c day =
     let asks = action.DropEntry c.args.number in
     let sound : IsSound state = subst (λ (r : RegisterView _). IsSound r.state) c.self.view_is c.self.invariant.1 in
     let told : judged state day asks ≡ Ok Accepted = ap (held_or None)
-        (passes (checked state day asks) c.in_ok-place.place (c.in_ok-place.ensures.refused day)) in
+    (passes (checked state day asks) c.in_ok-place.place (c.in_ok-place.ensures.refused day)) in
     let gone : remove state.held.facts.entries c.in_ok-place.place ≡ filter (λ h. not (has_number c.args.number h))
-        state.held.facts.entries =
+    state.held.facts.entries =
     dropped c.args.number c.in_ok-place.place state.held.facts.entries sound.held.facts.entries.numbers_rise
-        c.in_ok-place.ensures.place in
+    c.in_ok-place.ensures.place in
     let edit = subst (λ (r : RegisterView _). edited c.edit_dropping.result r.state.held.facts ≡ record
-        r.state.held.facts { entries = remove r.state.held.facts.entries c.in_ok-place.place })
+    r.state.held.facts { entries = remove r.state.held.facts.entries c.in_ok-place.place })
     c.self.view_is c.edit_dropping.ensures.edit in
-    let facts = edit ∙ (λ i. record
-        { criteria = state.held.facts.criteria; entries = gone i; peers = state.held.facts.peers; publishers =
-            state.held.facts.publishers }) in
+    let facts = edit ∙ (λ i. record {
+      criteria = state.held.facts.criteria;
+      entries = gone i;
+      peers = state.held.facts.peers;
+      publishers =
+          state.held.facts.publishers;
+    }) in
     let fits = subst (λ (r : RegisterView _). Fits c.edit_dropping.result (held_room r).facts) c.self.view_is
-        c.edit_dropping.ensures.fits in
+    c.edit_dropping.ensures.fits in
     let held = ap (λ (r : RegisterView _). r.state.next_entry) c.self.view_is in
     let next : c.self.inside.next_entry ≡ number_after state asks = omega (arith, held) in
     effective _ _ _ _ _ told
-        (facts_effect _ _ asks state c.edit_dropping.result _ _ refl sound told tt facts refl refl refl refl refl next
-            fits sound.held.facts.criteria sound.held.facts.publishers)
+    (facts_effect _ _ asks state c.edit_dropping.result _ _ refl sound told tt facts refl refl refl refl refl next
+    fits sound.held.facts.criteria sound.held.facts.publishers)

@@ -15,9 +15,9 @@ pub edit_dropping_peer-requires : goal.edit_dropping_peer-requires
 edit_dropping_peer-requires g c =
     let state = c.args.self.now.state in
     let told : judged state some_day (action.DropPeer c.args.name.now) ≡ Ok Accepted = ap (held_or None)
-        (answered _ _ (c.in_ok-judge_peer_drop.ensures some_day)) in
+    (answered _ _ (c.in_ok-judge_peer_drop.ensures some_day)) in
     subst (λ (r : RegisterView _). IsHeld c.args.name.now r.state.held.facts) (sym c.self.view_is)
-        (drop_held state some_day c.args.name.now told)
+    (drop_held state some_day c.args.name.now told)
 
 pub returns-clause-asked : goal.returns-clause-asked
 returns-clause-asked g c day =
@@ -25,14 +25,14 @@ returns-clause-asked g c day =
     let asks = action.DropPeer c.args.name.now in
     let sound : IsSound state = subst (λ (r : RegisterView _). IsSound r.state) c.self.view_is c.self.invariant.1 in
     let told : judged state day asks ≡ Ok Accepted = ap (held_or None)
-        (answered _ _ (c.in_ok-judge_peer_drop.ensures day)) in
+    (answered _ _ (c.in_ok-judge_peer_drop.ensures day)) in
     let facts = subst (λ (r : RegisterView _). edited c.edit_dropping_peer.result r.state.held.facts ≡ record
-        r.state.held.facts { peers = without_peer c.args.name.now r.state.held.facts.peers })
+    r.state.held.facts { peers = without_peer c.args.name.now r.state.held.facts.peers })
     c.self.view_is c.edit_dropping_peer.ensures.edit in
     let fits = subst (λ (r : RegisterView _). Fits c.edit_dropping_peer.result (held_room r).facts) c.self.view_is
-        c.edit_dropping_peer.ensures.fits in
+    c.edit_dropping_peer.ensures.fits in
     let held = ap (λ (r : RegisterView _). r.state.next_entry) c.self.view_is in
     let next : c.self.inside.next_entry ≡ number_after state asks = omega (arith, held) in
     effective _ _ _ _ _ told
-        (facts_effect _ _ asks state c.edit_dropping_peer.result _ _ refl sound told tt facts refl refl refl refl refl
-            next fits sound.held.facts.criteria sound.held.facts.publishers)
+    (facts_effect _ _ asks state c.edit_dropping_peer.result _ _ refl sound told tt facts refl refl refl refl refl
+    next fits sound.held.facts.criteria sound.held.facts.publishers)

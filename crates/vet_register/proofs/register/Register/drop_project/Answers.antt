@@ -14,9 +14,9 @@ pub edit_dropping_project-requires : goal.edit_dropping_project-requires
 edit_dropping_project-requires g c =
     let state = c.args.self.now.state in
     let told : judged state some_day (action.DropProject c.args.name.now) ≡ Ok Accepted = ap (held_or None)
-        (answered _ _ (c.in_ok-judge_project_drop.ensures some_day)) in
+    (answered _ _ (c.in_ok-judge_project_drop.ensures some_day)) in
     subst (λ (r : RegisterView _). is_some (project_at r.state.held.projects c.args.name.now) ≡ true)
-        (sym c.self.view_is) (project_held state some_day c.args.name.now told)
+    (sym c.self.view_is) (project_held state some_day c.args.name.now told)
 
 pub returns-clause-asked : goal.returns-clause-asked
 returns-clause-asked g c day =
@@ -24,12 +24,12 @@ returns-clause-asked g c day =
     let asks = action.DropProject c.args.name.now in
     let sound : IsSound state = subst (λ (r : RegisterView _). IsSound r.state) c.self.view_is c.self.invariant.1 in
     let told : judged state day asks ≡ Ok Accepted = ap (held_or None)
-        (answered _ _ (c.in_ok-judge_project_drop.ensures day)) in
+    (answered _ _ (c.in_ok-judge_project_drop.ensures day)) in
     let held = subst (λ (r : RegisterView _). edited c.edit_dropping_project.result r.state.held ≡ record r.state.held
-        { projects = without_project c.args.name.now r.state.held.projects })
+    { projects = without_project c.args.name.now r.state.held.projects })
     c.self.view_is c.edit_dropping_project.ensures.edit in
     let fits = subst (λ (r : RegisterView _). Fits c.edit_dropping_project.result (held_room r)) c.self.view_is
-        c.edit_dropping_project.ensures.fits in
+    c.edit_dropping_project.ensures.fits in
     let number = ap (λ (r : RegisterView _). r.state.next_entry) c.self.view_is in
     let next : c.self.inside.next_entry ≡ number_after state asks = omega (arith, number) in
     effective _ _ _ _ _ told (held_effect _ _ _ state _ refl held refl refl refl next fits

@@ -8,5 +8,10 @@ pub returns-clause-few : goal.returns-clause-few
 returns-clause-few g c =
     let sound = c.state_is_sound.ensures.held.facts in
     let here = ap (λ (r : RegisterView _). entries_beside r.state.held.facts c.args.name.now) c.self.view_is in
-    omega (arith, entries_without c.args.self.now.state.held.facts.peers c.args.name.now sound.peers.by_name,
-        sound.few, here, c.entries_beside.ensures)
+    omega (
+      arith,
+      entries_without c.args.self.now.state.held.facts.peers c.args.name.now sound.peers.by_name,
+      sound.few,
+      here,
+      c.entries_beside.ensures,
+    )

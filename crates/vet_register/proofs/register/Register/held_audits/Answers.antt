@@ -9,7 +9,7 @@ pub returns-clause-readable : goal.returns-clause-readable
 returns-clause-readable g c =
     let state = c.args.self.now.state in
     let criteria : c.of.result ≡ further state.held.facts.criteria = c.of.ensures ∙ c.in_ok-criteria.ensures ∙ ap
-        further c.criteria.ensures in
+    further c.criteria.ensures in
     let entries : c.of-2.result ≡ filter is_audit (unnumbered state.held.facts.entries) =
     c.of-2.ensures ∙ c.in_ok-entries.ensures ∙ ap (λ es. filter is_audit (unnumbered es)) c.entries.ensures in
     subst IsAudits (λ i. record { criteria = sym criteria i; entries = sym entries i })

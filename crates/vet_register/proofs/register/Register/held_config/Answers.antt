@@ -13,9 +13,9 @@ returns-clause-readable g c =
     c.in_ok-vet_version.ensures ∙ ap (λ (r : RegisterView _). r.state.held.settings.vet_version) c.self.view_is in
     let criteria : c.in_ok-default_criteria.default_criteria ≡ state.held.settings.default_criteria =
     c.in_ok-default_criteria.ensures ∙ ap (λ (r : RegisterView _). r.state.held.settings.default_criteria)
-        c.self.view_is in
+    c.self.view_is in
     let peers : c.of.result ≡ settings_of state.held.facts = c.of.ensures ∙ c.in_ok-peers.ensures ∙ ap
-        (map (λ (p : HeldPeer). p.settings)) c.peers.ensures in
+    (map (λ (p : HeldPeer). p.settings)) c.peers.ensures in
     let policies : c.in_ok-policies.policies ≡ state.held.policies = c.in_ok-policies.ensures ∙ c.policies.ensures in
     let exemptions : c.of-2.result ≡ filter is_exemption (unnumbered state.held.facts.entries) =
     c.of-2.ensures ∙ c.in_ok-exemptions.ensures ∙ ap (λ es. filter is_exemption (unnumbered es)) c.entries.ensures in

@@ -11,15 +11,15 @@ pub peers_among-requires : goal.peers_among-requires
 peers_among-requires g c =
     let state = c.args.self.now.state in
     subst (All (λ (p : HeldPeer). IsPeerContent (content_of p.content).criteria (content_of p.content).entries))
-        (sym c.peers-2.ensures)
+    (sym c.peers-2.ensures)
     (all_readable state.held.facts.peers state.next_entry c.state_is_sound.ensures.held.facts.peers.sound)
 
 pub returns-clause-readable : goal.returns-clause-readable
 returns-clause-readable g c =
     let state = c.args.self.now.state in
     let published : c.of-2.result ≡ state.held.facts.publishers = c.of-2.ensures ∙
-        c.in_ok-publishers.ensures.items_if_clones_equal (λ a b h. h) ∙ c.publishers.ensures in
+    c.in_ok-publishers.ensures.items_if_clones_equal (λ a b h. h) ∙ c.publishers.ensures in
     let peers : c.of-3.result ≡ map imported_of state.held.facts.peers = c.of-3.ensures ∙ c.in_ok-peers.ensures ∙ ap
-        (map imported_of) c.peers-2.ensures in
+    (map imported_of) c.peers-2.ensures in
     subst IsImports (λ i. record { publishers = sym published i; peers = sym peers i })
     (imports_readable state.held.facts state.next_entry c.state_is_sound.ensures.held.facts)

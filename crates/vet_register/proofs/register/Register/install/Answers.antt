@@ -43,7 +43,7 @@ invariant_of-self g c =
       (
         c.apply-2.ensures.keeps _ _
             (subst (λ (t : State). g.K.Keeper.keeping.plans change.update t.held.facts (demanded t)) same
-                prepared.step.basis),
+            prepared.step.basis),
         (
           c.apply-2.ensures.standing ∙ prepared.step.standing ∙ ap standing same,
           c.exchange.ensures ∙ ap (demand_by change.demand) c.self.invariant.0.1.1 ∙ prepared.step.demand ∙ ap
@@ -56,11 +56,11 @@ invariant_of-self g c =
 pub apply-requires : goal.apply-requires
 apply-requires g c =
     let prepared = subst (λ r. IsPrepared g.K.Keeper.keeping r c.requires.0 c.args.change) (sym c.self.view_is)
-        c.requires.1 in
+    c.requires.1 in
     prepared.fits
 
 pub change_desk-requires : goal.change_desk-requires
 change_desk-requires g c =
     let prepared = subst (λ r. IsPrepared g.K.Keeper.keeping r c.requires.0 c.args.change) (sym c.self.view_is)
-        c.requires.1 in
+    c.requires.1 in
     prepared.desk

@@ -23,7 +23,7 @@ returns-clause-asked g c day =
     let asks = action.LoadProject c.args.project.now in
     let sound : IsSound state = subst (λ (r : RegisterView _). IsSound r.state) c.self.view_is c.self.invariant.1 in
     let told : judged state day asks ≡ Ok Accepted = answered _ _ (c.in_ok-number.ensures day) ∙ ap Ok c.in_default.is
-        in
+    in
     let set = c.in_ok-edit_of_project.ensures in
     let before : State = record {
       held = content_of c.self.inside.held;
@@ -37,7 +37,7 @@ returns-clause-asked g c day =
     let stays = (λ i. record before { held = set.content i }) ∙ ap (λ (r : RegisterView _). r.state) c.self.view_is in
     let edit = subst (λ (r : RegisterView _). edited c.in_ok-edit_of_project.field-0 r.state.held
     ≡ record r.state.held { projects = with_project c.in_ok-copy.copy r.state.held.projects }) c.self.view_is set.edit
-        in
+    in
     let same : c.in_ok-copy.copy ≡ c.args.project.now = c.in_ok-copy.ensures.cases in
     let held = edit ∙ (λ i. record state.held { projects = with_project (same i) state.held.projects }) in
     let number = ap (λ (r : RegisterView _). r.state.next_entry) c.self.view_is in

@@ -13,7 +13,7 @@ invariant_of-result g c =
     let held : nothing_held ≡ content_of c.in_ok-held.held = sym c.in_ok-held.ensures.ok in
     let none : demand_in nothing_held ≡ [] = law [] built_in_criteria in
     let kept = subst (λ d. g.K.Keeper.keeping.keeps c.in_ok-keeper.keeper no_facts d) (sym none)
-        (c.in_ok-keeper.ensures.keeps no_facts c.nothing_vets_nothing.ensures.gives) in
+    (c.in_ok-keeper.ensures.keeps no_facts c.nothing_vets_nothing.ensures.gives) in
     let same : start c.args.moves_limit ≡ record {
       held = content_of c.in_ok-held.held;
       desk = c.new-2.result.content;
@@ -33,8 +33,11 @@ invariant_of-result g c =
     } in (
       (
         subst (λ h. g.K.Keeper.keeping.keeps c.in_ok-keeper.keeper h.facts (demand_in h)) held kept,
-        (c.in_ok-keeper.ensures.standing ∙ sym (nothing_stands law) ∙ ap standing_in held, c.none.ensures ∙ sym none ∙
-            ap demand_in held),
+        (
+          c.in_ok-keeper.ensures.standing ∙ sym (nothing_stands law) ∙ ap standing_in held,
+          c.none.ensures ∙ sym none ∙
+              ap demand_in held,
+        ),
       ),
       subst IsSound same (start_is_sound law c.args.moves_limit
           (subst (λ h. IsTable h.facts.criteria) (sym held) c.in_ok-held.ensures.table) c.requires),

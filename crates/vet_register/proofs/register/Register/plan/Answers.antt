@@ -14,14 +14,14 @@ apply-back-requires g c = subst (λ (r : RegisterView _). Fits c.args.edit (held
 pub find_standing-found-requires-clause-known : goal.find_standing-found-requires-clause-known
 find_standing-found-requires-clause-known g c =
     let becomes : ◌≡◌ {A = HeldValue} (content_of c.apply-back.new.self)
-        (edited c.args.edit c.args.self.now.state.held) =
+    (edited c.args.edit c.args.self.now.state.held) =
     c.apply-back.ensures.content ∙ ap (λ (r : RegisterView _). edited c.args.edit r.state.held) c.self.view_is in
     subst (λ h. AreKnown h.facts) (sym becomes) c.requires.sound.1.facts.known
 
 pub find_standing-found-requires-clause-policies : goal.find_standing-found-requires-clause-policies
 find_standing-found-requires-clause-policies g c =
     let becomes : ◌≡◌ {A = HeldValue} (content_of c.apply-back.new.self)
-        (edited c.args.edit c.args.self.now.state.held) =
+    (edited c.args.edit c.args.self.now.state.held) =
     c.apply-back.ensures.content ∙ ap (λ (r : RegisterView _). edited c.args.edit r.state.held) c.self.view_is in
     subst (λ h. PoliciesAreKnown h.facts.criteria h.policies) (sym becomes) c.requires.sound.1.policies.known
 
@@ -37,5 +37,5 @@ find_standing-found-requires-clause-outside g c =
       c.self.invariant.0.0,
       subst (λ h. SameOutside c.args.touched.now held.facts (demand_in held) h.facts (demand_in h)) (sym becomes)
           (subst (λ (s : State). SameOutside c.args.touched.now s.held.facts (demanded s) after.facts
-              (demand_in after)) (sym before) c.requires.outside),
+          (demand_in after)) (sym before) c.requires.outside),
     )

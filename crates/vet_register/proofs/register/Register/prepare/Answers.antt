@@ -32,21 +32,21 @@ change-requires-clause-step g c =
     let command = c.args.command.now in
     let action = command.action in
     let asks = accepted c.asked_by.new.self command.day action c.args.self.now.state
-        (judged c.args.self.now.state command.day action) c.in-Effect.effect
+    (judged c.args.self.now.state command.day action) c.in-Effect.effect
     (subst (Asks c.args.self.now.state c.asked_by.new.self command.day action
-        (judged c.args.self.now.state command.day action)) (ap Ok c.in-Effect.is) c.in_ok-number.ensures.asked) in
+    (judged c.args.self.now.state command.day action)) (ap Ok c.in-Effect.is) c.in_ok-number.ensures.asked) in
     let s = c.args.self.now.state in
     subst (λ (t : State). step_limit t ≡ Ok tt) (sym (c.plan.ensures.state ∙ c.asked_by.ensures.state))
-        (step_passed s command.day action (passed s command.day action asks.0))
+    (step_passed s command.day action (passed s command.day action asks.0))
 
 pub change-requires-clause-next_entry : goal.change-requires-clause-next_entry
 change-requires-clause-next_entry g c =
     let command = c.args.command.now in
     let action = command.action in
     let asks = accepted c.asked_by.new.self command.day action c.args.self.now.state
-        (judged c.args.self.now.state command.day action) c.in-Effect.effect
+    (judged c.args.self.now.state command.day action) c.in-Effect.effect
     (subst (Asks c.args.self.now.state c.asked_by.new.self command.day action
-        (judged c.args.self.now.state command.day action)) (ap Ok c.in-Effect.is) c.in_ok-number.ensures.asked) in
+    (judged c.args.self.now.state command.day action)) (ap Ok c.in-Effect.is) c.in_ok-number.ensures.asked) in
     asks.1.next_entry ∙ ap (λ (t : State). number_after t action) (sym c.plan.ensures.state)
 
 pub change-requires-clause-moves : goal.change-requires-clause-moves
@@ -54,9 +54,9 @@ change-requires-clause-moves g c =
     let command = c.args.command.now in
     let action = command.action in
     let asks = accepted c.asked_by.new.self command.day action c.args.self.now.state
-        (judged c.args.self.now.state command.day action) c.in-Effect.effect
+    (judged c.args.self.now.state command.day action) c.in-Effect.effect
     (subst (Asks c.args.self.now.state c.asked_by.new.self command.day action
-        (judged c.args.self.now.state command.day action)) (ap Ok c.in-Effect.is) c.in_ok-number.ensures.asked) in
+    (judged c.args.self.now.state command.day action)) (ap Ok c.in-Effect.is) c.in_ok-number.ensures.asked) in
     let s = c.asked_by.new.self.state in
     c.in_ok-planned-in-Effect.ensures.moves ∙ ap (λ h. moves_between (standing s) (standing_in h)) asks.1.held
     ∙ ap (λ (t : State). moves_of t action) (sym c.plan.ensures.state)
@@ -66,13 +66,13 @@ returns-in_err-change-in-Effect-clause-told g c =
     let command = c.args.command.now in
     let action = command.action in
     let asks = accepted c.asked_by.new.self command.day action c.args.self.now.state
-        (judged c.args.self.now.state command.day action) c.in-Effect.effect
+    (judged c.args.self.now.state command.day action) c.in-Effect.effect
     (subst (Asks c.args.self.now.state c.asked_by.new.self command.day action
-        (judged c.args.self.now.state command.day action)) (ap Ok c.in-Effect.is) c.in_ok-number.ensures.asked) in
+    (judged c.args.self.now.state command.day action)) (ap Ok c.in-Effect.is) c.in_ok-number.ensures.asked) in
     let gone = err_from_is_err_and c.from_residual-in_err-change-in-Effect.result
-        c.from_residual-in_err-change-in-Effect.ensures.1 in
+    c.from_residual-in_err-change-in-Effect.ensures.1 in
     rw (gone.1, gone.2) (fit_told c.args.self.now.state c.plan.new.self.state command _
-        (c.plan.ensures.state ∙ c.asked_by.ensures.state) asks.0
+    (c.plan.ensures.state ∙ c.asked_by.ensures.state) asks.0
     c.in_err-change-in-Effect.ensures.told)
 
 pub returns-in_err-change-in-Effect-clause-exact : goal.returns-in_err-change-in-Effect-clause-exact
@@ -80,31 +80,31 @@ returns-in_err-change-in-Effect-clause-exact g c =
     let command = c.args.command.now in
     let action = command.action in
     let asks = accepted c.asked_by.new.self command.day action c.args.self.now.state
-        (judged c.args.self.now.state command.day action) c.in-Effect.effect
+    (judged c.args.self.now.state command.day action) c.in-Effect.effect
     (subst (Asks c.args.self.now.state c.asked_by.new.self command.day action
-        (judged c.args.self.now.state command.day action)) (ap Ok c.in-Effect.is) c.in_ok-number.ensures.asked) in
+    (judged c.args.self.now.state command.day action)) (ap Ok c.in-Effect.is) c.in_ok-number.ensures.asked) in
     accepted_exact c.args.self.now.state action (judged c.args.self.now.state command.day action)
-        c.from_residual-in_err-change-in-Effect.result asks.0
+    c.from_residual-in_err-change-in-Effect.result asks.0
 
 pub returns-in_ok-change-in-Effect-clause-told : goal.returns-in_ok-change-in-Effect-clause-told
 returns-in_ok-change-in-Effect-clause-told g c =
     let command = c.args.command.now in
     let action = command.action in
     let asks = accepted c.asked_by.new.self command.day action c.args.self.now.state
-        (judged c.args.self.now.state command.day action) c.in-Effect.effect
+    (judged c.args.self.now.state command.day action) c.in-Effect.effect
     (subst (Asks c.args.self.now.state c.asked_by.new.self command.day action
-        (judged c.args.self.now.state command.day action)) (ap Ok c.in-Effect.is) c.in_ok-number.ensures.asked) in
+    (judged c.args.self.now.state command.day action)) (ap Ok c.in-Effect.is) c.in_ok-number.ensures.asked) in
     fits_told c.args.self.now.state c.plan.new.self.state command (c.plan.ensures.state ∙ c.asked_by.ensures.state)
-        asks.0 c.in_ok-change-in-Effect.ensures.told
+    asks.0 c.in_ok-change-in-Effect.ensures.told
 
 pub returns-in_ok-change-in-Effect-clause-exact : goal.returns-in_ok-change-in-Effect-clause-exact
 returns-in_ok-change-in-Effect-clause-exact g c =
     let command = c.args.command.now in
     let action = command.action in
     let asks = accepted c.asked_by.new.self command.day action c.args.self.now.state
-        (judged c.args.self.now.state command.day action) c.in-Effect.effect
+    (judged c.args.self.now.state command.day action) c.in-Effect.effect
     (subst (Asks c.args.self.now.state c.asked_by.new.self command.day action
-        (judged c.args.self.now.state command.day action)) (ap Ok c.in-Effect.is) c.in_ok-number.ensures.asked) in
+    (judged c.args.self.now.state command.day action)) (ap Ok c.in-Effect.is) c.in_ok-number.ensures.asked) in
     accepted_exact c.args.self.now.state action (judged c.args.self.now.state command.day action) _ asks.0
 
 pub returns-in_ok-change-in-Effect-clause-prepared : goal.returns-in_ok-change-in-Effect-clause-prepared
@@ -114,9 +114,9 @@ returns-in_ok-change-in-Effect-clause-prepared g c =
     let change = c.in_ok-change-in-Effect.change in
     let s = c.asked_by.new.self.state in
     let asks = accepted c.asked_by.new.self command.day action c.args.self.now.state
-        (judged c.args.self.now.state command.day action) c.in-Effect.effect
+    (judged c.args.self.now.state command.day action) c.in-Effect.effect
     (subst (Asks c.args.self.now.state c.asked_by.new.self command.day action
-        (judged c.args.self.now.state command.day action)) (ap Ok c.in-Effect.is) c.in_ok-number.ensures.asked) in
+    (judged c.args.self.now.state command.day action)) (ap Ok c.in-Effect.is) c.in_ok-number.ensures.asked) in
     let told = subst (λ (s : State). judged s command.day action ≡ Ok Accepted) (sym c.asked_by.ensures.state) asks.0 in
     let planned = c.in_ok-planned-in-Effect.ensures in
     let made = c.in_ok-change-in-Effect.ensures in
@@ -130,7 +130,7 @@ returns-in_ok-change-in-Effect-clause-prepared g c =
     } in
     let held = asks.1.held in
     let update : IsUpdate g.K.Keeper.keeping s action change.update = subst
-        (λ u. IsUpdate g.K.Keeper.keeping s action u) (sym made.update) (record {
+    (λ u. IsUpdate g.K.Keeper.keeping s action u) (sym made.update) (record {
       standing = planned.standing ∙ ap standing_in held;
       basis = subst (λ h. g.K.Keeper.keeping.plans c.in_ok-planned-in-Effect.planned.update h.facts (demand_in h))
           held planned.plans;
@@ -157,9 +157,9 @@ returns-in_ok-change-in-Effect-clause-prepared g c =
           (subst (Fits c.in_ok-planned-in-Effect.planned.edit) room planned.fits);
       desk = subst (λ o. HoldsDesk o (desk_room c.change.new.self)) (sym made.desk)
           (desk_still (desk_room c.plan.new.self) (desk_room c.change.new.self) made.room_stays.1.1
-              c.in-Effect.effect.desk
+          c.in-Effect.effect.desk
           (desk_still (desk_room c.asked_by.new.self) (desk_room c.plan.new.self) c.plan.ensures.room_stays.1.1
-              c.in-Effect.effect.desk asks.1.holds));
+          c.in-Effect.effect.desk asks.1.holds));
       move_room = made.room;
       ready = subst (λ k. g.K.Keeper.keeping.is_ready k change.update) (sym made.keeper)
           (subst (λ u. g.K.Keeper.keeping.is_ready c.plan.new.self.keeper u) (sym made.update) planned.ready);
@@ -171,9 +171,9 @@ plan-requires-clause-sound g c =
     let action = command.action in
     let s = c.asked_by.new.self.state in
     let asks = accepted c.asked_by.new.self command.day action c.args.self.now.state
-        (judged c.args.self.now.state command.day action) c.in-Effect.effect
+    (judged c.args.self.now.state command.day action) c.in-Effect.effect
     (subst (Asks c.args.self.now.state c.asked_by.new.self command.day action
-        (judged c.args.self.now.state command.day action)) (ap Ok c.in-Effect.is) c.in_ok-number.ensures.asked) in
+    (judged c.args.self.now.state command.day action)) (ap Ok c.in-Effect.is) c.in_ok-number.ensures.asked) in
     (number_after s action, subst (λ h. IsSoundHeld h (number_after s action)) (sym asks.1.held) asks.1.sound)
 
 pub plan-requires-clause-fits : goal.plan-requires-clause-fits
@@ -181,9 +181,9 @@ plan-requires-clause-fits g c =
     let command = c.args.command.now in
     let action = command.action in
     let asks = accepted c.asked_by.new.self command.day action c.args.self.now.state
-        (judged c.args.self.now.state command.day action) c.in-Effect.effect
+    (judged c.args.self.now.state command.day action) c.in-Effect.effect
     (subst (Asks c.args.self.now.state c.asked_by.new.self command.day action
-        (judged c.args.self.now.state command.day action)) (ap Ok c.in-Effect.is) c.in_ok-number.ensures.asked) in
+    (judged c.args.self.now.state command.day action)) (ap Ok c.in-Effect.is) c.in_ok-number.ensures.asked) in
     asks.1.fits
 
 pub change-requires-clause-number : goal.change-requires-clause-number
@@ -191,9 +191,9 @@ change-requires-clause-number g c =
     let command = c.args.command.now in
     let action = command.action in
     let asks = accepted c.asked_by.new.self command.day action c.args.self.now.state
-        (judged c.args.self.now.state command.day action) c.in-Effect.effect
+    (judged c.args.self.now.state command.day action) c.in-Effect.effect
     (subst (Asks c.args.self.now.state c.asked_by.new.self command.day action
-        (judged c.args.self.now.state command.day action)) (ap Ok c.in-Effect.is) c.in_ok-number.ensures.asked) in
+    (judged c.args.self.now.state command.day action)) (ap Ok c.in-Effect.is) c.in_ok-number.ensures.asked) in
     asks.1.number ∙ ap (λ (t : State). number_given t action) (sym c.plan.ensures.state)
 
 -- ---- what was prepared before
@@ -202,14 +202,14 @@ pub returns-in_err-number-clause-prepared_stays : goal.returns-in_err-number-cla
 returns-in_err-number-clause-prepared_stays g c =
     let keeping = g.K.Keeper.keeping in
     prepared_stays c.held_edits_fit_with_more_room.ensures.fits keeping c.args.self.now c.asked_by.new.self
-        c.asked_by.ensures.state
+    c.asked_by.ensures.state
     (same_keeper keeping c.args.self.now c.asked_by.new.self c.asked_by.ensures.keeper) c.asked_by.ensures.room_stays
 
 pub returns-in-Already-clause-prepared_stays : goal.returns-in-Already-clause-prepared_stays
 returns-in-Already-clause-prepared_stays g c =
     let keeping = g.K.Keeper.keeping in
     prepared_stays c.held_edits_fit_with_more_room.ensures.fits keeping c.args.self.now c.asked_by.new.self
-        c.asked_by.ensures.state
+    c.asked_by.ensures.state
     (same_keeper keeping c.args.self.now c.asked_by.new.self c.asked_by.ensures.keeper) c.asked_by.ensures.room_stays
 
 pub returns-in_err-planned-in-Effect-clause-room_stays : goal.returns-in_err-planned-in-Effect-clause-room_stays
@@ -221,16 +221,16 @@ returns-in_err-planned-in-Effect-clause-prepared_stays g c =
     let keeping = g.K.Keeper.keeping in
     let asked = same_keeper keeping c.args.self.now c.asked_by.new.self c.asked_by.ensures.keeper in
     prepared_stays c.held_edits_fit_with_more_room.ensures.fits keeping c.args.self.now c.plan.new.self
-        (c.plan.ensures.state ∙ c.asked_by.ensures.state)
+    (c.plan.ensures.state ∙ c.asked_by.ensures.state)
     (λ u h. c.plan.ensures.ready_stays u (asked u h))
     (room_onward c.args.self.now c.asked_by.new.self c.plan.new.self c.asked_by.ensures.room_stays
-        c.plan.ensures.room_stays)
+    c.plan.ensures.room_stays)
 
 pub returns-in_err-change-in-Effect-clause-room_stays : goal.returns-in_err-change-in-Effect-clause-room_stays
 returns-in_err-change-in-Effect-clause-room_stays g c =
     room_onward c.args.self.now c.plan.new.self c.change.new.self
     (room_onward c.args.self.now c.asked_by.new.self c.plan.new.self c.asked_by.ensures.room_stays
-        c.plan.ensures.room_stays) c.change.ensures.room_stays
+    c.plan.ensures.room_stays) c.change.ensures.room_stays
 
 pub returns-in_err-change-in-Effect-clause-prepared_stays : goal.returns-in_err-change-in-Effect-clause-prepared_stays
 returns-in_err-change-in-Effect-clause-prepared_stays g c =
@@ -239,16 +239,16 @@ returns-in_err-change-in-Effect-clause-prepared_stays g c =
     let after = same_keeper keeping c.plan.new.self c.change.new.self c.change.ensures.keeper in
     prepared_stays c.held_edits_fit_with_more_room.ensures.fits keeping c.args.self.now c.change.new.self
     (c.change.ensures.state ∙ c.plan.ensures.state ∙ c.asked_by.ensures.state)
-        (λ u h. after u (c.plan.ensures.ready_stays u (asked u h)))
+    (λ u h. after u (c.plan.ensures.ready_stays u (asked u h)))
     (room_onward c.args.self.now c.plan.new.self c.change.new.self
     (room_onward c.args.self.now c.asked_by.new.self c.plan.new.self c.asked_by.ensures.room_stays
-        c.plan.ensures.room_stays) c.change.ensures.room_stays)
+    c.plan.ensures.room_stays) c.change.ensures.room_stays)
 
 pub returns-in_ok-change-in-Effect-clause-room_stays : goal.returns-in_ok-change-in-Effect-clause-room_stays
 returns-in_ok-change-in-Effect-clause-room_stays g c =
     room_onward c.args.self.now c.plan.new.self c.change.new.self
     (room_onward c.args.self.now c.asked_by.new.self c.plan.new.self c.asked_by.ensures.room_stays
-        c.plan.ensures.room_stays) c.change.ensures.room_stays
+    c.plan.ensures.room_stays) c.change.ensures.room_stays
 
 pub returns-in_ok-change-in-Effect-clause-prepared_stays : goal.returns-in_ok-change-in-Effect-clause-prepared_stays
 returns-in_ok-change-in-Effect-clause-prepared_stays g c =
@@ -257,7 +257,7 @@ returns-in_ok-change-in-Effect-clause-prepared_stays g c =
     let after = same_keeper keeping c.plan.new.self c.change.new.self c.change.ensures.keeper in
     prepared_stays c.held_edits_fit_with_more_room.ensures.fits keeping c.args.self.now c.change.new.self
     (c.change.ensures.state ∙ c.plan.ensures.state ∙ c.asked_by.ensures.state)
-        (λ u h. after u (c.plan.ensures.ready_stays u (asked u h)))
+    (λ u h. after u (c.plan.ensures.ready_stays u (asked u h)))
     (room_onward c.args.self.now c.plan.new.self c.change.new.self
     (room_onward c.args.self.now c.asked_by.new.self c.plan.new.self c.asked_by.ensures.room_stays
-        c.plan.ensures.room_stays) c.change.ensures.room_stays)
+    c.plan.ensures.room_stays) c.change.ensures.room_stays)

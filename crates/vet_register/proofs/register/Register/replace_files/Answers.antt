@@ -22,26 +22,36 @@ new_count-requires g c =
     let state = c.args.self.now.state in
     let files = c.args.files.now in
     let accepted = accepted_files state some_day files c.in_ok-comparison.field-0 c.in-Some.comparison c.in-Some.is
-        (c.in_ok-comparison.ensures some_day) in
-    omega (arith, files_numbered state some_day files c.in-Some.comparison accepted, files_new state files
-        c.in-Some.comparison accepted.compared)
+    (c.in_ok-comparison.ensures some_day) in
+    omega (
+      arith,
+      files_numbered state some_day files c.in-Some.comparison accepted,
+      files_new state files
+          c.in-Some.comparison accepted.compared,
+    )
 
 pub overflow_add-next_entry : goal.overflow_add-next_entry
 overflow_add-next_entry g c =
     let state = c.args.self.now.state in
     let files = c.args.files.now in
     let accepted = accepted_files state some_day files c.in_ok-comparison.field-0 c.in-Some.comparison c.in-Some.is
-        (c.in_ok-comparison.ensures some_day) in
+    (c.in_ok-comparison.ensures some_day) in
     let held = ap (λ (r : RegisterView _). r.state.next_entry) c.self.view_is in
-    omega (arith, held, files_numbered state some_day files c.in-Some.comparison accepted, files_new state files
-        c.in-Some.comparison accepted.compared, c.new_count.ensures)
+    omega (
+      arith,
+      held,
+      files_numbered state some_day files c.in-Some.comparison accepted,
+      files_new state files
+          c.in-Some.comparison accepted.compared,
+      c.new_count.ensures,
+    )
 
 pub files_held-requires-clause-defined : goal.files_held-requires-clause-defined
 files_held-requires-clause-defined g c =
     let state = c.args.self.now.state in
     let files = c.args.files.now in
     let accepted = accepted_files state some_day files c.in_ok-comparison.field-0 c.in-Some.comparison c.in-Some.is
-        (c.in_ok-comparison.ensures some_day) in
+    (c.in_ok-comparison.ensures some_day) in
     let p = passed state some_day (action.ReplaceFiles files) accepted.told in
     files_table files c.is_of_files.ensures (files_fit state files p.limits).criteria (files_know files p.references)
 
@@ -50,9 +60,9 @@ files_held-requires-clause-compared g c =
     let state = c.args.self.now.state in
     let files = c.args.files.now in
     let accepted = accepted_files state some_day files c.in_ok-comparison.field-0 c.in-Some.comparison c.in-Some.is
-        (c.in_ok-comparison.ensures some_day) in
+    (c.in_ok-comparison.ensures some_day) in
     subst (λ (r : RegisterView _). IsCompared r.state.held.facts files c.in-Some.comparison) (sym c.self.view_is)
-        accepted.compared
+    accepted.compared
 
 pub files_held-requires-clause-own : goal.files_held-requires-clause-own
 files_held-requires-clause-own g c = c.self.invariant.1.held.facts.entries.numbers_given
@@ -60,14 +70,14 @@ files_held-requires-clause-own g c = c.self.invariant.1.held.facts.entries.numbe
 pub files_held-requires-clause-peers : goal.files_held-requires-clause-peers
 files_held-requires-clause-peers g c p =
     (peer_before c.self.inside.held.facts.content.peers c.self.inside.next_entry c.self.invariant.1.held.facts.peers
-        p).1
+    p).1
 
 pub files_held-requires-clause-numbers : goal.files_held-requires-clause-numbers
 files_held-requires-clause-numbers g c =
     let state = c.args.self.now.state in
     let files = c.args.files.now in
     let accepted = accepted_files state some_day files c.in_ok-comparison.field-0 c.in-Some.comparison c.in-Some.is
-        (c.in_ok-comparison.ensures some_day) in
+    (c.in_ok-comparison.ensures some_day) in
     let count = files_numbered state some_day files c.in-Some.comparison accepted in
     let held = ap (λ (r : RegisterView _). number_after r.state (action.ReplaceFiles files)) c.self.view_is in
     omega (arith, held, count)
@@ -77,9 +87,12 @@ files_held-requires-clause-records g c =
     let state = c.args.self.now.state in
     let files = c.args.files.now in
     let accepted = accepted_files state some_day files c.in_ok-comparison.field-0 c.in-Some.comparison c.in-Some.is
-        (c.in_ok-comparison.ensures some_day) in
-    omega (arith, (files_fit state files
-        (passed state some_day (action.ReplaceFiles files) accepted.told).limits).records)
+    (c.in_ok-comparison.ensures some_day) in
+    omega (
+      arith,
+      (files_fit state files
+          (passed state some_day (action.ReplaceFiles files) accepted.told).limits).records,
+    )
 
 pub returns-clause-asked : goal.returns-clause-asked
 returns-clause-asked g c day =
@@ -88,22 +101,31 @@ returns-clause-asked g c day =
     let asks = action.ReplaceFiles files in
     let sound : IsSound state = subst (λ (r : RegisterView _). IsSound r.state) c.self.view_is c.self.invariant.1 in
     let accepted = accepted_files state day files c.in_ok-comparison.field-0 c.in-Some.comparison c.in-Some.is
-        (c.in_ok-comparison.ensures day) in
+    (c.in_ok-comparison.ensures day) in
     let fit = files_fit state files (passed state day asks accepted.told).limits in
     let made = c.in_ok-held.ensures in
     let facts : c.in_ok-held.held.facts.content ≡ facts_after state asks =
     made.facts ∙ ap (λ (r : RegisterView _). facts_after r.state asks) c.self.view_is in
     let becomes : edited (edit.Files c.in_ok-held.held) state.held ≡ held_after state asks =
-    (λ i. record { facts = facts i; policies = made.policies i; projects = state.held.projects; settings =
-        made.settings i }) in
+    (λ i. record {
+      facts = facts i;
+      policies = made.policies i;
+      projects = state.held.projects;
+      settings =
+          made.settings i;
+    }) in
     let held = ap (λ (r : RegisterView _). r.state.next_entry) c.self.view_is in
     let next : c.self.inside.next_entry + c.new_count.result ≡ number_after state asks =
     omega (arith, held, files_new state files c.in-Some.comparison accepted.compared, c.new_count.ensures) in
     let after = sound_held state day asks accepted.told sound c.is_of_files.ensures
-        (subst IsTable (ap (λ (f : Facts). f.criteria) facts) made.table)
-            (files_records files c.is_of_files.ensures fit.records) in
-    let effect : Effect = record
-        { edit = edit.Files c.in_ok-held.held; desk = None; number = None; next_entry = c.self.inside.next_entry +
-            c.new_count.result } in
+    (subst IsTable (ap (λ (f : Facts). f.criteria) facts) made.table)
+    (files_records files c.is_of_files.ensures fit.records) in
+    let effect : Effect = record {
+      edit = edit.Files c.in_ok-held.held;
+      desk = None;
+      number = None;
+      next_entry = c.self.inside.next_entry +
+          c.new_count.result;
+    } in
     inr (effective _ _ _ _ _ accepted.told
-        (held_effect _ day asks state effect refl becomes refl refl refl next tt after))
+    (held_effect _ day asks state effect refl becomes refl refl refl next tt after))

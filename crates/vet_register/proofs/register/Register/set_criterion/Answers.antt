@@ -22,7 +22,7 @@ pub with_criterion-requires : goal.with_criterion-requires
 with_criterion-requires g c =
     let state = c.args.self.now.state in
     let told : judged state some_day (action.SetCriterion c.args.criterion.now) ≡ Ok Accepted = answered _ _
-        (c.in_ok-number.ensures some_day) ∙ ap Ok c.in_default.is in
+    (c.in_ok-number.ensures some_day) ∙ ap Ok c.in_default.is in
     let table = c.criteria.ensures.value ∙ ap (λ (r : RegisterView _). r.state.held.facts.criteria) c.self.view_is in
     ap (λ t. set_verdict t c.args.criterion.now) table ∙ set_passed state some_day c.args.criterion.now told
 
@@ -32,20 +32,24 @@ returns-clause-asked g c day =
     let asks = action.SetCriterion c.args.criterion.now in
     let sound : IsSound state = subst (λ (r : RegisterView _). IsSound r.state) c.self.view_is c.self.invariant.1 in
     let told : judged state day asks ≡ Ok Accepted = answered _ _ (c.in_ok-number.ensures day) ∙ ap Ok c.in_default.is
-        in
+    in
     let made = c.in_ok-table.ensures in
     let table = made.ok ∙ ap (λ t. map.insert t c.args.criterion.now.name c.args.criterion.now)
-        (c.criteria.ensures.value ∙ ap (λ (r : RegisterView _). r.state.held.facts.criteria) c.self.view_is) in
+    (c.criteria.ensures.value ∙ ap (λ (r : RegisterView _). r.state.held.facts.criteria) c.self.view_is) in
     let edit = subst (λ (r : RegisterView _). edited c.edit_of_criteria.result r.state.held.facts ≡ record
-        r.state.held.facts { criteria = c.in_ok-table.table })
+    r.state.held.facts { criteria = c.in_ok-table.table })
     c.self.view_is c.edit_of_criteria.ensures.edit in
-    let facts = edit ∙ (λ i. record
-        { criteria = table i; entries = state.held.facts.entries; peers = state.held.facts.peers; publishers =
-            state.held.facts.publishers }) in
+    let facts = edit ∙ (λ i. record {
+      criteria = table i;
+      entries = state.held.facts.entries;
+      peers = state.held.facts.peers;
+      publishers =
+          state.held.facts.publishers;
+    }) in
     let fits = subst (λ (r : RegisterView _). Fits c.edit_of_criteria.result (held_room r).facts) c.self.view_is
-        c.edit_of_criteria.ensures.fits in
+    c.edit_of_criteria.ensures.fits in
     let held = ap (λ (r : RegisterView _). r.state.next_entry) c.self.view_is in
     let next : c.self.inside.next_entry ≡ number_after state asks = omega (arith, held) in
     effective _ _ _ _ _ told
-        (facts_effect _ _ asks state c.edit_of_criteria.result _ _ refl sound told tt facts refl refl refl refl refl
-            next fits (subst IsTable table made.table) sound.held.facts.publishers)
+    (facts_effect _ _ asks state c.edit_of_criteria.result _ _ refl sound told tt facts refl refl refl refl refl
+    next fits (subst IsTable table made.table) sound.held.facts.publishers)

@@ -24,7 +24,7 @@ returns-clause-asked g c day =
     let asks = action.SetPeer c.args.settings.now in
     let sound : IsSound state = subst (λ (r : RegisterView _). IsSound r.state) c.self.view_is c.self.invariant.1 in
     let told : judged state day asks ≡ Ok Accepted = answered _ _ (c.in_ok-number.ensures day) ∙ ap Ok c.in_default.is
-        in
+    in
     let set = c.in_ok-edit_of_settings.ensures in
     let before : State = record {
       held = content_of c.self.inside.held;
@@ -36,16 +36,20 @@ returns-clause-asked g c day =
       moves = c.self.inside.moves.items;
     } in
     let stays = (λ i. record before { held = record (content_of c.self.inside.held) { facts = set.content i } }) ∙ ap
-        (λ (r : RegisterView _). r.state) c.self.view_is in
+    (λ (r : RegisterView _). r.state) c.self.view_is in
     let edit = subst (λ (r : RegisterView _). edited c.in_ok-edit_of_settings.field-0 r.state.held.facts
     ≡ record r.state.held.facts { peers = with_settings c.in_ok-copy.copy r.state.held.facts.peers }) c.self.view_is
-        set.edit in
+    set.edit in
     let same : c.in_ok-copy.copy ≡ c.args.settings.now = c.in_ok-copy.ensures.cases in
-    let facts = edit ∙ (λ i. record
-        { criteria = state.held.facts.criteria; entries = state.held.facts.entries; peers = with_settings (same i)
-            state.held.facts.peers; publishers = state.held.facts.publishers }) in
+    let facts = edit ∙ (λ i. record {
+      criteria = state.held.facts.criteria;
+      entries = state.held.facts.entries;
+      peers = with_settings (same i)
+          state.held.facts.peers;
+      publishers = state.held.facts.publishers;
+    }) in
     let held = ap (λ (r : RegisterView _). r.state.next_entry) c.self.view_is in
     let next : c.self.inside.next_entry ≡ number_after state asks = omega (arith, held) in
     effective _ _ _ _ _ told
-        (facts_effect _ _ asks state c.in_ok-edit_of_settings.field-0 _ _ stays sound told tt facts refl refl refl
-            refl refl next set.fits sound.held.facts.criteria sound.held.facts.publishers)
+    (facts_effect _ _ asks state c.in_ok-edit_of_settings.field-0 _ _ stays sound told tt facts refl refl refl
+    refl refl next set.fits sound.held.facts.criteria sound.held.facts.publishers)

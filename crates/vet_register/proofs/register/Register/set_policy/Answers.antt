@@ -23,7 +23,7 @@ returns-clause-asked g c day =
     let asks = action.SetPolicy c.args.policy.now in
     let sound : IsSound state = subst (λ (r : RegisterView _). IsSound r.state) c.self.view_is c.self.invariant.1 in
     let told : judged state day asks ≡ Ok Accepted = answered _ _ (c.in_ok-number.ensures day) ∙ ap Ok c.in_default.is
-        in
+    in
     let set = c.in_ok-edit_of_policy.ensures in
     let before : State = record {
       held = content_of c.self.inside.held;

@@ -17,9 +17,9 @@ publishers_edit-requires-clause-some g c =
     let name = c.args.«package».now in
     let records = c.args.publishers.now in
     let told : judged c.args.self.now.state some_day (action.SetPublishers name records) ≡ Ok Accepted = answered _ _
-        (c.in_ok-number.ensures some_day) ∙ ap Ok c.in_default.is in
+    (c.in_ok-number.ensures some_day) ∙ ap Ok c.in_default.is in
     subst (λ (r : RegisterView _). records_of r.state.held.facts.publishers name ≡ [] → records ≡ [] → ⊥)
-        (sym c.self.view_is)
+    (sym c.self.view_is)
     (records_differ c.args.self.now.state some_day name records told)
 
 pub publishers_edit-requires-clause-counted : goal.publishers_edit-requires-clause-counted
@@ -27,9 +27,9 @@ publishers_edit-requires-clause-counted g c =
     let name = c.args.«package».now in
     let records = c.args.publishers.now in
     let told : judged c.args.self.now.state some_day (action.SetPublishers name records) ≡ Ok Accepted = answered _ _
-        (c.in_ok-number.ensures some_day) ∙ ap Ok c.in_default.is in
+    (c.in_ok-number.ensures some_day) ∙ ap Ok c.in_default.is in
     subst (λ (r : RegisterView _). records_total (with_records name records r.state.held.facts.publishers) < 2 ^ 64)
-        (sym c.self.view_is)
+    (sym c.self.view_is)
     (records_counted c.args.self.now.state some_day name records told)
 
 pub returns-clause-asked : goal.returns-clause-asked
@@ -39,7 +39,7 @@ returns-clause-asked g c day =
     let records = c.args.publishers.now in
     let sound : IsSound state = subst (λ (r : RegisterView _). IsSound r.state) c.self.view_is c.self.invariant.1 in
     let told : judged state day (action.SetPublishers name records) ≡ Ok Accepted = answered _ _
-        (c.in_ok-number.ensures day) ∙ ap Ok c.in_default.is in
+    (c.in_ok-number.ensures day) ∙ ap Ok c.in_default.is in
     let set = c.in_ok-publishers_edit.ensures in
     let before : State = record {
       held = content_of c.self.inside.held;
@@ -51,18 +51,18 @@ returns-clause-asked g c day =
       moves = c.self.inside.moves.items;
     } in
     let stays = (λ i. record before { held = record (content_of c.self.inside.held) { facts = set.content i } }) ∙ ap
-        (λ (r : RegisterView _). r.state) c.self.view_is in
+    (λ (r : RegisterView _). r.state) c.self.view_is in
     let facts = subst (λ (r : RegisterView _). edited c.in_ok-publishers_edit.field-0 r.state.held.facts
     ≡ record r.state.held.facts { publishers = with_records name records r.state.held.facts.publishers })
-        c.self.view_is set.edit in
+    c.self.view_is set.edit in
     let named : IsByName (with_records name records state.held.facts.publishers) =
     subst (λ (r : RegisterView _). IsByName (with_records name records r.state.held.facts.publishers)) c.self.view_is
-        c.records_stay_in_order.ensures.by_name in
+    c.records_stay_in_order.ensures.by_name in
     let are = records_sound state day name records told sound.held.facts.publishers
-        c.records_stay_in_order.ensures.in_order named in
+    c.records_stay_in_order.ensures.in_order named in
     let held = ap (λ (r : RegisterView _). r.state.next_entry) c.self.view_is in
     let next : c.self.inside.next_entry ≡ number_after state (action.SetPublishers name records) = omega (arith, held)
-        in
+    in
     effective _ _ _ _ _ told
-        (facts_effect _ _ (action.SetPublishers name records) state c.in_ok-publishers_edit.field-0 _ _ stays sound
-            told tt facts refl refl refl refl refl next set.fits sound.held.facts.criteria are)
+    (facts_effect _ _ (action.SetPublishers name records) state c.in_ok-publishers_edit.field-0 _ _ stays sound
+    told tt facts refl refl refl refl refl next set.fits sound.held.facts.criteria are)
