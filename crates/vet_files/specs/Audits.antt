@@ -21,6 +21,7 @@ use Rattle.vet_entries.specs.declared.kind.Audit.{Audit}
 use Rattle.vet_entries.specs.declared.kind.Kind.{Kind}
 use Rattle.vet_entries.specs.declared.kind.Kind.TheVariants as entry
 use Rattle.vet_entries.specs.declared.kind.Window.{Window}
+use Rattle.vet_files.specs.KeyNames.{AUDITS, CRITERIA, DELTA, DESCRIPTION, DESCRIPTION_URL, END, IMPLIES, IMPORTABLE, NOTES, RENEW, START, TOP, TRUSTED, USER_ID, VERSION, VIOLATION, WHO, WILDCARD_AUDITS}
 use Rattle.vet_files.specs.declared.keys.TableKind.TheVariants as kind
 use Rattle.vet_files.specs.declared.audits_file.AuditsContent.{AuditsContent}
 use Rattle.vet_files.specs.declared.found.Found.{Found}
@@ -46,9 +47,9 @@ or_none o = option_map_or (λ s. s) o set.empty
 -- the criterion of a table: its description, its url, and what it implies
 abbrev pub criterion_told : Name → Path → Members → Told (Found (Option Criterion))
 criterion_told name path ms =
-    optional a_text path (codes "description") ms >>= λ description.
-    optional a_text path (codes "description-url") ms >>= λ url.
-    optional names path (codes "implies") ms >>= λ implies.
+    optional a_text path DESCRIPTION ms >>= λ description.
+    optional a_text path DESCRIPTION_URL ms >>= λ url.
+    optional names path IMPLIES ms >>= λ implies.
     Ok (found_one (record { name = name; description = description; url = url; implies = or_none implies })
     (unknown_keys kind.Criterion ms))
 
@@ -91,9 +92,9 @@ has ms key = is_some (get_member key ms)
 -- the first of the three keys that say what was audited
 abbrev pub first_key : Members → Option SubjectKey
 first_key ms =
-    if has ms (codes "version") then Some key.Version
-    else (if has ms (codes "delta") then Some key.Delta else
-    (if has ms (codes "violation") then Some key.Violation else None))
+    if has ms VERSION then Some key.Version
+    else (if has ms DELTA then Some key.Delta else
+    (if has ms VIOLATION then Some key.Violation else None))
 
 -- a second of them is a fault, whatever it holds
 abbrev pub absent : Path → Key → Members → Told (Unit {0})
@@ -101,16 +102,16 @@ absent path key ms = if has ms key then Err (fault path key) else Ok tt
 
 abbrev pub subject_told : Path → Members → SubjectKey → Told Subject
 subject_told path ms key.Version =
-    required a_version path (codes "version") ms >>= λ version.
-    absent path (codes "delta") ms >>= λ _.
-    absent path (codes "violation") ms >>= λ _.
+    required a_version path VERSION ms >>= λ version.
+    absent path DELTA ms >>= λ _.
+    absent path VIOLATION ms >>= λ _.
     Ok (subject.Full version)
 subject_told path ms key.Delta =
-    required a_delta path (codes "delta") ms >>= λ delta.
-    absent path (codes "violation") ms >>= λ _.
+    required a_delta path DELTA ms >>= λ delta.
+    absent path VIOLATION ms >>= λ _.
     Ok (subject.Delta delta)
 subject_told path ms key.Violation =
-    required a_requirement path (codes "violation") ms >>= λ req.
+    required a_requirement path VIOLATION ms >>= λ req.
     Ok (subject.Violation req)
 
 -- the kind of an audit
@@ -131,14 +132,14 @@ is_no _ = false
 
 abbrev pub is_withheld : Whose → Members → Bool
 is_withheld Ours ms = false
-is_withheld Peers ms = is_no (get_member (codes "importable") ms)
+is_withheld Peers ms = is_no (get_member IMPORTABLE ms)
 
 -- the audit of a subject for some criteria: who made it, its notes, and whether others may import it
 abbrev pub audit_of_subject : Name → Path → Members → NameSet → Subject → Told (Found (Option Entry))
 audit_of_subject name path ms criteria what =
-    optional texts path (codes "who") ms >>= λ who.
-    optional a_text path (codes "notes") ms >>= λ notes.
-    optional a_flag path (codes "importable") ms >>= λ importable.
+    optional texts path WHO ms >>= λ who.
+    optional a_text path NOTES ms >>= λ notes.
+    optional a_flag path IMPORTABLE ms >>= λ importable.
     Ok (found_one (own_entry name (audit_kind what (record { who = or_none who; importable = importable })) criteria
     notes)
     (unknown_keys kind.Audit ms))
@@ -146,7 +147,7 @@ audit_of_subject name path ms criteria what =
 abbrev pub audit_of : Name → Path → Members → Option SubjectKey → Told (Found (Option Entry))
 audit_of name path ms None = Ok skipped
 audit_of name path ms (Some key) =
-    required names path (codes "criteria") ms >>= λ criteria.
+    required names path CRITERIA ms >>= λ criteria.
     subject_told path ms key >>= audit_of_subject name path ms criteria
 
 -- an audit of one of the three kinds that isn't withheld
@@ -158,39 +159,39 @@ audit_told whose name path ms = if is_withheld whose ms then Ok skipped else aud
 -- the window of a table: its user, its first day and its last
 abbrev pub window_told : Path → Members → Told Window
 window_told path ms =
-    required a_user path (codes "user-id") ms >>= λ user.
-    required a_day path (codes "start") ms >>= λ first.
-    required a_day path (codes "end") ms >>= λ last.
+    required a_user path USER_ID ms >>= λ user.
+    required a_day path START ms >>= λ first.
+    required a_day path END ms >>= λ last.
     Ok (record { user = user; first = first; last = last })
 
 -- the wildcard audit of a window for some criteria: who vouches, whether it is to be renewed, and its notes
 abbrev pub wildcard_of_window : Name → Path → Members → NameSet → Window → Told (Found (Option Entry))
 wildcard_of_window name path ms criteria window =
-    optional texts path (codes "who") ms >>= λ who.
-    optional a_flag path (codes "renew") ms >>= λ renew.
-    optional a_text path (codes "notes") ms >>= λ notes.
+    optional texts path WHO ms >>= λ who.
+    optional a_flag path RENEW ms >>= λ renew.
+    optional a_text path NOTES ms >>= λ notes.
     Ok (found_one (own_entry name (entry.Wildcard window (record { who = or_none who; renew = renew })) criteria notes)
     (unknown_keys kind.Wildcard ms))
 
 abbrev pub wildcard_of : Name → Path → Members → Told (Found (Option Entry))
 wildcard_of name path ms =
-    required names path (codes "criteria") ms >>= λ criteria.
+    required names path CRITERIA ms >>= λ criteria.
     window_told path ms >>= wildcard_of_window name path ms criteria
 
 -- a wildcard audit with a user
 abbrev pub wildcard_told : Reading Entry
-wildcard_told name path ms = if has ms (codes "user-id") then wildcard_of name path ms else Ok skipped
+wildcard_told name path ms = if has ms USER_ID then wildcard_of name path ms else Ok skipped
 
 abbrev pub trusted_of : Name → Path → Members → Told (Found (Option Entry))
 trusted_of name path ms =
-    required names path (codes "criteria") ms >>= λ criteria.
+    required names path CRITERIA ms >>= λ criteria.
     window_told path ms >>= λ window.
-    optional a_text path (codes "notes") ms >>= λ notes.
+    optional a_text path NOTES ms >>= λ notes.
     Ok (found_one (own_entry name (entry.Trusted window) criteria notes) (unknown_keys kind.Trusted ms))
 
 -- one's own trusted publisher with a user
 abbrev pub is_trusted : Whose → Members → Bool
-is_trusted Ours ms = has ms (codes "user-id")
+is_trusted Ours ms = has ms USER_ID
 is_trusted Peers ms = false
 
 abbrev pub trusted_told : Whose → Reading Entry
@@ -216,28 +217,28 @@ abbrev pub entries_of : Reading Entry → Path → Path → Key → Members → 
 entries_of read path prefix key ms = table_at path key ms >>= each_member (next_package read (prefix ++ key)) nothing
 
 abbrev pub criteria_of : Whose → Path → Path → Members → Told (Found (List Criterion))
-criteria_of whose path prefix ms = table_at path (codes "criteria") ms >>= each_member
-    (next_criterion whose (prefix ++ codes "criteria")) nothing
+criteria_of whose path prefix ms = table_at path CRITERIA ms >>= each_member
+    (next_criterion whose (prefix ++ CRITERIA)) nothing
 
 -- what an audits file holds that has these criteria, and these entries but for its trusted ones
 abbrev pub trusted_entries_told : Whose → Path → Path → Members → Found (List Criterion) → Found (List Entry)
     → Told (Found AuditsContent)
 trusted_entries_told whose path prefix ms criteria entries =
-    entries_of (trusted_told whose) path prefix (codes "trusted") ms >>= λ trusted.
+    entries_of (trusted_told whose) path prefix TRUSTED ms >>= λ trusted.
     Ok (audits_content criteria (found_with entries trusted) (only_keys (unknown_keys kind.AuditsFile ms)))
 
 -- what an audits file holds that has these criteria and audits
 abbrev pub further_entries_told : Whose → Path → Path → Members → Found (List Criterion) → Found (List Entry)
     → Told (Found AuditsContent)
 further_entries_told whose path prefix ms criteria audits =
-    entries_of wildcard_told path prefix (codes "wildcard-audits") ms >>= λ wildcards.
+    entries_of wildcard_told path prefix WILDCARD_AUDITS ms >>= λ wildcards.
     trusted_entries_told whose path prefix ms criteria (found_with audits wildcards)
 
 -- what an audits file holds. Its tables stand in one of a path, and their paths begin with a prefix.
 abbrev pub audits_file_told : Whose → Path → Path → Members → Told (Found AuditsContent)
 audits_file_told whose path prefix ms =
     criteria_of whose path prefix ms >>= λ criteria.
-    entries_of (audit_told whose) path prefix (codes "audits") ms >>= λ audits.
+    entries_of (audit_told whose) path prefix AUDITS ms >>= λ audits.
     further_entries_told whose path prefix ms criteria audits
 
 -- the table of a file: a TOML document in UTF-8
@@ -246,4 +247,4 @@ document_told bytes = found_or TomlRefused (if is_utf8 bytes then parse_document
 
 -- the content of an audits file
 abbrev pub audits_told : Bytes → Told (Found AuditsContent)
-audits_told bytes = document_told bytes >>= audits_file_told Ours (codes "top") []
+audits_told bytes = document_told bytes >>= audits_file_told Ours TOP []

@@ -6,6 +6,7 @@ use Rattle.vet_base.specs.Names.{NameSet}
 use Rattle.vet_base.specs.Words.{Key}
 use Rattle.vet_base.specs.declared.criterion.Criterion.{Criterion}
 use Rattle.vet_entries.specs.declared.entry.Entry.{Entry}
+use Rattle.vet_files.specs.KeyNames.{AUDITS, CRITERIA, DESCRIPTION, DESCRIPTION_URL, IMPLIES, TRUSTED, WILDCARD_AUDITS}
 use Rattle.vet_files.specs.declared.audits_file.AuditsContent.{AuditsContent}
 use Rattle.vet_files.specs.declared.write.sections.Listing.TheVariants.{Audits, Trusted, WildcardAudits}
 use Rattle.vet_files.specs.EntryTables.{listed_entries, package_lists, some_text}
@@ -13,8 +14,8 @@ use Rattle.vet_files.specs.Tables.{by_name, fields, some_set, unless_empty}
 
 -- a criterion's table
 abbrev pub criterion_fields : Criterion → List (Key × Option Data)
-criterion_fields c = (codes "description", some_text c.description) ∷ (codes "description-url", some_text c.url) ∷
-    (codes "implies", some_set c.implies) ∷ []
+criterion_fields c = (DESCRIPTION, some_text c.description) ∷ (DESCRIPTION_URL, some_text c.url) ∷
+    (IMPLIES, some_set c.implies) ∷ []
 
 abbrev pub criterion_table : Criterion → Members
 criterion_table c = fields (criterion_fields c)
@@ -26,10 +27,10 @@ criteria_table criteria = by_name (map (λ c. (c.name, table (criterion_table c)
 -- criteria and entries, less the entries of excluded packages. The table `audits` is there even where it is empty.
 abbrev pub audits_file_fields : NameSet → List Criterion → List Entry → List (Key × Option Data)
 audits_file_fields exclude criteria entries =
-    (codes "audits", Some (table (package_lists (listed_entries Audits exclude entries))))
-    ∷ (codes "criteria", unless_empty (criteria_table criteria))
-    ∷ (codes "trusted", unless_empty (package_lists (listed_entries Trusted exclude entries)))
-    ∷ (codes "wildcard-audits", unless_empty (package_lists (listed_entries WildcardAudits exclude entries))) ∷ []
+    (AUDITS, Some (table (package_lists (listed_entries Audits exclude entries))))
+    ∷ (CRITERIA, unless_empty (criteria_table criteria))
+    ∷ (TRUSTED, unless_empty (package_lists (listed_entries Trusted exclude entries)))
+    ∷ (WILDCARD_AUDITS, unless_empty (package_lists (listed_entries WildcardAudits exclude entries))) ∷ []
 
 abbrev pub audits_file_table : NameSet → List Criterion → List Entry → Members
 audits_file_table exclude criteria entries = fields (audits_file_fields exclude criteria entries)

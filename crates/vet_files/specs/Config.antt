@@ -14,6 +14,7 @@ use Rattle.vet_entries.specs.declared.entry.Entry.{Entry}
 use Rattle.vet_entries.specs.declared.kind.Kind.TheVariants.{Exemption}
 use Rattle.vet_entries.specs.declared.peer_settings.PeerSettings.{PeerSettings}
 use Rattle.vet_files.specs.Audits.{document_told, entries_of, or_none, own_entry}
+use Rattle.vet_files.specs.KeyNames.{AUDIT_AS_CRATES_IO, CARGO_VET, CRITERIA, CRITERIA_MAP, DEFAULT_CRITERIA, DEPENDENCY_CRITERIA, DEV_CRITERIA, EXCLUDE, EXEMPTIONS, IMPORTS, NOTES, POLICY, SUGGEST, TOP, URL, VERSION}
 use Rattle.vet_files.specs.declared.config_file.ConfigContent.{ConfigContent}
 use Rattle.vet_files.specs.declared.found.Found.{Found}
 use Rattle.vet_files.specs.declared.keys.TableKind.TheVariants as kind
@@ -30,8 +31,8 @@ use Rattle.vet_files.specs.Walk.{each_member}
 -- the version of cargo-vet that the file names
 abbrev pub vet_version_told : Members → Told (Found (Option Text))
 vet_version_told ms =
-    table_at (codes "top") (codes "cargo-vet") ms >>= λ table.
-    optional a_text (codes "cargo-vet") (codes "version") table >>= λ version.
+    table_at TOP CARGO_VET ms >>= λ table.
+    optional a_text CARGO_VET VERSION table >>= λ version.
     Ok (record { content = version; notices = only_keys (unknown_keys kind.CargoVet table) })
 
 -- ---- `imports`
@@ -39,23 +40,23 @@ vet_version_told ms =
 -- the settings of a peer: its urls, the packages that aren't taken from it, and its map
 abbrev pub peer_told : Name → Path → Members → Told (Found (Option PeerSettings))
 peer_told name path ms =
-    required texts path (codes "url") ms >>= λ url. optional package_names path (codes "exclude") ms >>= λ exclude.
-    optional criteria_map path (codes "criteria-map") ms >>= λ mapped.
+    required texts path URL ms >>= λ url. optional package_names path EXCLUDE ms >>= λ exclude.
+    optional criteria_map path CRITERIA_MAP ms >>= λ mapped.
     Ok (found_one (record { name = name; url = url; exclude = or_none exclude; map = or_no_map mapped })
     (unknown_keys kind.Peer ms))
 
 abbrev pub settings_told : Name → Data → Told (Found (Option PeerSettings))
-settings_told name d = found_or (fault (codes "imports") name) (as_table d) >>= peer_told name
-    (path_below (codes "imports") name)
+settings_told name d = found_or (fault IMPORTS name) (as_table d) >>= peer_told name
+    (path_below IMPORTS name)
 
 -- one more peer
 abbrev pub next_peer : Found (List PeerSettings) → Name → Data → Told (Found (List PeerSettings))
 next_peer found name d = if is_name name then settings_told name d >>= (λ more. Ok (found_with found (listed more)))
     else Err
-    (fault (codes "imports") name)
+    (fault IMPORTS name)
 
 abbrev pub peers_told : Members → Told (Found (List PeerSettings))
-peers_told ms = table_at (codes "top") (codes "imports") ms >>= each_member next_peer nothing
+peers_told ms = table_at TOP IMPORTS ms >>= each_member next_peer nothing
 
 -- ---- `policy`
 
@@ -63,8 +64,8 @@ peers_told ms = table_at (codes "top") (codes "imports") ms >>= each_member next
 abbrev pub dependency_policy_told : Path → Members → Option Bool → Option NameSet → Option NameSet
     → Told (Found Policy)
 dependency_policy_told path ms published criteria dev =
-    optional dependency_criteria path (codes "dependency-criteria") ms >>= λ dependencies.
-    optional a_text path (codes "notes") ms >>= λ notes.
+    optional dependency_criteria path DEPENDENCY_CRITERIA ms >>= λ dependencies.
+    optional a_text path NOTES ms >>= λ notes.
     Ok (record {
       content = record {
         audit_as_crates_io = published;
@@ -80,21 +81,21 @@ dependency_policy_told path ms published criteria dev =
 -- the policy of a table
 abbrev pub policy_told : Path → Members → Told (Found Policy)
 policy_told path ms =
-    optional a_flag path (codes "audit-as-crates-io") ms >>= λ published.
-    optional names path (codes "criteria") ms >>= λ criteria.
-    optional names path (codes "dev-criteria") ms >>= λ dev. dependency_policy_told path ms published criteria dev
+    optional a_flag path AUDIT_AS_CRATES_IO ms >>= λ published.
+    optional names path CRITERIA ms >>= λ criteria.
+    optional names path DEV_CRITERIA ms >>= λ dev. dependency_policy_told path ms published criteria dev
 
 -- one more policy, whose key isn't that of an earlier one
 abbrev pub new_key : Text → List KeyedPolicy → PolicyKey → Told PolicyKey
-new_key text held key = if has_policy held key then Err (fault (codes "policy") text) else Ok key
+new_key text held key = if has_policy held key then Err (fault POLICY text) else Ok key
 
 abbrev pub new_key_told : Text → List KeyedPolicy → Told PolicyKey
-new_key_told text held = found_or (fault (codes "policy") text) (read_key text) >>= new_key text held
+new_key_told text held = found_or (fault POLICY text) (read_key text) >>= new_key text held
 
 -- the policy whose table stands at a key
 abbrev pub policy_at : Text → Data → Told (Found Policy)
-policy_at text d = found_or (fault (codes "policy") text) (as_table d) >>= policy_told
-    (path_below (codes "policy") text)
+policy_at text d = found_or (fault POLICY text) (as_table d) >>= policy_told
+    (path_below POLICY text)
 
 abbrev pub policy_onto : Found (List KeyedPolicy) → PolicyKey → Found Policy → Found (List KeyedPolicy)
 policy_onto found key more =
@@ -109,15 +110,15 @@ abbrev pub all_policies_told : Members → Told (Found (List KeyedPolicy))
 all_policies_told = each_member next_policy (record { content = []; notices = no_notices })
 
 abbrev pub policies_told : Members → Told (Found (List KeyedPolicy))
-policies_told ms = table_at (codes "top") (codes "policy") ms >>= all_policies_told
+policies_told ms = table_at TOP POLICY ms >>= all_policies_told
 
 -- ---- `exemptions`
 
 abbrev pub exemption_told : Reading Entry
 exemption_told name path ms =
-    required a_version path (codes "version") ms >>= λ version.
-    required names path (codes "criteria") ms >>= λ criteria.
-    optional a_flag path (codes "suggest") ms >>= λ suggest. optional a_text path (codes "notes") ms >>= λ notes.
+    required a_version path VERSION ms >>= λ version.
+    required names path CRITERIA ms >>= λ criteria.
+    optional a_flag path SUGGEST ms >>= λ suggest. optional a_text path NOTES ms >>= λ notes.
     Ok (found_one (own_entry name (Exemption version suggest) criteria notes) (unknown_keys kind.Exemption ms))
 
 -- ---- the file
@@ -127,7 +128,7 @@ abbrev pub config_lists_told : Option Text → Option NameSet → Notices → No
     → Told (Found ConfigContent)
 config_lists_told version default settings keys ms =
     peers_told ms >>= λ peers. policies_told ms >>= λ policies.
-    entries_of exemption_told (codes "top") [] (codes "exemptions") ms >>= λ exemptions.
+    entries_of exemption_told TOP [] EXEMPTIONS ms >>= λ exemptions.
     Ok (record {
       content = record {
         vet_version = version;
@@ -145,7 +146,7 @@ config_lists_told version default settings keys ms =
 -- what a config file holds
 abbrev pub config_file_told : Members → Told (Found ConfigContent)
 config_file_told ms =
-    vet_version_told ms >>= λ version. optional names (codes "top") (codes "default-criteria") ms >>= λ default.
+    vet_version_told ms >>= λ version. optional names TOP DEFAULT_CRITERIA ms >>= λ default.
     config_lists_told version.content default version.notices (only_keys (unknown_keys kind.ConfigFile ms)) ms
 
 -- the content of a config file

@@ -12,6 +12,7 @@ use Rattle.vet_demand.specs.declared.policy.Policy.{Policy}
 use Rattle.vet_entries.specs.CriteriaMap.{NamesByName}
 use Rattle.vet_entries.specs.declared.entry.Entry.{Entry}
 use Rattle.vet_entries.specs.declared.peer_settings.PeerSettings.{PeerSettings}
+use Rattle.vet_files.specs.KeyNames.{AUDIT_AS_CRATES_IO, CARGO_VET, CRITERIA, CRITERIA_MAP, DEFAULT_CRITERIA, DEPENDENCY_CRITERIA, DEV_CRITERIA, EXCLUDE, EXEMPTIONS, IMPORTS, NOTES, POLICY, URL, VERSION}
 use Rattle.vet_files.specs.declared.config_file.ConfigContent.{ConfigContent}
 use Rattle.vet_files.specs.declared.write.sections.Listing.TheVariants.{Exemptions}
 use Rattle.vet_files.specs.EntryTables.{listed_entries, package_lists, some_flag, some_text}
@@ -24,7 +25,7 @@ optional_set = option_map set_data
 -- ---- `[cargo-vet]`
 
 abbrev pub cargo_vet_table : Text → Members
-cargo_vet_table version = fields ((codes "version", Some (string version)) ∷ [])
+cargo_vet_table version = fields ((VERSION, Some (string version)) ∷ [])
 
 -- ---- `imports`
 
@@ -35,8 +36,8 @@ mapped_table mapped = members_from (map (λ m. (m.0, set_data m.1)) (finite.entr
 -- a peer's settings
 abbrev pub peer_fields : PeerSettings → List (Key × Option Data)
 peer_fields peer =
-    (codes "criteria-map", unless_empty (mapped_table peer.map)) ∷ (codes "exclude", some_list peer.exclude) ∷
-    (codes "url", Some (set_data peer.url)) ∷ []
+    (CRITERIA_MAP, unless_empty (mapped_table peer.map)) ∷ (EXCLUDE, some_list peer.exclude) ∷
+    (URL, Some (set_data peer.url)) ∷ []
 
 abbrev pub peer_table : PeerSettings → Members
 peer_table peer = fields (peer_fields peer)
@@ -53,10 +54,10 @@ dependencies_table items = members_from (map (λ i. (i.«package», set_data i.c
 -- a policy
 abbrev pub policy_fields : Policy → List (Key × Option Data)
 policy_fields p =
-    (codes "audit-as-crates-io", some_flag p.audit_as_crates_io) ∷ (codes "criteria", optional_set p.criteria)
-    ∷ (codes "dependency-criteria", unless_empty (dependencies_table p.dependency_criteria)) ∷
-    (codes "dev-criteria", optional_set p.dev_criteria)
-    ∷ (codes "notes", some_text p.notes) ∷ []
+    (AUDIT_AS_CRATES_IO, some_flag p.audit_as_crates_io) ∷ (CRITERIA, optional_set p.criteria)
+    ∷ (DEPENDENCY_CRITERIA, unless_empty (dependencies_table p.dependency_criteria)) ∷
+    (DEV_CRITERIA, optional_set p.dev_criteria)
+    ∷ (NOTES, some_text p.notes) ∷ []
 
 abbrev pub policy_table : Policy → Members
 policy_table p = fields (policy_fields p)
@@ -73,11 +74,11 @@ exemptions_table entries = package_lists (listed_entries Exemptions set.empty en
 -- the table of a config file
 abbrev pub config_fields : ConfigContent → List (Key × Option Data)
 config_fields content =
-    (codes "cargo-vet", option_map (λ v. table (cargo_vet_table v)) content.vet_version)
-    ∷ (codes "default-criteria", optional_set content.default_criteria)
-    ∷ (codes "exemptions", unless_empty (exemptions_table content.exemptions))
-    ∷ (codes "imports", unless_empty (peers_table content.peers))
-    ∷ (codes "policy", unless_empty (policies_table content.policies)) ∷ []
+    (CARGO_VET, option_map (λ v. table (cargo_vet_table v)) content.vet_version)
+    ∷ (DEFAULT_CRITERIA, optional_set content.default_criteria)
+    ∷ (EXEMPTIONS, unless_empty (exemptions_table content.exemptions))
+    ∷ (IMPORTS, unless_empty (peers_table content.peers))
+    ∷ (POLICY, unless_empty (policies_table content.policies)) ∷ []
 
 abbrev pub config_table : ConfigContent → Members
 config_table content = fields (config_fields content)

@@ -12,6 +12,7 @@ use Rattle.vet_base.specs.Words.{Key, Name, Text}
 use Rattle.vet_entries.specs.declared.entry.Entry.{Entry}
 use Rattle.vet_entries.specs.declared.kind.Kind.{Kind}
 use Rattle.vet_entries.specs.declared.kind.Kind.TheVariants.{Full, Delta, Violation, Wildcard, Trusted, Exemption}
+use Rattle.vet_files.specs.KeyNames.{CRITERIA, DELTA, END, IMPORTABLE, NOTES, RENEW, START, SUGGEST, USER_ID, VERSION, VIOLATION, WHO}
 use Rattle.vet_files.specs.declared.write.sections.Listing.{Listing}
 use Rattle.vet_files.specs.declared.write.sections.Listing.TheVariants as listing
 use Rattle.vet_files.specs.Tables.{by_name, fields, set_data, some_set}
@@ -28,25 +29,25 @@ some_flag = option_map boolean
 -- the keys of an entry's table, by its kind, with its criteria and notes
 abbrev pub entry_fields : Data → Option Data → Kind → List (Key × Option Data)
 entry_fields criteria notes (Full version audit) =
-    (codes "criteria", Some criteria) ∷ (codes "importable", some_flag audit.importable) ∷ (codes "notes", notes)
-    ∷ (codes "version", Some (string (version_text version))) ∷ (codes "who", some_set audit.who) ∷ []
+    (CRITERIA, Some criteria) ∷ (IMPORTABLE, some_flag audit.importable) ∷ (NOTES, notes)
+    ∷ (VERSION, Some (string (version_text version))) ∷ (WHO, some_set audit.who) ∷ []
 entry_fields criteria notes (Delta delta audit) =
-    (codes "criteria", Some criteria) ∷ (codes "delta", Some (string (delta_text delta))) ∷
-    (codes "importable", some_flag audit.importable)
-    ∷ (codes "notes", notes) ∷ (codes "who", some_set audit.who) ∷ []
+    (CRITERIA, Some criteria) ∷ (DELTA, Some (string (delta_text delta))) ∷
+    (IMPORTABLE, some_flag audit.importable)
+    ∷ (NOTES, notes) ∷ (WHO, some_set audit.who) ∷ []
 entry_fields criteria notes (Violation req audit) =
-    (codes "criteria", Some criteria) ∷ (codes "importable", some_flag audit.importable) ∷ (codes "notes", notes)
-    ∷ (codes "violation", Some (string req)) ∷ (codes "who", some_set audit.who) ∷ []
+    (CRITERIA, Some criteria) ∷ (IMPORTABLE, some_flag audit.importable) ∷ (NOTES, notes)
+    ∷ (VIOLATION, Some (string req)) ∷ (WHO, some_set audit.who) ∷ []
 entry_fields criteria notes (Wildcard window grant) =
-    (codes "criteria", Some criteria) ∷ (codes "end", Some (string (day_text window.last))) ∷ (codes "notes", notes)
-    ∷ (codes "renew", some_flag grant.renew) ∷ (codes "start", Some (string (day_text window.first)))
-    ∷ (codes "user-id", Some (integer (pos window.user))) ∷ (codes "who", some_set grant.who) ∷ []
+    (CRITERIA, Some criteria) ∷ (END, Some (string (day_text window.last))) ∷ (NOTES, notes)
+    ∷ (RENEW, some_flag grant.renew) ∷ (START, Some (string (day_text window.first)))
+    ∷ (USER_ID, Some (integer (pos window.user))) ∷ (WHO, some_set grant.who) ∷ []
 entry_fields criteria notes (Trusted window) =
-    (codes "criteria", Some criteria) ∷ (codes "end", Some (string (day_text window.last))) ∷ (codes "notes", notes)
-    ∷ (codes "start", Some (string (day_text window.first))) ∷ (codes "user-id", Some (integer (pos window.user))) ∷ []
+    (CRITERIA, Some criteria) ∷ (END, Some (string (day_text window.last))) ∷ (NOTES, notes)
+    ∷ (START, Some (string (day_text window.first))) ∷ (USER_ID, Some (integer (pos window.user))) ∷ []
 entry_fields criteria notes (Exemption version suggest) =
-    (codes "criteria", Some criteria) ∷ (codes "notes", notes) ∷ (codes "suggest", some_flag suggest)
-    ∷ (codes "version", Some (string (version_text version))) ∷ []
+    (CRITERIA, Some criteria) ∷ (NOTES, notes) ∷ (SUGGEST, some_flag suggest)
+    ∷ (VERSION, Some (string (version_text version))) ∷ []
 
 abbrev pub entry_table : Entry → Members
 entry_table e = fields (entry_fields (set_data e.criteria) (some_text e.notes) e.kind)

@@ -5,6 +5,7 @@ use Rattle.vet_base.specs.Gives.{Told, found_or, ◌>>=◌}
 use Rattle.vet_base.specs.Name.{is_name}
 use Rattle.vet_base.specs.Words.{Bytes, Name, Path}
 use Rattle.vet_entries.specs.PublisherRecords.{with_any}
+use Rattle.vet_files.specs.KeyNames.{AUDITS, PUBLISHER, TOP, USER_ID, USER_LOGIN, USER_NAME, VERSION, WHEN}
 use Rattle.vet_files.specs.Publishers.{in_order}
 use Rattle.vet_entries.specs.PeerContent.{PeerContentValue}
 use Rattle.vet_entries.specs.declared.publisher.Publisher.{Publisher}
@@ -26,16 +27,16 @@ use Rattle.vet_files.specs.Walk.{each_member}
 
 abbrev pub publisher_of : Path → Members → Told (Found (Option Publisher))
 publisher_of path ms =
-    required a_version path (codes "version") ms >>= λ version.
-    required a_day path (codes "when") ms >>= λ day.
-    required a_user path (codes "user-id") ms >>= λ user.
-    optional a_text path (codes "user-login") ms >>= λ login. optional a_text path (codes "user-name") ms >>= λ name.
+    required a_version path VERSION ms >>= λ version.
+    required a_day path WHEN ms >>= λ day.
+    required a_user path USER_ID ms >>= λ user.
+    optional a_text path USER_LOGIN ms >>= λ login. optional a_text path USER_NAME ms >>= λ name.
     Ok (found_one (record { version = version; user = user; day = day; login = login; name = name })
     (unknown_keys kind.Publisher ms))
 
 -- a record with a user
 abbrev pub publisher_told : Reading Publisher
-publisher_told name path ms = if has ms (codes "user-id") then publisher_of path ms else Ok skipped
+publisher_told name path ms = if has ms USER_ID then publisher_of path ms else Ok skipped
 
 -- the records of a package, each once and in order; a package without any is none
 abbrev pub published : Name → Found (List Publisher) → Found (List PackagePublishers)
@@ -43,11 +44,11 @@ published name found = record { content = with_any name found.content; notices =
 
 abbrev pub next_publishers : Found (List PackagePublishers) → Name → Data → Told (Found (List PackagePublishers))
 next_publishers found name d =
-    tables_of_package publisher_told (codes "publisher") name d >>= λ more.
+    tables_of_package publisher_told PUBLISHER name d >>= λ more.
     Ok (found_with found (published name (each_once in_order more)))
 
 abbrev pub publishers_told : Members → Told (Found (List PackagePublishers))
-publishers_told ms = table_at (codes "top") (codes "publisher") ms >>= each_member next_publishers nothing
+publishers_told ms = table_at TOP PUBLISHER ms >>= each_member next_publishers nothing
 
 -- ---- `audits`
 
@@ -74,20 +75,20 @@ abbrev pub imported_from : Name → Path → Path → Members → Told (Found (O
 imported_from name path prefix ms = peer_file_told path prefix ms >>= λ more. Ok (imported name more)
 
 abbrev pub imported_table : Name → Members → Told (Found (Option ImportedPeer))
-imported_table name ms = imported_from name (path_below (codes "audits") name)
-    (path_below (codes "audits") name ++ codes ".") ms
+imported_table name ms = imported_from name (path_below AUDITS name)
+    (path_below AUDITS name ++ codes ".") ms
 
 abbrev pub imported_at : Name → Data → Told (Found (Option ImportedPeer))
-imported_at name d = found_or (fault (codes "audits") name) (as_table d) >>= imported_table name
+imported_at name d = found_or (fault AUDITS name) (as_table d) >>= imported_table name
 
 -- one more peer
 abbrev pub next_imported : Found (List ImportedPeer) → Name → Data → Told (Found (List ImportedPeer))
 next_imported found name d = if is_name name then imported_at name d >>= (λ more. Ok (found_with found (listed more)))
     else
-    Err (fault (codes "audits") name)
+    Err (fault AUDITS name)
 
 abbrev pub imported_told : Members → Told (Found (List ImportedPeer))
-imported_told ms = table_at (codes "top") (codes "audits") ms >>= each_member next_imported nothing
+imported_told ms = table_at TOP AUDITS ms >>= each_member next_imported nothing
 
 -- ---- the files
 
@@ -107,4 +108,4 @@ imports_told bytes = document_told bytes >>= imports_file_told
 
 -- the content of a peer's audits file
 abbrev pub peer_content_told : Bytes → Told (Found PeerContentValue)
-peer_content_told bytes = document_told bytes >>= peer_file_told (codes "top") []
+peer_content_told bytes = document_told bytes >>= peer_file_told TOP []

@@ -12,6 +12,7 @@ use Rattle.vet_base.specs.Words.{Key, Name}
 use Rattle.vet_entries.specs.declared.peer_settings.PeerSettings.{PeerSettings}
 use Rattle.vet_entries.specs.declared.publisher.Publisher.{Publisher}
 use Rattle.vet_entries.specs.declared.publisher_records.PackagePublishers.{PackagePublishers}
+use Rattle.vet_files.specs.KeyNames.{AUDITS, PUBLISHER, USER_ID, USER_LOGIN, USER_NAME, VERSION, WHEN}
 use Rattle.vet_files.specs.declared.imports_file.ImportedPeer.{ImportedPeer}
 use Rattle.vet_files.specs.declared.imports_file.ImportsContent.{ImportsContent}
 use Rattle.vet_files.specs.AuditsTable.{audits_file_table}
@@ -23,9 +24,9 @@ use Rattle.vet_files.specs.Tables.{by_name, fields, unless_empty}
 -- a publisher record
 abbrev pub publisher_fields : Publisher → List (Key × Option Data)
 publisher_fields p =
-    (codes "user-id", Some (integer (pos p.user))) ∷ (codes "user-login", some_text p.login) ∷
-    (codes "user-name", some_text p.name)
-    ∷ (codes "version", Some (string (version_text p.version))) ∷ (codes "when", Some (string (day_text p.day))) ∷ []
+    (USER_ID, Some (integer (pos p.user))) ∷ (USER_LOGIN, some_text p.login) ∷
+    (USER_NAME, some_text p.name)
+    ∷ (VERSION, Some (string (version_text p.version))) ∷ (WHEN, Some (string (day_text p.day))) ∷ []
 
 abbrev pub publisher_table : Publisher → Members
 publisher_table p = fields (publisher_fields p)
@@ -57,8 +58,8 @@ imported_peers_table settings peers = by_name (map (λ p. (p.name, table (import
 -- the table of an imports file. The table `audits` is there even where it is empty.
 abbrev pub imports_fields : List PeerSettings → ImportsContent → List (Key × Option Data)
 imports_fields settings content =
-    (codes "audits", Some (table (imported_peers_table settings content.peers)))
-    ∷ (codes "publisher", unless_empty (publishers_table content.publishers)) ∷ []
+    (AUDITS, Some (table (imported_peers_table settings content.peers)))
+    ∷ (PUBLISHER, unless_empty (publishers_table content.publishers)) ∷ []
 
 abbrev pub imports_table : List PeerSettings → ImportsContent → Members
 imports_table settings content = fields (imports_fields settings content)

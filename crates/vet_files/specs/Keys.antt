@@ -3,43 +3,44 @@ use Rattle.std.specs.Prelude.{ℕ, suc, ◌||◌, Bool, List, codes, if◌then�
 use Rattle.std.specs.Str.{bytes_eq}
 use Rattle.toml.specs.Data.{Members, no_members, member}
 use Rattle.vet_base.specs.Words.{Key}
+use Rattle.vet_files.specs.KeyNames.{AUDITS, AUDIT_AS_CRATES_IO, CARGO_VET, CRITERIA, CRITERIA_MAP, DEFAULT_CRITERIA, DELTA, DEPENDENCY_CRITERIA, DESCRIPTION, DESCRIPTION_URL, DEV_CRITERIA, END, EXCLUDE, EXEMPTIONS, IMPLIES, IMPORTABLE, IMPORTS, NOTES, POLICY, PUBLISHER, RENEW, START, SUGGEST, TRUSTED, URL, USER_ID, USER_LOGIN, USER_NAME, VERSION, VIOLATION, WHEN, WHO, WILDCARD_AUDITS}
 use Rattle.vet_files.specs.declared.keys.TableKind.{TableKind}
 use Rattle.vet_files.specs.declared.keys.TableKind.TheVariants as kind
 
 -- whether a table of a kind has a meaning for a key
 abbrev pub is_key : TableKind → Key → Bool
-is_key kind.AuditsFile k = bytes_eq k (codes "criteria") ||
-    (bytes_eq k (codes "audits") || (bytes_eq k (codes "wildcard-audits") || bytes_eq k (codes "trusted")))
-is_key kind.Criterion k = bytes_eq k (codes "description") ||
-    (bytes_eq k (codes "description-url") || bytes_eq k (codes "implies"))
+is_key kind.AuditsFile k = bytes_eq k CRITERIA ||
+    (bytes_eq k AUDITS || (bytes_eq k WILDCARD_AUDITS || bytes_eq k TRUSTED))
+is_key kind.Criterion k = bytes_eq k DESCRIPTION ||
+    (bytes_eq k DESCRIPTION_URL || bytes_eq k IMPLIES)
 is_key kind.Audit k =
-    bytes_eq k (codes "criteria") ||
-    (bytes_eq k (codes "version") || (bytes_eq k (codes "delta") || (bytes_eq k (codes "violation")
-    || (bytes_eq k (codes "who") || (bytes_eq k (codes "notes") || bytes_eq k (codes "importable"))))))
+    bytes_eq k CRITERIA ||
+    (bytes_eq k VERSION || (bytes_eq k DELTA || (bytes_eq k VIOLATION
+    || (bytes_eq k WHO || (bytes_eq k NOTES || bytes_eq k IMPORTABLE)))))
 is_key kind.Wildcard k =
-    bytes_eq k (codes "criteria") ||
-    (bytes_eq k (codes "user-id") || (bytes_eq k (codes "start") || (bytes_eq k (codes "end")
-    || (bytes_eq k (codes "who") || (bytes_eq k (codes "renew") || bytes_eq k (codes "notes"))))))
+    bytes_eq k CRITERIA ||
+    (bytes_eq k USER_ID || (bytes_eq k START || (bytes_eq k END
+    || (bytes_eq k WHO || (bytes_eq k RENEW || bytes_eq k NOTES)))))
 is_key kind.Trusted k =
-    bytes_eq k (codes "criteria") ||
-    (bytes_eq k (codes "user-id") ||
-    (bytes_eq k (codes "start") || (bytes_eq k (codes "end") || bytes_eq k (codes "notes"))))
+    bytes_eq k CRITERIA ||
+    (bytes_eq k USER_ID ||
+    (bytes_eq k START || (bytes_eq k END || bytes_eq k NOTES)))
 is_key kind.ConfigFile k =
-    bytes_eq k (codes "cargo-vet") ||
-    (bytes_eq k (codes "default-criteria") ||
-    (bytes_eq k (codes "imports") || (bytes_eq k (codes "policy") || bytes_eq k (codes "exemptions"))))
-is_key kind.CargoVet k = bytes_eq k (codes "version")
-is_key kind.Peer k = bytes_eq k (codes "url") || (bytes_eq k (codes "exclude") || bytes_eq k (codes "criteria-map"))
+    bytes_eq k CARGO_VET ||
+    (bytes_eq k DEFAULT_CRITERIA ||
+    (bytes_eq k IMPORTS || (bytes_eq k POLICY || bytes_eq k EXEMPTIONS)))
+is_key kind.CargoVet k = bytes_eq k VERSION
+is_key kind.Peer k = bytes_eq k URL || (bytes_eq k EXCLUDE || bytes_eq k CRITERIA_MAP)
 is_key kind.Policy k =
-    bytes_eq k (codes "audit-as-crates-io") || (bytes_eq k (codes "criteria") || (bytes_eq k (codes "dev-criteria")
-    || (bytes_eq k (codes "dependency-criteria") || bytes_eq k (codes "notes"))))
-is_key kind.Exemption k = bytes_eq k (codes "version") ||
-    (bytes_eq k (codes "criteria") || (bytes_eq k (codes "suggest") || bytes_eq k (codes "notes")))
-is_key kind.ImportsFile k = bytes_eq k (codes "publisher") || bytes_eq k (codes "audits")
+    bytes_eq k AUDIT_AS_CRATES_IO || (bytes_eq k CRITERIA || (bytes_eq k DEV_CRITERIA
+    || (bytes_eq k DEPENDENCY_CRITERIA || bytes_eq k NOTES)))
+is_key kind.Exemption k = bytes_eq k VERSION ||
+    (bytes_eq k CRITERIA || (bytes_eq k SUGGEST || bytes_eq k NOTES))
+is_key kind.ImportsFile k = bytes_eq k PUBLISHER || bytes_eq k AUDITS
 is_key kind.Publisher k =
-    bytes_eq k (codes "version") ||
-    (bytes_eq k (codes "when") ||
-    (bytes_eq k (codes "user-id") || (bytes_eq k (codes "user-login") || bytes_eq k (codes "user-name"))))
+    bytes_eq k VERSION ||
+    (bytes_eq k WHEN ||
+    (bytes_eq k USER_ID || (bytes_eq k USER_LOGIN || bytes_eq k USER_NAME)))
 
 -- how many keys of a table have no meaning: each counts once, with all that stands below it
 abbrev pub unknown_keys : TableKind → Members → ℕ

@@ -8,6 +8,7 @@ pub mod FilesContent
 pub mod GatheredPolicies
 pub mod Imports
 pub mod ImportsTable
+pub mod KeyNames
 pub mod Keys
 pub mod ListAt
 pub mod Lists

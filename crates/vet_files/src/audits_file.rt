@@ -15,7 +15,7 @@ ghost use Rattle.vet_files.specs.ReadAgain.{GivesBack};
 ghost use Rattle.vet_files.specs.SameContent.{CanStand, IsAudits, SameAudits};
 
 use crate::found::Found;
-use crate::keys::{TableKind, unknown_keys};
+use crate::keys::{AUDITS, CRITERIA, TOP, TRUSTED, TableKind, WILDCARD_AUDITS, unknown_keys};
 use crate::listed::Listed;
 use crate::read::criteria::ReadCriteria;
 use crate::read::document::{joined, read_document, table_at};
@@ -53,7 +53,7 @@ pub fn read_audits(alloc: Global, bytes: &[u8]) -> Result<Found<AuditsContent>, 
     ensures stands { IfOk result (λ f. IsAudits f.content) }
 {
     let file = read_document(alloc, bytes)?;
-    read_audits_file(alloc, Whose::Ours, "top", "", &file)
+    read_audits_file(alloc, Whose::Ours, TOP, "", &file)
 }
 
 /// An audits file of some content (The Cargo Vet Book, audits file; its layout is that of `toml`). What it says
@@ -86,7 +86,7 @@ pub(crate) fn read_audits_file(
     ensures stands { IfOk result (λ f. CanStand whose f.content.criteria f.content.entries) }
 {
     let criteria = read_criteria(alloc, whose, path, prefix, file)?;
-    let audits = read_entries(alloc, &ReadAudits { whose }, path, prefix, "audits", file)?;
+    let audits = read_entries(alloc, &ReadAudits { whose }, path, prefix, AUDITS, file)?;
     read_further_entries(alloc, whose, path, prefix, file, criteria, audits)
 }
 
@@ -110,7 +110,7 @@ fn read_further_entries(
         &ReadWildcards {},
         path,
         prefix,
-        "wildcard-audits",
+        WILDCARD_AUDITS,
         file,
     )?;
     let entries = audits.followed_by(wildcards)?;
@@ -132,7 +132,7 @@ fn read_trusted_entries(
     ensures rises { IfOk result (λ _. RisesAt path.now (codes "trusted") (table_view file.now)) }
 {
     let keys = unknown_keys(TableKind::AuditsFile, file)?;
-    let trusted = read_entries(alloc, &ReadTrusted { whose }, path, prefix, "trusted", file)?;
+    let trusted = read_entries(alloc, &ReadTrusted { whose }, path, prefix, TRUSTED, file)?;
     let entries = entries.followed_by(trusted)?;
     let notices = criteria.notices.and_both(entries.notices, keys)?;
     Ok(Found {
@@ -155,10 +155,10 @@ fn read_criteria(
     ensures told { Gives (λ f. f) (criteria_of whose path.now prefix.now (table_view file.now)) result }
     ensures rises { IfOk result (λ _. RisesAt path.now (codes "criteria") (table_view file.now)) }
 {
-    let Some(table) = table_at(alloc, path, file, "criteria")? else {
+    let Some(table) = table_at(alloc, path, file, CRITERIA)? else {
         return Ok(Found::nothing(alloc));
     };
-    let path = joined(alloc, prefix, "criteria")?;
+    let path = joined(alloc, prefix, CRITERIA)?;
     let reader = ReadCriteria {
         whose,
         path: path.as_str(),

@@ -11,7 +11,10 @@ ghost use Rattle.vet_files.specs.SameContent.{IsConfig, SameConfig};
 
 use crate::field::{optional, required};
 use crate::found::Found;
-use crate::keys::{TableKind, unknown_keys};
+use crate::keys::{
+    CARGO_VET, CRITERIA, DEFAULT_CRITERIA, EXEMPTIONS, NOTES, SUGGEST, TOP, TableKind, VERSION,
+    unknown_keys,
+};
 use crate::listed::Listed;
 use crate::notices::Notices;
 use crate::read::document::{read_document, table_at};
@@ -100,7 +103,7 @@ fn fill_content(
     let keys = unknown_keys(TableKind::ConfigFile, file)?;
     let version = read_vet_version(alloc, file)?;
     content.vet_version = version.content;
-    content.default_criteria = optional(alloc, "top", file, "default-criteria")?;
+    content.default_criteria = optional(alloc, TOP, file, DEFAULT_CRITERIA)?;
     fill_lists(alloc, file, content, version.notices, keys)
 }
 
@@ -120,7 +123,7 @@ fn fill_lists(
     content.peers = peers.content;
     let policies = read_policies(alloc, file)?;
     content.policies = policies.content;
-    let exemptions = read_entries(alloc, &ReadExemptions {}, "top", "", "exemptions", file)?;
+    let exemptions = read_entries(alloc, &ReadExemptions {}, TOP, "", EXEMPTIONS, file)?;
     content.exemptions = exemptions.content;
     let settings = settings.and(peers.notices)?;
     with_rules(settings, policies.notices, exemptions.notices, keys)
@@ -144,14 +147,14 @@ fn with_rules(
 fn read_vet_version(alloc: Global, file: &Table) -> Result<Found<Option<Text>>, Refusal>
     ensures { Gives (λ f. f) (vet_version_told (table_view file.now)) result }
 {
-    let Some(table) = table_at(alloc, "top", file, "cargo-vet")? else {
+    let Some(table) = table_at(alloc, TOP, file, CARGO_VET)? else {
         return Ok(Found {
             content: None,
             notices: Notices::none(),
         });
     };
     let notices = unknown_keys(TableKind::CargoVet, table)?;
-    let content = optional(alloc, "cargo-vet", table, "version")?;
+    let content = optional(alloc, CARGO_VET, table, VERSION)?;
     Ok(Found { content, notices })
 }
 
@@ -172,10 +175,10 @@ impl ReadTable for ReadExemptions {
         table: &Table,
     ) -> Result<Found<Option<Entry>>, Refusal> {
         let notices = unknown_keys(TableKind::Exemption, table)?;
-        let version = required(alloc, path, table, "version")?;
-        let criteria = required(alloc, path, table, "criteria")?;
-        let suggest = optional(alloc, path, table, "suggest")?;
-        let notes = optional(alloc, path, table, "notes")?;
+        let version = required(alloc, path, table, VERSION)?;
+        let criteria = required(alloc, path, table, CRITERIA)?;
+        let suggest = optional(alloc, path, table, SUGGEST)?;
+        let notes = optional(alloc, path, table, NOTES)?;
         let kind = Kind::Exemption { version, suggest };
         let entry = own_entry(package, kind, criteria, notes)?;
         Ok(Found {

@@ -12,7 +12,7 @@ ghost use Rattle.vet_files.specs.declared.read.whose.Whose.TheVariants.{Peers};
 use crate::audits_file::{AuditsContent, read_audits_file};
 use crate::field::fault;
 use crate::found::Found;
-use crate::keys::{TableKind, unknown_keys};
+use crate::keys::{AUDITS, TOP, TableKind, unknown_keys};
 use crate::listed::Listed;
 use crate::read::document::{read_document, table_at};
 use crate::read::package_tables::path_below;
@@ -109,7 +109,7 @@ pub fn read_peer(alloc: Global, bytes: &[u8]) -> Result<Found<PeerContent>, Refu
     ensures stands { IfOk result (λ f. CanStand Peers f.content.criteria f.content.entries) }
 {
     let file = read_document(alloc, bytes)?;
-    read_peer_file(alloc, "top", "", &file)
+    read_peer_file(alloc, TOP, "", &file)
 }
 
 /// What a peer's content is, an imports file can give: a law, which does nothing.
@@ -140,7 +140,7 @@ fn read_imports_file(alloc: Global, file: &Table) -> Result<Found<ImportsContent
 fn read_imported(alloc: Global, file: &Table) -> Result<Found<Listed<ImportedPeer>>, Refusal>
     ensures { Gives (λ f. f) (imported_told (table_view file.now)) result }
 {
-    let Some(table) = table_at(alloc, "top", file, "audits")? else {
+    let Some(table) = table_at(alloc, TOP, file, AUDITS)? else {
         return Ok(Found::nothing(alloc));
     };
     each_member(alloc, &ReadImported {}, Found::nothing(alloc), table)
@@ -163,7 +163,7 @@ impl ReadMember for ReadImported {
         value: &Value,
     ) -> Result<Found<Listed<ImportedPeer>>, Refusal> {
         let Some(name) = Name::read(alloc, key)? else {
-            return Err(fault(alloc, "audits", key));
+            return Err(fault(alloc, AUDITS, key));
         };
         let more = read_imported_at(alloc, name, value)?;
         Ok(found.with(more)?)
@@ -180,7 +180,7 @@ fn read_imported_at(
 {
     match value.as_table() {
         Some(table) => read_imported_table(alloc, name, table),
-        None => Err(fault(alloc, "audits", name.as_str())),
+        None => Err(fault(alloc, AUDITS, name.as_str())),
     }
 }
 
@@ -192,7 +192,7 @@ fn read_imported_table(
 ) -> Result<Found<Option<ImportedPeer>>, Refusal>
     ensures { Gives (λ f. f) (imported_table name (table_view table.now)) result }
 {
-    let path = path_below(alloc, "audits", name.as_str())?;
+    let path = path_below(alloc, AUDITS, name.as_str())?;
     let prefix = format!(in alloc; "{path}.")?;
     read_imported_from(alloc, name, path.as_str(), prefix.as_str(), table)
 }

@@ -8,6 +8,76 @@ use crate::notices::Notices;
 use std::alloc::AllocError;
 use toml::Table;
 
+// The keys, as the files spell them.
+pub(crate) const AUDIT_AS_CRATES_IO: &str = "audit-as-crates-io";
+
+pub(crate) const AUDITS: &str = "audits";
+
+pub(crate) const CARGO_VET: &str = "cargo-vet";
+
+pub(crate) const CRITERIA: &str = "criteria";
+
+pub(crate) const CRITERIA_MAP: &str = "criteria-map";
+
+pub(crate) const DEFAULT_CRITERIA: &str = "default-criteria";
+
+pub(crate) const DELTA: &str = "delta";
+
+pub(crate) const DEPENDENCY_CRITERIA: &str = "dependency-criteria";
+
+pub(crate) const DESCRIPTION: &str = "description";
+
+pub(crate) const DESCRIPTION_URL: &str = "description-url";
+
+pub(crate) const DEV_CRITERIA: &str = "dev-criteria";
+
+pub(crate) const END: &str = "end";
+
+pub(crate) const EXCLUDE: &str = "exclude";
+
+pub(crate) const EXEMPTIONS: &str = "exemptions";
+
+pub(crate) const IMPLIES: &str = "implies";
+
+pub(crate) const IMPORTABLE: &str = "importable";
+
+pub(crate) const IMPORTS: &str = "imports";
+
+pub(crate) const NOTES: &str = "notes";
+
+pub(crate) const POLICY: &str = "policy";
+
+pub(crate) const PUBLISHER: &str = "publisher";
+
+pub(crate) const RENEW: &str = "renew";
+
+pub(crate) const START: &str = "start";
+
+pub(crate) const SUGGEST: &str = "suggest";
+
+pub(crate) const TRUSTED: &str = "trusted";
+
+pub(crate) const URL: &str = "url";
+
+pub(crate) const USER_ID: &str = "user-id";
+
+pub(crate) const USER_LOGIN: &str = "user-login";
+
+pub(crate) const USER_NAME: &str = "user-name";
+
+pub(crate) const VERSION: &str = "version";
+
+pub(crate) const VIOLATION: &str = "violation";
+
+pub(crate) const WHEN: &str = "when";
+
+pub(crate) const WHO: &str = "who";
+
+pub(crate) const WILDCARD_AUDITS: &str = "wildcard-audits";
+
+/// The path of the table that a file is.
+pub(crate) const TOP: &str = "top";
+
 /// The tables of the three files.
 #[derive(Clone, Copy)]
 pub(crate) enum TableKind {
@@ -51,108 +121,104 @@ impl TableKind {
 fn is_audits_file_key(key: &str) -> bool
     ensures { result ≡ is_key TableKind.AuditsFile key.now }
 {
-    key == "criteria" || key == "audits" || key == "wildcard-audits" || key == "trusted"
+    key == CRITERIA || key == AUDITS || key == WILDCARD_AUDITS || key == TRUSTED
 }
 
 /// The keys of a criterion.
 fn is_criterion_key(key: &str) -> bool
     ensures { result ≡ is_key TableKind.Criterion key.now }
 {
-    key == "description" || key == "description-url" || key == "implies"
+    key == DESCRIPTION || key == DESCRIPTION_URL || key == IMPLIES
 }
 
 /// The keys of an audit.
 fn is_audit_key(key: &str) -> bool
     ensures { result ≡ is_key TableKind.Audit key.now }
 {
-    key == "criteria"
-        || key == "version"
-        || key == "delta"
-        || key == "violation"
-        || key == "who"
-        || key == "notes"
-        || key == "importable"
+    key == CRITERIA
+        || key == VERSION
+        || key == DELTA
+        || key == VIOLATION
+        || key == WHO
+        || key == NOTES
+        || key == IMPORTABLE
 }
 
 /// The keys of a wildcard audit.
 fn is_wildcard_key(key: &str) -> bool
     ensures { result ≡ is_key TableKind.Wildcard key.now }
 {
-    key == "criteria"
-        || key == "user-id"
-        || key == "start"
-        || key == "end"
-        || key == "who"
-        || key == "renew"
-        || key == "notes"
+    key == CRITERIA
+        || key == USER_ID
+        || key == START
+        || key == END
+        || key == WHO
+        || key == RENEW
+        || key == NOTES
 }
 
 /// The keys of a trusted publisher.
 fn is_trusted_key(key: &str) -> bool
     ensures { result ≡ is_key TableKind.Trusted key.now }
 {
-    key == "criteria" || key == "user-id" || key == "start" || key == "end" || key == "notes"
+    key == CRITERIA || key == USER_ID || key == START || key == END || key == NOTES
 }
 
 /// The keys of a config file.
 fn is_config_file_key(key: &str) -> bool
     ensures { result ≡ is_key TableKind.ConfigFile key.now }
 {
-    key == "cargo-vet"
-        || key == "default-criteria"
-        || key == "imports"
-        || key == "policy"
-        || key == "exemptions"
+    key == CARGO_VET
+        || key == DEFAULT_CRITERIA
+        || key == IMPORTS
+        || key == POLICY
+        || key == EXEMPTIONS
 }
 
 /// The keys of `[cargo-vet]`.
 fn is_cargo_vet_key(key: &str) -> bool
     ensures { result ≡ is_key TableKind.CargoVet key.now }
 {
-    key == "version"
+    key == VERSION
 }
 
 /// The keys of a peer.
 fn is_peer_key(key: &str) -> bool
     ensures { result ≡ is_key TableKind.Peer key.now }
 {
-    key == "url" || key == "exclude" || key == "criteria-map"
+    key == URL || key == EXCLUDE || key == CRITERIA_MAP
 }
 
 /// The keys of a policy.
 fn is_policy_key(key: &str) -> bool
     ensures { result ≡ is_key TableKind.Policy key.now }
 {
-    key == "audit-as-crates-io"
-        || key == "criteria"
-        || key == "dev-criteria"
-        || key == "dependency-criteria"
-        || key == "notes"
+    key == AUDIT_AS_CRATES_IO
+        || key == CRITERIA
+        || key == DEV_CRITERIA
+        || key == DEPENDENCY_CRITERIA
+        || key == NOTES
 }
 
 /// The keys of an exemption.
 fn is_exemption_key(key: &str) -> bool
     ensures { result ≡ is_key TableKind.Exemption key.now }
 {
-    key == "version" || key == "criteria" || key == "suggest" || key == "notes"
+    key == VERSION || key == CRITERIA || key == SUGGEST || key == NOTES
 }
 
 /// The keys of an imports file.
 fn is_imports_file_key(key: &str) -> bool
     ensures { result ≡ is_key TableKind.ImportsFile key.now }
 {
-    key == "publisher" || key == "audits"
+    key == PUBLISHER || key == AUDITS
 }
 
 /// The keys of a publisher record.
 fn is_publisher_key(key: &str) -> bool
     ensures { result ≡ is_key TableKind.Publisher key.now }
 {
-    key == "version"
-        || key == "when"
-        || key == "user-id"
-        || key == "user-login"
-        || key == "user-name"
+    key == VERSION || key == WHEN || key == USER_ID || key == USER_LOGIN || key == USER_NAME
 }
 
 /// How many keys of a table have no meaning.

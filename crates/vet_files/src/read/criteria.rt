@@ -8,7 +8,7 @@ ghost use Rattle.vet_files.specs.Lists.{path_below};
 
 use crate::field::{fault, optional};
 use crate::found::Found;
-use crate::keys::{TableKind, unknown_keys};
+use crate::keys::{DESCRIPTION, DESCRIPTION_URL, IMPLIES, TableKind, unknown_keys};
 use crate::listed::Listed;
 use crate::notices::Notices;
 use crate::read::package_tables::path_below;
@@ -131,9 +131,9 @@ fn read_criterion(
     ensures { Gives (λ f. f) (criterion_told name path.now (table_view table.now)) result }
 {
     let notices = unknown_keys(TableKind::Criterion, table)?;
-    let description = optional(alloc, path, table, "description")?;
-    let url = optional(alloc, path, table, "description-url")?;
-    let implies: Option<Names> = optional(alloc, path, table, "implies")?;
+    let description = optional(alloc, path, table, DESCRIPTION)?;
+    let url = optional(alloc, path, table, DESCRIPTION_URL)?;
+    let implies: Option<Names> = optional(alloc, path, table, IMPLIES)?;
     Ok(Found {
         notices,
         content: Some(Criterion {

@@ -7,7 +7,9 @@ ghost use Rattle.vet_files.specs.Audits.{absent, audit_of, audit_of_subject, aud
 
 use crate::field::{fault, optional, required, value_at};
 use crate::found::Found;
-use crate::keys::{TableKind, unknown_keys};
+use crate::keys::{
+    CRITERIA, DELTA, IMPORTABLE, NOTES, TableKind, VERSION, VIOLATION, WHO, unknown_keys,
+};
 use crate::notices::Notices;
 use crate::read::package_tables::ReadTable;
 use crate::read::subject::{Subject, SubjectKey};
@@ -73,7 +75,7 @@ fn is_withheld(whose: Whose, table: &Table) -> bool
 {
     match whose {
         Whose::Ours => false,
-        Whose::Peers => is_no(value_at(table, "importable")),
+        Whose::Peers => is_no(value_at(table, IMPORTABLE)),
     }
 }
 
@@ -91,13 +93,13 @@ fn is_no(value: Option<&Value>) -> bool
 fn first_key(table: &Table) -> Option<SubjectKey>
     ensures { result ≡ first_key (table_view table.now) }
 {
-    if has(table, "version") {
+    if has(table, VERSION) {
         return Some(SubjectKey::Version);
     }
-    if has(table, "delta") {
+    if has(table, DELTA) {
         return Some(SubjectKey::Delta);
     }
-    if has(table, "violation") {
+    if has(table, VIOLATION) {
         return Some(SubjectKey::Violation);
     }
     None
@@ -124,18 +126,18 @@ fn read_subject(
 {
     match key {
         SubjectKey::Version => {
-            let version = required(alloc, path, table, "version")?;
-            refuse_second(alloc, path, table, "delta")?;
-            refuse_second(alloc, path, table, "violation")?;
+            let version = required(alloc, path, table, VERSION)?;
+            refuse_second(alloc, path, table, DELTA)?;
+            refuse_second(alloc, path, table, VIOLATION)?;
             Ok(Subject::Full(version))
         }
         SubjectKey::Delta => {
-            let delta = required(alloc, path, table, "delta")?;
-            refuse_second(alloc, path, table, "violation")?;
+            let delta = required(alloc, path, table, DELTA)?;
+            refuse_second(alloc, path, table, VIOLATION)?;
             Ok(Subject::Delta(delta))
         }
         SubjectKey::Violation => {
-            let req = required(alloc, path, table, "violation")?;
+            let req = required(alloc, path, table, VIOLATION)?;
             Ok(Subject::Violation(req))
         }
     }
@@ -151,7 +153,7 @@ fn read_audit(
 ) -> Result<Found<Option<Entry>>, Refusal>
     ensures { Gives (λ f. f) (audit_of «package».now path.now (table_view table.now) (Some key)) result }
 {
-    let criteria = required(alloc, path, table, "criteria")?;
+    let criteria = required(alloc, path, table, CRITERIA)?;
     let subject = read_subject(alloc, path, table, key)?;
     read_audit_of(alloc, package, path, table, criteria, subject)
 }
@@ -167,9 +169,9 @@ fn read_audit_of(
 ) -> Result<Found<Option<Entry>>, Refusal>
     ensures { Gives (λ f. f) (audit_of_subject «package».now path.now (table_view table.now) criteria subject) result }
 {
-    let who: Option<Texts> = optional(alloc, path, table, "who")?;
-    let notes = optional(alloc, path, table, "notes")?;
-    let importable = optional(alloc, path, table, "importable")?;
+    let who: Option<Texts> = optional(alloc, path, table, WHO)?;
+    let notes = optional(alloc, path, table, NOTES)?;
+    let importable = optional(alloc, path, table, IMPORTABLE)?;
     let audit = Audit {
         who: who.unwrap_or(Texts::new(alloc)),
         importable,

@@ -6,7 +6,7 @@ ghost use Rattle.vet_files.specs.Config.{next_peer, peer_told, peers_told, setti
 
 use crate::field::{fault, optional, required};
 use crate::found::Found;
-use crate::keys::{TableKind, unknown_keys};
+use crate::keys::{CRITERIA_MAP, EXCLUDE, IMPORTS, TOP, TableKind, URL, unknown_keys};
 use crate::listed::Listed;
 use crate::read::document::table_at;
 use crate::read::package_tables::path_below;
@@ -26,7 +26,7 @@ pub(crate) fn read_peers(
 ) -> Result<Found<Listed<PeerSettings>>, Refusal>
     ensures { Gives (λ f. f) (peers_told (table_view file.now)) result }
 {
-    let Some(table) = table_at(alloc, "top", file, "imports")? else {
+    let Some(table) = table_at(alloc, TOP, file, IMPORTS)? else {
         return Ok(Found::nothing(alloc));
     };
     each_member(alloc, &ReadPeers {}, Found::nothing(alloc), table)
@@ -49,7 +49,7 @@ impl ReadMember for ReadPeers {
         value: &Value,
     ) -> Result<Found<Listed<PeerSettings>>, Refusal> {
         let Some(name) = Name::read(alloc, key)? else {
-            return Err(fault(alloc, "imports", key));
+            return Err(fault(alloc, IMPORTS, key));
         };
         let more = read_settings(alloc, name, value)?;
         Ok(found.with(more)?)
@@ -65,9 +65,9 @@ fn read_settings(
     ensures { Gives (λ f. f) (settings_told name (view value.now)) result }
 {
     let Some(table) = value.as_table() else {
-        return Err(fault(alloc, "imports", name.as_str()));
+        return Err(fault(alloc, IMPORTS, name.as_str()));
     };
-    let path = path_below(alloc, "imports", name.as_str())?;
+    let path = path_below(alloc, IMPORTS, name.as_str())?;
     read_peer(alloc, name, path.as_str(), table)
 }
 
@@ -81,9 +81,9 @@ fn read_peer(
     ensures { Gives (λ f. f) (peer_told name path.now (table_view table.now)) result }
 {
     let notices = unknown_keys(TableKind::Peer, table)?;
-    let url = required(alloc, path, table, "url")?;
-    let exclude: Option<PackageNames> = optional(alloc, path, table, "exclude")?;
-    let map: Option<CriteriaMap> = optional(alloc, path, table, "criteria-map")?;
+    let url = required(alloc, path, table, URL)?;
+    let exclude: Option<PackageNames> = optional(alloc, path, table, EXCLUDE)?;
+    let map: Option<CriteriaMap> = optional(alloc, path, table, CRITERIA_MAP)?;
     Ok(Found {
         notices,
         content: Some(PeerSettings {

@@ -8,7 +8,10 @@ ghost use Rattle.vet_files.specs.GatheredPolicies.{next_gathered, policy_behind}
 
 use crate::field::{fault, optional};
 use crate::found::Found;
-use crate::keys::{TableKind, unknown_keys};
+use crate::keys::{
+    AUDIT_AS_CRATES_IO, CRITERIA, DEPENDENCY_CRITERIA, DEV_CRITERIA, NOTES, POLICY, TOP, TableKind,
+    unknown_keys,
+};
 use crate::notices::Notices;
 use crate::read::document::table_at;
 use crate::read::gathered_policies::GatheredPolicies;
@@ -27,7 +30,7 @@ use vet_demand::policy_key::PolicyKey;
 pub(crate) fn read_policies(alloc: Global, file: &Table) -> Result<Found<Policies>, Refusal>
     ensures { Gives (λ f. f) (policies_told (table_view file.now)) result }
 {
-    match table_at(alloc, "top", file, "policy")? {
+    match table_at(alloc, TOP, file, POLICY)? {
         Some(table) => read_all(alloc, table),
         None => Ok(Found {
             content: Policies::new(alloc),
@@ -78,10 +81,10 @@ fn new_key(alloc: Global, held: &GatheredPolicies, text: &str) -> Result<PolicyK
     ensures { Gives (λ k. k) (new_key_told text.now (in_key_order held.now)) result }
 {
     let Some(key) = PolicyKey::read(alloc, text)? else {
-        return Err(fault(alloc, "policy", text));
+        return Err(fault(alloc, POLICY, text));
     };
     if held.has(&key) {
-        return Err(fault(alloc, "policy", text));
+        return Err(fault(alloc, POLICY, text));
     }
     Ok(key)
 }
@@ -91,9 +94,9 @@ fn read_policy_at(alloc: Global, key: &str, value: &Value) -> Result<Found<Polic
     ensures { Gives (λ f. f) (policy_at key.now (view value.now)) result }
 {
     let Some(table) = value.as_table() else {
-        return Err(fault(alloc, "policy", key));
+        return Err(fault(alloc, POLICY, key));
     };
-    let path = path_below(alloc, "policy", key)?;
+    let path = path_below(alloc, POLICY, key)?;
     read_policy(alloc, path.as_str(), table)
 }
 
@@ -115,9 +118,9 @@ fn with_policy(
 fn read_policy(alloc: Global, path: &str, table: &Table) -> Result<Found<Policy>, Refusal>
     ensures { Gives (λ f. f) (policy_told path.now (table_view table.now)) result }
 {
-    let audit_as_crates_io = optional(alloc, path, table, "audit-as-crates-io")?;
-    let criteria = optional(alloc, path, table, "criteria")?;
-    let dev_criteria = optional(alloc, path, table, "dev-criteria")?;
+    let audit_as_crates_io = optional(alloc, path, table, AUDIT_AS_CRATES_IO)?;
+    let criteria = optional(alloc, path, table, CRITERIA)?;
+    let dev_criteria = optional(alloc, path, table, DEV_CRITERIA)?;
     read_dependency_policy(
         alloc,
         path,
@@ -145,9 +148,9 @@ fn read_dependency_policy(
         alloc,
         path,
         table,
-        "dependency-criteria",
+        DEPENDENCY_CRITERIA,
     )?;
-    let notes = optional(alloc, path, table, "notes")?;
+    let notes = optional(alloc, path, table, NOTES)?;
     Ok(Found {
         notices,
         content: Policy {

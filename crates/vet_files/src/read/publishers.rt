@@ -8,7 +8,9 @@ ghost use Rattle.vet_files.specs.Publishers.{in_order};
 
 use crate::field::{fault, optional, required};
 use crate::found::Found;
-use crate::keys::{TableKind, unknown_keys};
+use crate::keys::{
+    PUBLISHER, TOP, TableKind, USER_ID, USER_LOGIN, USER_NAME, VERSION, WHEN, unknown_keys,
+};
 use crate::listed::Listed;
 use crate::notices::Notices;
 use crate::read::document::table_at;
@@ -31,7 +33,7 @@ pub(crate) fn read_publishers(
 ) -> Result<Found<Listed<PackagePublishers>>, Refusal>
     ensures { Gives (λ f. f) (publishers_told (table_view file.now)) result }
 {
-    let Some(table) = table_at(alloc, "top", file, "publisher")? else {
+    let Some(table) = table_at(alloc, TOP, file, PUBLISHER)? else {
         return Ok(Found::nothing(alloc));
     };
     each_member(
@@ -58,9 +60,9 @@ impl ReadMember for ReadPackagePublishers {
         key: &str,
         value: &Value,
     ) -> Result<Found<Listed<PackagePublishers>>, Refusal> {
-        let more = tables_of_package(alloc, &ReadPublisher {}, "publisher", key, value)?;
+        let more = tables_of_package(alloc, &ReadPublisher {}, PUBLISHER, key, value)?;
         let Some(package) = PackageName::read(alloc, key)? else {
-            return Err(fault(alloc, "publisher", key));
+            return Err(fault(alloc, PUBLISHER, key));
         };
         let more = publish(alloc, package, more)?;
         Ok(found.with(more)?)
@@ -115,7 +117,7 @@ impl ReadTable for ReadPublisher {
         path: &str,
         table: &Table,
     ) -> Result<Found<Option<Publisher>>, Refusal> {
-        if !has(table, "user-id") {
+        if !has(table, USER_ID) {
             return Ok(skipped());
         }
         read_publisher(alloc, path, table)
@@ -131,11 +133,11 @@ fn read_publisher(
     ensures { Gives (λ f. f) (publisher_of path.now (table_view table.now)) result }
 {
     let notices = unknown_keys(TableKind::Publisher, table)?;
-    let version = required(alloc, path, table, "version")?;
-    let day = required(alloc, path, table, "when")?;
-    let user = required(alloc, path, table, "user-id")?;
-    let login = optional(alloc, path, table, "user-login")?;
-    let name = optional(alloc, path, table, "user-name")?;
+    let version = required(alloc, path, table, VERSION)?;
+    let day = required(alloc, path, table, WHEN)?;
+    let user = required(alloc, path, table, USER_ID)?;
+    let login = optional(alloc, path, table, USER_LOGIN)?;
+    let name = optional(alloc, path, table, USER_NAME)?;
     Ok(Found {
         notices,
         content: Some(Publisher {

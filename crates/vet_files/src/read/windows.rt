@@ -6,7 +6,7 @@ ghost use Rattle.vet_files.specs.Audits.{is_trusted, trusted_of, trusted_told, w
 
 use crate::field::{optional, required};
 use crate::found::Found;
-use crate::keys::{TableKind, unknown_keys};
+use crate::keys::{CRITERIA, END, NOTES, RENEW, START, TableKind, USER_ID, WHO, unknown_keys};
 use crate::read::entries::{has, own_entry, skipped};
 use crate::read::package_tables::ReadTable;
 use crate::read::whose::Whose;
@@ -35,7 +35,7 @@ impl ReadTable for ReadWildcards {
         path: &str,
         table: &Table,
     ) -> Result<Found<Option<Entry>>, Refusal> {
-        if !has(table, "user-id") {
+        if !has(table, USER_ID) {
             return Ok(skipped());
         }
         read_wildcard(alloc, package, path, table)
@@ -72,7 +72,7 @@ fn is_trusted(whose: Whose, table: &Table) -> bool
     ensures { result ≡ is_trusted whose (table_view table.now) }
 {
     match whose {
-        Whose::Ours => has(table, "user-id"),
+        Whose::Ours => has(table, USER_ID),
         Whose::Peers => false,
     }
 }
@@ -81,9 +81,9 @@ fn is_trusted(whose: Whose, table: &Table) -> bool
 fn read_window(alloc: Global, path: &str, table: &Table) -> Result<Window, Refusal>
     ensures { Gives (λ w. w) (window_told path.now (table_view table.now)) result }
 {
-    let user = required(alloc, path, table, "user-id")?;
-    let first = required(alloc, path, table, "start")?;
-    let last = required(alloc, path, table, "end")?;
+    let user = required(alloc, path, table, USER_ID)?;
+    let first = required(alloc, path, table, START)?;
+    let last = required(alloc, path, table, END)?;
     Ok(Window { user, first, last })
 }
 
@@ -96,7 +96,7 @@ fn read_wildcard(
 ) -> Result<Found<Option<Entry>>, Refusal>
     ensures { Gives (λ f. f) (wildcard_of «package».now path.now (table_view table.now)) result }
 {
-    let criteria = required(alloc, path, table, "criteria")?;
+    let criteria = required(alloc, path, table, CRITERIA)?;
     let window = read_window(alloc, path, table)?;
     read_wildcard_of(alloc, package, path, table, criteria, window)
 }
@@ -114,9 +114,9 @@ fn read_wildcard_of(
         (wildcard_of_window «package».now path.now (table_view table.now) criteria window) result }
 {
     let notices = unknown_keys(TableKind::Wildcard, table)?;
-    let who: Option<Texts> = optional(alloc, path, table, "who")?;
-    let renew = optional(alloc, path, table, "renew")?;
-    let notes = optional(alloc, path, table, "notes")?;
+    let who: Option<Texts> = optional(alloc, path, table, WHO)?;
+    let renew = optional(alloc, path, table, RENEW)?;
+    let notes = optional(alloc, path, table, NOTES)?;
     let grant = Grant {
         who: who.unwrap_or(Texts::new(alloc)),
         renew,
@@ -138,9 +138,9 @@ fn read_trusted(
     ensures { Gives (λ f. f) (trusted_of «package».now path.now (table_view table.now)) result }
 {
     let notices = unknown_keys(TableKind::Trusted, table)?;
-    let criteria = required(alloc, path, table, "criteria")?;
+    let criteria = required(alloc, path, table, CRITERIA)?;
     let window = read_window(alloc, path, table)?;
-    let notes = optional(alloc, path, table, "notes")?;
+    let notes = optional(alloc, path, table, NOTES)?;
     let entry = own_entry(package, Kind::Trusted(window), criteria, notes)?;
     Ok(Found {
         content: Some(entry),

@@ -5,6 +5,7 @@ ghost use Rattle.toml.specs.View.{table_view};
 ghost use Rattle.vet_files.specs.AuditsTable.{audits_file_table, criterion_table};
 ghost use Rattle.vet_files.specs.ReadAgain.{ReadsAudits, ReadsCriterion};
 
+use crate::keys::{AUDITS, CRITERIA, TRUSTED, WILDCARD_AUDITS};
 use crate::write::criteria_tables::criterion_table;
 use crate::write::lists_by_package::package_lists;
 use crate::write::members::{Member, WriteMember, write_members};
@@ -65,12 +66,12 @@ fn fill_audits_file(
     ensures read { OnOk result (ReadsAudits exclude.now criteria.now entries.now) }
 {
     let audits = package_lists(alloc, Listing::Audits, exclude, entries)?;
-    put_value(alloc, file, "audits", Value::Table(audits))?;
+    put_value(alloc, file, AUDITS, Value::Table(audits))?;
     let criteria = write_members(alloc, &WriteCriteria {}, criteria)?;
-    put_unless_empty(alloc, file, "criteria", criteria)?;
+    put_unless_empty(alloc, file, CRITERIA, criteria)?;
     let trusted = package_lists(alloc, Listing::Trusted, exclude, entries)?;
-    put_unless_empty(alloc, file, "trusted", trusted)?;
+    put_unless_empty(alloc, file, TRUSTED, trusted)?;
     let wildcards = package_lists(alloc, Listing::WildcardAudits, exclude, entries)?;
-    put_unless_empty(alloc, file, "wildcard-audits", wildcards)?;
+    put_unless_empty(alloc, file, WILDCARD_AUDITS, wildcards)?;
     Ok(())
 }

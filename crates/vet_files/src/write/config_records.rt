@@ -10,6 +10,10 @@ ghost use Rattle.vet_files.specs.Maps.{or_no_dependencies, or_no_map};
 ghost use Rattle.vet_files.specs.ReadAgain.{IsReadAs, ReadsPeer, ReadsPolicy};
 ghost use Rattle.vet_files.specs.Tables.{list_data, some_list, unless_empty};
 
+use crate::keys::{
+    AUDIT_AS_CRATES_IO, CRITERIA, CRITERIA_MAP, DEPENDENCY_CRITERIA, DEV_CRITERIA, EXCLUDE, NOTES,
+    URL, VERSION,
+};
 use crate::write::put::{put, put_some};
 use std::alloc::{AllocError, Global};
 use toml::Table;
@@ -27,7 +31,7 @@ pub(crate) fn cargo_vet_table(alloc: Global, version: &Text) -> Result<Table, Al
     ensures read { IfOk result (λ t. IsReadAs a_text (string version.now) version.now) }
 {
     let mut table = Table::new(alloc);
-    put(alloc, &mut table, "version", version)?;
+    put(alloc, &mut table, VERSION, version)?;
     Ok(table)
 }
 
@@ -62,9 +66,9 @@ pub(crate) fn peer_table(alloc: Global, peer: &PeerSettings) -> Result<Table, Al
     // A reader takes only a name here: the contract of this call says that it is one.
     let _ = peer.name.as_str();
     let mut table = Table::new(alloc);
-    put_some(alloc, &mut table, "criteria-map", some_mapped(&peer.map))?;
-    put_some(alloc, &mut table, "exclude", some_packages(&peer.exclude))?;
-    put(alloc, &mut table, "url", &peer.url)?;
+    put_some(alloc, &mut table, CRITERIA_MAP, some_mapped(&peer.map))?;
+    put_some(alloc, &mut table, EXCLUDE, some_packages(&peer.exclude))?;
+    put(alloc, &mut table, URL, &peer.url)?;
     Ok(table)
 }
 
@@ -92,17 +96,12 @@ pub(crate) fn policy_table(alloc: Global, policy: &KeyedPolicy) -> Result<Table,
     put_some(
         alloc,
         &mut table,
-        "audit-as-crates-io",
+        AUDIT_AS_CRATES_IO,
         held.audit_as_crates_io.as_ref(),
     )?;
-    put_some(alloc, &mut table, "criteria", held.criteria.as_ref())?;
-    put_some(alloc, &mut table, "dependency-criteria", dependencies)?;
-    put_some(
-        alloc,
-        &mut table,
-        "dev-criteria",
-        held.dev_criteria.as_ref(),
-    )?;
-    put_some(alloc, &mut table, "notes", held.notes.as_ref())?;
+    put_some(alloc, &mut table, CRITERIA, held.criteria.as_ref())?;
+    put_some(alloc, &mut table, DEPENDENCY_CRITERIA, dependencies)?;
+    put_some(alloc, &mut table, DEV_CRITERIA, held.dev_criteria.as_ref())?;
+    put_some(alloc, &mut table, NOTES, held.notes.as_ref())?;
     Ok(table)
 }

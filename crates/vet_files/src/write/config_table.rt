@@ -13,6 +13,7 @@ ghost use Rattle.vet_files.specs.Tables.{with_key};
 ghost use Rattle.vet_files.specs.ReadAgain.{IsReadAs, ReadsConfig, ReadsEntry, ReadsPeer, ReadsPolicy};
 
 use crate::config_file::ConfigContent;
+use crate::keys::{CARGO_VET, DEFAULT_CRITERIA, EXEMPTIONS, IMPORTS, POLICY};
 use crate::write::config_records::{cargo_vet_table, peer_table, policy_table};
 use crate::write::lists_by_package::package_lists;
 use crate::write::members::{Member, WriteMember, write_members};
@@ -88,15 +89,15 @@ fn fill_config(alloc: Global, file: &mut Table, content: &ConfigContent) -> Resu
     put_some(
         alloc,
         file,
-        "default-criteria",
+        DEFAULT_CRITERIA,
         content.default_criteria.as_ref(),
     )?;
     let exemptions = exemptions_table(alloc, content.exemptions.as_slice())?;
-    put_unless_empty(alloc, file, "exemptions", exemptions)?;
+    put_unless_empty(alloc, file, EXEMPTIONS, exemptions)?;
     let peers = write_members(alloc, &WritePeers {}, content.peers.as_slice())?;
-    put_unless_empty(alloc, file, "imports", peers)?;
+    put_unless_empty(alloc, file, IMPORTS, peers)?;
     let policies = write_members(alloc, &WritePolicies {}, content.policies.as_slice())?;
-    put_unless_empty(alloc, file, "policy", policies)?;
+    put_unless_empty(alloc, file, POLICY, policies)?;
     Ok(())
 }
 
@@ -111,7 +112,7 @@ fn put_version(alloc: Global, file: &mut Table, version: &Option<Text>) -> Resul
         return Ok(());
     };
     let inner = cargo_vet_table(alloc, version)?;
-    put_value(alloc, file, "cargo-vet", Value::Table(inner))
+    put_value(alloc, file, CARGO_VET, Value::Table(inner))
 }
 
 /// The lists of exemptions.

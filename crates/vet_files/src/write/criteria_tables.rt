@@ -4,6 +4,7 @@ ghost use Rattle.toml.specs.View.{table_view};
 ghost use Rattle.vet_files.specs.AuditsTable.{criterion_table};
 ghost use Rattle.vet_files.specs.ReadAgain.{ReadsCriterion};
 
+use crate::keys::{DESCRIPTION, DESCRIPTION_URL, IMPLIES};
 use crate::write::put::put_some;
 use crate::write::put_sets::put_names;
 use std::alloc::{AllocError, Global};
@@ -21,10 +22,10 @@ pub(crate) fn criterion_table(alloc: Global, criterion: &Criterion) -> Result<Ta
     put_some(
         alloc,
         &mut table,
-        "description",
+        DESCRIPTION,
         criterion.description.as_ref(),
     )?;
-    put_some(alloc, &mut table, "description-url", criterion.url.as_ref())?;
-    put_names(alloc, &mut table, "implies", &criterion.implies)?;
+    put_some(alloc, &mut table, DESCRIPTION_URL, criterion.url.as_ref())?;
+    put_names(alloc, &mut table, IMPLIES, &criterion.implies)?;
     Ok(table)
 }

@@ -9,6 +9,10 @@ ghost use Rattle.vet_files.specs.OfKind.{of_kind};
 ghost use Rattle.vet_files.specs.ReadAgain.{IsReadAs, ReadsEntry};
 ghost use Rattle.vet_files.specs.Tables.{set_data, with_key};
 
+use crate::keys::{
+    CRITERIA, DELTA, END, IMPORTABLE, NOTES, RENEW, START, SUGGEST, USER_ID, VERSION, VIOLATION,
+    WHO,
+};
 use crate::write::put::{put, put_some};
 use crate::write::put_sets::put_texts;
 use std::alloc::{AllocError, Global};
@@ -44,7 +48,7 @@ fn with_criteria(alloc: Global, entry: &Entry) -> Result<Table, AllocError>
     // Called for its clause that this is a name: no other would be read again.
     let _ = entry.package.as_str();
     let mut table = Table::new(alloc);
-    put(alloc, &mut table, "criteria", &entry.criteria)?;
+    put(alloc, &mut table, CRITERIA, &entry.criteria)?;
     Ok(table)
 }
 
@@ -60,10 +64,10 @@ fn full_table(
     ensures read { IfOk result (λ t. ReadsEntry (of_kind entry.now (Kind.Full version.now audit.now))) }
 {
     let mut table = with_criteria(alloc, entry)?;
-    put_some(alloc, &mut table, "importable", audit.importable.as_ref())?;
-    put_some(alloc, &mut table, "notes", entry.notes.as_ref())?;
-    put(alloc, &mut table, "version", version)?;
-    put_texts(alloc, &mut table, "who", &audit.who)?;
+    put_some(alloc, &mut table, IMPORTABLE, audit.importable.as_ref())?;
+    put_some(alloc, &mut table, NOTES, entry.notes.as_ref())?;
+    put(alloc, &mut table, VERSION, version)?;
+    put_texts(alloc, &mut table, WHO, &audit.who)?;
     Ok(table)
 }
 
@@ -78,10 +82,10 @@ fn delta_table(
     ensures read { IfOk result (λ t. ReadsEntry (of_kind entry.now (Kind.Delta delta.now audit.now))) }
 {
     let mut table = with_criteria(alloc, entry)?;
-    put(alloc, &mut table, "delta", delta)?;
-    put_some(alloc, &mut table, "importable", audit.importable.as_ref())?;
-    put_some(alloc, &mut table, "notes", entry.notes.as_ref())?;
-    put_texts(alloc, &mut table, "who", &audit.who)?;
+    put(alloc, &mut table, DELTA, delta)?;
+    put_some(alloc, &mut table, IMPORTABLE, audit.importable.as_ref())?;
+    put_some(alloc, &mut table, NOTES, entry.notes.as_ref())?;
+    put_texts(alloc, &mut table, WHO, &audit.who)?;
     Ok(table)
 }
 
@@ -97,10 +101,10 @@ fn violation_table(
     ensures read { IfOk result (λ t. ReadsEntry (of_kind entry.now (Kind.Violation req.now audit.now))) }
 {
     let mut table = with_criteria(alloc, entry)?;
-    put_some(alloc, &mut table, "importable", audit.importable.as_ref())?;
-    put_some(alloc, &mut table, "notes", entry.notes.as_ref())?;
-    put(alloc, &mut table, "violation", req)?;
-    put_texts(alloc, &mut table, "who", &audit.who)?;
+    put_some(alloc, &mut table, IMPORTABLE, audit.importable.as_ref())?;
+    put_some(alloc, &mut table, NOTES, entry.notes.as_ref())?;
+    put(alloc, &mut table, VIOLATION, req)?;
+    put_texts(alloc, &mut table, WHO, &audit.who)?;
     Ok(table)
 }
 
@@ -116,12 +120,12 @@ fn wildcard_table(
     ensures read { IfOk result (λ t. ReadsEntry (of_kind entry.now (Kind.Wildcard window.now grant.now))) }
 {
     let mut table = with_criteria(alloc, entry)?;
-    put(alloc, &mut table, "end", &window.last)?;
-    put_some(alloc, &mut table, "notes", entry.notes.as_ref())?;
-    put_some(alloc, &mut table, "renew", grant.renew.as_ref())?;
-    put(alloc, &mut table, "start", &window.first)?;
-    put(alloc, &mut table, "user-id", &window.user)?;
-    put_texts(alloc, &mut table, "who", &grant.who)?;
+    put(alloc, &mut table, END, &window.last)?;
+    put_some(alloc, &mut table, NOTES, entry.notes.as_ref())?;
+    put_some(alloc, &mut table, RENEW, grant.renew.as_ref())?;
+    put(alloc, &mut table, START, &window.first)?;
+    put(alloc, &mut table, USER_ID, &window.user)?;
+    put_texts(alloc, &mut table, WHO, &grant.who)?;
     Ok(table)
 }
 
@@ -131,10 +135,10 @@ fn trusted_table(alloc: Global, entry: &Entry, window: &Window) -> Result<Table,
     ensures read { IfOk result (λ t. ReadsEntry (of_kind entry.now (Kind.Trusted window.now))) }
 {
     let mut table = with_criteria(alloc, entry)?;
-    put(alloc, &mut table, "end", &window.last)?;
-    put_some(alloc, &mut table, "notes", entry.notes.as_ref())?;
-    put(alloc, &mut table, "start", &window.first)?;
-    put(alloc, &mut table, "user-id", &window.user)?;
+    put(alloc, &mut table, END, &window.last)?;
+    put_some(alloc, &mut table, NOTES, entry.notes.as_ref())?;
+    put(alloc, &mut table, START, &window.first)?;
+    put(alloc, &mut table, USER_ID, &window.user)?;
     Ok(table)
 }
 
@@ -150,8 +154,8 @@ fn exemption_table(
     ensures read { IfOk result (λ t. ReadsEntry (of_kind entry.now (Kind.Exemption version.now suggest))) }
 {
     let mut table = with_criteria(alloc, entry)?;
-    put_some(alloc, &mut table, "notes", entry.notes.as_ref())?;
-    put_some(alloc, &mut table, "suggest", suggest.as_ref())?;
-    put(alloc, &mut table, "version", version)?;
+    put_some(alloc, &mut table, NOTES, entry.notes.as_ref())?;
+    put_some(alloc, &mut table, SUGGEST, suggest.as_ref())?;
+    put(alloc, &mut table, VERSION, version)?;
     Ok(table)
 }

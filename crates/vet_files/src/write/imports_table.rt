@@ -8,6 +8,7 @@ ghost use Rattle.vet_files.specs.ImportsTable.{excluded_of, imported_peer_table,
 ghost use Rattle.vet_files.specs.ReadAgain.{ReadsAudits, ReadsImported, ReadsImports, ReadsRecords};
 
 use crate::imports_file::{ImportedPeer, ImportsContent};
+use crate::keys::{AUDITS, PUBLISHER};
 use crate::write::audits_table::audits_file_table;
 use crate::write::members::{Member, WriteMember, write_members};
 use crate::write::publisher_tables::publisher_items;
@@ -76,8 +77,8 @@ pub(crate) fn imports_table(
     let peers = write_members(alloc, &WriteImported { settings }, content.peers.as_slice())?;
     let publishers = write_members(alloc, &WritePublishers {}, content.publishers.as_slice())?;
     let mut file = Table::new(alloc);
-    put_value(alloc, &mut file, "audits", Value::Table(peers))?;
-    put_unless_empty(alloc, &mut file, "publisher", publishers)?;
+    put_value(alloc, &mut file, AUDITS, Value::Table(peers))?;
+    put_unless_empty(alloc, &mut file, PUBLISHER, publishers)?;
     Ok(file)
 }
 

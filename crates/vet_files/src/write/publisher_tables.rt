@@ -4,6 +4,7 @@ ghost use Rattle.toml.specs.View.{array_view, table_view};
 ghost use Rattle.vet_files.specs.ImportsTable.{publisher_items, publisher_table};
 ghost use Rattle.vet_files.specs.ReadAgain.{ReadsPublisher};
 
+use crate::keys::{USER_ID, USER_LOGIN, USER_NAME, VERSION, WHEN};
 use crate::write::put::{put, put_some};
 use std::alloc::{AllocError, Global};
 use toml::value::Array;
@@ -16,11 +17,11 @@ pub(crate) fn publisher_table(alloc: Global, publisher: &Publisher) -> Result<Ta
     ensures read { IfOk result (λ t. ReadsPublisher publisher.now) }
 {
     let mut table = Table::new(alloc);
-    put(alloc, &mut table, "user-id", &publisher.user)?;
-    put_some(alloc, &mut table, "user-login", publisher.login.as_ref())?;
-    put_some(alloc, &mut table, "user-name", publisher.name.as_ref())?;
-    put(alloc, &mut table, "version", &publisher.version)?;
-    put(alloc, &mut table, "when", &publisher.day)?;
+    put(alloc, &mut table, USER_ID, &publisher.user)?;
+    put_some(alloc, &mut table, USER_LOGIN, publisher.login.as_ref())?;
+    put_some(alloc, &mut table, USER_NAME, publisher.name.as_ref())?;
+    put(alloc, &mut table, VERSION, &publisher.version)?;
+    put(alloc, &mut table, WHEN, &publisher.day)?;
     Ok(table)
 }
 
