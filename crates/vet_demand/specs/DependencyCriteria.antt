@@ -1,5 +1,5 @@
 -- Criteria by the names of dependencies, in the order of the names (ours).
-use Rattle.std.specs.Prelude.{ℕ, ◌≡◌, ◌&&◌, Bool, List, Option, Some, nat_eq, option_map}
+use Rattle.std.specs.Prelude.{◌≡◌, ◌&&◌, Bool, List, Option, Some, nat_eq, option_map}
 use Rattle.std.specs.Ordering.{nat_cmp}
 use Rattle.std.specs.Cmp.Lexicographic.{pointwise, slice_cmp}
 use Rattle.vet_base.specs.Names.{NameSet, same_names}

@@ -1,5 +1,5 @@
 -- Projects by name (ours).
-use Rattle.std.specs.Prelude.{ℕ, ◌&&◌, nat_eq, Bool, List}
+use Rattle.std.specs.Prelude.{◌&&◌, nat_eq, Bool}
 use Rattle.std.specs.Cmp.Lexicographic.{pointwise}
 use Rattle.vet_base.specs.Words.{Name}
 use Rattle.vet_demand.specs.declared.project.NamedProject.{NamedProject}

@@ -1,5 +1,5 @@
 -- What a node needs by itself, and what an edge passes (ours), by the policies.
-use Rattle.std.specs.Prelude.{Bool, List, ℕ, Option, Some, None, is_none, unwrap_or}
+use Rattle.std.specs.Prelude.{Bool, List, Option, Some, None, is_none, unwrap_or}
 use Rattle.std.specs.FinSet as set
 use Rattle.std.specs.Option.{option_or}
 use Rattle.vet_base.specs.Criteria.{safe_to_deploy, safe_to_run}

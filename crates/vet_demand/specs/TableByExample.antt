@@ -1,5 +1,5 @@
 -- A project and its dependency table, by example (ours).
-use Rattle.std.specs.Prelude.{ℕ, List, [], ◌∷◌, ◌++◌, None, codes}
+use Rattle.std.specs.Prelude.{[], ◌∷◌, ◌++◌, None, codes}
 use Rattle.vet_base.specs.Version.{VersionValue}
 use Rattle.vet_base.specs.Words.{Bytes}
 use Rattle.vet_demand.specs.Project.{ProjectValue}

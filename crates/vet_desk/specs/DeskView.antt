@@ -1,9 +1,8 @@
 -- What a desk is seen as (ours), and what was prepared for it. This module alone of the desk's knows of room.
 use Rattle.std.specs.Prelude.{◌≡◌, ℕ, ◌+◌, ◌++◌, ◌<◌, ◌≤◌, List, [], ◌∷◌, Option, Some, None, true, is_some, length, slice_get, slice_set, Result, Ok, Err, MatchResult}
-use Rattle.std.specs.Coded.{Coded, code_by, coded×, coded_list, coded_ℕ}
+use Rattle.std.specs.Coded.{coded×}
 use Rattle.std.specs.Ordering.{nat_cmp}
 use Rattle.std.specs.Cmp.Lexicographic.{slice_cmp}
-use Rattle.std.proofs.Common.{refl}
 use Rattle.vet_base.specs.Words.{Name}
 use Rattle.vet_base.specs.declared.limits.TheConstants.{LAST_NUMBER, MOST_MEMBERS, MOST_REVIEWS}
 use Rattle.vet_base.specs.declared.refusal.Refusal.{Refusal}

@@ -1,5 +1,5 @@
 -- What the criteria of a peer are in one's own (The Cargo Vet Book, importing audits, `criteria-map`).
-use Rattle.std.specs.Prelude.{ℕ, ◌&&◌, Bool, List, map as mapped}
+use Rattle.std.specs.Prelude.{◌&&◌, Bool, List, map as mapped}
 use Rattle.std.specs.Ordering.{nat_cmp}
 use Rattle.std.specs.Cmp.Lexicographic.{pointwise, slice_cmp}
 use Rattle.std.specs.FinMap as map

@@ -1,6 +1,6 @@
 -- What the names of a peer are in one's own (The Cargo Vet Book, importing audits, `criteria-map`; the exact form is
 -- ours).
-use Rattle.std.specs.Prelude.{ℕ, List, [], ◌∷◌, if◌then◌else◌}
+use Rattle.std.specs.Prelude.{List, [], ◌∷◌, if◌then◌else◌}
 use Rattle.std.specs.Option.{option_map_or}
 use Rattle.std.specs.FinMap as map
 use Rattle.std.specs.FinSet as set

@@ -1,5 +1,5 @@
 -- The settings of a peer: their key, and when those of two peers are the same (ours).
-use Rattle.std.specs.Prelude.{ℕ, ◌&&◌, Bool, List}
+use Rattle.std.specs.Prelude.{◌&&◌, Bool}
 use Rattle.std.specs.Str.{bytes_eq}
 use Rattle.vet_base.specs.Names.{same_names}
 use Rattle.vet_base.specs.Words.{Name}

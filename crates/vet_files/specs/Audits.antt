@@ -1,5 +1,5 @@
 -- The tables of an audits file (The Cargo Vet Book, audits file; what is skipped and counted is ours).
-use Rattle.std.specs.Prelude.{ℕ, Bool, true, false, List, [], ◌++◌, codes, Option, Some, None, Ok, Err, if◌then◌else◌, is_some, length, nat_lt}
+use Rattle.std.specs.Prelude.{ℕ, Bool, true, false, List, [], ◌++◌, Option, Some, None, Ok, Err, if◌then◌else◌, is_some, length, nat_lt}
 use Rattle.std.specs.FinSet as set
 use Rattle.std.specs.Option.{option_map_or}
 use Rattle.std.specs.Str.{is_utf8}

@@ -1,5 +1,5 @@
 -- The table of an audits file, as a function of what the file holds (The Cargo Vet Book, audits file).
-use Rattle.std.specs.Prelude.{ℕ, List, [], ◌∷◌, codes, Option, Some, map}
+use Rattle.std.specs.Prelude.{List, [], ◌∷◌, Option, Some, map}
 use Rattle.std.specs.FinSet as set
 use Rattle.toml.specs.Data.{Data, table, Members}
 use Rattle.vet_base.specs.Names.{NameSet}

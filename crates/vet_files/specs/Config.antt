@@ -1,5 +1,5 @@
 -- The tables of a config file (The Cargo Vet Book, config file; what is counted is ours).
-use Rattle.std.specs.Prelude.{ℕ, Bool, List, [], codes, Option, Ok, Err, if◌then◌else◌}
+use Rattle.std.specs.Prelude.{Bool, List, [], Option, Ok, Err, if◌then◌else◌}
 use Rattle.toml.specs.Data.{Data, Members, as_table}
 use Rattle.vet_base.specs.Gives.{Told, found_or, ◌>>=◌}
 use Rattle.vet_base.specs.Name.{is_name}

@@ -1,5 +1,5 @@
 -- The table of a config file, as a function of what the file holds (The Cargo Vet Book, config file).
-use Rattle.std.specs.Prelude.{ℕ, List, [], ◌∷◌, codes, Option, Some, map, option_map}
+use Rattle.std.specs.Prelude.{List, [], ◌∷◌, Option, Some, map, option_map}
 use Rattle.std.specs.FinMap as finite
 use Rattle.std.specs.FinSet as set
 use Rattle.toml.specs.Data.{Data, string, table, Members}

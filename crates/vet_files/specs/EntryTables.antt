@@ -1,5 +1,5 @@
 -- The tables in which entries are written (The Cargo Vet Book, audits and config files).
-use Rattle.std.specs.Prelude.{ℕ, pos, ◌&&◌, not, Bool, true, false, List, [], ◌∷◌, codes, Option, Some, filter, map, option_map}
+use Rattle.std.specs.Prelude.{pos, ◌&&◌, not, Bool, true, false, List, [], ◌∷◌, Option, Some, filter, map, option_map}
 use Rattle.std.specs.FinSet as set
 use Rattle.std.specs.Str.{bytes_eq}
 use Rattle.toml.specs.Data.{Data, string, integer, boolean, array, table, Items, Members}

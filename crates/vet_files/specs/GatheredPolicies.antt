@@ -1,5 +1,5 @@
 -- Policies in the order of a file, and their keys (ours).
-use Rattle.std.specs.Prelude.{ℕ, ◌≡◌, List, [], ◌∷◌, ◌++◌, Ok}
+use Rattle.std.specs.Prelude.{◌≡◌, List, [], ◌∷◌, ◌++◌, Ok}
 use Rattle.std.specs.BTreeSet.{BTreeSet, contains}
 use Rattle.toml.specs.Data.{Data}
 use Rattle.vet_base.specs.Gives.{Told, ◌>>=◌}

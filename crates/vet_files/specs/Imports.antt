@@ -1,5 +1,5 @@
 -- The tables of an imports file (The Cargo Vet Book, imports.lock; what is skipped and counted is ours).
-use Rattle.std.specs.Prelude.{ℕ, List, [], ◌++◌, codes, Option, Some, Ok, Err, if◌then◌else◌}
+use Rattle.std.specs.Prelude.{List, [], ◌++◌, codes, Option, Some, Ok, Err, if◌then◌else◌}
 use Rattle.toml.specs.Data.{Data, Members, as_table}
 use Rattle.vet_base.specs.Gives.{Told, found_or, ◌>>=◌}
 use Rattle.vet_base.specs.Name.{is_name}

@@ -1,6 +1,6 @@
 -- The table of an imports file, as a function of what the file holds (The Cargo Vet Book, imports.lock; that excluded
 -- packages are left out is ours).
-use Rattle.std.specs.Prelude.{ℕ, pos, List, [], ◌∷◌, codes, Option, Some, if◌then◌else◌, map}
+use Rattle.std.specs.Prelude.{pos, List, [], ◌∷◌, Option, Some, if◌then◌else◌, map}
 use Rattle.std.specs.FinSet as set
 use Rattle.std.specs.Str.{bytes_eq}
 use Rattle.toml.specs.Data.{Data, string, integer, array, table, Items, Members}

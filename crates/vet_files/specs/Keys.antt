@@ -1,5 +1,5 @@
 -- The keys that each table of the three files may have (The Cargo Vet Book, audits, config and imports files).
-use Rattle.std.specs.Prelude.{ℕ, suc, ◌||◌, Bool, List, codes, if◌then◌else◌}
+use Rattle.std.specs.Prelude.{ℕ, suc, ◌||◌, Bool, if◌then◌else◌}
 use Rattle.std.specs.Str.{bytes_eq}
 use Rattle.toml.specs.Data.{Members, no_members, member}
 use Rattle.vet_base.specs.Words.{Key}

@@ -1,5 +1,5 @@
 -- The list that stands at a key (ours).
-use Rattle.std.specs.Prelude.{ℕ, List, Option, Some}
+use Rattle.std.specs.Prelude.{Option, Some}
 use Rattle.toml.specs.Data.{Data, array, Items, no_items, Members, get_member}
 use Rattle.vet_base.specs.Words.{Key}
 

@@ -1,5 +1,5 @@
 -- Maps from names to sets of names (The Cargo Vet Book, config file: imports and policies).
-use Rattle.std.specs.Prelude.{ℕ, List, [], Option, Ok, Err, if◌then◌else◌}
+use Rattle.std.specs.Prelude.{List, [], Option, Ok, Err, if◌then◌else◌}
 use Rattle.std.specs.FinMap as map
 use Rattle.std.specs.Option.{option_map_or}
 use Rattle.toml.specs.Data.{Data, as_table}

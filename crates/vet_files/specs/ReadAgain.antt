@@ -1,5 +1,5 @@
 -- What is written is read again as what it was written of (ours).
-use Rattle.std.specs.Prelude.{ℕ, ◌≡◌, Bool, true, List, Some, Ok}
+use Rattle.std.specs.Prelude.{◌≡◌, Bool, true, List, Some, Ok}
 use Rattle.std.specs.FinSet as set
 use Rattle.std.specs.List.{All}
 use Rattle.std.specs.Option.{IfSome}

@@ -1,6 +1,6 @@
 -- Keys that rise, and walks over a table and over a list (ours).
 -- Each step goes on from what was found before it, or tells a fault.
-use Rattle.std.specs.Prelude.{ℕ, ◌≡◌, ◌+◌, List, Ok}
+use Rattle.std.specs.Prelude.{ℕ, ◌≡◌, ◌+◌, Ok}
 use Rattle.std.specs.Cmp.Lexicographic.{slice_cmp}
 use Rattle.std.specs.Ordering.{nat_cmp}
 use Rattle.std.specs.declared.cmp.Ordering.TheVariants.{Less}

@@ -1,5 +1,5 @@
 -- What is known of the steps of one package (ours).
-use Rattle.std.specs.Prelude.{◌≡◌, ℕ, List}
+use Rattle.std.specs.Prelude.{◌≡◌, List}
 use Rattle.vet_base.specs.Words.{Name}
 use Rattle.vet_entries.specs.declared.condemned.Violation.{Violation}
 use Rattle.vet_entries.specs.Condemned.{condemned_by, violations_of}

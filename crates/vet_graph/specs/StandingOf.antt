@@ -1,5 +1,5 @@
 -- The class of each demanded pair, as chains of the entries' steps give it (ours).
-use Rattle.std.specs.Prelude.{◌≡◌, ℕ, List, MatchOption, Option, map}
+use Rattle.std.specs.Prelude.{◌≡◌, List, MatchOption, Option, map}
 use Rattle.std.specs.Option.{option_map_or}
 use Rattle.std.specs.List.{Contains}
 use Rattle.vet_base.specs.Criteria.{Criteria, place_of}

@@ -1,5 +1,5 @@
 -- When what a command sets or adds is held already (ours).
-use Rattle.std.specs.Prelude.{ℕ, ◌==◌, ◌&&◌, not, Bool, false, List, Some, if◌then◌else◌, filter, length}
+use Rattle.std.specs.Prelude.{◌==◌, ◌&&◌, not, Bool, false, List, Some, if◌then◌else◌, filter, length}
 use Rattle.std.specs.Cmp.Lexicographic.{pointwise}
 use Rattle.std.specs.List.{list_all}
 use Rattle.std.specs.Option.{option_eq, option_map_or}

@@ -1,5 +1,5 @@
 -- The class of a pair where one audits file is all that is held, or the first fault (ours).
-use Rattle.std.specs.Prelude.{◌≡◌, ℕ, Bool, List, [], Option, Some, None, Ok, if◌then◌else◌}
+use Rattle.std.specs.Prelude.{◌≡◌, Bool, [], Option, Some, None, Ok, if◌then◌else◌}
 use Rattle.std.specs.FinMap as map
 use Rattle.vet_base.specs.CriteriaChanges.{known}
 use Rattle.vet_base.specs.Defined.{defined, least_undefined, lesser}

@@ -1,5 +1,5 @@
 -- What the files of a register hold (The Cargo Vet Book, audits.toml, config.toml and imports.lock).
-use Rattle.std.specs.Prelude.{ℕ, not, Bool, List, Option, None, if◌then◌else◌, filter, map}
+use Rattle.std.specs.Prelude.{not, Bool, List, Option, None, if◌then◌else◌, filter, map}
 use Rattle.std.specs.FinMap as table
 use Rattle.vet_base.specs.Criteria.{Criteria}
 use Rattle.vet_base.specs.CriteriaChanges.{is_built_in}

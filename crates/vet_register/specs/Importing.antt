@@ -1,5 +1,5 @@
 -- What is found of an import before it is made (ours).
-use Rattle.std.specs.Prelude.{◌≡◌, ◌⊎◌, ℕ, List, MatchOption, MatchResult, Option, Ok, Err, None, Result}
+use Rattle.std.specs.Prelude.{◌≡◌, ◌⊎◌, MatchOption, MatchResult, Option, Ok, Err, None, Result}
 use Rattle.vet_base.specs.Day.{DayValue}
 use Rattle.vet_base.specs.Words.{Name}
 use Rattle.vet_base.specs.declared.refusal.Refusal.{Refusal}

@@ -1,5 +1,5 @@
 -- The criteria that files name and none of them defines (ours).
-use Rattle.std.specs.Prelude.{ℕ, Bool, not, nat_lt, List, Option, None, Ok, Err, if◌then◌else◌, find, fold}
+use Rattle.std.specs.Prelude.{Bool, not, nat_lt, List, Option, None, Ok, Err, if◌then◌else◌, find, fold}
 use Rattle.std.specs.FinMap as map
 use Rattle.std.specs.FinSet as set
 use Rattle.vet_base.specs.Criteria.{Criteria}

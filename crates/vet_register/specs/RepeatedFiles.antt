@@ -1,5 +1,5 @@
 -- When files are told that what they hold is held already (ours).
-use Rattle.std.specs.Prelude.{◌≡◌, ◌↔◌, ℕ, true, List, Ok, map}
+use Rattle.std.specs.Prelude.{◌≡◌, ◌↔◌, true, List, Ok, map}
 use Rattle.std.specs.List.{All}
 use Rattle.vet_base.specs.Day.{DayValue}
 use Rattle.vet_base.specs.FurtherCriteria.{further}

@@ -1,5 +1,5 @@
 -- When an import is told that its content is held already (ours).
-use Rattle.std.specs.Prelude.{◌≡◌, ◌↔◌, ℕ, false, List, Some, None, Ok}
+use Rattle.std.specs.Prelude.{◌≡◌, ◌↔◌, false, List, Some, None, Ok}
 use Rattle.std.specs.List.{All}
 use Rattle.vet_base.specs.Words.{Name}
 use Rattle.vet_base.specs.declared.criterion.Criterion.{Criterion}

@@ -1,6 +1,6 @@
 -- Which of two faults of a command to the desk is told (ours): limits of steps and numbers that no list of commands
 -- reaches are told in their place too.
-use Rattle.std.specs.Prelude.{◌≡◌, ℕ, List, Ok, Err}
+use Rattle.std.specs.Prelude.{◌≡◌, ℕ, Ok, Err}
 use Rattle.vet_base.specs.Day.{DayValue}
 use Rattle.vet_base.specs.Gives.{◌>>=◌}
 use Rattle.vet_base.specs.Names.{NameSet}

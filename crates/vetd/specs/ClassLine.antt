@@ -1,5 +1,5 @@
 -- What `class` prints of an audits file (ours).
-use Rattle.std.specs.Prelude.{ℕ, List, ◌++◌, Ok, codes}
+use Rattle.std.specs.Prelude.{◌++◌, Ok, codes}
 use Rattle.vet_base.specs.Gives.{◌>>=◌}
 use Rattle.vet_base.specs.Words.{Text}
 use Rattle.vet_graph.specs.Class.{class_word}

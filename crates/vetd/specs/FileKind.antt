@@ -1,5 +1,5 @@
 -- The words for the kinds of files (ours).
-use Rattle.std.specs.Prelude.{ℕ, List, Option, Some, None, codes, if◌then◌else◌}
+use Rattle.std.specs.Prelude.{Option, Some, None, codes, if◌then◌else◌}
 use Rattle.std.specs.Str.{bytes_eq}
 use Rattle.vetd.specs.declared.file_kind.FileKind.{FileKind}
 use Rattle.vetd.specs.declared.file_kind.FileKind.TheVariants.{Audits, Config, Imports}

@@ -1,5 +1,5 @@
 -- What reads take, and how many are made (ours).
-use Rattle.std.specs.Prelude.{ℕ, ◌≤◌, List, Option, length}
+use Rattle.std.specs.Prelude.{ℕ, ◌≤◌, Option, length}
 use Rattle.std.specs.Io.KnownBytes.{Consumes}
 use Rattle.vet_base.specs.Words.{Bytes}
 

@@ -1,5 +1,5 @@
 -- What a write that failed leaves (ours).
-use Rattle.std.specs.Prelude.{ℕ, ◌<◌, List, Option, length, take}
+use Rattle.std.specs.Prelude.{ℕ, ◌<◌, Option, length, take}
 use Rattle.std.specs.Io.KnownBytes.{Appends}
 use Rattle.vet_base.specs.Words.{Bytes}
 

@@ -1,5 +1,5 @@
 -- What is printed of a refusal (ours).
-use Rattle.std.specs.Prelude.{ℕ, List, [], ◌++◌, codes}
+use Rattle.std.specs.Prelude.{[], ◌++◌, codes}
 use Rattle.std.specs.Fmt.{decimal}
 use Rattle.vet_base.specs.Refusal.{refusal_number, refusal_name, limit_word}
 use Rattle.vet_base.specs.Words.{Text}
