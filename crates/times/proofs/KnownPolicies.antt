@@ -18,8 +18,8 @@ one_known criteria k none =
 pub known_more : (criteria : Criteria) (policies : List KeyedPolicy) (i : ℕ) (k : KeyedPolicy) → i < length policies →
     k ≡ get_or policies i k
     → PoliciesAreKnown criteria (take i policies) → least_unknown criteria (names_in k.policy) ≡ None →
-        PoliciesAreKnown criteria (take (i + 1) policies)
+    PoliciesAreKnown criteria (take (i + 1) policies)
 known_more criteria policies i k l is known none =
     All-more (λ (h : KeyedPolicy). PolicyIsKnown criteria h.policy) policies i k l known
     (one_known criteria (get_or policies i k)
-        (ap (λ (h : KeyedPolicy). least_unknown criteria (names_in h.policy)) (sym is) ∙ none))
+    (ap (λ (h : KeyedPolicy). least_unknown criteria (names_in h.policy)) (sym is) ∙ none))

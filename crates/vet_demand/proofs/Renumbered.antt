@@ -146,7 +146,7 @@ placed_edges place (s ∷ rest) between h = step (placed place s.edge) refl (pla
         last r behind (inl here) = (s.edge, Contains-here s.edge (edges_of rest), at ∙ ap (λ (o : Edge). Some o) here)
         last r behind (inr there) =
             (let (f, held, placed_f) = behind.only r there in
-                (f, Contains-later s.edge f (edges_of rest) held, placed_f))
+            (f, Contains-later s.edge f (edges_of rest) held, placed_f))
 
 -- edges that all have places are placed
 pub all_placed : (place : ℕ → Option ℕ) (edges : List StatedEdge)

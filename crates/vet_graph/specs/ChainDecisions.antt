@@ -90,7 +90,7 @@ some_clean_chain steps condemned c v P a =
     same_answer (λ h. (h.0, h.1, h.2.0, h.2.1)) (λ h. (h.0, h.1, (h.2, h.3)))
     (some_chain steps c v (λ chain. IsClean condemned c chain × P chain)
     (λ chain. answer_of_both
-        (each (λ s. condemned c s.target ≡ false) (λ s. is_true (condemned c s.target) false) chain)
+    (each (λ s. condemned c s.target ≡ false) (λ s. is_true (condemned c s.target) false) chain)
     (a chain)))
 
 cons_injective : {X : Type 0} (x y : X) (xs ys : List X) → x ∷ xs ≡ y ∷ ys → (x ≡ y) × (xs ≡ ys)

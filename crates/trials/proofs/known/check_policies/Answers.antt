@@ -8,7 +8,7 @@ use Rattle.trials.proofs.known.check_policies.Goals as goal
 pub policies-preserved : goal.policies-preserved
 policies-preserved c =
     known_more c.args.criteria.now c.args.policies.now c.policies.held-index c.held-item.result c.policies-test.true
-        c.held-item.is c.policies.invariant
+    c.held-item.is c.policies.invariant
     (sym c.least_unknown_of.ensures ∙ ap option_copied c.in_default.is)
 
 pub returns : goal.returns
