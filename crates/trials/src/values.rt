@@ -3,8 +3,8 @@
 //! `name TEXT`, `package TEXT`, `key TEXT`, `version TEXT`, `delta TEXT`, `requirement TEXT`, `day TEXT` and
 //! `policy-key TEXT` tell the value as it is printed. `texts [TEXT ..]` tells a set of texts, how many it holds and
 //! each in brackets, and `text-of N` how many bytes a text of N letters has. `closure NAME ..` tells the names of the
-//! closure in the register's table. Lines of other values stand in the other modules, and of these `steps` asks for what the
-//! register holds, too.
+//! closure in the register's table. Lines of other values stand in the other modules, and of these `steps` asks for
+//! what the register holds, too.
 
 use crate::commands::names;
 use crate::days::{day_number, day_of_parts, day_order, plus};

@@ -136,7 +136,8 @@ fn with_rules(
     exemptions: Notices,
     keys: Notices,
 ) -> Result<Notices, Refusal>
-    ensures ok { IfOk result (λ n. n ≡ sum_of_notices (sum_of_notices settings (sum_of_notices policies exemptions)) keys) }
+    ensures ok { IfOk result (λ n.
+        n ≡ sum_of_notices (sum_of_notices settings (sum_of_notices policies exemptions)) keys) }
     ensures memory { IfErr result (λ e. e ≡ Refusal.NoMemory) }
 {
     let rules = policies.and(exemptions)?;
