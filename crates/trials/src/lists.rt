@@ -61,7 +61,8 @@ pub fn touched(alloc: Global, texts: &[String]) -> Result<String, Fault> {
     }
 }
 
-fn packages(alloc: Global, texts: &[String]) -> Result<Vec<PackageName>, Fault> {
+/// Some packages' names, in their order. Refused: `BadName`, and `NoMemory`.
+pub fn packages(alloc: Global, texts: &[String]) -> Result<Vec<PackageName>, Fault> {
     let mut names = Vec::new(alloc);
     for text in texts {
         names.push(PackageName::parse(alloc, text.as_str())?)?;
@@ -97,8 +98,8 @@ fn make_twice<T: HasKey>(items: &mut Keyed<T>, edit: KeyedEdit<T>)
     let _ = items.apply(again);
 }
 
-// Some values as they are printed, each in brackets.
-fn in_brackets<T: Display + Drop>(alloc: Global, items: &[T]) -> Result<String, Fault> {
+/// Some values as they are printed, each in brackets. Refused: `NoMemory`.
+pub fn in_brackets<T: Display + Drop>(alloc: Global, items: &[T]) -> Result<String, Fault> {
     let mut told = String::new(alloc);
     for item in items {
         push_printed(alloc, &mut told, item)?;

@@ -28,6 +28,7 @@ mod known;
 mod line;
 mod lists;
 mod one_text;
+mod packed;
 mod peers;
 mod policies;
 mod print;

@@ -12,6 +12,7 @@ use crate::fault::Fault;
 use crate::files::peer_file;
 use crate::line::{one, words_of};
 use crate::lists::{edited, names_of, packages_of, push_in_brackets, texts_of, touched};
+use crate::packed::{packed, unpacked, unpacked_names, unpacked_packages};
 use crate::projects::{project, table_word};
 use crate::steps::{condemned_criteria, steps, told_criteria};
 use crate::tables::{moves, table, table_of};
@@ -85,6 +86,7 @@ fn list_value(alloc: Global, word: &str, texts: &[String]) -> Result<String, Fau
         "table-of" => table_of(alloc, texts),
         "table" => table(alloc, texts),
         "moves" => moves(alloc, texts),
+        "packed" | "packed-names" | "packed-packages" => packed(alloc, word, texts),
         _ => text_value(alloc, word, one(texts)?),
     }
 }
@@ -109,6 +111,9 @@ fn file_value(alloc: Global, word: &str, text: &str) -> Result<String, Fault> {
         "key" => key(alloc, text),
         "text-of" => text_of(alloc, text),
         "day-number" => day_number(alloc, text),
+        "unpacked" => unpacked(alloc, text),
+        "unpacked-names" => unpacked_names(alloc, text),
+        "unpacked-packages" => unpacked_packages(alloc, text),
         "peer-file" => peer_file(alloc, text),
         "written-audits" => written_audits(alloc, text),
         "written-config" => written_config(alloc, text),

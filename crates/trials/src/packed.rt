@@ -1,0 +1,69 @@
+//! Lines that ask for packed lists: `packed [TEXT ..]` tells the packed list of these texts, and `unpacked TEXT` the
+//! items of a packed list, each in brackets, or that the text is none. `packed-names`, `packed-packages`,
+//! `unpacked-names` and `unpacked-packages` do the same with sets of names.
+
+use crate::commands::names;
+use crate::fault::Fault;
+use crate::lists::{in_brackets, packages, push_in_brackets};
+use std::alloc::Global;
+use vet_base::package_names::PackageNames;
+use vet_rows::packed::{push_item, read_items};
+use vet_rows::packed_names::{pack_names, pack_packages, unpack_names, unpack_packages};
+
+/// The packed list of some texts, or of a set of names. Refused: `BadName`, and `NoMemory`.
+pub fn packed(alloc: Global, word: &str, texts: &[String]) -> Result<String, Fault> {
+    let bytes = match word {
+        "packed-names" => pack_names(alloc, &names(alloc, texts)?)?,
+        "packed-packages" => {
+            pack_packages(alloc, &PackageNames::of(alloc, packages(alloc, texts)?)?)?
+        }
+        _ => packed_texts(alloc, texts)?,
+    };
+    match String::from_utf8(bytes) {
+        Ok(text) => Ok(text),
+        Err(_) => Err(Fault::NotUnderstood),
+    }
+}
+
+fn packed_texts(alloc: Global, texts: &[String]) -> Result<Vec<u8>, Fault> {
+    let mut bytes = Vec::new(alloc);
+    for text in texts {
+        push_item(alloc, &mut bytes, text.as_str().as_bytes())?;
+    }
+    Ok(bytes)
+}
+
+/// The items of a packed list, each in brackets, or `none`. Refused: `NoMemory`.
+pub fn unpacked(alloc: Global, text: &str) -> Result<String, Fault> {
+    match read_items(alloc, text.as_bytes())? {
+        Some(items) => items_in_brackets(alloc, items.as_slice()),
+        None => Ok("none".to_string(alloc)?),
+    }
+}
+
+fn items_in_brackets(alloc: Global, items: &[&[u8]]) -> Result<String, Fault> {
+    let mut told = String::new(alloc);
+    for item in items {
+        match str::from_utf8(*item) {
+            Ok(text) => push_in_brackets(&mut told, text)?,
+            Err(_) => return Err(Fault::NotUnderstood),
+        }
+    }
+    Ok(told)
+}
+
+/// The set of the names in a packed list, or `none`. Refused: `NoMemory`.
+pub fn unpacked_names(alloc: Global, text: &str) -> Result<String, Fault> {
+    match unpack_names(alloc, text.as_bytes())? {
+        Some(names) => in_brackets(alloc, names.as_slice()),
+        None => Ok("none".to_string(alloc)?),
+    }
+}
+
+/// The set of the packages in a packed list, or `none`. Refused: `NoMemory`.
+pub fn unpacked_packages(alloc: Global, text: &str) -> Result<String, Fault> {
+    match unpack_packages(alloc, text.as_bytes())? {
+        Some(packages) => in_brackets(alloc, packages.as_slice()),
+        None => Ok("none".to_string(alloc)?),
+    }
+}

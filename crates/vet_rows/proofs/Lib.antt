@@ -1,0 +1,4 @@
+pub mod PackedLists
+pub mod PackedTexts
+pub mod Packing
+pub mod ReadAs

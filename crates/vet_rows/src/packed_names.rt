@@ -1,0 +1,48 @@
+//! Sets of names as packed lists: their members in the order of their bytes, each once.
+ghost use Rattle.std.specs.Prelude.{◌≡◌, IfOk};
+ghost use Rattle.vet_base.specs.Names.{members};
+ghost use Rattle.vet_rows.specs.Packed.{packed};
+ghost use Rattle.vet_rows.specs.PackedItems.{IsReadAsSet, as_text};
+ghost use Rattle.vet_base.specs.Name.{read_name, read_package_name};
+
+use crate::packed_item::{pack, unpack};
+use std::alloc::{AllocError, Global};
+use vet_base::name::{Name, PackageName};
+use vet_base::names::Names;
+use vet_base::package_names::PackageNames;
+
+/// The packed list of a set of names. Refused for want of memory alone.
+pub fn pack_names(alloc: Global, names: &Names) -> Result<Vec<u8>, AllocError>
+    ensures { IfOk result (λ bytes. bytes.items ≡ packed (members names.now)) }
+{
+    pack(alloc, names.as_slice())
+}
+
+/// The set of the names in a packed list, or none if the bytes are no packed list of names. Refused for want of
+/// memory alone.
+pub fn unpack_names(alloc: Global, bytes: &[u8]) -> Result<Option<Names>, AllocError>
+    ensures { IfOk result (λ names. IsReadAsSet (as_text read_name) bytes.now names) }
+{
+    match unpack::<Name>(alloc, bytes)? {
+        Some(names) => Ok(Some(Names::of(alloc, names)?)),
+        None => Ok(None),
+    }
+}
+
+/// The packed list of a set of packages. Refused for want of memory alone.
+pub fn pack_packages(alloc: Global, packages: &PackageNames) -> Result<Vec<u8>, AllocError>
+    ensures { IfOk result (λ bytes. bytes.items ≡ packed (members packages.now)) }
+{
+    pack(alloc, packages.as_slice())
+}
+
+/// The set of the packages in a packed list, or none if the bytes are no packed list of names of packages. Refused for
+/// want of memory alone.
+pub fn unpack_packages(alloc: Global, bytes: &[u8]) -> Result<Option<PackageNames>, AllocError>
+    ensures { IfOk result (λ packages. IsReadAsSet (as_text read_package_name) bytes.now packages) }
+{
+    match unpack::<PackageName>(alloc, bytes)? {
+        Some(packages) => Ok(Some(PackageNames::of(alloc, packages)?)),
+        None => Ok(None),
+    }
+}
