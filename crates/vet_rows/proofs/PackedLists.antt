@@ -76,7 +76,8 @@ front_once a b r s small same = (a_is, r_is)
     same_digits : digits ≡ decimal (length b)
     same_digits =
         sym taken
-        ∙ taken_is bytes (decimal (length b)) (b ++ s) (length digits) by_b (numeral (length b) (omega (arith, b_short)))
+        ∙ taken_is bytes (decimal (length b)) (b ++ s) (length digits) by_b
+        (numeral (length b) (omega (arith, b_short)))
         within all stops
 
     same_length : length a ≡ length b

@@ -5,7 +5,8 @@ use Rattle.std.proofs.lemmas.Str.{IsUtf8-from_is_utf8, is_utf8-from_IsUtf8}
 use Rattle.vet_base.specs.Words.{Bytes, Text}
 use Rattle.vet_rows.specs.PackedItems.{as_text}
 
-pub text_is_read : {X : Type 0} (read : Text → Option X) (bytes : Bytes) → IsUtf8 bytes → as_text read bytes ≡ read bytes
+pub text_is_read : {X : Type 0} (read : Text → Option X) (bytes : Bytes) → IsUtf8 bytes
+    → as_text read bytes ≡ read bytes
 text_is_read read bytes u = rw (is_utf8-from_IsUtf8 bytes u) refl
 
 pub no_text : {X : Type 0} (read : Text → Option X) (bytes : Bytes) → (IsUtf8 bytes → ⊥) → as_text read bytes ≡ None

@@ -26,5 +26,6 @@ as_text read bytes = if is_utf8 bytes then read bytes else None
 
 -- bytes are read as this set: they are a packed list of items that stand for its members, or of no such items
 abbrev pub IsReadAsSet : (Bytes → Option Name) → Bytes → Option NameSet → Type 0
-IsReadAsSet read bytes (Some names) = (list : List Name) × (IsReadAs read bytes (Some list) × (names ≡ set.from_list list))
+IsReadAsSet read bytes (Some names) = (list : List Name)
+    × (IsReadAs read bytes (Some list) × (names ≡ set.from_list list))
 IsReadAsSet read bytes None = IsReadAs read bytes None

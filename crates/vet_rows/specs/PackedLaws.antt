@@ -7,7 +7,8 @@ use Rattle.vet_rows.specs.PackedItems.{IsReadAs}
 
 -- lists that are packed alike are the same, if they are as long as a list in memory may be
 abbrev pub PackedOnce : Type 0
-PackedOnce = (items others : List Bytes) → length (packed items) < 2 ^ 63 → packed items ≡ packed others → items ≡ others
+PackedOnce = (items others : List Bytes) → length (packed items) < 2 ^ 63 → packed items ≡ packed others
+    → items ≡ others
 
 -- values of which each is read from its bytes are read from their packed list, as nothing else
 abbrev pub ValuesAreReadBack : {X : Type 0} → (X → Bytes) → (Bytes → Option X) → Type 0

@@ -34,7 +34,8 @@ pub fn push_item(alloc: Global, bytes: &mut Vec<u8>, item: &[u8]) -> Result<(), 
 
 /// The items of a packed list, or none if the bytes are no packed list. Refused for want of memory alone.
 pub fn read_items<'a>(alloc: Global, bytes: &'a [u8]) -> Result<Option<Vec<&'a [u8]>>, AllocError>
-    ensures { IfOk result (λ items. IsUnpacked bytes.now (option_map (λ found. map (λ item. item.now) found.items) items)) }
+    ensures { IfOk result (λ items.
+        IsUnpacked bytes.now (option_map (λ found. map (λ item. item.now) found.items) items)) }
 {
     let mut items = Vec::new(alloc);
     let mut rest = bytes;
