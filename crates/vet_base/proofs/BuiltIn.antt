@@ -1,5 +1,6 @@
 -- The table of the built-in criteria.
-use Rattle.std.proofs.Common.{◌≡◌, ℕ, Bool, true, false, cond, ◌||◌, List, [], ◌∷◌, Some, None, is_some, Less, refl, sym, ap, subst, ◌∙◌, arith}
+use Rattle.std.proofs.Common.{◌≡◌, ℕ, Bool, true, false, cond, ◌||◌, List, [], ◌∷◌, Some, None, is_some, Less, refl}
+use Rattle.std.proofs.Common.{sym, ap, subst, ◌∙◌, arith}
 use Rattle.std.specs.Option.{option_map_or}
 use Rattle.std.specs.Ordering.{eq_by_cmp}
 use Rattle.std.specs.FinSet as set
@@ -9,7 +10,8 @@ use Rattle.std.proofs.lemmas.Bool.{false≢true}
 use Rattle.std.proofs.lemmas.List.Elements.{All-nil, All-cons}
 use Rattle.std.proofs.lemmas.List.Kept.{AllPairs-cons}
 use Rattle.vet_base.specs.declared.criterion.Criterion.{Criterion}
-use Rattle.vet_base.specs.Criteria.{Criteria, IsTable, built_in_criteria, run_criterion, deploy_criterion, safe_to_run, safe_to_deploy}
+use Rattle.vet_base.specs.Criteria.{Criteria, IsTable, built_in_criteria, run_criterion, deploy_criterion, safe_to_run}
+use Rattle.vet_base.specs.Criteria.{safe_to_deploy}
 use Rattle.vet_base.specs.Definitions.{by_name, IsKept}
 use Rattle.vet_base.proofs.Rising.{R, only_equal, equal-from_eq, IsRising-nil}
 use Rattle.vet_base.proofs.Closing.{found_entry}

@@ -1,5 +1,7 @@
 -- A table after a change.
-use Rattle.std.proofs.Common.{◌≡◌, ℕ, zero, suc, ◌+◌, ◌-◌, ◌<◌, ◌≤◌, Bool, true, false, cond, T, ◌||◌, not, nat_eq, List, [], ◌∷◌, map as mapped, length, get_or, take, set as setn, Option, Some, None, is_some, Less, refl, sym, ap, subst, ◌∙◌, arith}
+use Rattle.std.proofs.Common.{◌≡◌, ℕ, zero, suc, ◌+◌, ◌-◌, ◌<◌, ◌≤◌, Bool, true, false, cond, T, ◌||◌, not, nat_eq}
+use Rattle.std.proofs.Common.{List, [], ◌∷◌, map as mapped, length, get_or, take, set as setn, Option, Some, None}
+use Rattle.std.proofs.Common.{is_some, Less, refl, sym, ap, subst, ◌∙◌, arith}
 use Rattle.std.specs.List.{All, Contains, insert, remove, list_any, find}
 use Rattle.std.specs.Option.{option_map_or}
 use Rattle.std.specs.Ordering.{is_eq, eq_by_cmp}

@@ -1,5 +1,7 @@
 -- What is found on the way to the closures of a table, criterion by criterion from the last one on.
-use Rattle.std.proofs.Common.{◌≡◌, ℕ, zero, suc, ◌<◌, ◌+◌, ◌≤◌, ◌↔◌, Bool, true, false, ◌||◌, ◌&&◌, List, [], ◌∷◌, map as mapped, drop, length, get_or, nat_lt, Option, Some, None, slice_get, refl, sym, ap, subst, ◌∙◌, arith, inl, inr, lt-ltb, ltb-true}
+use Rattle.std.proofs.Common.{◌≡◌, ℕ, zero, suc, ◌<◌, ◌+◌, ◌≤◌, ◌↔◌, Bool, true, false, ◌||◌, ◌&&◌, List, [], ◌∷◌}
+use Rattle.std.proofs.Common.{map as mapped, drop, length, get_or, nat_lt, Option, Some, None, slice_get, refl, sym, ap}
+use Rattle.std.proofs.Common.{subst, ◌∙◌, arith, inl, inr, lt-ltb, ltb-true}
 use Rattle.std.specs.Option.{option_map_or}
 use Rattle.std.specs.List.{list_any}
 use Rattle.std.specs.Ordering.{nat_cmp, eq_by_cmp}
@@ -7,7 +9,8 @@ use Rattle.std.specs.Cmp.{nat_cmp_total, both_ways}
 use Rattle.std.specs.FinSet as set
 use Rattle.std.specs.FinMap as map
 use Rattle.std.proofs.lemmas.Cmp.{nat_list_cmp_total, eq_by_cmp_equiv}
-use Rattle.std.proofs.lemmas.Bool.{cases_eq, cases_lt, or_cases, or_left, or_right, or_parts, and_parts, cond-true, cond-false, le-ltb}
+use Rattle.std.proofs.lemmas.Bool.{cases_eq, cases_lt, or_cases, or_left, or_right, or_parts, and_parts, cond-true}
+use Rattle.std.proofs.lemmas.Bool.{cond-false, le-ltb}
 use Rattle.std.proofs.lemmas.Option.{slice_get-get_or, slice_get_past}
 use Rattle.vet_base.specs.declared.criterion.Criterion.{Criterion}
 use Rattle.vet_base.specs.Closures.{apart_at, led_on}
@@ -17,7 +20,8 @@ use Rattle.vet_base.specs.Names.{NameSet}
 use Rattle.vet_base.specs.Criteria.{Criteria, placed, reached_by, place_of}
 use Rattle.vet_base.proofs.Rising.{R, equal-from_eq}
 use Rattle.vet_base.proofs.Closing.{Entries, alone, from_one, for_all, grown, stayed}
-use Rattle.vet_base.proofs.Tables.{len-keys, place_at, at_place, missing_place, contains-placed, contains-placed_at, placed-empty, placed-insert_held}
+use Rattle.vet_base.proofs.Tables.{len-keys, place_at, at_place, missing_place, contains-placed, contains-placed_at}
+use Rattle.vet_base.proofs.Tables.{placed-empty, placed-insert_held}
 
 -- ---- a walk over places that finds whether something is so at one of them
 

@@ -1,5 +1,6 @@
 -- The closure of a set of names is the least one.
-use Rattle.std.proofs.Common.{◌≡◌, ℕ, ◌↔◌, true, false, ◌||◌, List, [], ◌∷◌, map as mapped, Option, Some, None, Less, refl, sym, ap, ◌∙◌, arith, inl, inr}
+use Rattle.std.proofs.Common.{◌≡◌, ℕ, ◌↔◌, true, false, ◌||◌, List, [], ◌∷◌, map as mapped, Option, Some, None, Less}
+use Rattle.std.proofs.Common.{refl, sym, ap, ◌∙◌, arith, inl, inr}
 use Rattle.std.specs.List.{All, Contains}
 use Rattle.std.specs.Option.{option_map_or}
 use Rattle.std.specs.Ordering.{is_eq, eq_by_cmp}

@@ -1,5 +1,7 @@
 -- A day's text is read as that day, and a day's number names one day.
-use Rattle.std.proofs.Common.{◌≡◌, ℕ, ◌+◌, ◌-◌, ◌*◌, ◌/◌, ◌%◌, ◌^◌, ◌<◌, ◌≤◌, ◌&&◌, true, false, List, [], ◌∷◌, slice_index, Some, refl, sym, ap, ◌∙◌, arith, ℤ, pos, neg_ℤ, ◌+ℤ◌, ◌<ℤ◌, ◌≤ℤ◌, inl, inr, to_z, of_z, w32, w64, FitsSigned}
+use Rattle.std.proofs.Common.{◌≡◌, ℕ, ◌+◌, ◌-◌, ◌*◌, ◌/◌, ◌%◌, ◌^◌, ◌<◌, ◌≤◌, ◌&&◌, true, false, List, [], ◌∷◌}
+use Rattle.std.proofs.Common.{slice_index, Some, refl, sym, ap, ◌∙◌, arith, ℤ, pos, neg_ℤ, ◌+ℤ◌, ◌<ℤ◌, ◌≤ℤ◌, inl, inr}
+use Rattle.std.proofs.Common.{to_z, of_z, w32, w64, FitsSigned}
 use Rattle.std.proofs.lemmas.Bool.{cases_lt, cases_order}
 use Rattle.std.proofs.lemmas.Bool.Decides.{nat_tests}
 use Rattle.std.proofs.lemmas.Fmt.{decimal_digit, decimal_step}
@@ -9,12 +11,14 @@ use Rattle.std.specs.Fmt.{char_count, decimal, format_spec, padded_integral}
 use Rattle.jiff_core.specs.declared.civil.date.Date.{Date}
 use Rattle.jiff_core.specs.Calendar.{day_count, days_in_month, IsBetween, IsCivilDate, IsEpochDay}
 use Rattle.jiff_core.specs.Date.{epoch_day}
-use Rattle.jiff_core.proofs.CalendarLemmas.{days_from_civil-day_count, day_count-day_of_year, day_count-later_year, day_count-lt_year, day_count_bounds, days_in_month_bounds}
+use Rattle.jiff_core.proofs.CalendarLemmas.{days_from_civil-day_count, day_count-day_of_year, day_count-later_year}
+use Rattle.jiff_core.proofs.CalendarLemmas.{day_count-lt_year, day_count_bounds, days_in_month_bounds}
 use Rattle.jiff_core.proofs.DateLemmas.{civil, epoch_day_injective, epoch_day_range}
 use Rattle.jiff_core.proofs.MarchLemmas.{day_count-early}
 use Rattle.jiff_core.proofs.SignedLemmas.{signed_arith}
 use Rattle.vet_base.specs.declared.limits.TheConstants.{FIRST_DAY_NUMBER, LAST_DAY_NUMBER}
-use Rattle.vet_base.specs.Day.{DayValue, is_day, day_number, two_digits, written_day, read_day, two_text, four_text, day_text}
+use Rattle.vet_base.specs.Day.{DayValue, is_day, day_number, two_digits, written_day, read_day, two_text, four_text}
+use Rattle.vet_base.specs.Day.{day_text}
 
 -- ---- texts
 
@@ -158,7 +162,7 @@ day_number_range d h =
     omega (arith, signed_arith)
 
 -- a date that is not before 0000-01-01 is of a year from 0 on
-year_from_0 : (d : Date) → FIRST_DAY_NUMBER ≤ℤ epoch_day d → pos 0 ≤ℤ d.year
+pub year_from_0 : (d : Date) → FIRST_DAY_NUMBER ≤ℤ epoch_day d → pos 0 ≤ℤ d.year
 year_from_0 d from =
     by_lt_z d.year (pos 0)
     (λ before. let less = day_count-lt_year d.year d.month d.day (pos 0) 1 1 (civil d) (omega arith) before in

@@ -1,5 +1,6 @@
 -- What some criteria define is a table where nothing refuses them.
-use Rattle.std.proofs.Common.{◌≡◌, ℕ, ◌≤◌, get_or, Bool, true, false, cond, ◌||◌, not, nat_lt, List, [], ◌∷◌, is_some, fold, Option, Some, None, Ok, Err, refl, sym, ap, subst, ◌∙◌, inl, inr, lt-ltb}
+use Rattle.std.proofs.Common.{◌≡◌, ℕ, ◌≤◌, get_or, Bool, true, false, cond, ◌||◌, not, nat_lt, List, [], ◌∷◌, is_some}
+use Rattle.std.proofs.Common.{fold, Option, Some, None, Ok, Err, refl, sym, ap, subst, ◌∙◌, inl, inr, lt-ltb}
 use Rattle.std.specs.List.{All, list_any}
 use Rattle.std.specs.Option.{option_map_or}
 use Rattle.std.specs.Ordering.{eq_by_cmp, is_lt}
@@ -15,8 +16,9 @@ use Rattle.vet_base.specs.declared.refusal.Refusal.TheVariants.{UnknownCriterion
 use Rattle.vet_base.specs.Gives.{Told}
 use Rattle.vet_base.specs.declared.limits.TheConstants.{MOST_CRITERIA}
 use Rattle.vet_base.specs.declared.criterion.Criterion.{Criterion}
-use Rattle.vet_base.specs.Names.{members}
-use Rattle.vet_base.specs.Criteria.{Criteria, IsTable, built_in_criteria, run_criterion, deploy_criterion, safe_to_run, safe_to_deploy}
+use Rattle.vet_base.specs.Names.{NameSet, members}
+use Rattle.vet_base.specs.Criteria.{Criteria, IsTable, built_in_criteria, run_criterion, deploy_criterion, safe_to_run}
+use Rattle.vet_base.specs.Criteria.{safe_to_deploy}
 use Rattle.vet_base.specs.CriteriaChanges.{is_built_in}
 use Rattle.vet_base.specs.Defined.{defined, least_implied, least_undefined, lesser, table_told, table_unless}
 use Rattle.vet_base.proofs.Rising.{R, equal-from_eq}
@@ -96,18 +98,19 @@ module _ (criteria : List Criterion) (few : map.len (defined criteria) ≤ MOST_
   others : All (λ c. is_built_in c.name ≡ false) criteria
   others = none_built criteria own
 
+  built_in_stays : (name : List ℕ) → ((n : List ℕ) → is_built_in n ≡ false → pointwise nat_eq n name ≡ false)
+      → map.get (defined criteria) name ≡ map.get built_in_criteria name
+  built_in_stays name other =
+      get_with built_in_criteria criteria name
+      (λ k d l. not_this (get_or criteria k d).name name (other (get_or criteria k d).name (others k d l)))
+
   run_stays : map.get (defined criteria) safe_to_run ≡ Some run_criterion
-  run_stays = get_with built_in_criteria criteria safe_to_run
-      (λ k d l. (let n = (get_or criteria k d).name in
-      not_this n safe_to_run
-      (or_parts (pointwise nat_eq n safe_to_run) (pointwise nat_eq n safe_to_deploy) (others k d l)).0))
-      ∙ first_table.run
+  run_stays = built_in_stays safe_to_run
+      (λ n h. (or_parts (pointwise nat_eq n safe_to_run) (pointwise nat_eq n safe_to_deploy) h).0) ∙ first_table.run
 
   deploy_stays : map.get (defined criteria) safe_to_deploy ≡ Some deploy_criterion
-  deploy_stays = get_with built_in_criteria criteria safe_to_deploy
-      (λ k d l. (let n = (get_or criteria k d).name in
-      not_this n safe_to_deploy
-      (or_parts (pointwise nat_eq n safe_to_run) (pointwise nat_eq n safe_to_deploy) (others k d l)).1))
+  deploy_stays = built_in_stays safe_to_deploy
+      (λ n h. (or_parts (pointwise nat_eq n safe_to_run) (pointwise nat_eq n safe_to_deploy) h).1)
       ∙ first_table.deploy
 
   run_known : Known run_criterion
@@ -151,6 +154,12 @@ module _ (criteria : List Criterion) (few : map.len (defined criteria) ≤ MOST_
       by m n (Some c) e h = (each m c e).1 n h
 
 -- ---- what is told
+
+-- what is undefined where the names known are told by a set
+pub known_by_set : (criteria : List Criterion) (known : NameSet)
+    → ((n : List ℕ) → set.contains known n ≡ map.contains_key (defined criteria) n)
+    → least_undefined (set.contains known) criteria ≡ least_undefined (map.contains_key (defined criteria)) criteria
+known_by_set criteria known knows i = least_undefined (λ n. knows n i) criteria
 
 module _ (criteria : List Criterion) (few : map.len (defined criteria) ≤ MOST_CRITERIA) where
   room : nat_lt MOST_CRITERIA (map.len (defined criteria)) ≡ false

@@ -1,5 +1,6 @@
 -- The table that some criteria define.
-use Rattle.std.proofs.Common.{◌≡◌, ℕ, ◌+◌, ◌<◌, ◌≤◌, Bool, true, false, cond, ◌||◌, List, [], ◌∷◌, ◌++◌, length, is_some, fold, refl, sym, ap, ◌∙◌, arith}
+use Rattle.std.proofs.Common.{◌≡◌, ℕ, ◌+◌, ◌<◌, ◌≤◌, Bool, true, false, cond, ◌||◌, List, [], ◌∷◌, ◌++◌, length}
+use Rattle.std.proofs.Common.{is_some, fold, refl, sym, ap, ◌∙◌, arith}
 use Rattle.std.specs.Ordering.{eq_by_cmp}
 use Rattle.std.specs.FinSet as set
 use Rattle.std.specs.FinMap as map
@@ -7,7 +8,8 @@ use Rattle.std.proofs.lemmas.Cmp.{nat_list_cmp_total}
 use Rattle.vet_base.specs.declared.criterion.Criterion.{Criterion}
 use Rattle.vet_base.specs.declared.limits.TheConstants.{MOST_CRITERIA, MOST_PEER_CRITERIA}
 use Rattle.vet_base.specs.Names.{NameSet}
-use Rattle.vet_base.specs.Criteria.{Criteria, built_in_criteria, run_criterion, deploy_criterion, safe_to_run, safe_to_deploy}
+use Rattle.vet_base.specs.Criteria.{Criteria, built_in_criteria, run_criterion, deploy_criterion, safe_to_run}
+use Rattle.vet_base.specs.Criteria.{safe_to_deploy}
 use Rattle.vet_base.specs.Defined.{defined}
 use Rattle.vet_base.proofs.Rising.{R}
 use Rattle.vet_base.proofs.Changes.{key-insert}

@@ -1,5 +1,6 @@
 -- When criteria by their names are the same.
-use Rattle.std.proofs.Common.{◌≡◌, ℕ, suc, Bool, true, false, cond, ◌&&◌, ◌⊎◌, ◌↔◌, List, [], ◌∷◌, get_or, nat_eq, Option, Some, None, refl, sym, ap, subst, ◌∙◌, arith, inl, inr}
+use Rattle.std.proofs.Common.{◌≡◌, ℕ, suc, Bool, true, false, cond, ◌&&◌, ◌⊎◌, ◌↔◌, List, [], ◌∷◌, get_or, nat_eq}
+use Rattle.std.proofs.Common.{Option, Some, None, refl, sym, ap, subst, ◌∙◌, arith, inl, inr}
 use Rattle.std.specs.Cmp.Lexicographic.{pointwise}
 use Rattle.std.specs.List.{All}
 use Rattle.std.specs.Ordering.{eq_by_cmp}
@@ -11,7 +12,8 @@ use Rattle.std.proofs.lemmas.Option.{same_Some}
 use Rattle.vet_base.specs.declared.criterion.Criterion.{Criterion}
 use Rattle.vet_base.specs.Criterion.{criterion_eq, same_text}
 use Rattle.vet_base.specs.Names.{same_names}
-use Rattle.vet_base.specs.Criteria.{Criteria, built_in_criteria, deploy_criterion, run_criterion, safe_to_deploy, safe_to_run}
+use Rattle.vet_base.specs.Criteria.{Criteria, built_in_criteria, deploy_criterion, run_criterion, safe_to_deploy}
+use Rattle.vet_base.specs.Criteria.{safe_to_run}
 use Rattle.vet_base.specs.CriteriaChanges.{is_built_in}
 use Rattle.vet_base.specs.Defined.{defined}
 use Rattle.vet_base.specs.Definitions.{IsKept, by_name, criteria_eq, entry_eq}

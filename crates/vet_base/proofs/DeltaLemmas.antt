@@ -1,8 +1,11 @@
 -- How the text of a delta is taken apart.
-use Rattle.std.proofs.Common.{◌≡◌, ◌≢◌, ℕ, suc, ◌<◌, ◌+◌, ◌-◌, ◌==◌, false, List, [], ◌∷◌, ◌++◌, length, get_or, take, drop, Option, Some, None, Result, Ok, Err, IfOk, ◌⊎◌, option_map, refl, sym, ap, ◌∙◌, arith, inl, inr, eqb-true, eq-eqb, ne_eqb}
+use Rattle.std.proofs.Common.{◌≡◌, ◌≢◌, ℕ, suc, ◌<◌, ◌+◌, ◌-◌, ◌==◌, false, List, [], ◌∷◌, ◌++◌, length, get_or, take}
+use Rattle.std.proofs.Common.{drop, Option, Some, None, Result, Ok, Err, IfOk, ◌⊎◌, option_map, refl, sym, ap, ◌∙◌}
+use Rattle.std.proofs.Common.{arith, inl, inr, eqb-true, eq-eqb, ne_eqb}
 use Rattle.std.specs.Char.{encode_utf8}
 use Rattle.std.specs.List.{prefix_len, suffix_len, position_or_len, before_first, after_first}
-use Rattle.std.specs.Str.Pattern.{FindsCharPrefix, FindsCharSuffix, CutsPrefixes, CutsSuffixes, IsFullyTrimmed, IsTrimStartMatches, IsTrimEndMatches}
+use Rattle.std.specs.Str.Pattern.{FindsCharPrefix, FindsCharSuffix, CutsPrefixes, CutsSuffixes, IsFullyTrimmed}
+use Rattle.std.specs.Str.Pattern.{IsTrimStartMatches, IsTrimEndMatches}
 use Rattle.std.proofs.lemmas.Bool.{cases_Bool, false≢true, cond-true, cond-false}
 use Rattle.std.proofs.lemmas.List.{reverse-append, take-append-drop, take-append-le, take_more, take_all, length-append}
 use Rattle.std.proofs.Math.Seq.{get_or-append_seam, take-append_seam, drop-length}
@@ -10,7 +13,8 @@ use Rattle.std.proofs.lemmas.List.Sums.{suffix_len_is, position_or_len_is, fails
 use Rattle.std.proofs.lemmas.Str.Pattern.{drop_at_char, strip_prefix_char, strip_suffix_char}
 use Rattle.vet_base.specs.declared.delta.Delta.{Delta}
 use Rattle.vet_base.specs.Version.{VersionValue}
-use Rattle.vet_base.specs.Delta.{is_space, is_head, delta_between, without_leading, without_ending, without_spaces, before_dash, ends_of}
+use Rattle.vet_base.specs.Delta.{is_space, is_head, delta_between, without_leading, without_ending, without_spaces}
+use Rattle.vet_base.specs.Delta.{before_dash, ends_of}
 
 -- ---- spaces that lead a text
 

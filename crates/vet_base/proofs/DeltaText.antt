@@ -1,5 +1,6 @@
 -- A delta's text is read as that delta.
-use Rattle.std.proofs.Common.{◌≡◌, ℕ, suc, ◌+◌, ◌<◌, ◌&&◌, not, Bool, true, false, List, [], ◌∷◌, ◌++◌, length, drop, get_or, Some, refl, sym, ap, ◌∙◌, arith, inl, inr, eq-eqb}
+use Rattle.std.proofs.Common.{◌≡◌, ℕ, suc, ◌+◌, ◌<◌, ◌&&◌, not, Bool, true, false, List, [], ◌∷◌, ◌++◌, length, drop}
+use Rattle.std.proofs.Common.{get_or, Some, refl, sym, ap, ◌∙◌, arith, inl, inr, eq-eqb}
 use Rattle.std.proofs.lemmas.Bool.{cases_Bool, and_parts, cond-false, false≢true}
 use Rattle.std.proofs.lemmas.Bool.Decides.{nat_tests}
 use Rattle.std.proofs.lemmas.Grind.{common_steps}
@@ -12,7 +13,8 @@ use Rattle.std.proofs.lemmas.List.Sums.{fails_before_first}
 use Rattle.std.specs.List.{list_all, prefix_len, position_or_len, before_first, after_first}
 use Rattle.vet_base.specs.declared.delta.Delta.{Delta}
 use Rattle.vet_base.specs.Version.{VersionValue, read_version, version_text}
-use Rattle.vet_base.specs.Delta.{is_space, is_head, without_leading, without_ending, without_spaces, ends_of, read_delta, delta_text}
+use Rattle.vet_base.specs.Delta.{is_space, is_head, without_leading, without_ending, without_spaces, ends_of}
+use Rattle.vet_base.specs.Delta.{read_delta, delta_text}
 use Rattle.vet_base.proofs.VersionLemmas.{drop_front}
 use Rattle.vet_base.proofs.DeltaLemmas.{one_more_leads, one_more_ends, none_ends, both_ends}
 use Rattle.vet_base.proofs.ListLemmas.{all_weaker}

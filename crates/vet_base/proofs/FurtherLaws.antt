@@ -1,5 +1,6 @@
 -- What criteria define beside the built-in ones.
-use Rattle.std.proofs.Common.{◌≡◌, ℕ, Bool, true, false, cond, not, ◌&&◌, T, List, [], ◌∷◌, map as mapped, Some, None, Ordering, Less, Equal, Greater, refl, sym, ap, subst, ◌∙◌, arith, inl, inr}
+use Rattle.std.proofs.Common.{◌≡◌, ℕ, Bool, true, false, cond, not, ◌&&◌, T, List, [], ◌∷◌, map as mapped, Some, None}
+use Rattle.std.proofs.Common.{Ordering, Less, Equal, Greater, refl, sym, ap, subst, ◌∙◌, arith, inl, inr}
 use Rattle.std.specs.List.{All}
 use Rattle.std.specs.Ordering.{eq_by_cmp, is_lt, is_eq}
 use Rattle.std.specs.FinMap as map
@@ -9,7 +10,8 @@ use Rattle.std.proofs.lemmas.List.Elements.{All-nil, All-cons}
 use Rattle.std.proofs.lemmas.List.Kept.{AllPairs-cons, AllPairs-filter}
 use Rattle.std.proofs.lemmas.Option.{same_Some}
 use Rattle.vet_base.specs.declared.criterion.Criterion.{Criterion}
-use Rattle.vet_base.specs.Criteria.{Criteria, built_in_criteria, deploy_criterion, run_criterion, safe_to_deploy, safe_to_run}
+use Rattle.vet_base.specs.Criteria.{Criteria, built_in_criteria, deploy_criterion, run_criterion, safe_to_deploy}
+use Rattle.vet_base.specs.Criteria.{safe_to_run}
 use Rattle.vet_base.specs.CriteriaChanges.{is_built_in}
 use Rattle.vet_base.specs.Defined.{defined}
 use Rattle.vet_base.specs.FurtherCriteria.{FurtherAreDefined, further, is_further}
@@ -24,7 +26,7 @@ Entries = List (List ℕ × Criterion)
 
 -- ---- what is found among entries
 
-find_in : (q : List ℕ) (es : Entries) (c : Criterion) → map.find R q es ≡ Some c → IsIn (q, c) es
+pub find_in : (q : List ℕ) (es : Entries) (c : Criterion) → map.find R q es ≡ Some c → IsIn (q, c) es
 find_in q [] c h = cc h
 find_in q (e ∷ es) c h = by (find_in q es c) (eq_by_cmp R q e.0) refl h
   where
@@ -51,7 +53,7 @@ all_below k [] t e i = absurd i
 all_below k (d ∷ es) t e (inl s) = subst (λ x. R k x.0 ≡ Less) (sym s) (less_is (R k d.0) (first_T _ _ t))
 all_below k (d ∷ es) t e (inr i) = all_below k es (second_T (is_lt (R k d.0)) _ t) e i
 
-in_find : (q : List ℕ) (es : Entries) (c : Criterion) → T (map.is_sorted R es) → IsIn (q, c) es → map.find R q es
+pub in_find : (q : List ℕ) (es : Entries) (c : Criterion) → T (map.is_sorted R es) → IsIn (q, c) es → map.find R q es
     ≡ Some c
 in_find q [] c t i = absurd i
 in_find q (e ∷ es) c t (inl s) =
@@ -87,12 +89,12 @@ values_once (e ∷ es) t named i j d l m =
     apart (d ∷ ds) h = All-cons (λ (b : Criterion). e.1.name ≡ b.name → ⊥) d.1 (mapped (λ x. x.1) ds) (h d (inl refl))
         (apart ds (λ x i. h x (inr i)))
 
-value_in : (c : Criterion) (es : Entries) → IsIn c (mapped (λ e. e.1) es) → (q : List ℕ) × IsIn (q, c) es
+pub value_in : (c : Criterion) (es : Entries) → IsIn c (mapped (λ e. e.1) es) → (q : List ℕ) × IsIn (q, c) es
 value_in c [] i = absurd i
 value_in c (e ∷ es) (inl s) = (e.0, inl (λ i. (e.0, s i)))
 value_in c (e ∷ es) (inr i) = (let h = value_in c es i in (h.0, inr h.1))
 
-in_values : (q : List ℕ) (c : Criterion) (es : Entries) → IsIn (q, c) es → IsIn c (mapped (λ e. e.1) es)
+pub in_values : (q : List ℕ) (c : Criterion) (es : Entries) → IsIn (q, c) es → IsIn c (mapped (λ e. e.1) es)
 in_values q c [] i = absurd i
 in_values q c (e ∷ es) (inl s) = inl (ap (λ (x : List ℕ × Criterion). x.1) s)
 in_values q c (e ∷ es) (inr i) = inr (in_values q c es i)
@@ -104,7 +106,7 @@ not_true true h = sym h
 not_true false h = refl
 
 -- each built-in criterion stands at its name
-built_named : (q : List ℕ) (c : Criterion) → map.get built_in_criteria q ≡ Some c → c.name ≡ q
+pub built_named : (q : List ℕ) (c : Criterion) → map.get built_in_criteria q ≡ Some c → c.name ≡ q
 built_named q c h =
     by (eq_by_cmp R q safe_to_deploy) refl (eq_by_cmp R q safe_to_run) refl
     (sym (built.get_built_in q) ∙ ap (λ t. map.get t q) built.is_built_in ∙ h)

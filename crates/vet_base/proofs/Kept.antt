@@ -1,5 +1,7 @@
 -- How a changed table is kept, and what its verdicts say.
-use Rattle.std.proofs.Common.{◌≡◌, ℕ, zero, suc, ◌+◌, ◌<◌, Bool, true, false, ◌&&◌, not, nat_le, List, [], ◌∷◌, length, get_or, set as setn, IfErr, Result, Ok, Err, OnOk, OnErr, Less, refl, sym, ap, ◌∙◌, arith, inl, inr}
+use Rattle.std.proofs.Common.{◌≡◌, ℕ, zero, suc, ◌+◌, ◌<◌, Bool, true, false, ◌&&◌, not, nat_le, List, [], ◌∷◌, length}
+use Rattle.std.proofs.Common.{get_or, set as setn, IfErr, Result, Ok, Err, OnOk, OnErr, Less, refl, sym, ap, ◌∙◌, arith}
+use Rattle.std.proofs.Common.{inl, inr}
 use Rattle.std.specs.List.{insert, remove}
 use Rattle.std.specs.FinMap as map
 use Rattle.std.proofs.lemmas.Bool.{leb-false, false≢true}
@@ -8,16 +10,19 @@ use Rattle.std.proofs.lemmas.List.Quantifiers.{all_pairs_remove}
 use Rattle.vet_base.specs.declared.limits.TheConstants.{MOST_CRITERIA}
 use Rattle.vet_base.specs.declared.criterion.Criterion.{Criterion}
 use Rattle.vet_base.specs.declared.refusal.Refusal.{Refusal}
-use Rattle.vet_base.specs.declared.refusal.Refusal.TheVariants.{BuiltInCriterion, UnknownCriterion, CriterionInUse, TooManyCriteria}
+use Rattle.vet_base.specs.declared.refusal.Refusal.TheVariants.{BuiltInCriterion, UnknownCriterion, CriterionInUse}
+use Rattle.vet_base.specs.declared.refusal.Refusal.TheVariants.{TooManyCriteria}
 use Rattle.vet_base.specs.Names.{IsRising}
 use Rattle.vet_base.specs.Criteria.{Criteria}
-use Rattle.vet_base.specs.CriteriaChanges.{is_built_in, is_full_for, is_implied, remove_verdict, set_limits, set_references, set_rules, set_verdict, unknown_beside}
+use Rattle.vet_base.specs.CriteriaChanges.{is_built_in, is_full_for, is_implied, remove_verdict, set_limits}
+use Rattle.vet_base.specs.CriteriaChanges.{set_references, set_rules, set_verdict, unknown_beside}
 use Rattle.vet_base.specs.Definitions.{by_name, IsKept}
 use Rattle.vet_base.proofs.Rising.{R, Lacks, IsRising-insert}
 use Rattle.vet_base.specs.Gives.{Answers, Refuses, Told, refuse_if, ◌>>=◌}
 use Rattle.vet_base.proofs.Tables.{keys_is, len-keys, length_kept, not_held}
 use Rattle.vet_base.proofs.Telling.{all_known, not_refused, then_told}
-use Rattle.vet_base.proofs.Changes.{names_of, find-set, find-insert, find-remove, names-set, names-insert, names-remove, view_insert, view_remove, MaySet}
+use Rattle.vet_base.proofs.Changes.{names_of, find-set, find-insert, find-remove, names-set, names-insert, names-remove}
+use Rattle.vet_base.proofs.Changes.{view_insert, view_remove, MaySet}
 
 longer : (xs : List (List ℕ)) (i : ℕ) (x : List ℕ) → length (insert xs i x) ≡ length xs + 1
 longer xs zero x = omega arith

@@ -1,5 +1,7 @@
 -- Items in the order of their keys: what a search among them tells, and what an item put in leaves.
-use Rattle.std.proofs.Common.{◌≡◌, ℕ, suc, ◌+◌, ◌<◌, ◌≤◌, Bool, true, false, List, [], ◌∷◌, ◌++◌, Option, Some, None, cond, ◌&&◌, is_some, length, get_or, not, set, Result, Ok, Err, is_ok, refl, sym, ap, subst, ◌∙◌, arith, inl, inr}
+use Rattle.std.proofs.Common.{◌≡◌, ℕ, suc, ◌+◌, ◌<◌, ◌≤◌, Bool, true, false, List, [], ◌∷◌, ◌++◌, Option, Some, None}
+use Rattle.std.proofs.Common.{cond, ◌&&◌, is_some, length, get_or, not, set, Result, Ok, Err, is_ok, refl, sym, ap}
+use Rattle.std.proofs.Common.{subst, ◌∙◌, arith, inl, inr}
 use Rattle.std.specs.List.{All, filter, find, insert, remove}
 use Rattle.std.specs.List.Sorted.{IsBinarySearchResult, IsPartitionPoint, IsSearchInRange, IsSortedBy, IsStableBy, ties}
 use Rattle.std.specs.Ordering.{is_eq, is_gt, is_lt, ordering_reverse}
@@ -14,9 +16,12 @@ use Rattle.std.proofs.lemmas.List.Edits.{get_or-remove_above, get_or-remove_belo
 use Rattle.std.proofs.lemmas.List.Elements.{All-cons, All-head, filter_passes}
 use Rattle.std.proofs.lemmas.List.Kept.{AllPairs-cons, AllPairs-filter}
 use Rattle.std.proofs.lemmas.List.Sorted.{searchable_from_sorted}
-use Rattle.vet_base.specs.Keyed.{IsByKey, IsPlace, all_set, item_of, is_before, is_behind, is_of, with_item, without_item}
-use Rattle.vet_base.proofs.Comparisons.{not_behind, not_before, neither_lt, neither_gt, lesser, greater, is_false, equal}
-use Rattle.vet_base.proofs.ListLemmas.{kept_front, kept_back, filter_but_one, find_absent, find_at, any_found, find_kept, find_dropped, or_none, set_is, pairs_appended}
+use Rattle.vet_base.specs.Keyed.{IsByKey, IsPlace, all_set, item_of, is_before, is_behind, is_of, with_item}
+use Rattle.vet_base.specs.Keyed.{without_item}
+use Rattle.vet_base.proofs.Comparisons.{not_behind, not_before, neither_lt, neither_gt, lesser, greater, is_false}
+use Rattle.vet_base.proofs.Comparisons.{equal}
+use Rattle.vet_base.proofs.ListLemmas.{kept_front, kept_back, filter_but_one, find_absent, find_at, any_found}
+use Rattle.vet_base.proofs.ListLemmas.{find_kept, find_dropped, or_none, set_is, pairs_appended}
 
 -- ---- items by keys in a total order, in which only equals tie
 

@@ -1,5 +1,6 @@
 -- Items in the order of their keys: what they are without one, and what numbers of each sum up to.
-use Rattle.std.proofs.Common.{◌≡◌, ℕ, ◌+◌, ◌-◌, ◌<◌, Bool, true, false, List, [], ◌∷◌, Option, Some, None, cond, is_some, get_or, length, slice_get, Err, not, inl, inr, refl, sym, ap, subst, ◌∙◌, arith}
+use Rattle.std.proofs.Common.{◌≡◌, ℕ, ◌+◌, ◌-◌, ◌<◌, Bool, true, false, List, [], ◌∷◌, Option, Some, None, cond}
+use Rattle.std.proofs.Common.{is_some, get_or, length, slice_get, Err, not, inl, inr, refl, sym, ap, subst, ◌∙◌, arith}
 use Rattle.std.specs.Cmp.{IsTotalOrder, tied_itself}
 use Rattle.std.specs.List.{All, filter, sum_by}
 use Rattle.std.specs.Option.{unwrap_or}
@@ -13,7 +14,8 @@ use Rattle.std.proofs.lemmas.List.Filters.{sum_by-filter_both}
 use Rattle.std.proofs.lemmas.List.Kept.{AllPairs-filter}
 use Rattle.std.proofs.lemmas.List.Sums.{sum_by-append, sum_by-cons}
 use Rattle.vet_base.specs.Keyed.{IsByKey, IsPlace, item_of, is_before, is_behind, is_of, with_item, without_item}
-use Rattle.vet_base.proofs.KeyedLemmas.{IsByKey-with_item, above, greater_behind, item_of-after, rest_by_key, same_items}
+use Rattle.vet_base.proofs.KeyedLemmas.{IsByKey-with_item, above, greater_behind, item_of-after, rest_by_key}
+use Rattle.vet_base.proofs.KeyedLemmas.{same_items}
 use Rattle.vet_base.proofs.Comparisons.{equal, is_false}
 use Rattle.vet_base.proofs.ListLemmas.{filter_drops, find_dropped, find_kept}
 

@@ -1,11 +1,13 @@
 -- The least of some names that passes a test.
-use Rattle.std.proofs.Common.{◌≡◌, ℕ, zero, suc, ◌<◌, ◌⊎◌, Bool, true, false, not, List, [], ◌∷◌, length, get_or, Option, Some, None, Ordering, Less, Equal, Greater, refl, sym, ap, ◌∙◌, arith, inl, inr}
+use Rattle.std.proofs.Common.{◌≡◌, ℕ, zero, suc, ◌<◌, ◌⊎◌, Bool, true, false, not, List, [], ◌∷◌, length, get_or}
+use Rattle.std.proofs.Common.{Option, Some, None, Ordering, Less, Equal, Greater, refl, sym, ap, ◌∙◌, arith, inl, inr}
 use Rattle.std.specs.List.{Contains, find}
 use Rattle.std.specs.Ordering.{eq_by_cmp, is_lt}
 use Rattle.std.specs.FinSet as set
 use Rattle.std.specs.FinMap as map
 use Rattle.std.proofs.lemmas.Cmp.{nat_list_cmp_total}
-use Rattle.std.proofs.lemmas.Bool.{cases_Bool, cond-false, cond-true, false≢true, not-false, or_cases, or_left, or_right}
+use Rattle.std.proofs.lemmas.Bool.{cases_Bool, cond-false, cond-true, false≢true, not-false, or_cases, or_left}
+use Rattle.std.proofs.lemmas.Bool.{or_right}
 use Rattle.std.proofs.lemmas.List.Folds.{list_any_at}
 use Rattle.std.proofs.lemmas.Option.{same_Some}
 use Rattle.vet_base.specs.Criteria.{Criteria, least_unknown}
@@ -79,6 +81,23 @@ module _ (p : List ℕ → Bool) where
   pub none_in : (s : NameSet) → find p (members s) ≡ None → (n : List ℕ) → set.contains s n ≡ true → p n ≡ false
   none_in s e n held = none_found p (members s) n e (among_members s n held)
 
+  -- the least of two sets in one, where what is in the other is not less
+  least_of_either : (all s other : NameSet) → ((n : List ℕ) → set.contains s n ≡ true → set.contains all n ≡ true)
+      → ((n : List ℕ) → set.contains all n ≡ true → (set.contains s n ≡ true) ⊎ (set.contains other n ≡ true))
+      → (x : List ℕ) → find p (members s) ≡ Some x
+      → ((n : List ℕ) → set.contains other n ≡ true → p n ≡ true → (n ≡ x) ⊎ (R x n ≡ Less))
+      → find p (members all) ≡ Some x
+  least_of_either all s other within either x e f =
+      let g = found_least s x e in
+      least_found all x (
+        within x g.0,
+        g.1,
+        λ n held t. elim (either n held) [
+          | inl one ↦ g.2 n one t
+          | inr elsewhere ↦ f n elsewhere t
+        ],
+      )
+
   -- the least of two sets is the lesser of their least ones
   module _ (a b : NameSet) where
     either : (n : List ℕ) → set.contains (set.union a b) n ≡ true
@@ -114,30 +133,15 @@ module _ (p : List ℕ → Bool) where
         first : (x : List ℕ) → find p (members a) ≡ Some x
             → ((n : List ℕ) → set.contains b n ≡ true → p n ≡ true → (n ≡ x) ⊎ (R x n ≡ Less))
             → find p (members (set.union a b)) ≡ Some x
-        first x e f =
-            let g = found_least a x e in
-            least_found (set.union a b) x (
-              in_first x g.0,
-              g.1,
-              λ n held t. elim (either n held) [
-                | inl one ↦ g.2 n one t
-                | inr other ↦ f n other t
-              ],
-            )
+        first = least_of_either (set.union a b) a b in_first either
 
         second : (y : List ℕ) → find p (members b) ≡ Some y
             → ((n : List ℕ) → set.contains a n ≡ true → p n ≡ true → (n ≡ y) ⊎ (R y n ≡ Less))
             → find p (members (set.union a b)) ≡ Some y
-        second y e f =
-            let g = found_least b y e in
-            least_found (set.union a b) y (
-              in_second y g.0,
-              g.1,
-              λ n held t. elim (either n held) [
-                | inl one ↦ f n one t
-                | inr other ↦ g.2 n other t
-              ],
-            )
+        second = least_of_either (set.union a b) b a in_second (λ n held. elim (either n held) [
+          | inl one ↦ inr one
+          | inr other ↦ inl other
+        ])
 
         by : (o : Option (List ℕ)) → find p (members a) ≡ o → (u : Option (List ℕ)) → find p (members b) ≡ u
             → find p (members (set.union a b)) ≡ lesser o u

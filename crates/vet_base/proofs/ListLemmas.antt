@@ -1,5 +1,7 @@
 -- Lists: what filters keep, what edits leave, what is found, and the first element beside the rest.
-use Rattle.std.proofs.Common.{◌≡◌, ◌⊎◌, ℕ, zero, suc, ◌+◌, ◌<◌, ◌≤◌, Bool, true, false, List, [], ◌∷◌, ◌++◌, Option, Some, None, cond, option_map, is_none, is_some, length, get_or, set, take, drop, refl, sym, ap, ◌∙◌, arith, inl, inr}
+use Rattle.std.proofs.Common.{◌≡◌, ◌⊎◌, ℕ, zero, suc, ◌+◌, ◌<◌, ◌≤◌, Bool, true, false, List, [], ◌∷◌, ◌++◌, Option}
+use Rattle.std.proofs.Common.{Some, None, cond, option_map, is_none, is_some, length, get_or, set, take, drop, refl}
+use Rattle.std.proofs.Common.{sym, ap, ◌∙◌, arith, inl, inr}
 use Rattle.std.specs.Bool.{Decides}
 use Rattle.std.specs.Cmp.Lexicographic.{pointwise, pointwise_decides}
 use Rattle.std.specs.List.{All, AllPairs, Contains, list_all, filter, find, insert, remove}
@@ -45,31 +47,30 @@ filter_drops p (x ∷ xs) h =
     ap (λ b. cond b (x ∷ filter p xs) (filter p xs)) (All-head (λ x. p x ≡ false) x xs h)
     ∙ filter_drops p xs (All-tail (λ x. p x ≡ false) x xs h)
 
+partition_sides : {X : Type 0} (F G : X → Type 0) (xs : List X) (i : ℕ) → i ≤ length xs → IsPartitionPoint F G xs i
+    → All F (take i xs) × All G (drop i xs)
+partition_sides F G xs i within parts = (
+  λ k d l. (let in_front : k < i = omega (arith, l, length-take i xs) in
+      rw (get_or-take i xs k d in_front) (parts.0 k d (omega arith) in_front)),
+  λ k d l. (let inside : i + k < length xs = omega (arith, l, length-drop i xs) in
+      rw (get_or-drop i xs k d) (parts.1 (i + k) d (omega arith) inside)),
+)
+
+filter_sides : {X : Type 0} (p : X → Bool) (xs : List X) (i : ℕ) → filter p xs ≡ filter p (take i xs) ++ filter p (drop i xs)
+filter_sides p xs i = ap (filter p) (sym (take-append-drop i xs)) ∙ filter-append p (take i xs) (drop i xs)
+
 pub kept_front : {X : Type 0} (p : X → Bool) (xs : List X) (i : ℕ) → i ≤ length xs
     → IsPartitionPoint (λ x. p x ≡ true) (λ x. p x ≡ false) xs i → filter p xs ≡ take i xs
 kept_front {X} p xs i within parts =
-    let front : All (λ x. p x ≡ true) (take i xs) =
-    λ k d l. (let in_front : k < i = omega (arith, l, length-take i xs) in
-    rw (get_or-take i xs k d in_front) (parts.0 k d (omega arith) in_front)) in
-    let back : All (λ x. p x ≡ false) (drop i xs) =
-    λ k d l. (let inside : i + k < length xs = omega (arith, l, length-drop i xs) in
-    rw (get_or-drop i xs k d) (parts.1 (i + k) d (omega arith) inside)) in
-    ap (filter p) (sym (take-append-drop i xs))
-    ∙ filter-append p (take i xs) (drop i xs) ∙ ap (λ zs. zs ++ filter p (drop i xs)) (filter_keeps p (take i xs) front)
-    ∙ ap (λ zs. take i xs ++ zs) (filter_drops p (drop i xs) back) ∙ append-nil (take i xs)
+    let sides = partition_sides (λ x. p x ≡ true) (λ x. p x ≡ false) xs i within parts in
+    filter_sides p xs i
+    ∙ (λ j. filter_keeps p (take i xs) sides.0 j ++ filter_drops p (drop i xs) sides.1 j) ∙ append-nil (take i xs)
 
 pub kept_back : {X : Type 0} (p : X → Bool) (xs : List X) (i : ℕ) → i ≤ length xs
     → IsPartitionPoint (λ x. p x ≡ false) (λ x. p x ≡ true) xs i → filter p xs ≡ drop i xs
 kept_back {X} p xs i within parts =
-    let front : All (λ x. p x ≡ false) (take i xs) =
-    λ k d l. (let in_front : k < i = omega (arith, l, length-take i xs) in
-    rw (get_or-take i xs k d in_front) (parts.0 k d (omega arith) in_front)) in
-    let back : All (λ x. p x ≡ true) (drop i xs) =
-    λ k d l. (let inside : i + k < length xs = omega (arith, l, length-drop i xs) in
-    rw (get_or-drop i xs k d) (parts.1 (i + k) d (omega arith) inside)) in
-    ap (filter p) (sym (take-append-drop i xs))
-    ∙ filter-append p (take i xs) (drop i xs)
-    ∙ ap (λ zs. zs ++ filter p (drop i xs)) (filter_drops p (take i xs) front) ∙ filter_keeps p (drop i xs) back
+    let sides = partition_sides (λ x. p x ≡ false) (λ x. p x ≡ true) xs i within parts in
+    filter_sides p xs i ∙ (λ j. filter_drops p (take i xs) sides.0 j ++ filter_keeps p (drop i xs) sides.1 j)
 
 -- what a filter keeps that leaves out what stands at one place
 pub filter_but_one : {X : Type 0} (p : X → Bool) (xs : List X) (i : ℕ) → i < length xs

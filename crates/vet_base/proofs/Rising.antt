@@ -1,5 +1,8 @@
 -- Names in order.
-use Rattle.std.proofs.Common.{◌≡◌, ℕ, zero, suc, ◌+◌, ◌<◌, Bool, true, false, cond, ◌||◌, ◌&&◌, T, List, [], ◌∷◌, ◌++◌, map, length, take, drop, get_or, is_ok, ◌==◌, ◌↔◌, nat_eq, eqb-true, eq-eqb, Ordering, Less, Equal, Greater, Some, None, Result, Ok, Err, MatchResult, refl, sym, ap, subst, ◌∙◌, arith}
+use Rattle.std.proofs.Common.{◌≡◌, ℕ, zero, suc, ◌+◌, ◌<◌, Bool, true, false, cond, ◌||◌, ◌&&◌, T, List, [], ◌∷◌, ◌++◌}
+use Rattle.std.proofs.Common.{map, length, take, drop, get_or, is_ok, ◌==◌, ◌↔◌, nat_eq, eqb-true, eq-eqb, Ordering}
+use Rattle.std.proofs.Common.{Less, Equal, Greater, Some, None, Result, Ok, Err, MatchResult, refl, sym, ap, subst, ◌∙◌}
+use Rattle.std.proofs.Common.{arith}
 use Rattle.std.specs.List.{All, insert, list_any}
 use Rattle.std.specs.List.Sorted.{IsBinarySearchResult, IsSearchInRange, IsPartitionPoint, IsSortedBy}
 use Rattle.std.specs.Ordering.{nat_cmp, is_lt, is_eq, eq_by_cmp, ordering_reverse}
@@ -198,13 +201,13 @@ empty_list xs s h e = (
   λ t. eq-eqb (length xs) 0 (sym (len-from_list xs h) ∙ ap set.len (e ∙ t) ∙ set.len-empty R),
 )
 
-pub same_names-tells : (xs ys : List (List ℕ)) (s t : NameSet) → IsRising xs → IsRising ys → set.from_list xs ≡ s
+same_names-tells : (xs ys : List (List ℕ)) (s t : NameSet) → IsRising xs → IsRising ys → set.from_list xs ≡ s
     → set.from_list ys ≡ t → pointwise (pointwise nat_eq) xs ys ≡ same_names s t
 same_names-tells xs ys s t h g d e =
     ap (λ ns. pointwise (pointwise nat_eq) ns ys) (sym (members-from_list xs h) ∙ ap members d)
     ∙ ap (pointwise (pointwise nat_eq) (members s)) (sym (members-from_list ys g) ∙ ap members e)
 
-pub same_names-iff : (xs ys : List (List ℕ)) (s t : NameSet) → IsRising xs → IsRising ys → set.from_list xs ≡ s
+same_names-iff : (xs ys : List (List ℕ)) (s t : NameSet) → IsRising xs → IsRising ys → set.from_list xs ≡ s
     → set.from_list ys ≡ t → (pointwise (pointwise nat_eq) xs ys ≡ true) ↔ (s ≡ t)
 same_names-iff xs ys s t h g d e = (
   λ p. sym d ∙ ap set.from_list ((lists_decide xs ys).0 p) ∙ e,
@@ -213,6 +216,16 @@ same_names-iff xs ys s t h g d e = (
   where
     lists_decide : (xs ys : List (List ℕ)) → (pointwise (pointwise nat_eq) xs ys ≡ true) ↔ (xs ≡ ys)
     lists_decide = pointwise_decides bytes_decides
+
+-- what is told of lists in order that are equal, and of their sets
+module _ (xs ys : List (List ℕ)) (s t : NameSet) (h : IsRising xs) (g : IsRising ys) (is_first : set.from_list xs ≡ s)
+    (is_second : set.from_list ys ≡ t) (told : Bool) (so : told ≡ pointwise (pointwise nat_eq) xs ys) where
+  pub equal_sets : told ≡ same_names s t
+  equal_sets = so ∙ same_names-tells xs ys s t h g is_first is_second
+
+  pub equal_just_so : (told ≡ true) ↔ (s ≡ t)
+  equal_just_so = (let iff = same_names-iff xs ys s t h g is_first is_second in
+      (λ yes. iff.0 (sym so ∙ yes), λ same. so ∙ iff.1 same))
 
 first_T : (a b : Bool) → T (a && b) → T a
 first_T true b p = tt

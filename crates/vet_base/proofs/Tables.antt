@@ -1,5 +1,7 @@
 -- What a table's names and criteria say of it.
-use Rattle.std.proofs.Common.{◌≡◌, ℕ, ◌<◌, ◌≤◌, Bool, true, false, T, ◌||◌, ◌&&◌, List, [], ◌∷◌, map as mapped, length, get_or, nat_lt, Option, Some, None, is_some, is_ok, Result, Ok, Err, MatchResult, IfSome, ◌==◌, refl, sym, ap, subst, ◌∙◌, arith, inl, inr, lt-ltb, eq-eqb}
+use Rattle.std.proofs.Common.{◌≡◌, ℕ, ◌<◌, ◌≤◌, Bool, true, false, T, ◌||◌, ◌&&◌, List, [], ◌∷◌, map as mapped, length}
+use Rattle.std.proofs.Common.{get_or, nat_lt, Option, Some, None, is_some, is_ok, Result, Ok, Err, MatchResult, IfSome}
+use Rattle.std.proofs.Common.{◌==◌, refl, sym, ap, subst, ◌∙◌, arith, inl, inr, lt-ltb, eq-eqb}
 use Rattle.std.specs.List.{Contains, list_any, position, position_or_len}
 use Rattle.std.specs.Option.{option_map_or}
 use Rattle.std.specs.Result.{result_ok}
@@ -22,7 +24,8 @@ use Rattle.vet_base.specs.CriteriaSetLaws.{contains-places_below, same_nat, same
 use Rattle.vet_base.specs.Names.{NameSet, IsRising}
 use Rattle.vet_base.specs.Criteria.{Criteria, implied_by, place_of, placed, is_in}
 use Rattle.vet_base.specs.Definitions.{by_name, IsKept}
-use Rattle.vet_base.proofs.Rising.{R, Lacks, eq-itself, equal-from_eq, any_lacks, found_or_not, sorted_entries, rising_entries}
+use Rattle.vet_base.proofs.Rising.{R, Lacks, eq-itself, equal-from_eq, any_lacks, found_or_not, sorted_entries}
+use Rattle.vet_base.proofs.Rising.{rising_entries}
 use Rattle.vet_base.proofs.Closing.{entry_found, found_entry, not_tied}
 
 pub keys-by_name : (criteria : List Criterion) → mapped (λ (e : List ℕ × Criterion). e.0) (by_name criteria)
@@ -122,14 +125,14 @@ module _ (table : Criteria) where
       by (Some p) e = contains-placed_at names n p e ∙ sym (ap (λ b. b && set.contains names n) (held_at n p e))
 
   -- what a search among the names answers
-  pub place_searched : (names : List (List ℕ)) (x : List ℕ) (r : Result ℕ ℕ) → map.keys table ≡ names
+  place_searched : (names : List (List ℕ)) (x : List ℕ) (r : Result ℕ ℕ) → map.keys table ≡ names
       → MatchResult r (λ i. (i < length names) × ((d : List ℕ) → get_or names i d ≡ x)) (Lacks names x) → result_ok r
       ≡ place_of table x
   place_searched names x (Ok i) k h = sym (place_at x i (rw k h.0) (rw k (h.1 [])))
   place_searched names x (Err i) k h =
       sym (place_missing x (map.contains_key-keys table x ∙ rw k (any_lacks names x i h)))
 
-  pub key_searched : (names : List (List ℕ)) (x : List ℕ) (r : Result ℕ ℕ) → map.keys table ≡ names
+  key_searched : (names : List (List ℕ)) (x : List ℕ) (r : Result ℕ ℕ) → map.keys table ≡ names
       → MatchResult r (λ i. (i < length names) × ((d : List ℕ) → get_or names i d ≡ x)) (Lacks names x) → is_ok r
       ≡ map.contains_key table x
   key_searched names x r k h =
@@ -148,11 +151,22 @@ module _ (names : List (List ℕ)) (criteria : List Criterion) (kept : IsKept na
   pub keys_kept : map.keys (map.from_sorted {R = R} (by_name criteria)) ≡ names
   keys_kept = ap (mapped (λ e. e.0)) entries_kept ∙ keys-by_name criteria ∙ kept.named
 
+  -- what a search among the names tells of the table
+  module _ (table : Criteria) (is : map.from_sorted {R = R} (by_name criteria) ≡ table) (x : List ℕ) (r : Result ℕ ℕ)
+      (h : MatchResult r (λ i. (i < length names) × ((d : List ℕ) → get_or names i d ≡ x)) (Lacks names x)) where
+    names_kept : map.keys table ≡ names
+    names_kept = ap map.keys (sym is) ∙ keys_kept
+
+    pub place_told : result_ok r ≡ place_of table x
+    place_told = place_searched table names x r names_kept h
+
+    pub key_told : is_ok r ≡ map.contains_key table x
+    key_told = key_searched table names x r names_kept h
+
   -- a name that a search does not find is not held
   pub not_held : (table : Criteria) (name : List ℕ) (place : ℕ) → map.from_sorted {R = R} (by_name criteria) ≡ table
       → Lacks names name place → map.contains_key table name ≡ false
-  not_held table name place is lacks =
-      sym (key_searched table names name (Err place) (ap map.keys (sym is) ∙ keys_kept) lacks)
+  not_held table name place is lacks = sym (key_told table is name (Err place) lacks)
 
   pub length_kept : length criteria ≡ length names
   length_kept = sym (length-map criteria (λ c. c.name)) ∙ ap length kept.named

@@ -1,21 +1,22 @@
 -- Which bytes the text of a version has.
-use Rattle.std.proofs.Common.{◌≡◌, ℕ, ◌+◌, ◌<◌, ◌^◌, ◌%◌, ◌==◌, ◌&&◌, ◌||◌, nat_lt, Bool, true, List, [], ◌∷◌, ◌++◌, length, map, drop, Some, None, Ok, refl, subst, arith, inl, inr}
-use Rattle.std.proofs.lemmas.Bool.{cases_Bool, and_parts}
+use Rattle.std.proofs.Common.{◌≡◌, ℕ, ◌+◌, ◌<◌, ◌^◌, ◌%◌, ◌==◌, ◌||◌, nat_lt, Bool, true, List, [], ◌∷◌, ◌++◌}
+use Rattle.std.proofs.Common.{length, map, drop, Some, None, Ok, refl, subst, arith, inl, inr}
+use Rattle.std.proofs.lemmas.Bool.{and_parts}
 use Rattle.std.proofs.lemmas.Bool.Decides.{nat_tests}
 use Rattle.std.proofs.lemmas.Fmt.{decimal_by_steps}
 use Rattle.std.proofs.lemmas.List.Folds.{list_all-append}
 use Rattle.std.specs.Char.{is_ascii_hexdigit, to_ascii_lowercase}
 use Rattle.std.specs.Fmt.{decimal}
-use Rattle.std.specs.List.{list_all, starts_with, position_or_len, before_first, after_first}
-use Rattle.std.specs.Prelude.{nat_eq}
-use Rattle.semver.specs.Grammar.{IsValid, is_identifier_byte, is_build_identifier, is_pre_identifier, is_pre_release, is_build}
+use Rattle.std.specs.List.{list_all, before_first, after_first}
+use Rattle.semver.specs.Grammar.{IsValid, is_identifier_byte, is_build_identifier, is_pre_identifier, is_pre_release}
+use Rattle.semver.specs.Grammar.{is_build}
 use Rattle.semver.specs.Identifiers.{marked, parts_text}
 use Rattle.semver.specs.Order.{parts}
 use Rattle.semver.specs.OrderLaws.{join_dots, join-parts}
 use Rattle.semver.specs.Parse.{Parts, version_parts}
 use Rattle.semver.proofs.Grammar.{version_parts-sound}
 use Rattle.vet_base.specs.Version.{VersionValue, is_at, mark, is_revision, read_version, version_text}
-use Rattle.vet_base.proofs.VersionLemmas.{lower_hexes, found_from}
+use Rattle.vet_base.proofs.VersionLemmas.{lower_hexes, read_so}
 use Rattle.vet_base.proofs.ListLemmas.{all_weaker}
 
 -- an ASCII letter or digit, or one of `-`, `+`, `.`, `:` and `@`
@@ -101,22 +102,8 @@ bytes_of_revised text rev p v read revision same =
 -- what is read as a version prints such bytes alone
 pub version_bytes : (text : List ℕ) (v : VersionValue) → read_version text ≡ Some v
     → list_all is_version_byte (version_text v) ≡ true
-version_bytes text v e = elim (cases_Bool (nat_lt 256 (length text))) [
-  | inl long ↦ cc (rw long at e)
-  | inr short ↦ elim (cases_Bool (position_or_len is_at text == length text)) [
-    | inl none ↦
-        let (p, read, same) = found_from (version_parts text) _ v (rw (short, none) at e) in
-        bytes_of_plain text p v read same
-    | inr found ↦
-        let w = before_first is_at text in
-        let rev = drop 4 (after_first is_at text) in
-        elim (cases_Bool (starts_with nat_eq (after_first is_at text) mark && is_revision rev)) [
-          | inr other ↦ cc (rw (short, found, other) at e)
-          | inl tests ↦
-              let revision : is_revision rev ≡ true =
-              (and_parts (starts_with nat_eq (after_first is_at text) mark) (is_revision rev) tests).1 in
-              let (p, read, same) = found_from (version_parts w) _ v (rw (short, found, tests) at e) in
-              bytes_of_revised w rev p v read revision same
-        ]
-  ]
+version_bytes text v e = elim (read_so text v e).1 [
+  | inl h ↦ bytes_of_plain text h.parts v h.read h.same
+  | inr h ↦
+      bytes_of_revised (before_first is_at text) (drop 4 (after_first is_at text)) h.parts v h.read h.revision h.same
 ]

@@ -1,5 +1,7 @@
 -- A version's text is read as that version.
-use Rattle.std.proofs.Common.{◌≡◌, ℕ, suc, ◌+◌, ◌<◌, ◌≤◌, ◌==◌, ◌&&◌, nat_lt, true, false, List, [], ◌∷◌, ◌++◌, length, map, drop, get_or, Some, None, Result, Ok, Err, option_map, nat_eq, refl, sym, ap, ◌∙◌, arith, inl, inr}
+use Rattle.std.proofs.Common.{◌≡◌, ◌⊎◌, ℕ, suc, ◌+◌, ◌<◌, ◌≤◌, ◌==◌, ◌&&◌, nat_lt, true, false, List, [], ◌∷◌, ◌++◌}
+use Rattle.std.proofs.Common.{length, map, drop, get_or, Some, None, Result, Ok, Err, option_map, nat_eq, refl, sym, ap, ◌∙◌}
+use Rattle.std.proofs.Common.{arith, inl, inr}
 use Rattle.std.proofs.lemmas.Bool.{cases_Bool, and_parts, eqb-true}
 use Rattle.std.proofs.lemmas.Bool.Decides.{nat_tests}
 use Rattle.std.proofs.lemmas.Grind.{common_steps}
@@ -17,7 +19,8 @@ use Rattle.semver.specs.declared.error.Error.{Error}
 use Rattle.semver.specs.Parse.{Parts, version_parts}
 use Rattle.semver.specs.Identifiers.{parts_text}
 use Rattle.semver.proofs.Grammar.{version_parts-sound}
-use Rattle.vet_base.specs.Version.{VersionValue, is_at, mark, is_revision, read_version, revised_version, version_text, IsVersion}
+use Rattle.vet_base.specs.Version.{VersionValue, is_at, mark, is_revision, read_version, revised_version, version_text}
+use Rattle.vet_base.specs.Version.{IsVersion}
 
 lower_hex : (b : ℕ) → is_ascii_hexdigit b ≡ true → is_ascii_hexdigit (to_ascii_lowercase b) ≡ true
 lower_hex b h = grind (arith, nat_tests)
@@ -104,30 +107,63 @@ revised_size text short found revision =
     grind (arith, nat_tests)
 
 -- what an answer that was found came from
-pub found_from : (r : Result Parts Error) (f : Parts → VersionValue) (v : VersionValue) → option_map f (result_ok r)
+found_from : (r : Result Parts Error) (f : Parts → VersionValue) (v : VersionValue) → option_map f (result_ok r)
     ≡ Some v
     → (p : Parts) × (r ≡ Ok p) × (v ≡ f p)
 found_from (Ok p) f v e = (p, refl, sym (same_Some _ _ e))
 found_from (Err x) f v e = cc e
 
+-- a version is read of a text that lacks the mark
+pub record IsReadPlain (text : List ℕ) (v : VersionValue) : Type 0 where
+  pub parts : Parts
+  pub none : (position_or_len is_at text == length text) ≡ true
+  pub read : version_parts text ≡ Ok parts
+  pub same : v ≡ record { parts = parts; revision = None }
+
+-- or of what stands before it, with a revision behind it
+pub record IsReadRevised (text : List ℕ) (v : VersionValue) : Type 0 where
+  pub parts : Parts
+  pub found : (position_or_len is_at text == length text) ≡ false
+  pub revision : is_revision (drop 4 (after_first is_at text)) ≡ true
+  pub read : version_parts (before_first is_at text) ≡ Ok parts
+  pub same : v ≡ record {
+    parts = parts;
+    revision = Some (map to_ascii_lowercase (drop 4 (after_first is_at text)));
+  }
+
+pub read_so : (text : List ℕ) (v : VersionValue) → read_version text ≡ Some v → (nat_lt 256 (length text) ≡ false)
+    × (IsReadPlain text v ⊎ IsReadRevised text v)
+read_so text v e = elim (cases_Bool (nat_lt 256 (length text))) [
+  | inl long ↦ cc (rw long at e)
+  | inr short ↦ (
+    short,
+    elim (cases_Bool (position_or_len is_at text == length text)) [
+      | inl none ↦
+          let (p, read, same) = found_from (version_parts text) _ v (rw (short, none) at e) in
+          inl (record { parts = p; none = none; read = read; same = same })
+      | inr found ↦
+          let rev = drop 4 (after_first is_at text) in
+          elim (cases_Bool (starts_with nat_eq (after_first is_at text) mark && is_revision rev)) [
+            | inr other ↦ cc (rw (short, found, other) at e)
+            | inl tests ↦
+                let revision : is_revision rev ≡ true =
+                (and_parts (starts_with nat_eq (after_first is_at text) mark) (is_revision rev) tests).1 in
+                let (p, read, same) = found_from (version_parts (before_first is_at text)) _ v
+                (rw (short, found, tests) at e) in
+                inr (record { parts = p; found = found; revision = revision; read = read; same = same })
+          ]
+    ],
+  )
+]
+
 -- what is read is a version
 pub read_version-IsVersion : (text : List ℕ) (v : VersionValue) → read_version text ≡ Some v → IsVersion v
-read_version-IsVersion text v e = elim (cases_Bool (nat_lt 256 (length text))) [
-  | inl long ↦ cc (rw long at e)
-  | inr short ↦ elim (cases_Bool (position_or_len is_at text == length text)) [
-    | inl none ↦
-        let (p, read, same) = found_from (version_parts text) _ v (rw (short, none) at e) in
-        plain_back text p v short none read same
-    | inr found ↦
-        let w = before_first is_at text in
-        let rev = drop 4 (after_first is_at text) in
-        elim (cases_Bool (starts_with nat_eq (after_first is_at text) mark && is_revision rev)) [
-          | inr other ↦ cc (rw (short, found, other) at e)
-          | inl tests ↦
-              let revision : is_revision rev ≡ true =
-              (and_parts (starts_with nat_eq (after_first is_at text) mark) (is_revision rev) tests).1 in
-              let (p, read, same) = found_from (version_parts w) _ v (rw (short, found, tests) at e) in
-              revised_back w rev p v (revised_size text short found revision) (before_none text) read revision same
-        ]
-  ]
-]
+read_version-IsVersion text v e =
+    let short = (read_so text v e).0 in
+    elim (read_so text v e).1 [
+      | inl h ↦ plain_back text h.parts v short h.none h.read h.same
+      | inr h ↦
+          let rev = drop 4 (after_first is_at text) in
+          revised_back (before_first is_at text) rev h.parts v (revised_size text short h.found h.revision)
+          (before_none text) h.read h.revision h.same
+    ]

@@ -1,5 +1,6 @@
 -- What the walks over a table have found.
-use Rattle.std.proofs.Common.{◌≡◌, ℕ, ◌<◌, Bool, true, false, ◌||◌, ◌==◌, List, [], length, get_or, Some, None, sym, ap, ◌∙◌, arith}
+use Rattle.std.proofs.Common.{◌≡◌, ℕ, ◌<◌, ◌≤◌, Bool, true, false, ◌||◌, ◌==◌, not, List, [], length, get_or}
+use Rattle.std.proofs.Common.{Some, None, sym, ap, ◌∙◌, arith}
 use Rattle.std.specs.List.{Contains, find, position_or_len}
 use Rattle.std.specs.Ordering.{nat_cmp, eq_by_cmp}
 use Rattle.std.specs.Cmp.{nat_cmp_total, unsigned_tied}
@@ -27,6 +28,26 @@ find_none p xs none =
     let is : position_or_len p xs ≡ length xs =
     position_or_len_is p xs (length xs) [] (omega arith) none (λ l. absurd (omega (arith, l))) in
     find_at p xs ∙ rw is (slice_get_past xs (length xs) (omega arith))
+
+-- a walk over the same list as it is lent comes to its item at a place
+pub walked : (xs lent : List (List ℕ)) (i : ℕ) (x : List ℕ) → lent ≡ xs → i < length lent → x ≡ get_or lent i x
+    → (i < length xs) × (get_or xs i [] ≡ x)
+walked xs lent i x is low at =
+    let l : i < length xs = rw is at low in
+    (l, get_or_default xs i [] x l ∙ sym (at ∙ ap (λ ys. get_or ys i x) is))
+
+-- the first that a test lacks
+pub first_lacked : (test : List ℕ → Bool) (xs lent : List (List ℕ)) (i : ℕ) (x : List ℕ) → lent ≡ xs
+    → i < length lent → x ≡ get_or lent i x → ((k : ℕ) → k < i → test (get_or xs k []) ≡ true) → test x ≡ false
+    → find (λ n. not (test n)) xs ≡ Some x
+first_lacked test xs lent i x is low at held lacks =
+    let here = walked xs lent i x is low at in
+    find_first (λ n. not (test n)) xs i x here.0 (λ k m. ap not (held k m)) here.1 (ap not lacks)
+
+pub none_lacked : (test : List ℕ → Bool) (xs lent : List (List ℕ)) (i : ℕ) → lent ≡ xs → length lent ≤ i
+    → ((k : ℕ) → k < i → test (get_or xs k []) ≡ true) → find (λ n. not (test n)) xs ≡ None
+none_lacked test xs lent i is past held =
+    find_none (λ n. not (test n)) xs (λ k m. ap not (held k (omega (arith, m, ap length is, past))))
 
 -- ---- the members of a set
 

@@ -1,5 +1,6 @@
 -- Tables of criteria, and what a set of them implies in the end (The Cargo Vet Book: criteria, `implies`).
-use Rattle.std.specs.Prelude.{ℕ, ◌≡◌, ◌≤◌, true, false, Bool, not, List, [], ◌∷◌, codes, Option, Some, None, if◌then◌else◌, slice_index_or, find, ◌↔◌, ◌&&◌, slice_get}
+use Rattle.std.specs.Prelude.{ℕ, ◌≡◌, ◌≤◌, true, false, Bool, not, List, [], ◌∷◌, codes, Option, Some, None}
+use Rattle.std.specs.Prelude.{if◌then◌else◌, slice_index_or, find, ◌↔◌, ◌&&◌, slice_get}
 use Rattle.std.specs.List.{position}
 use Rattle.std.specs.Option.{option_map_or}
 use Rattle.std.specs.Ordering.{nat_cmp, eq_by_cmp}

@@ -6,7 +6,8 @@ use Rattle.std.specs.FinSet as set
 use Rattle.std.specs.FinMap as map
 use Rattle.vet_base.specs.declared.limits.TheConstants.{MOST_CRITERIA}
 use Rattle.vet_base.specs.declared.criterion.Criterion.{Criterion}
-use Rattle.vet_base.specs.declared.refusal.Refusal.TheVariants.{UnknownCriterion, BuiltInCriterion, CriterionInUse, TooManyCriteria}
+use Rattle.vet_base.specs.declared.refusal.Refusal.TheVariants.{UnknownCriterion, BuiltInCriterion, CriterionInUse}
+use Rattle.vet_base.specs.declared.refusal.Refusal.TheVariants.{TooManyCriteria}
 use Rattle.vet_base.specs.Criteria.{Criteria, least_unknown, safe_to_run, safe_to_deploy}
 use Rattle.vet_base.specs.Gives.{Told, refuse_if, ◌>>=◌}
 use Rattle.vet_base.specs.Words.{Name}

@@ -1,10 +1,12 @@
 -- Sets of places, and the lists of truth values that hold them (ours).
-use Rattle.std.proofs.Common.{◌≡◌, ℕ, zero, suc, ◌<◌, Bool, true, false, ◌||◌, ◌&&◌, List, [], ◌∷◌, length, get_or, set as setn, nat_lt, ◌==◌, Equal, refl, sym, ap, ◌∙◌, arith, inl, inr, lt-ltb, eq-eqb}
+use Rattle.std.proofs.Common.{◌≡◌, ℕ, zero, suc, ◌<◌, Bool, true, false, ◌||◌, ◌&&◌, List, [], ◌∷◌, length, get_or}
+use Rattle.std.proofs.Common.{set as setn, nat_lt, ◌==◌, Equal, refl, sym, ap, ◌∙◌, arith, inl, inr, lt-ltb, eq-eqb}
 use Rattle.std.specs.Ordering.{nat_cmp}
 use Rattle.std.specs.FinSet as set
 use Rattle.std.specs.FinSet.{FinSet, nat_cmp-IsAntisymmetric}
 use Rattle.std.specs.Cmp.{nat_cmp_total, unsigned_tied}
-use Rattle.std.proofs.lemmas.List.{length-append, ext_get_or, get_or_past, get_or-set_same, get_or-set_other, get_or_append_left, get_or_push}
+use Rattle.std.proofs.lemmas.List.{length-append, ext_get_or, get_or_past, get_or-set_same, get_or-set_other}
+use Rattle.std.proofs.lemmas.List.{get_or_append_left, get_or_push}
 use Rattle.std.proofs.lemmas.Bool.{cases_lt, cases_eq, cases_order, ne_eqb, le-ltb, or_right, and_right}
 use Rattle.vet_base.specs.CriteriaSet.{places_below, true_places, truth_below}
 

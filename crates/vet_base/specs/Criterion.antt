@@ -4,7 +4,11 @@ use Rattle.std.specs.Option.{option_eq}
 use Rattle.std.specs.Cmp.Lexicographic.{pointwise}
 use Rattle.vet_base.specs.declared.criterion.Criterion.{Criterion}
 use Rattle.vet_base.specs.Names.{same_names}
-use Rattle.vet_base.specs.Words.{Text}
+use Rattle.vet_base.specs.Words.{Name, Text}
+
+-- the name of a criterion
+abbrev pub criterion_name : Criterion → Name
+criterion_name c = c.name
 
 -- two texts are the same, or both are missing
 abbrev pub same_text : Option Text → Option Text → Bool

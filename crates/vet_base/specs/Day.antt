@@ -1,5 +1,6 @@
 -- Which texts are days, and how days are numbered (ours: `YYYY-MM-DD`, of the proleptic Gregorian calendar).
-use Rattle.std.specs.Prelude.{ℕ, ◌+◌, ◌-◌, ◌*◌, ◌/◌, ◌%◌, ◌==◌, ◌&&◌, nat_le, Bool, [], ◌∷◌, ◌++◌, Option, Some, None, length, slice_index, if◌then◌else◌, option_and_then, option_map, ℤ, pos}
+use Rattle.std.specs.Prelude.{ℕ, ◌+◌, ◌-◌, ◌*◌, ◌/◌, ◌%◌, ◌==◌, ◌&&◌, nat_le, Bool, [], ◌∷◌, ◌++◌, Option, Some, None}
+use Rattle.std.specs.Prelude.{length, slice_index, if◌then◌else◌, option_and_then, option_map, ℤ, pos}
 use Rattle.std.specs.Char.{is_ascii_digit}
 use Rattle.std.specs.Ordering.{on, int_eq, int_cmp}
 use Rattle.std.specs.declared.cmp.Ordering.{Ordering}

@@ -1,5 +1,6 @@
 -- The table that the criteria of a file define beside the built-in ones, or what refuses them (ours).
-use Rattle.std.specs.Prelude.{Bool, true, false, not, nat_lt, List, Option, Some, None, Ok, Err, if◌then◌else◌, find, fold}
+use Rattle.std.specs.Prelude.{Bool, true, false, not, nat_lt, List, Option, Some, None, Ok, Err, if◌then◌else◌, find}
+use Rattle.std.specs.Prelude.{fold}
 use Rattle.std.specs.List.{list_any}
 use Rattle.std.specs.Ordering.{is_lt, nat_cmp}
 use Rattle.std.specs.Cmp.Lexicographic.{slice_cmp}

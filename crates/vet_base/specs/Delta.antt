@@ -1,5 +1,6 @@
 -- Which texts are deltas, from one version to another (The Cargo Vet Book: audit entries), and how they are printed.
-use Rattle.std.specs.Prelude.{ℕ, ◌==◌, ◌-◌, ◌&&◌, Bool, ◌++◌, length, slice_index, codes, Option, Some, None, if◌then◌else◌, option_map, take, drop}
+use Rattle.std.specs.Prelude.{ℕ, ◌==◌, ◌-◌, ◌&&◌, Bool, ◌++◌, length, slice_index, codes, Option, Some, None}
+use Rattle.std.specs.Prelude.{if◌then◌else◌, option_map, take, drop}
 use Rattle.std.specs.List.{prefix_len, suffix_len, position_or_len, before_first, after_first}
 use Rattle.std.specs.Option.{option_and_then}
 use Rattle.vet_base.specs.Version.{VersionValue, read_version, version_text}

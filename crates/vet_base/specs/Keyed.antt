@@ -1,5 +1,6 @@
 -- Lists of items in the order of their keys, no key twice (ours), and edits of them.
-use Rattle.std.specs.Prelude.{ℕ, ◌≡◌, ◌<◌, ◌≤◌, ◌+◌, ◌-◌, not, true, Bool, List, [], ◌∷◌, ◌++◌, Option, length, filter, find, insert, remove, slice_index_or, slice_set}
+use Rattle.std.specs.Prelude.{ℕ, ◌≡◌, ◌<◌, ◌≤◌, ◌+◌, ◌-◌, not, true, Bool, List, [], ◌∷◌, ◌++◌, Option, length, filter}
+use Rattle.std.specs.Prelude.{find, insert, remove, slice_index_or, slice_set}
 use Rattle.std.specs.List.{AllPairs}
 use Rattle.std.specs.List.Sorted.{IsPartitionPoint}
 use Rattle.std.specs.Ordering.{is_eq, is_gt, is_lt}

@@ -25,8 +25,10 @@ pub mod Names
 pub mod NamesLaws
 pub mod OptionLaws
 pub mod OrderLaws
+pub mod Ranked
 pub mod Refusal
 pub mod Req
+pub mod Text
 pub mod Version
 pub mod VersionOrder
 pub mod VersionOrderLaws

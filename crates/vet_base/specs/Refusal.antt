@@ -1,7 +1,15 @@
 -- The table of refusals: the number and the name of each, and the words of the limits (ours).
 use Rattle.std.specs.Prelude.{ℕ, codes}
 use Rattle.vet_base.specs.declared.refusal.Refusal.{Refusal}
-use Rattle.vet_base.specs.declared.refusal.Refusal.TheVariants.{BadName, BadVersion, BadRequirement, BadDay, BadDelta, UnknownCriterion, BuiltInCriterion, CriterionInUse, TooManyCriteria, UnknownEntry, EmptyWindow, WindowTooLong, UnknownPeer, UnknownPolicy, UnknownProject, UnknownNode, TwoParties, TooLarge, UnknownMember, UnknownReview, ReviewClosed, NotYours, WrongTarget, NotDemanded, MovesFull, TomlRefused, CsvRefused, FieldRefused, NoMemory, StoreRefused, NotARegister}
+use Rattle.vet_base.specs.declared.refusal.Refusal.TheVariants.{BadName, BadVersion, BadRequirement, BadDay, BadDelta}
+use Rattle.vet_base.specs.declared.refusal.Refusal.TheVariants.{UnknownCriterion, BuiltInCriterion, CriterionInUse}
+use Rattle.vet_base.specs.declared.refusal.Refusal.TheVariants.{TooManyCriteria, UnknownEntry, EmptyWindow}
+use Rattle.vet_base.specs.declared.refusal.Refusal.TheVariants.{WindowTooLong, UnknownPeer, UnknownPolicy}
+use Rattle.vet_base.specs.declared.refusal.Refusal.TheVariants.{UnknownProject, UnknownNode, TwoParties, TooLarge}
+use Rattle.vet_base.specs.declared.refusal.Refusal.TheVariants.{UnknownMember, UnknownReview, ReviewClosed, NotYours}
+use Rattle.vet_base.specs.declared.refusal.Refusal.TheVariants.{WrongTarget, NotDemanded, MovesFull, TomlRefused}
+use Rattle.vet_base.specs.declared.refusal.Refusal.TheVariants.{CsvRefused, FieldRefused, NoMemory, StoreRefused}
+use Rattle.vet_base.specs.declared.refusal.Refusal.TheVariants.{NotARegister}
 use Rattle.vet_base.specs.declared.refusal.Limit.{Limit}
 use Rattle.vet_base.specs.declared.refusal.Limit.TheVariants as limit
 use Rattle.vet_base.specs.Words.{Text}

@@ -1,5 +1,6 @@
 -- Which texts are requirements of versions (the Cargo Book: version requirements), and which versions they match.
-use Rattle.std.specs.Prelude.{◌≡◌, nat_lt, Bool, false, List, length, map, Option, Some, None, if◌then◌else◌, option_map, Result, Ok, Err}
+use Rattle.std.specs.Prelude.{◌≡◌, nat_lt, Bool, false, List, length, map, Option, Some, None, if◌then◌else◌}
+use Rattle.std.specs.Prelude.{option_map, Result, Ok, Err}
 use Rattle.std.specs.Result.{result_ok}
 use Rattle.vet_base.specs.declared.limits.TheConstants.{MOST_REQ_BYTES}
 use Rattle.semver.specs.declared.VersionReq.{VersionReq}

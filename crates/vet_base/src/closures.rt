@@ -6,7 +6,8 @@
 //! They are found criterion by criterion, from the last one on. What was found then counts only ways through
 //! the criteria seen so far. One more criterion adds to each closure that has it what its own names reach.
 //! So a table of n criteria costs n looks at what each implies and n times n unions.
-ghost use Rattle.std.specs.Prelude.{◌≡◌, ◌↔◌, ◌≤◌, ℕ, true};
+ghost use Rattle.std.specs.Prelude.{◌≡◌, ◌↔◌, ◌≤◌, ℕ, true, slice_index_or};
+ghost use Rattle.std.specs.FinSet as set;
 ghost use Rattle.vet_base.specs.Closures.{AreClosures, apart_at, closed_at, led_on};
 ghost use Rattle.vet_base.specs.Criteria.{Criteria, closure_of, leading_to, placed};
 ghost use Rattle.vet_base.specs.CriteriaSet.{has};
@@ -60,13 +61,7 @@ impl Closures {
         ensures { (q : ℕ) → (has q result ≡ true)
             ↔ ((p : ℕ) × (has p set.now ≡ true) × (has q (closed_at self.now p) ≡ true)) }
     {
-        let mut joined = CriteriaSet::empty();
-        for place in 0..MOST_CRITERIA {
-            if set.has(place) {
-                joined = joined.union(&self.closed[place]);
-            }
-        }
-        joined
+        union_at(&self.closed, set)
     }
 
     /// Whatever has a place has these too.
@@ -79,4 +74,18 @@ impl Closures {
             }
         }
     }
+}
+
+/// What stands at the places of a set, in one.
+pub fn union_at(sets: &[CriteriaSet; MOST_CRITERIA], places: &CriteriaSet) -> CriteriaSet
+    ensures { (q : ℕ) → (has q result ≡ true)
+        ↔ ((p : ℕ) × (has p places.now ≡ true) × (has q (slice_index_or sets.now p set.empty) ≡ true)) }
+{
+    let mut joined = CriteriaSet::empty();
+    for place in 0..MOST_CRITERIA {
+        if places.has(place) {
+            joined = joined.union(&sets[place]);
+        }
+    }
+    joined
 }

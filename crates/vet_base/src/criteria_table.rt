@@ -23,8 +23,10 @@
 ghost use Rattle.std.specs.Prelude.{◌≡◌, ◌⊎◌, ◌<◌, true, IfOk, IfErr, OnOk, OnErr, IfSome};
 ghost use Rattle.std.specs.Option.{option_copied};
 ghost use Rattle.std.specs.FinMap as map;
-ghost use Rattle.vet_base.specs.Criteria.{IsTable, built_in_criteria, closure_of, is_in, leading_to, least_unknown, place_of, placed, ClosureIsLeast, LedTo, PlacedNamesAreIn, PlacesAreOfNames};
-ghost use Rattle.vet_base.specs.CriteriaChanges.{is_built_in, is_full_for, is_implied, remove_verdict, set_verdict, unknown_beside};
+ghost use Rattle.vet_base.specs.Criteria.{IsTable, built_in_criteria, closure_of, is_in, leading_to, least_unknown};
+ghost use Rattle.vet_base.specs.Criteria.{place_of, placed, ClosureIsLeast, LedTo, PlacedNamesAreIn, PlacesAreOfNames};
+ghost use Rattle.vet_base.specs.CriteriaChanges.{is_built_in, is_full_for, is_implied, remove_verdict, set_verdict};
+ghost use Rattle.vet_base.specs.CriteriaChanges.{unknown_beside};
 ghost use Rattle.vet_base.specs.Closures.{AreClosures};
 ghost use Rattle.vet_base.specs.Defined.{table_told};
 ghost use Rattle.vet_base.specs.Gives.{Answers, Gives, Refuses};

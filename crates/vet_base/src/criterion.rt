@@ -1,9 +1,10 @@
 //! What is held of a criterion.
 ghost use Rattle.std.specs.Prelude.{◌≡◌, ◌↔◌, IsTrue};
 ghost use Rattle.std.specs.Cmp.{partial_equiv_from_equiv};
-ghost use Rattle.vet_base.specs.Criterion.{criterion_eq};
+ghost use Rattle.vet_base.specs.Criterion.{criterion_eq, criterion_name};
 ghost use Rattle.vet_base.specs.CriterionLaws.{criterion_eq_equiv};
 
+use crate::keyed::HasKey;
 use crate::name::Name;
 use crate::names::Names;
 use crate::text::Text;
@@ -64,4 +65,14 @@ impl PartialEq for Criterion {
 
 impl Eq for Criterion {
     ghost laws = { criterion_eq_equiv };
+}
+
+impl HasKey for Criterion {
+    type Key = Name;
+
+    ghost key_of = { criterion_name };
+
+    fn key(&self) -> &Name {
+        &self.name
+    }
 }

@@ -1,11 +1,13 @@
 //! Days of the calendar.
-ghost use Rattle.std.specs.Prelude.{◌≡◌, ◌↔◌, ◌<◌, ◌+◌, ◌+ℤ◌, ◌<ℤ◌, ◌≤ℤ◌, length, pos, true, Some, IfSome, IsNone, IsTrue, option_map, refl};
+ghost use Rattle.std.specs.Prelude.{◌≡◌, ◌↔◌, ◌<◌, ◌+◌, ◌+ℤ◌, ◌<ℤ◌, ◌≤ℤ◌, length, pos, true, Some, IfSome, IsNone};
+ghost use Rattle.std.specs.Prelude.{IsSome, IsTrue, option_map, refl};
 ghost use Rattle.std.specs.Cmp.{int_eq_equiv, on_equiv, partial_equiv_from_equiv, po};
 ghost use Rattle.std.specs.Ordering.{as_partial_cmp};
 ghost use Rattle.jiff_core.specs.Calendar.{IsBetween};
 ghost use Rattle.jiff_core.specs.Date.{epoch_day};
 ghost use Rattle.vet_base.specs.Gives.{found_or};
-ghost use Rattle.vet_base.specs.Day.{checked_day, day_cmp, day_eq, day_number, day_text, four_digits, is_day, read_day, two_digits, written_day};
+ghost use Rattle.vet_base.specs.Day.{DayValue, checked_day, day_cmp, day_eq, day_number, day_text, four_digits, is_day};
+ghost use Rattle.vet_base.specs.Day.{read_day, two_digits, written_day};
 ghost use Rattle.vet_base.specs.DayLaws.{day_total};
 
 use crate::limits::{FIRST_DAY_NUMBER, LAST_DAY_NUMBER, LAST_YEAR};
@@ -126,7 +128,8 @@ impl Day {
 
     fn from_date(date: Date) -> Day
         requires { pos 0 ≤ℤ date.year }
-        ensures { day_number result ≡ epoch_day date }
+        ensures number { day_number result ≡ epoch_day date }
+        ensures day { is_day result ≡ true }
     {
         Day {
             year: date.year as u16,
@@ -144,6 +147,22 @@ impl Day {
         self.date().to_unix_epoch_day()
     }
 
+    /// The day of a number, where 1970-01-01 is 0, and `None` exactly where the number is before 0000-01-01 or past
+    /// 9999-12-31.
+    pub fn of_number(number: i64) -> Option<Day>
+        ensures there { IsSome result ↔ IsBetween FIRST_DAY_NUMBER LAST_DAY_NUMBER number }
+        ensures number { IfSome result (λ d. day_number d ≡ number) }
+        ensures only { (d : DayValue) → is_day d ≡ true → day_number d ≡ number → result ≡ Some d }
+    {
+        if number < i64::from(FIRST_DAY_NUMBER) {
+            return None;
+        }
+        match Date::from_unix_epoch_day(number) {
+            Ok(date) => Some(Day::from_date(date)),
+            Err(_) => None,
+        }
+    }
+
     /// The day that many days later, and `None` exactly where that is past 9999-12-31.
     pub fn plus(self, days: u32) -> Option<Day>
         ensures past { IsNone result ↔ (LAST_DAY_NUMBER <ℤ (day_number self +ℤ pos days)) }
@@ -151,7 +170,7 @@ impl Day {
     {
         match self.date().checked_add(i64::from(days)) {
             Ok(date) => Some(Day::from_date(date)),
-            Err(_) => None,
+            Err(_past) => None,
         }
     }
 }
@@ -169,6 +188,14 @@ pub fn day_text_reads_back(day: Day)
     ensures { read_day (day_text day) ≡ Some day }
 {
     let _ = &day.year;
+}
+
+/// Two days of one number are the same day. Does nothing.
+pub fn a_number_is_of_one_day(a: Day, b: Day)
+    ensures { day_number a ≡ day_number b → a ≡ b }
+{
+    let _ = &a.year;
+    let _ = &b.year;
 }
 
 impl PartialEq for Day {

@@ -1,10 +1,12 @@
 //! Criteria by their names, as a table and as the words of a peer have them.
-ghost use Rattle.std.specs.Prelude.{◌≡◌, ◌<◌, ◌≤◌, [], ◌∷◌, ℕ, IfErr, IfOk, IfSome, None, Ok, OnErr, OnOk, false, insert, length, map as mapped, slice_index_or, true, vec_len};
+ghost use Rattle.std.specs.Prelude.{◌≡◌, ◌<◌, ◌≤◌, [], ◌∷◌, ℕ, IfErr, IfOk, IfSome, None, Ok, OnErr, OnOk, false};
+ghost use Rattle.std.specs.Prelude.{insert, length, map as mapped, slice_index_or, true, vec_len};
 ghost use Rattle.std.specs.Option.{option_copied};
 ghost use Rattle.std.specs.FinMap as map;
 ghost use Rattle.std.specs.FinSet as set;
 ghost use Rattle.vet_base.specs.Closures.{AreClosures};
-ghost use Rattle.vet_base.specs.Criteria.{built_in_criteria, deploy_criterion, implied_by, place_of, placed, run_criterion, safe_to_deploy, safe_to_run};
+ghost use Rattle.vet_base.specs.Criteria.{built_in_criteria, deploy_criterion, implied_by, place_of, placed};
+ghost use Rattle.vet_base.specs.Criteria.{run_criterion, safe_to_deploy, safe_to_run};
 ghost use Rattle.vet_base.specs.Defined.{defined};
 ghost use Rattle.vet_base.specs.Definitions.{SameDefinitions, by_name};
 ghost use Rattle.vet_base.specs.Name.{is_name};

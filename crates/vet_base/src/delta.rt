@@ -3,7 +3,8 @@ ghost use Rattle.std.specs.Prelude.{◌≡◌, ◌↔◌, IsTrue, Some, None, Ok
 ghost use Rattle.std.specs.Cmp.{partial_equiv_from_equiv};
 ghost use Rattle.vet_base.specs.Gives.{Gives, found_or};
 ghost use Rattle.vet_base.specs.Version.{read_version};
-ghost use Rattle.vet_base.specs.Delta.{delta_eq, delta_text, ends_of, read_delta, without_ending, without_leading, without_spaces};
+ghost use Rattle.vet_base.specs.Delta.{delta_eq, delta_text, ends_of, read_delta, without_ending, without_leading};
+ghost use Rattle.vet_base.specs.Delta.{without_spaces};
 ghost use Rattle.vet_base.specs.DeltaLaws.{delta_eq_equiv};
 
 use crate::refusal::Refusal;

@@ -8,3 +8,12 @@ pub trait Exact: Ord + Clone + Drop {
 
     ghost only_copies: { (a b : Self) → Self.is_clone a b → b ≡ a };
 }
+
+impl Exact for u64 {
+    ghost use Rattle.std.proofs.Common.{rules};
+    ghost use Rattle.std.specs.FinMap.{nat_cmp-IsAntisymmetric};
+
+    ghost only_equal = { nat_cmp-IsAntisymmetric };
+
+    ghost only_copies = { Prim.search rules };
+}

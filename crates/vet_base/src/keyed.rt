@@ -1,8 +1,10 @@
 //! Lists of items in the order of their keys, no key twice.
-ghost use Rattle.std.specs.Prelude.{◌≡◌, ◌==◌, Err, IfOk, ◌<◌, ◌≤◌, ◌+◌, ◌-◌, [], IfSome, None, IsTrue, OnErr, OnOk, Ok, insert, is_none, is_some, length, vec_capacity, vec_len};
+ghost use Rattle.std.specs.Prelude.{◌≡◌, ◌==◌, Err, IfOk, ◌<◌, ◌≤◌, ◌+◌, ◌-◌, [], IfSome, None, IsTrue, OnErr, OnOk};
+ghost use Rattle.std.specs.Prelude.{Ok, insert, is_none, is_some, length, vec_capacity, vec_len};
 ghost use Rattle.std.specs.Bool.{Decides};
 ghost use Rattle.std.specs.Option.{option_copied};
-ghost use Rattle.vet_base.specs.Keyed.{Fits, IsByKey, IsPlace, all_set, edited, item_of, room_after, with_item, without_item};
+ghost use Rattle.vet_base.specs.Keyed.{Fits, IsByKey, IsPlace, all_set, edited, item_of, room_after, with_item};
+ghost use Rattle.vet_base.specs.Keyed.{without_item};
 
 use crate::exact::Exact;
 use std::alloc::{AllocError, Global};
@@ -89,6 +91,15 @@ impl<T: HasKey> Keyed<T> {
         ensures by_key { IsByKey T.Key.cmp T.key_of self.now.items }
     {
         self.items.as_slice()
+    }
+
+    /// The items in the order of their keys, given away. Takes no memory.
+    pub fn into_items(self) -> Vec<T>
+        ensures value { result.items ≡ self.items }
+        ensures by_key { IsByKey T.Key.cmp T.key_of self.items }
+    {
+        let Keyed { items } = self;
+        items
     }
 
     /// How many items there are. Takes no memory.

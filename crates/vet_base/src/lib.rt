@@ -25,6 +25,7 @@ pub mod limits;
 pub mod name;
 pub mod names;
 pub mod package_names;
+pub mod ranked;
 pub mod refusal;
 pub mod req;
 pub mod text;

@@ -1,5 +1,6 @@
 //! Texts, and what names and keys are made of.
 ghost use Rattle.std.specs.Prelude.{◌≡◌, ◌↔◌, ◌≤◌, ◌<◌, length, IfOk, IfErr, Err};
+ghost use Rattle.vet_base.specs.Text.{read_text};
 
 use crate::exact::Exact;
 use crate::keyed::{ExactItem, HasKey};
@@ -37,6 +38,16 @@ impl Text {
         Ok(Text {
             text: String::from_str(alloc, text)?,
         })
+    }
+
+    /// A copy of a text, if it has at most 65,536 bytes. Refused for want of memory alone.
+    pub fn read(alloc: Global, text: &str) -> Result<Option<Text>, AllocError>
+        ensures { IfOk result (λ found. found ≡ read_text text.now) }
+    {
+        if text.len() <= MOST_TEXT_BYTES {
+            return Ok(Some(Text::of(alloc, text)?));
+        }
+        Ok(None)
     }
 
     /// The text, where it has at most 65,536 bytes. Refused: `TooLarge` of `text`, and `NoMemory`.

@@ -1,5 +1,6 @@
 //! Versions of packages.
-ghost use Rattle.std.specs.Prelude.{◌≡◌, ◌↔◌, Some, None, Ok, Err, IfOk, IfErr, IsTrue, IsSome, unwrap_or, [], option_map, refl, string_bytes};
+ghost use Rattle.std.specs.Prelude.{◌≡◌, ◌↔◌, Some, None, Ok, Err, IfOk, IfErr, IsTrue, IsSome, unwrap_or, []};
+ghost use Rattle.std.specs.Prelude.{option_map, refl, string_bytes};
 ghost use Rattle.std.specs.List.{list_all};
 ghost use Rattle.std.specs.Char.{is_ascii_hexdigit};
 ghost use Rattle.std.specs.Option.{option_cmp};
@@ -12,7 +13,8 @@ ghost use Rattle.semver.specs.Identifiers.{parts_of};
 ghost use Rattle.vet_base.specs.VersionOrder.{version_cmp, version_eq};
 ghost use Rattle.vet_base.specs.VersionOrderLaws.{version_total};
 ghost use Rattle.vet_base.specs.Gives.{Gives, found_or};
-ghost use Rattle.vet_base.specs.Version.{is_revision, plain_version, read_version, revised_version, value_of, version_at, version_text};
+ghost use Rattle.vet_base.specs.Version.{is_revision, plain_version, read_version, revised_version, value_of};
+ghost use Rattle.vet_base.specs.Version.{version_at, version_text};
 
 use crate::limits::{MOST_VERSION_BYTES, REVISION_DIGITS};
 use crate::refusal::Refusal;

@@ -1,17 +1,20 @@
 -- The audited nodes of projects, and the pairs that are made of them.
-use Rattle.std.proofs.Common.{◌≡◌, ◌≢◌, ◌==◌, ◌⊎◌, ◌↔◌, eq-eqb, ℕ, ◌+◌, ◌<◌, Bool, true, false, cond, List, [], ◌∷◌, ◌++◌, Option, length, get_or, take, refl, sym, ap, subst, ◌∙◌, inl, inr, arith, Less}
+use Rattle.std.proofs.Common.{◌≡◌, ◌≢◌, ◌==◌, ◌⊎◌, ◌↔◌, eq-eqb, ℕ, ◌+◌, ◌<◌, Bool, true, false, cond, List, [], ◌∷◌}
+use Rattle.std.proofs.Common.{◌++◌, Option, length, get_or, take, refl, sym, ap, subst, ◌∙◌, inl, inr, arith, Less}
 use Rattle.std.specs.FinMap as map
 use Rattle.std.specs.List.{Contains}
 use Rattle.std.proofs.lemmas.Bool.{cases_eq, false≢true}
 use Rattle.std.proofs.lemmas.List.{get_or_default, get_or-take, length-take}
-use Rattle.std.proofs.lemmas.List.Elements.{All-push, Contains-append_cases, Contains-append_left, Contains-append_right, Contains-get_or}
+use Rattle.std.proofs.lemmas.List.Elements.{All-push, Contains-append_cases, Contains-append_left}
+use Rattle.std.proofs.lemmas.List.Elements.{Contains-append_right, Contains-get_or}
 use Rattle.std.proofs.lemmas.List.Quantifiers.{all_pairs_push}
 use Rattle.vet_base.specs.Criteria.{Criteria}
 use Rattle.vet_base.specs.CriteriaSet.{Places}
 use Rattle.vet_demand.proofs.Lists.{in_none}
 use Rattle.vet_demand.proofs.Merging.{IsOfOne, asked_more, asked_push}
 use Rattle.vet_demand.proofs.PairsInOrder.{later_pair}
-use Rattle.vet_demand.specs.Audited.{AuditedNode, AreAudited, AreAuditedBefore, AreAuditedIn, AreInAuditedOrder, AreMerged, IsAsked, audited_cmp}
+use Rattle.vet_demand.specs.Audited.{AuditedNode, AreAudited, AreAuditedBefore, AreAuditedIn, AreInAuditedOrder}
+use Rattle.vet_demand.specs.Audited.{AreMerged, IsAsked, audited_cmp}
 use Rattle.vet_demand.specs.Collected.{AddsInOrder, IsAuditedPair, IsDemandedBefore, IsPairOf}
 use Rattle.vet_demand.specs.DemandOf.{IsDemandedBy, IsDemandedIn, IsLeastDemand, is_audited, pair_of}
 use Rattle.vet_demand.specs.Pair.{IsInOrder, pair_cmp}

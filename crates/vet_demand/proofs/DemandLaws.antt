@@ -9,11 +9,13 @@ use Rattle.std.proofs.lemmas.List.Elements.{All-contains_itself}
 use Rattle.vet_base.specs.Criteria.{Criteria, IsTable}
 use Rattle.vet_base.proofs.Rising.{eq-itself, equal-from_eq}
 use Rattle.vet_demand.proofs.KnownLists.{needed_known}
-use Rattle.vet_demand.proofs.Lists.{any_from, below_range, from_any, from_flat_map, from_if, in_none, in_range, to_flat_map, to_if}
+use Rattle.vet_demand.proofs.Lists.{any_from, below_range, from_any, from_flat_map, from_if, in_none, in_range}
+use Rattle.vet_demand.proofs.Lists.{to_flat_map, to_if}
 use Rattle.vet_base.proofs.ListLemmas.{Contains-cons_cases}
 use Rattle.vet_demand.proofs.NeedsLaws.{needs-iff}
 use Rattle.vet_demand.proofs.PairsInOrder.{in_order-AreThePairs, same_pairs}
-use Rattle.vet_demand.specs.DemandOf.{HasDemanded, IsDemanded, IsDemandedIn, IsLeastDemand, PoliciesAreKnown, demand_of, is_audited_node, pair_of, pairs_at, pairs_in}
+use Rattle.vet_demand.specs.DemandOf.{HasDemanded, IsDemanded, IsDemandedIn, IsLeastDemand, PoliciesAreKnown, demand_of}
+use Rattle.vet_demand.specs.DemandOf.{is_audited_node, pair_of, pairs_at, pairs_in}
 use Rattle.vet_demand.specs.Needs.{is_needed, node_at}
 use Rattle.vet_demand.specs.Pair.{IsInOrder}
 use Rattle.vet_demand.specs.Project.{ProjectValue}

@@ -1,5 +1,6 @@
 -- Pairs in order: how they come to be so, and what a search among them tells.
-use Rattle.std.proofs.Common.{◌≡◌, ℕ, ◌<◌, ◌+◌, false, List, [], length, get_or, is_ok, Less, Equal, Greater, Result, Ok, Err, refl, sym, ap, ◌∙◌, arith, ◌++◌, take, drop, inl, inr}
+use Rattle.std.proofs.Common.{◌≡◌, ℕ, ◌<◌, ◌+◌, false, List, [], length, get_or, is_ok, Less, Equal, Greater, Result}
+use Rattle.std.proofs.Common.{Ok, Err, refl, sym, ap, ◌∙◌, arith, ◌++◌, take, drop, inl, inr}
 use Rattle.std.specs.Bool.{Decides}
 use Rattle.std.specs.List.{Contains, dedup}
 use Rattle.std.specs.List.Retain.{DiffersFromLast, IsFiltered}

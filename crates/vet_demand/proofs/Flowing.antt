@@ -1,13 +1,17 @@
 -- How the flow of a project grows edge by edge, and what it leads to in the end.
-use Rattle.std.proofs.Common.{◌≡◌, ◌⊎◌, ◌↔◌, ℕ, ◌+◌, ◌<◌, ◌||◌, true, false, List, [], ◌∷◌, ◌++◌, Option, Some, None, Bor, length, get_or, map, replicate, set, refl, sym, ap, subst, ◌∙◌, inl, inr, arith, nat_lt, lt-ltb, take}
+use Rattle.std.proofs.Common.{◌≡◌, ◌⊎◌, ◌↔◌, ℕ, ◌+◌, ◌<◌, ◌||◌, true, false, List, [], ◌∷◌, ◌++◌, Option, Some, None}
+use Rattle.std.proofs.Common.{Bor, length, get_or, map, replicate, set, refl, sym, ap, subst, ◌∙◌, inl, inr, arith}
+use Rattle.std.proofs.Common.{nat_lt, lt-ltb, take}
 use Rattle.std.specs.Cmp.{nat_cmp_total}
 use Rattle.std.specs.FinMap as table
 use Rattle.std.specs.FinSet as places
 use Rattle.std.specs.List.{All, Contains}
 use Rattle.std.specs.Option.{option_copied}
 use Rattle.std.proofs.lemmas.Bool.{cases_eq, cases_lt, false≢true, or_cases, or_left, or_right}
-use Rattle.std.proofs.lemmas.List.{get_or-map, get_or-replicate, get_or-set_other, get_or-set_same, get_or_default, get_or_past, length-map, length-replicate, length-set, map-append}
-use Rattle.std.proofs.lemmas.List.Elements.{All-contains, All-nil, All-push, Contains-append_left, Contains-push, Contains-push_cases}
+use Rattle.std.proofs.lemmas.List.{get_or-map, get_or-replicate, get_or-set_other, get_or-set_same, get_or_default}
+use Rattle.std.proofs.lemmas.List.{get_or_past, length-map, length-replicate, length-set, map-append}
+use Rattle.std.proofs.lemmas.List.Elements.{All-contains, All-nil, All-push, Contains-append_left, Contains-push}
+use Rattle.std.proofs.lemmas.List.Elements.{Contains-push_cases}
 use Rattle.std.proofs.lemmas.Option.{same_Some}
 use Rattle.vet_base.specs.Criteria.{Criteria}
 use Rattle.vet_base.specs.CriteriaSet.{Places, has}
@@ -15,7 +19,8 @@ use Rattle.vet_base.specs.Names.{NameSet}
 use Rattle.vet_base.proofs.Tables.{len-keys}
 use Rattle.vet_demand.proofs.Closing.{covers_at}
 use Rattle.vet_demand.proofs.Lists.{in_none, one_more}
-use Rattle.vet_demand.specs.Flow.{AreNeeds, ArePoliciesOf, Begins, Follows, GoesOn, IsFlow, PassesAt, PassesOn, own_places}
+use Rattle.vet_demand.specs.Flow.{AreNeeds, ArePoliciesOf, Begins, Follows, GoesOn, IsFlow, PassesAt, PassesOn}
+use Rattle.vet_demand.specs.Flow.{own_places}
 use Rattle.vet_demand.specs.Needs.{IsNeeded, covers, no_node, node_at, own_at, passed_by, takes_at}
 use Rattle.vet_demand.specs.Needs.IsNeeded.{own, passed, passed_on}
 use Rattle.vet_demand.specs.Passed.{own_criteria, passed_criteria, policy_for, takes}

@@ -1,5 +1,6 @@
 -- The text of a key is read as that key: a package's name has no `:`.
-use Rattle.std.proofs.Common.{◌≡◌, ℕ, suc, ◌+◌, ◌<◌, ◌==◌, nat_le, ◌&&◌, true, false, List, [], ◌∷◌, ◌++◌, length, take, drop, Option, Some, None, Ok, refl, sym, ap, subst, ◌∙◌, arith, eq-eqb}
+use Rattle.std.proofs.Common.{◌≡◌, ℕ, suc, ◌+◌, ◌<◌, ◌==◌, nat_le, ◌&&◌, true, false, List, [], ◌∷◌, ◌++◌, length, take}
+use Rattle.std.proofs.Common.{drop, Option, Some, None, Ok, refl, sym, ap, subst, ◌∙◌, arith, eq-eqb}
 use Rattle.std.specs.List.{list_all, position_or_len, before_first, after_first}
 use Rattle.std.specs.Result.{result_ok}
 use Rattle.std.proofs.Math.Numerals.{one-add}
@@ -12,7 +13,8 @@ use Rattle.vet_base.specs.Name.{is_package_byte, is_package_name, read_package_n
 use Rattle.vet_base.specs.Version.{VersionValue, read_version, version_text}
 use Rattle.vet_base.specs.declared.refusal.Refusal.TheVariants.{BadName, BadVersion}
 use Rattle.vet_demand.specs.declared.policy_key.PolicyKey.{PolicyKey}
-use Rattle.vet_demand.specs.PolicyKey.{is_colon, key_text, key_told, key_version_text, plain_key, read_key, versioned_key}
+use Rattle.vet_demand.specs.PolicyKey.{is_colon, key_text, key_told, key_version_text, plain_key, read_key}
+use Rattle.vet_demand.specs.PolicyKey.{versioned_key}
 use Rattle.vet_demand.proofs.KeyLemmas.{told_at_colon}
 
 no_colon : (b : ℕ) → is_package_byte b ≡ true → is_colon b ≡ false

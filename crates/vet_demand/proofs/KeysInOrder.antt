@@ -1,5 +1,6 @@
 -- Keys that come in order are kept in that order, each behind those before it.
-use Rattle.std.proofs.Common.{◌≡◌, suc, cond, List, [], ◌∷◌, ◌++◌, Some, None, Ordering, Less, Greater, refl, sym, ap, subst, arith, ◌∙◌, append_assoc}
+use Rattle.std.proofs.Common.{◌≡◌, suc, cond, List, [], ◌∷◌, ◌++◌, Some, None, Ordering, Less, Greater, refl, sym, ap}
+use Rattle.std.proofs.Common.{subst, arith, ◌∙◌, append_assoc}
 use Rattle.std.specs.Prelude.{find, fold}
 use Rattle.std.specs.BTreeSet.{insert_key}
 use Rattle.std.specs.Cmp.{IsTotalOrder}

@@ -1,5 +1,6 @@
 -- What is needed is in the table, where the table has what policies name.
-use Rattle.std.proofs.Common.{◌≡◌, ℕ, Bool, true, false, cond, List, [], ◌∷◌, Option, Some, None, is_some, refl, sym, ap, subst, ◌∙◌}
+use Rattle.std.proofs.Common.{◌≡◌, ℕ, Bool, true, false, cond, List, [], ◌∷◌, Option, Some, None, is_some, refl, sym}
+use Rattle.std.proofs.Common.{ap, subst, ◌∙◌}
 use Rattle.std.specs.FinMap as map
 use Rattle.std.specs.FinSet as set
 use Rattle.std.specs.List.{All}
@@ -20,7 +21,8 @@ use Rattle.vet_demand.specs.DemandOf.{NamesAreKnown, PoliciesAreKnown, PolicyIsK
 use Rattle.vet_demand.specs.DependencyCriteria.{criteria_for, item_name}
 use Rattle.vet_demand.specs.Needs.{IsNeeded, covers, node_at, own_at}
 use Rattle.vet_demand.specs.Needs.IsNeeded.{own, passed, passed_on}
-use Rattle.vet_demand.specs.Passed.{default_criteria, dev_criteria, dev_passed, listed_criteria, only, own_criteria, passed_criteria, policy_for, settled_criteria}
+use Rattle.vet_demand.specs.Passed.{default_criteria, dev_criteria, dev_passed, listed_criteria, only, own_criteria}
+use Rattle.vet_demand.specs.Passed.{passed_criteria, policy_for, settled_criteria}
 use Rattle.vet_demand.specs.Policies.{key_of, policy_of}
 use Rattle.vet_demand.specs.PolicyKey.{policy_key_cmp}
 use Rattle.vet_demand.specs.Project.{ProjectValue}

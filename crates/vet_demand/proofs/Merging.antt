@@ -1,5 +1,6 @@
 -- Two lists of audited nodes in one.
-use Rattle.std.proofs.Common.{◌≡◌, ◌⊎◌, ◌↔◌, ℕ, zero, suc, Bor, ◌+◌, ◌<◌, ◌≤◌, ◌||◌, List, [], ◌∷◌, ◌++◌, length, get_or, take, refl, sym, ap, subst, ◌∙◌, inl, inr, arith, Ordering, Less, Equal, Greater}
+use Rattle.std.proofs.Common.{◌≡◌, ◌⊎◌, ◌↔◌, ℕ, zero, suc, Bor, ◌+◌, ◌<◌, ◌≤◌, ◌||◌, List, [], ◌∷◌, ◌++◌, length}
+use Rattle.std.proofs.Common.{get_or, take, refl, sym, ap, subst, ◌∙◌, inl, inr, arith, Ordering, Less, Equal, Greater}
 use Rattle.std.specs.Cmp.{nat_cmp_total}
 use Rattle.std.specs.Cmp.Lexicographic.{slice_cmp}
 use Rattle.std.specs.FinMap.{nat_cmp-IsAntisymmetric, slice_cmp-IsAntisymmetric}
@@ -14,7 +15,8 @@ use Rattle.vet_base.specs.VersionOrder.{version_cmp}
 use Rattle.vet_base.specs.VersionOrderLaws.{version_cmp-IsAntisymmetric}
 use Rattle.vet_base.specs.OrderLaws.{then_first, then_second}
 use Rattle.vet_demand.proofs.Lists.{one_more}
-use Rattle.vet_demand.specs.Audited.{AuditedNode, AreBefore, AreHeads, AreInAuditedOrder, AreMerged, IsAfter, IsAsked, IsHead, IsMerging, PutsHead, audited_cmp, audited_nodes}
+use Rattle.vet_demand.specs.Audited.{AuditedNode, AreBefore, AreHeads, AreInAuditedOrder, AreMerged, IsAfter, IsAsked}
+use Rattle.vet_demand.specs.Audited.{IsHead, IsMerging, PutsHead, audited_cmp, audited_nodes}
 use Rattle.vet_demand.specs.Collected.{IsPairOf}
 use Rattle.vet_demand.specs.DemandOf.{pair_of}
 use Rattle.vet_demand.specs.Project.{node_cmp}

@@ -1,14 +1,15 @@
 -- What policies name, list by list, and when all of it stays known.
-use Rattle.std.proofs.Common.{◌≡◌, ℕ, ◌<◌, ◌+◌, Bool, true, false, ◌||◌, cond, not, List, [], ◌∷◌, Option, Some, None, is_some, length, get_or, take, refl, sym, ap, ◌∙◌, inl, inr}
+use Rattle.std.proofs.Common.{◌≡◌, ℕ, ◌<◌, ◌+◌, Bool, true, false, ◌||◌, cond, not, List, [], ◌∷◌, Option, Some, None}
+use Rattle.std.proofs.Common.{◌&&◌, ◌↔◌, is_none, is_some, length, get_or, take, refl, sym, ap, ◌∙◌, inl, inr}
 use Rattle.std.specs.FinMap as map
 use Rattle.std.specs.FinSet as set
-use Rattle.std.specs.List.{All, list_any}
+use Rattle.std.specs.List.{All, list_all, list_any}
 use Rattle.std.specs.Ordering.{eq_by_cmp}
 use Rattle.std.proofs.lemmas.Bool.{cases_Bool, cond-false, false≢true, or_cases, or_left, or_right}
 use Rattle.std.proofs.lemmas.Cmp.{nat_list_cmp_total}
-use Rattle.std.proofs.lemmas.List.Elements.{All-append, All-cons, All-filter, All-head, All-tail}
+use Rattle.std.proofs.lemmas.List.Elements.{All-append, All-cons, All-filter, All-head, All-nil, All-tail}
 use Rattle.std.proofs.lemmas.List.Folds.{list_any_at, list_any_more}
-use Rattle.vet_base.proofs.LeastNames.{find-union, none_unknown}
+use Rattle.vet_base.proofs.LeastNames.{find-union, least_none, none_unknown}
 use Rattle.vet_base.proofs.Rising.{R, equal-from_eq, only_equal}
 use Rattle.vet_base.specs.Criteria.{Criteria, least_unknown}
 use Rattle.vet_base.specs.Defined.{lesser}
@@ -122,6 +123,36 @@ module _ (criteria : Criteria) where
             (list_any_at (λ (i : DependencyItem). set.contains i.criteria n) p.dependency_criteria k d l
             (ap (λ o. set.contains (names_listed o) n) e ∙ h)));
       }
+
+-- whether each name of each policy is known
+abbrev pub all_known : Criteria → List KeyedPolicy → Bool
+all_known criteria = list_all (λ (k : KeyedPolicy). is_none (least_unknown criteria (names_in k.policy)))
+
+pub known-Decides : (criteria : Criteria) (policies : List KeyedPolicy) → all_known criteria policies ≡ true
+    ↔ PoliciesAreKnown criteria policies
+known-Decides criteria [] = (λ t. All-nil _, λ known. refl)
+known-Decides criteria (k ∷ policies) =
+    by (least_unknown criteria (names_in k.policy)) refl (known-Decides criteria policies)
+  where
+    all_there : (names : NameSet) → ((n : List ℕ) → set.contains names n ≡ true → map.contains_key criteria n ≡ true)
+        → (n : List ℕ) → least_unknown criteria names ≡ Some n → ⊥
+    all_there names its n least = (let same = sym least ∙ least_none criteria names its in cc same)
+
+    by : (o : Option (List ℕ)) → least_unknown criteria (names_in k.policy) ≡ o
+        → (all_known criteria policies ≡ true ↔ PoliciesAreKnown criteria policies)
+        → (is_none o && all_known criteria policies) ≡ true ↔ PoliciesAreKnown criteria (k ∷ policies)
+    by None none rest = (
+      λ t. All-cons (λ (p : KeyedPolicy). PolicyIsKnown criteria p.policy) k policies
+          (policy_known criteria k.policy (none_unknown criteria (names_in k.policy) none)) (rest.0 t),
+      λ known. rest.1 (All-tail (λ (p : KeyedPolicy). PolicyIsKnown criteria p.policy) k policies known),
+    )
+    by (Some n) least rest = (
+      λ t. absurd (false≢true t),
+      λ known.
+          (let its = names_known criteria k.policy
+          (All-head (λ (p : KeyedPolicy). PolicyIsKnown criteria p.policy) k policies known) in
+          absurd (all_there (names_in k.policy) its n least)),
+    )
 
 -- ---- what keeps policies known
 

@@ -1,5 +1,6 @@
 -- The law of numbering: what the other records state is the project of the first.
-use Rattle.std.proofs.Common.{◌≡◌, ◌<◌, ◌⊎◌, ℕ, Bool, true, false, List, [], ◌∷◌, length, map, Option, Some, Ok, Err, Equal, refl, sym, ap, subst, arith, ◌∙◌, inl, inr}
+use Rattle.std.proofs.Common.{◌≡◌, ◌<◌, ◌⊎◌, ℕ, Bool, true, false, List, [], ◌∷◌, length, map, Option, Some, Ok, Err}
+use Rattle.std.proofs.Common.{Equal, refl, sym, ap, subst, arith, ◌∙◌, inl, inr}
 use Rattle.std.specs.Prelude.{◌==◌, not}
 use Rattle.std.specs.List.{AllPairs, Contains}
 use Rattle.std.proofs.lemmas.Option.{same_Some}
@@ -10,7 +11,8 @@ use Rattle.vet_base.specs.Gives.{Told, refuse_if, ◌>>=◌}
 use Rattle.vet_base.specs.declared.refusal.Refusal.TheVariants.{CsvRefused}
 use Rattle.vet_demand.specs.DependencyRecord.{is_header, numbered_cmp}
 use Rattle.vet_demand.specs.DependencyRecordLaws.{numbered_total}
-use Rattle.vet_demand.specs.DependencyTable.{StatedValue, edges_told, in_edge_order, nothing_stated, place_of, placed, placed_told, project_told, records_told, stated_told}
+use Rattle.vet_demand.specs.DependencyTable.{StatedValue, edges_told, in_edge_order, nothing_stated, place_of, placed}
+use Rattle.vet_demand.specs.DependencyTable.{placed_told, project_told, records_told, stated_told}
 use Rattle.vet_demand.specs.Numbering.{AreRenumbered, edges_in, nodes_in, renamed, renumbered}
 use Rattle.vet_demand.specs.Project.{ProjectValue}
 use Rattle.vet_demand.specs.declared.dependency_record.NumberedNode.{NumberedNode}
@@ -21,7 +23,8 @@ use Rattle.vet_demand.proofs.Lists.{in_none}
 use Rattle.vet_demand.proofs.PlacingLemmas.{in_order_told}
 use Rattle.vet_demand.proofs.ReadOn.{Awaits, length-edges, reads_on}
 use Rattle.vet_demand.proofs.ReadParts.{Adds, edges_of, read_adds}
-use Rattle.vet_demand.proofs.Renumbered.{all_placed, from_map, in_map, no_pairs, placed_edges, renumbered_rise, same_nodes, same_order, same_placed, tied_same}
+use Rattle.vet_demand.proofs.Renumbered.{all_placed, from_map, in_map, no_pairs, placed_edges, renumbered_rise}
+use Rattle.vet_demand.proofs.Renumbered.{same_nodes, same_order, same_placed, tied_same}
 use Rattle.vet_base.proofs.SameKeys.{Rises, same_keys}
 
 -- ---- what tables state

@@ -1,5 +1,7 @@
 -- Records that fit what was stated before them are read without a fault.
-use Rattle.std.proofs.Common.{◌≡◌, ◌≢◌, ◌<◌, ◌≤◌, ◌⊎◌, ◌+◌, ℕ, suc, false, cond, List, [], ◌∷◌, ◌++◌, length, get_or, Option, Some, None, Ok, Ordering, Less, Equal, Greater, refl, ap, subst, arith, ◌∙◌, inl, inr}
+use Rattle.std.proofs.Common.{◌≡◌, ◌≢◌, ◌<◌, ◌≤◌, ◌⊎◌, ◌+◌, ℕ, suc, false, cond, List, [], ◌∷◌, ◌++◌, length, get_or}
+use Rattle.std.proofs.Common.{Option, Some, None, Ok, Ordering, Less, Equal, Greater, refl, ap, subst, arith, ◌∙◌, inl}
+use Rattle.std.proofs.Common.{inr}
 use Rattle.std.specs.Prelude.{IsSome, find, nat_le, option_map}
 use Rattle.std.specs.BTreeSet.{insert_key}
 use Rattle.std.specs.Cmp.{decided}
@@ -17,7 +19,8 @@ use Rattle.vet_base.specs.declared.limits.TheConstants.{MOST_NODES, MOST_EDGES}
 use Rattle.vet_base.specs.declared.refusal.Refusal.TheVariants.{CsvRefused}
 use Rattle.vet_demand.specs.DependencyRecord.{numbered_cmp, record_stated}
 use Rattle.vet_demand.specs.DependencyRecordLaws.{numbered_total}
-use Rattle.vet_demand.specs.DependencyTable.{StatedValue, edge_told, is_stated, node_told, record_told, records_told, with_edge, with_record}
+use Rattle.vet_demand.specs.DependencyTable.{StatedValue, edge_told, is_stated, node_told, record_told, records_told}
+use Rattle.vet_demand.specs.DependencyTable.{with_edge, with_record}
 use Rattle.vet_demand.specs.Numbering.{edge_of, edges_in, node_of, nodes_in}
 use Rattle.vet_demand.specs.Project.{edge_eq}
 use Rattle.vet_demand.specs.ProjectLaws.{edge_eq-Decides}

@@ -1,5 +1,7 @@
 -- What records add to what was stated before, where none has a fault.
-use Rattle.std.proofs.Common.{◌≡◌, ◌<◌, ◌≤◌, ◌⊎◌, ◌+◌, ℕ, Bool, true, false, cond, List, [], ◌∷◌, ◌++◌, length, map, Option, Some, None, Ok, Err, Ordering, Less, Equal, Greater, refl, sym, ap, subst, arith, ◌∙◌, inl, inr}
+use Rattle.std.proofs.Common.{◌≡◌, ◌<◌, ◌≤◌, ◌⊎◌, ◌+◌, ℕ, Bool, true, false, cond, List, [], ◌∷◌, ◌++◌, length, map}
+use Rattle.std.proofs.Common.{Option, Some, None, Ok, Err, Ordering, Less, Equal, Greater, refl, sym, ap, subst, arith}
+use Rattle.std.proofs.Common.{◌∙◌, inl, inr}
 use Rattle.std.specs.Prelude.{◌&&◌, ◌||◌, codes, find, nat_le, option_and_then, option_map}
 use Rattle.std.specs.BTreeSet.{insert_key}
 use Rattle.std.specs.List.{AllPairs, Contains}
@@ -12,9 +14,11 @@ use Rattle.vet_base.specs.Gives.{Told, found_or, refuse_if, ◌>>=◌}
 use Rattle.vet_base.specs.declared.limits.TheConstants.{MOST_NODES, MOST_EDGES}
 use Rattle.vet_base.specs.declared.refusal.Limit.TheVariants.{Edges}
 use Rattle.vet_base.specs.declared.refusal.Refusal.TheVariants.{CsvRefused, TooLarge}
-use Rattle.vet_demand.specs.DependencyRecord.{edge_record, edge_stated, field, has_five, is_word, node_record, node_stated, numbered_cmp, read_number, record_stated}
+use Rattle.vet_demand.specs.DependencyRecord.{edge_record, edge_stated, field, has_five, is_word, node_record}
+use Rattle.vet_demand.specs.DependencyRecord.{node_stated, numbered_cmp, read_number, record_stated}
 use Rattle.vet_demand.specs.DependencyRecordLaws.{numbered_total}
-use Rattle.vet_demand.specs.DependencyTable.{StatedValue, edge_told, is_stated, node_told, record_told, records_told, with_edge, with_record}
+use Rattle.vet_demand.specs.DependencyTable.{StatedValue, edge_told, is_stated, node_told, record_told, records_told}
+use Rattle.vet_demand.specs.DependencyTable.{with_edge, with_record}
 use Rattle.vet_demand.specs.Numbering.{edge_of, edges_in, node_of, nodes_in}
 use Rattle.vet_demand.specs.Project.{edge_eq}
 use Rattle.vet_demand.specs.ProjectLaws.{edge_eq-Decides}

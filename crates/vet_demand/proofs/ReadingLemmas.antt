@@ -1,11 +1,13 @@
 -- How a reader of records goes on.
-use Rattle.std.proofs.Common.{List, ℕ, zero, suc, ◌≡◌, ◌⊎◌, ◌∙◌, ◌+◌, ◌-◌, ◌<◌, ◌≤◌, sym, refl, ap, true, false, ◌∷◌, [], Bool, Some, inl, inr, length, nat_eq, arith}
+use Rattle.std.proofs.Common.{List, ℕ, zero, suc, ◌≡◌, ◌⊎◌, ◌∙◌, ◌+◌, ◌-◌, ◌<◌, ◌≤◌, sym, refl, ap, true, false, ◌∷◌}
+use Rattle.std.proofs.Common.{[], Bool, Some, inl, inr, length, nat_eq, arith}
 use Rattle.std.specs.Prelude.{◌==◌, ◌&&◌, Result, Ok, Err, IsErrAnd}
 use Rattle.std.specs.List.{starts_with}
 use Rattle.std.proofs.lemmas.Bool.{false≢true}
 use Rattle.std.proofs.lemmas.Bool.Decides.{nat_tests}
 use Rattle.csv.specs.Machine.{Read, next_record}
-use Rattle.csv.specs.Reading.{ExplainsRead, ReadRecord, Reached, Ready, default_config, is_bom, is_flexible, reader_trim, records_from, strip_bom, took_first}
+use Rattle.csv.specs.Reading.{ExplainsRead, ReadRecord, Reached, Ready, default_config, is_bom, is_flexible}
+use Rattle.csv.specs.Reading.{reader_trim, records_from, strip_bom, took_first}
 use Rattle.csv.specs.declared.error.ErrorKind.{ErrorKind}
 use Rattle.csv.specs.declared.error.ErrorKind.TheVariants as kind
 use Rattle.csv.specs.declared.reader.Trim.TheVariants as trim

@@ -1,5 +1,6 @@
 -- Tables that differ in the numbering of their nodes alone state the same project.
-use Rattle.std.proofs.Common.{◌≡◌, ◌⊎◌, ◌+◌, ℕ, cond, List, [], ◌∷◌, map, Option, Some, None, Ok, Err, Ordering, Equal, refl, sym, ap, subst, arith, ◌∙◌, inl, inr}
+use Rattle.std.proofs.Common.{◌≡◌, ◌⊎◌, ◌+◌, ℕ, cond, List, [], ◌∷◌, map, Option, Some, None, Ok, Err, Ordering, Equal}
+use Rattle.std.proofs.Common.{refl, sym, ap, subst, arith, ◌∙◌, inl, inr}
 use Rattle.std.specs.Prelude.{◌==◌, option_and_then, option_map}
 use Rattle.std.specs.Cmp.{IsTotalOrder, both_ways}
 use Rattle.std.specs.List.{AllPairs, Contains, position_from}

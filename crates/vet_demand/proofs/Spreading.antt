@@ -1,16 +1,21 @@
 -- How criteria are led on from place to place.
-use Rattle.std.proofs.Common.{◌≡◌, ◌≢◌, ◌↔◌, ℕ, ◌+◌, ◌<◌, ◌≤◌, ◌||◌, true, false, cond, List, [], ◌∷◌, ◌++◌, Vec, Global, length, get_or, set, take, refl, sym, ap, subst, ◌∙◌, inl, inr, arith, eq-eqb, eqb-true}
+use Rattle.std.proofs.Common.{◌≡◌, ◌≢◌, ◌↔◌, ℕ, ◌+◌, ◌<◌, ◌≤◌, ◌||◌, true, false, cond, List, [], ◌∷◌, ◌++◌, Vec}
+use Rattle.std.proofs.Common.{Global, length, get_or, set, take, refl, sym, ap, subst, ◌∙◌, inl, inr, arith, eq-eqb}
+use Rattle.std.proofs.Common.{eqb-true}
 use Rattle.std.specs.Cmp.{nat_cmp_total, unsigned_tied}
 use Rattle.std.specs.FinSet as places
 use Rattle.std.specs.List.{All, Contains}
 use Rattle.std.specs.Ordering.{eq_by_cmp, nat_cmp}
 use Rattle.std.proofs.lemmas.Bool.{cases_Bool, cases_eq, cases_lt, cond-false, cond-true, false≢true, or_left}
-use Rattle.std.proofs.lemmas.List.{get_or-map, get_or-set_other, get_or-set_same, get_or_default, get_or_past, length-map, length-set}
-use Rattle.std.proofs.lemmas.List.Elements.{All-cons, All-contains, All-head, All-more, All-nil, All-push, All-weaker, Contains-append_left, Contains-get_or, Contains-push, Contains-push_cases}
+use Rattle.std.proofs.lemmas.List.{get_or-map, get_or-set_other, get_or-set_same, get_or_default, get_or_past}
+use Rattle.std.proofs.lemmas.List.{length-map, length-set}
+use Rattle.std.proofs.lemmas.List.Elements.{All-cons, All-contains, All-head, All-more, All-nil, All-push, All-weaker}
+use Rattle.std.proofs.lemmas.List.Elements.{Contains-append_left, Contains-get_or, Contains-push, Contains-push_cases}
 use Rattle.std.proofs.lemmas.List.Quantifiers.{all_pairs_push}
 use Rattle.vet_base.specs.CriteriaSet.{Places, has}
 use Rattle.vet_demand.proofs.Lists.{All-fewer, All-last, Contains-kept, length-le_from_once, same_place}
-use Rattle.vet_demand.specs.Spread.{AreBelow, AreSpread, AreStarts, IsDone, IsLed, IsReaching, IsSpread, Reaches, lists_in, stands}
+use Rattle.vet_demand.specs.Spread.{AreBelow, AreSpread, AreStarts, IsDone, IsLed, IsReaching, IsSpread, Reaches}
+use Rattle.vet_demand.specs.Spread.{lists_in, stands}
 use Rattle.vet_demand.specs.Spread.IsLed.{at_start, led_on}
 
 -- ---- sets of places

@@ -1,5 +1,6 @@
 -- What records of a dependency table add to what is kept of those before.
-use Rattle.std.proofs.Common.{◌≡◌, ◌≢◌, ◌<◌, ℕ, suc, Bool, true, false, cond, List, [], ◌∷◌, ◌++◌, length, Option, Some, None, Ordering, Less, Equal, Greater, refl, sym, ap, arith, ◌∙◌}
+use Rattle.std.proofs.Common.{◌≡◌, ◌≢◌, ◌<◌, ℕ, suc, Bool, true, false, cond, List, [], ◌∷◌, ◌++◌, length, Option, Some}
+use Rattle.std.proofs.Common.{None, Ordering, Less, Equal, Greater, refl, sym, ap, arith, ◌∙◌}
 use Rattle.std.specs.Bool.{beq}
 use Rattle.std.specs.Prelude.{find, nat_le, not, ◌==◌, ◌||◌, Ok, Err}
 use Rattle.std.specs.BTreeMap.{is_at}

@@ -1,10 +1,12 @@
 -- What is written of nodes and edges, one after another.
-use Rattle.std.proofs.Common.{◌≡◌, ◌<◌, ◌≤◌, ◌+◌, ℕ, List, ◌++◌, ◌∷◌, drop, drop-cons, add-one, get_or, length, map, sym, ap, subst, arith, ◌∙◌, append_assoc, append-nil}
+use Rattle.std.proofs.Common.{◌≡◌, ◌<◌, ◌≤◌, ◌+◌, ℕ, List, ◌++◌, ◌∷◌, drop, drop-cons, add-one, get_or, length, map}
+use Rattle.std.proofs.Common.{sym, ap, subst, arith, ◌∙◌, append_assoc, append-nil}
 use Rattle.std.proofs.lemmas.List.{drop_all, get_or_default}
 use Rattle.std.proofs.lemmas.Grind.{flat_map-append}
 use native.Mathlib.Decide.{dec_lt}
 use Rattle.vet_demand.specs.Project.{ProjectValue}
-use Rattle.vet_demand.specs.WrittenProject.{IsNamed, edge_fields, header_record, line, lines, node_fields, node_records, written_text}
+use Rattle.vet_demand.specs.WrittenProject.{IsNamed, edge_fields, header_record, line, lines, node_fields, node_records}
+use Rattle.vet_demand.specs.WrittenProject.{written_text}
 use Rattle.vet_demand.specs.declared.project.Edge.{Edge}
 use Rattle.vet_demand.specs.declared.project.Node.{Node}
 

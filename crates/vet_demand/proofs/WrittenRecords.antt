@@ -1,5 +1,6 @@
 -- Each record that is written is plain, and is read as what it was written of.
-use Rattle.std.proofs.Common.{◌≡◌, ◌<◌, ◌≤◌, ◌^◌, ◌+◌, ℕ, Bool, true, List, [], ◌∷◌, length, map, Option, Some, None, refl, arith}
+use Rattle.std.proofs.Common.{◌≡◌, ◌<◌, ◌≤◌, ◌^◌, ◌+◌, ℕ, Bool, true, List, [], ◌∷◌, length, map, Option, Some, None}
+use Rattle.std.proofs.Common.{refl, arith}
 use Rattle.std.specs.Prelude.{◌&&◌, codes, option_and_then, option_map}
 use Rattle.std.specs.Fmt.{decimal}
 use Rattle.std.specs.List.{All, list_all}
@@ -10,7 +11,8 @@ use Rattle.vet_base.specs.Name.{is_package_name, read_package_name}
 use Rattle.vet_base.specs.Version.{VersionValue, read_version, version_text}
 use Rattle.vet_demand.specs.DependencyRecord.{read_kind, read_party, read_version_field, record_stated}
 use Rattle.vet_demand.specs.Project.{IsWithin}
-use Rattle.vet_demand.specs.WrittenProject.{IsNamed, edge_fields, header_record, kind_word, node_fields, node_records, party_word}
+use Rattle.vet_demand.specs.WrittenProject.{IsNamed, edge_fields, header_record, kind_word, node_fields, node_records}
+use Rattle.vet_demand.specs.WrittenProject.{party_word}
 use Rattle.vet_demand.specs.declared.dependency_record.DependencyRecord.{DependencyRecord}
 use Rattle.vet_demand.specs.declared.dependency_record.DependencyRecord.TheVariants.{NodeRecord, EdgeRecord}
 use Rattle.vet_demand.specs.declared.project.Edge.{Edge}

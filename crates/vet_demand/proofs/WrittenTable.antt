@@ -1,5 +1,7 @@
 -- What the records that are written of a project state is that project.
-use Rattle.std.proofs.Common.{◌≡◌, ◌≢◌, ◌<◌, ◌≤◌, ◌+◌, ℕ, suc, Bool, true, false, cond, List, [], ◌∷◌, ◌++◌, length, map, get_or, Option, Some, None, Ok, Less, refl, sym, ap, subst, arith, ◌∙◌, append_assoc, append-nil, inl, inr}
+use Rattle.std.proofs.Common.{◌≡◌, ◌≢◌, ◌<◌, ◌≤◌, ◌+◌, ℕ, suc, Bool, true, false, cond, List, [], ◌∷◌, ◌++◌, length}
+use Rattle.std.proofs.Common.{map, get_or, Option, Some, None, Ok, Less, refl, sym, ap, subst, arith, ◌∙◌, append_assoc}
+use Rattle.std.proofs.Common.{append-nil, inl, inr}
 use Rattle.std.specs.Prelude.{◌==◌, find, nat_le, option_and_then, option_map}
 use Rattle.std.specs.BTreeSet.{insert_key}
 use Rattle.std.specs.List.{All, position_from}
@@ -15,10 +17,14 @@ use Rattle.vet_base.specs.declared.limits.TheConstants.{MOST_NODES, MOST_EDGES}
 use Rattle.vet_base.specs.declared.refusal.Refusal.TheVariants.{CsvRefused, UnknownNode}
 use Rattle.vet_demand.specs.DependencyRecord.{numbered_cmp, record_stated}
 use Rattle.vet_demand.specs.DependencyRecordLaws.{numbered_total}
-use Rattle.vet_demand.specs.DependencyTable.{StatedValue, edge_told, fields_told, in_edge_order, is_stated, node_told, place_of, placed, placed_told, project_of_bytes, project_told, record_told, records_told, stated_told, table_told, with_edge, with_record}
-use Rattle.vet_demand.specs.Project.{AreInEdgeOrder, AreInNodeOrder, IsProject, IsWithin, ProjectValue, edge_cmp, node_cmp}
+use Rattle.vet_demand.specs.DependencyTable.{StatedValue, edge_told, fields_told, in_edge_order, is_stated, node_told}
+use Rattle.vet_demand.specs.DependencyTable.{place_of, placed, placed_told, project_of_bytes, project_told, record_told}
+use Rattle.vet_demand.specs.DependencyTable.{records_told, stated_told, table_told, with_edge, with_record}
+use Rattle.vet_demand.specs.Project.{AreInEdgeOrder, AreInNodeOrder, IsProject, IsWithin, ProjectValue, edge_cmp}
+use Rattle.vet_demand.specs.Project.{node_cmp}
 use Rattle.vet_demand.specs.ProjectLaws.{edge_total}
-use Rattle.vet_demand.specs.WrittenProject.{IsNamed, edge_fields, node_fields, node_records, written_records, written_text}
+use Rattle.vet_demand.specs.WrittenProject.{IsNamed, edge_fields, node_fields, node_records, written_records}
+use Rattle.vet_demand.specs.WrittenProject.{written_text}
 use Rattle.vet_demand.specs.declared.dependency_record.DependencyRecord.{DependencyRecord}
 use Rattle.vet_demand.specs.declared.dependency_record.DependencyRecord.TheVariants.{NodeRecord, EdgeRecord}
 use Rattle.vet_demand.specs.declared.dependency_record.NumberedNode.{NumberedNode}

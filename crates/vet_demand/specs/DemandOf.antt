@@ -1,5 +1,6 @@
 -- What projects demand (ours): each pair once, in the order of reports.
-use Rattle.std.specs.Prelude.{◌≡◌, ◌↔◌, ◌<◌, Bool, true, false, ℕ, List, [], ◌∷◌, if◌then◌else◌, fold, length, unwrap_or, Option, Some, None}
+use Rattle.std.specs.Prelude.{◌≡◌, ◌↔◌, ◌<◌, Bool, true, false, ℕ, List, [], ◌∷◌, if◌then◌else◌, fold, length}
+use Rattle.std.specs.Prelude.{unwrap_or, Option, Some, None}
 use Rattle.std.specs.FinMap as map
 use Rattle.std.specs.FinSet as set
 use Rattle.std.specs.List.{All, Contains, flat_map, range_with_len}

@@ -1,5 +1,6 @@
 -- Records of a dependency table (RFC 4180 for records and fields; their forms are ours): what each states by itself.
-use Rattle.std.specs.Prelude.{ℕ, ◌==◌, ◌&&◌, nat_le, Bool, List, [], Option, Some, None, length, codes, if◌then◌else◌, option_and_then, option_map, unwrap_or}
+use Rattle.std.specs.Prelude.{ℕ, ◌==◌, ◌&&◌, nat_le, Bool, List, [], Option, Some, None, length, codes, if◌then◌else◌}
+use Rattle.std.specs.Prelude.{option_and_then, option_map, unwrap_or}
 use Rattle.std.specs.Char.{is_ascii_digit}
 use Rattle.std.specs.List.{list_all}
 use Rattle.std.specs.Ordering.{on, eq_by_cmp}

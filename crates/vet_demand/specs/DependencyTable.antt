@@ -1,5 +1,6 @@
 -- The project that a dependency table states, or its first fault (RFC 4180 for records; the rest is ours).
-use Rattle.std.specs.Prelude.{ℕ, ◌==◌, ◌+◌, not, ◌&&◌, nat_le, Bool, true, false, List, [], ◌∷◌, ◌++◌, Option, Some, None, Ok, Err, length, map, find, fold, if◌then◌else◌, option_and_then, option_map}
+use Rattle.std.specs.Prelude.{ℕ, ◌==◌, ◌+◌, not, ◌&&◌, nat_le, Bool, true, false, List, [], ◌∷◌, ◌++◌, Option, Some}
+use Rattle.std.specs.Prelude.{None, Ok, Err, length, map, find, fold, if◌then◌else◌, option_and_then, option_map}
 use Rattle.std.specs.Bool.{beq}
 use Rattle.std.specs.List.{list_any, position_from}
 use Rattle.std.specs.Ordering.{is_eq}

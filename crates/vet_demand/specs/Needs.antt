@@ -1,5 +1,6 @@
 -- What the nodes of a project need (ours): the least that policies and edges ask for.
-use Rattle.std.specs.Prelude.{◌≡◌, ◌↔◌, ◌==◌, ◌<◌, ◌&&◌, ◌||◌, true, false, Bool, ℕ, List, [], ◌∷◌, Option, Some, None, filter, get_or, is_none, length}
+use Rattle.std.specs.Prelude.{◌≡◌, ◌↔◌, ◌==◌, ◌<◌, ◌&&◌, ◌||◌, true, false, Bool, ℕ, List, [], ◌∷◌, Option, Some, None}
+use Rattle.std.specs.Prelude.{filter, get_or, is_none, length}
 use Rattle.std.specs.FinSet as set
 use Rattle.std.specs.List.{Contains, list_any, range_with_len}
 use Rattle.std.specs.Option.{option_map_or}

@@ -15,7 +15,8 @@ use Rattle.vet_demand.specs.declared.project.EdgeKind.{EdgeKind}
 use Rattle.vet_demand.specs.declared.project.EdgeKind.TheVariants.{Normal, Build, Dev}
 use Rattle.vet_demand.specs.declared.project.Node.{Node}
 use Rattle.vet_demand.specs.declared.project.Edge.{Edge}
-use Rattle.vet_demand.specs.Project.{ProjectValue, party_place, kind_place, party_eq, kind_eq, node_cmp, node_eq, edge_cmp, edge_eq, project_eq}
+use Rattle.vet_demand.specs.Project.{ProjectValue, party_place, kind_place, party_eq, kind_eq, node_cmp, node_eq}
+use Rattle.vet_demand.specs.Project.{edge_cmp, edge_eq, project_eq}
 use Rattle.vet_base.specs.OrderLaws.{then_first, then_second}
 
 same_party : (a b : Party) → party_place a ≡ party_place b → a ≡ b

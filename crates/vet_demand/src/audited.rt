@@ -7,7 +7,8 @@
 //! other is put together there, before pairs are made of it.
 ghost use Rattle.std.specs.Prelude.{◌≡◌, ◌⊎◌, ◌<◌, ◌+◌, ◌^◌, ◌++◌, ◌∷◌, [], IfOk, IfErr, cond, length};
 ghost use Rattle.std.specs.Option.{option_copied};
-ghost use Rattle.vet_demand.specs.Audited.{AreAudited, AreAuditedIn, AreHeads, AreInAuditedOrder, AreMerged, AreParallel, IsAfter, PutsHead, audited_list};
+ghost use Rattle.vet_demand.specs.Audited.{AreAudited, AreAuditedIn, AreHeads, AreInAuditedOrder, AreMerged};
+ghost use Rattle.vet_demand.specs.Audited.{AreParallel, IsAfter, PutsHead, audited_list};
 ghost use Rattle.vet_demand.specs.DemandOf.{PoliciesAreKnown, is_audited};
 ghost use Rattle.vet_demand.specs.Terms.{AreTerms};
 

@@ -1,8 +1,12 @@
 //! Criteria for the dependencies of a package.
-ghost use Rattle.std.specs.Prelude.{◌≡◌, ◌↔◌, ◌==◌, [], IsTrue, OnErr, OnOk, Ok, is_some, length};
+ghost use Rattle.std.specs.Prelude.{◌≡◌, ◌↔◌, ◌==◌, [], IfOk, IsTrue, OnErr, OnOk, Ok, is_some, length};
 ghost use Rattle.std.specs.Cmp.{decided, partial_equiv_from_equiv};
+ghost use Rattle.std.specs.Cmp.Lexicographic.{slice_cmp};
 ghost use Rattle.std.specs.Option.{option_copied};
-ghost use Rattle.vet_demand.specs.DependencyCriteria.{IsByPackage, criteria_for, dependencies_eq, dependency_eq, item_name, with_criteria};
+ghost use Rattle.std.specs.Ordering.{nat_cmp};
+ghost use Rattle.vet_base.specs.Keyed.{all_set};
+ghost use Rattle.vet_demand.specs.DependencyCriteria.{IsByPackage, criteria_for, dependencies_eq, dependency_eq};
+ghost use Rattle.vet_demand.specs.DependencyCriteria.{item_name, with_criteria};
 ghost use Rattle.vet_demand.specs.DependencyCriteriaLaws.{dependencies_eq-Decides, dependency_eq-Decides};
 
 use std::alloc::{AllocError, Global};
@@ -98,6 +102,15 @@ impl DependencyCriteria {
         DependencyCriteria {
             items: Keyed::new(alloc),
         }
+    }
+
+    /// Some items, in whatever order; of those of one name the last stays. Takes a time of n log n.
+    pub fn of(alloc: Global, items: Vec<DependencyItem>) -> Result<DependencyCriteria, AllocError>
+        ensures { IfOk result (λ d. d ≡ all_set (slice_cmp nat_cmp) item_name [] items.items) }
+    {
+        Ok(DependencyCriteria {
+            items: Keyed::of(alloc, items)?,
+        })
     }
 
     /// Sets the criteria at a name. Costs a binary search, and moves what stands behind the name. Where

@@ -6,7 +6,10 @@ ghost use Rattle.std.specs.Char.{is_ascii_digit};
 ghost use Rattle.std.specs.List.{list_all};
 ghost use Rattle.std.specs.Str.Parse.{digits_value};
 ghost use Rattle.csv.specs.Records.{fields_of};
-ghost use Rattle.vet_demand.specs.DependencyRecord.{edge_record, edge_stated, field, has_five, is_header, is_number, is_word, node_record, node_stated, numbered_cmp, numbered_eq, read_kind, read_number, read_party, read_version_field, record_stated};
+ghost use Rattle.vet_demand.specs.DependencyRecord.{edge_record, edge_stated, field, has_five, is_header, is_number};
+ghost use Rattle.vet_demand.specs.DependencyRecord.{is_word, node_record, node_stated, numbered_cmp, numbered_eq};
+ghost use Rattle.vet_demand.specs.DependencyRecord.{read_kind, read_number, read_party, read_version_field};
+ghost use Rattle.vet_demand.specs.DependencyRecord.{record_stated};
 ghost use Rattle.vet_demand.specs.DependencyRecordLaws.{numbered_total};
 ghost use Rattle.vet_base.specs.Name.{read_package_name};
 

@@ -4,7 +4,8 @@ ghost use Rattle.std.specs.Option.{option_copied};
 ghost use Rattle.std.specs.BTreeSet.{insert_key};
 ghost use Rattle.vet_base.specs.Gives.{Gives};
 ghost use Rattle.vet_demand.specs.DependencyRecord.{numbered_cmp};
-ghost use Rattle.vet_demand.specs.DependencyTable.{double_told, edge_told, is_stated, is_third, node_told, nothing_stated, record_told, with_edge, with_record};
+ghost use Rattle.vet_demand.specs.DependencyTable.{double_told, edge_told, is_stated, is_third, node_told};
+ghost use Rattle.vet_demand.specs.DependencyTable.{nothing_stated, record_told, with_edge, with_record};
 ghost use Rattle.vet_demand.specs.Project.{edge_cmp};
 
 use crate::dependency_record::{DependencyRecord, NumberedNode, StatedEdge};

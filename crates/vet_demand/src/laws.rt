@@ -8,7 +8,8 @@ ghost use Rattle.vet_demand.specs.DependencyTable.{project_of_bytes, project_tol
 ghost use Rattle.vet_demand.specs.Needs.{NeedsAreLeast};
 ghost use Rattle.vet_demand.specs.Numbering.{AreRenumbered};
 ghost use Rattle.vet_demand.specs.Policies.{OtherPoliciesStay, SetPolicyIsFound};
-ghost use Rattle.vet_demand.specs.PolicyNames.{KnownByFewerCriteria, KnownByMoreCriteria, KnownWithSet, KnownWithoutDropped};
+ghost use Rattle.vet_demand.specs.PolicyNames.{KnownByFewerCriteria, KnownByMoreCriteria, KnownWithSet};
+ghost use Rattle.vet_demand.specs.PolicyNames.{KnownWithoutDropped};
 ghost use Rattle.vet_demand.specs.Project.{ProjectValue};
 ghost use Rattle.vet_demand.specs.TableByExample.{example_project, example_table, other_table};
 ghost use Rattle.vet_demand.specs.WrittenProject.{written_text};

@@ -2,7 +2,8 @@
 ghost use Rattle.std.specs.Prelude.{◌≡◌, option_map};
 ghost use Rattle.std.specs.Option.{option_copied};
 ghost use Rattle.vet_demand.specs.DemandOf.{is_audited};
-ghost use Rattle.vet_demand.specs.Passed.{dev_criteria, dev_passed, listed_criteria, own_criteria, passed_criteria, policy_for, settled_criteria, takes};
+ghost use Rattle.vet_demand.specs.Passed.{dev_criteria, dev_passed, listed_criteria, own_criteria, passed_criteria};
+ghost use Rattle.vet_demand.specs.Passed.{policy_for, settled_criteria, takes};
 ghost use Rattle.vet_demand.specs.Terms.{AreTerms, closed_places};
 
 use crate::policies::{KeyedPolicy, policy_of_parts};

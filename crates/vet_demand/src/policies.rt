@@ -2,7 +2,8 @@
 ghost use Rattle.std.specs.Prelude.{◌≡◌, ◌↔◌, ◌==◌, [], IfOk, IsTrue, OnErr, OnOk, Ok, length};
 ghost use Rattle.std.specs.Cmp.{decided, partial_equiv_from_equiv};
 ghost use Rattle.std.specs.Option.{option_copied};
-ghost use Rattle.vet_demand.specs.Policies.{IsInKeyOrder, has_policy, in_key_order, key_of, keyed_policy_eq, policies_eq, policy_of, with_policy};
+ghost use Rattle.vet_demand.specs.Policies.{IsInKeyOrder, has_policy, in_key_order, key_of, keyed_policy_eq};
+ghost use Rattle.vet_demand.specs.Policies.{policies_eq, policy_of, with_policy};
 ghost use Rattle.vet_demand.specs.PoliciesLaws.{keyed_policy_eq-Decides, policies_eq-Decides};
 
 use crate::policy::Policy;

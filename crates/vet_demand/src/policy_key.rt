@@ -4,7 +4,8 @@ ghost use Rattle.std.specs.Cmp.{eq_by_cmp_equiv, partial_equiv_from_equiv, parti
 ghost use Rattle.std.specs.Option.{option_copied};
 ghost use Rattle.std.specs.Ordering.{as_partial_cmp};
 ghost use Rattle.vet_base.specs.Gives.{Gives};
-ghost use Rattle.vet_demand.specs.PolicyKey.{key_text, key_told, plain_key, policy_key_cmp, policy_key_eq, read_key, versioned_key, versions_cmp};
+ghost use Rattle.vet_demand.specs.PolicyKey.{key_text, key_told, plain_key, policy_key_cmp, policy_key_eq, read_key};
+ghost use Rattle.vet_demand.specs.PolicyKey.{versioned_key, versions_cmp};
 ghost use Rattle.vet_demand.specs.PolicyKeyLaws.{policy_key_cmp-IsAntisymmetric, policy_key_total};
 
 use std::alloc::{AllocError, Global};

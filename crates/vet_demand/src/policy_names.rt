@@ -1,9 +1,10 @@
 //! Which criteria policies name.
-ghost use Rattle.std.specs.Prelude.{◌≡◌};
+ghost use Rattle.std.specs.Prelude.{◌≡◌, ◌↔◌, IsTrue};
 ghost use Rattle.std.specs.FinSet as set;
 ghost use Rattle.std.specs.List.{list_any};
 ghost use Rattle.std.specs.Option.{option_copied};
 ghost use Rattle.vet_base.specs.Criteria.{least_unknown};
+ghost use Rattle.vet_demand.specs.DemandOf.{PoliciesAreKnown};
 ghost use Rattle.vet_demand.specs.PolicyNames.{names_in, names_listed, names_passed, policy_names};
 
 use crate::dependency_criteria::DependencyItem;
@@ -31,6 +32,16 @@ pub fn names_criterion(policies: &[KeyedPolicy], name: &Name) -> bool
     ensures { result ≡ list_any (policy_names name.now) policies.now }
 {
     policies.iter().any(|held| names(&held.policy, name))
+}
+
+/// Whether a table has each criterion that some policies name. Takes no memory. Costs a look at each name of each
+/// list, up to the first that the table lacks.
+pub fn are_known(policies: &[KeyedPolicy], criteria: &CriteriaTable) -> bool
+    ensures { IsTrue result ↔ PoliciesAreKnown criteria.now policies.now }
+{
+    policies
+        .iter()
+        .all(|held| least_unknown_of(&held.policy, criteria).is_none())
 }
 
 // The least name of a list, if there is one, that a table lacks.

@@ -1,15 +1,21 @@
 //! Projects: what depends on what.
-ghost use Rattle.std.specs.Prelude.{◌≡◌, ◌↔◌, IsTrue, refl};
+ghost use Rattle.std.specs.Prelude.{◌≡◌, ◌↔◌, ◌<◌, ◌≤◌, IfSome, IsSome, IsTrue, length, refl};
+ghost use Rattle.std.specs.List.{All};
 ghost use Rattle.std.specs.Cmp.{decided, eq_by_cmp_equiv, partial_equiv_from_equiv, partial_order_from_total};
 ghost use Rattle.std.specs.Ordering.{as_partial_cmp};
-ghost use Rattle.vet_demand.specs.Project.{IsProject, edge_cmp, edge_eq, kind_eq, kind_place, node_cmp, node_eq, party_eq, party_place, project_eq};
-ghost use Rattle.vet_demand.specs.ProjectLaws.{edge_total, kind_eq-Decides, node_eq-Decides, party_eq-Decides, project_eq-Decides};
+ghost use Rattle.vet_demand.specs.Project.{AreInEdgeOrder, AreInNodeOrder, IsProject, IsWithin, edge_cmp};
+ghost use Rattle.vet_demand.specs.Project.{edge_eq, kind_eq, kind_place, node_cmp, node_eq};
+ghost use Rattle.vet_demand.specs.Project.{party_eq, party_place, project_eq};
+ghost use Rattle.vet_demand.specs.ProjectLaws.{edge_total, kind_eq-Decides, node_eq-Decides, node_total, party_eq-Decides};
+ghost use Rattle.vet_demand.specs.ProjectLaws.{project_eq-Decides};
 
 use std::alloc::AllocError;
 use std::cmp::Ordering;
 use std::marker::Model;
 use vet_base::keyed::{ExactItem, HasKey};
+use vet_base::limits::{MOST_EDGES, MOST_NODES};
 use vet_base::name::PackageName;
+use vet_base::ranked::{Ranked, are_ranked};
 use vet_base::version::VetVersion;
 
 /// Whose a package is. Roots and first-party packages are both first-party: what is asked of them stands in
@@ -80,6 +86,22 @@ impl Model for Project {
 }
 
 impl Project {
+    /// The project of these nodes and edges, and `None` exactly where they are none: where there is no node or more
+    /// than 10,000, or more than 100,000 edges, where nodes or edges don't stand in their order, each once, or where an
+    /// edge names a place that no node has. Takes no memory, and looks at each once.
+    pub fn restore(nodes: Vec<Node>, edges: Vec<Edge>) -> Option<Project>
+        ensures is { IsSome result ↔ IsProject (record { nodes = nodes.items; edges = edges.items }) }
+        ensures value { IfSome result (λ p. p ≡ record { nodes = nodes.items; edges = edges.items }) }
+    {
+        if are_few(nodes.as_slice(), edges.as_slice())
+            && stand(nodes.as_slice(), edges.as_slice())
+        {
+            Some(Project { nodes, edges })
+        } else {
+            None
+        }
+    }
+
     // The project of these nodes and edges. Takes no memory.
     pub(crate) fn of(nodes: Vec<Node>, edges: Vec<Edge>) -> Project
         requires { IsProject (record { nodes = nodes.items; edges = edges.items }) }
@@ -176,6 +198,16 @@ impl Node {
     }
 }
 
+impl Ranked for Node {
+    ghost rank_cmp = { node_cmp };
+
+    ghost rank_total = { node_total };
+
+    fn cmp_rank(&self, other: &Node) -> Ordering {
+        self.cmp_place(other)
+    }
+}
+
 impl Drop for Node {
     fn drop(self) {
         let Node {
@@ -257,6 +289,16 @@ impl Ord for Edge {
             .cmp(&other.from)
             .then(self.to.cmp(&other.to))
             .then(self.kind.place().cmp(&other.kind.place()))
+    }
+}
+
+impl Ranked for Edge {
+    ghost rank_cmp = { edge_cmp };
+
+    ghost rank_total = { edge_total };
+
+    fn cmp_rank(&self, other: &Edge) -> Ordering {
+        self.cmp(other)
     }
 }
 
@@ -356,6 +398,29 @@ impl ExactItem for NamedProject {
     ghost only_copies = { λ a b h. h };
 
     ghost only_itself = { named_project_eq-Decides };
+}
+
+// Whether there are some nodes, but not too many, and not too many edges.
+fn are_few(nodes: &[Node], edges: &[Edge]) -> bool
+    ensures { IsTrue result ↔ ((0 < length nodes.now) × (length nodes.now ≤ MOST_NODES)
+        × (length edges.now ≤ MOST_EDGES)) }
+{
+    !nodes.is_empty() && nodes.len() <= MOST_NODES && edges.len() <= MOST_EDGES
+}
+
+// Whether nodes and edges stand in their order, and each edge is between two nodes.
+fn stand(nodes: &[Node], edges: &[Edge]) -> bool
+    ensures { IsTrue result ↔ (AreInNodeOrder nodes.now × AreInEdgeOrder edges.now
+        × All (IsWithin (length nodes.now)) edges.now) }
+{
+    are_ranked(nodes) && are_ranked(edges) && are_within(nodes.len(), edges)
+}
+
+// Whether each edge is between two of so many nodes.
+fn are_within(many: usize, edges: &[Edge]) -> bool
+    ensures { IsTrue result ↔ All (IsWithin many) edges.now }
+{
+    edges.iter().all(|edge| edge.from < many && edge.to < many)
 }
 
 // Whether two projects have the same nodes and edges.

@@ -2,7 +2,8 @@
 ghost use Rattle.std.specs.Prelude.{◌≡◌, ◌<◌, ◌++◌, Ok, IfOk, IfErr, OnOk, map, string_bytes};
 ghost use Rattle.std.specs.List.{All};
 ghost use Rattle.vet_demand.specs.DependencyTable.{project_of_bytes};
-ghost use Rattle.vet_demand.specs.WrittenProject.{IsNamed, edge_fields, kind_word, line, lines, node_fields, node_records, party_word, written_text};
+ghost use Rattle.vet_demand.specs.WrittenProject.{IsNamed, edge_fields, kind_word, line, lines, node_fields};
+ghost use Rattle.vet_demand.specs.WrittenProject.{node_records, party_word, written_text};
 
 use crate::project::{Edge, EdgeKind, Node, Party, Project};
 use std::alloc::{AllocError, Global};

@@ -1,5 +1,7 @@
 -- What a command changes at the desk, who may do what, and what stays so.
-use Rattle.std.proofs.Common.{◌≡◌, ◌⊎◌, ℕ, ◌+◌, ◌<◌, ◌≤◌, Bool, true, false, ◌&&◌, not, is_some, is_none, length, get_or, List, [], ◌∷◌, IfSome, Option, Some, None, Ok, inl, inr, refl, sym, ap, subst, ◌∙◌, arith}
+use Rattle.std.proofs.Common.{◌≡◌, ◌⊎◌, ℕ, ◌+◌, ◌<◌, ◌≤◌, Bool, true, false, ◌&&◌, not, is_some, is_none, length}
+use Rattle.std.proofs.Common.{get_or, List, [], ◌∷◌, IfSome, Option, Some, None, Ok, inl, inr, refl, sym, ap, subst}
+use Rattle.std.proofs.Common.{◌∙◌, arith}
 use Rattle.std.specs.FinSet as set
 use Rattle.std.specs.FinMap.{nat_cmp-IsAntisymmetric}
 use Rattle.std.specs.List.{All, list_any}
@@ -11,7 +13,8 @@ use Rattle.std.proofs.lemmas.Cmp.{nat_cmp_total, nat_list_cmp_total}
 use Rattle.std.proofs.lemmas.List.Elements.{All-append, All-cons, All-head, All-nil, All-tail, All-weaker}
 use Rattle.vet_base.specs.declared.limits.TheConstants.{LAST_NUMBER, MOST_MEMBERS, MOST_REVIEWS}
 use Rattle.vet_base.specs.declared.refusal.Limit.TheVariants as limit
-use Rattle.vet_base.specs.declared.refusal.Refusal.TheVariants.{NotYours, ReviewClosed, TooLarge, UnknownMember, UnknownReview, WrongTarget}
+use Rattle.vet_base.specs.declared.refusal.Refusal.TheVariants.{NotYours, ReviewClosed, TooLarge, UnknownMember}
+use Rattle.vet_base.specs.declared.refusal.Refusal.TheVariants.{UnknownReview, WrongTarget}
 use Rattle.vet_base.specs.Criteria.{Criteria, least_unknown}
 use Rattle.vet_base.specs.Gives.{refuse_if, ◌>>=◌}
 use Rattle.vet_base.specs.VersionOrder.{version_eq}
@@ -23,14 +26,20 @@ use Rattle.vet_base.proofs.Rising.{R, only_equal}
 use Rattle.vet_base.proofs.Telling.{all_known, not_refused, then_told}
 use Rattle.vet_demand.specs.declared.pair.Pair.{Pair}
 use Rattle.vet_desk.specs.declared.command.DeskCommand.{DeskCommand}
-use Rattle.vet_desk.specs.declared.command.DeskCommand.TheVariants.{AddMember, OpenReview, AssignReview, FinishReview, WithdrawReview}
+use Rattle.vet_desk.specs.declared.command.DeskCommand.TheVariants.{AddMember, OpenReview, AssignReview, FinishReview}
+use Rattle.vet_desk.specs.declared.command.DeskCommand.TheVariants.{WithdrawReview}
 use Rattle.vet_desk.specs.declared.review.Review.{Review}
 use Rattle.vet_desk.specs.declared.review.ReviewState.{ReviewState}
 use Rattle.vet_desk.specs.declared.review.ReviewState.TheVariants.{Waiting, Assigned, Finished, Withdrawn}
 use Rattle.vet_desk.specs.Desk.{DeskState, desk_after, is_member, new_review, own_name}
-use Rattle.vet_desk.specs.DeskLaws.{DeskStaysSound, FinishedEntriesStayGiven, KnownIsNotBeyond, MemberIsAdded, MembersStay, OnlyItsMemberFinishes, OpenCriteriaStayKnown, OpenWaitsOrIsAssigned, OtherReviewsStay, ReviewChangesItsState, UnnamedCriterionMayGo, WaitingOrOwnIsWithdrawn}
-use Rattle.vet_desk.specs.DeskVerdict.{asked_of, both_held, desk_checked, desk_limits, desk_number, desk_references, desk_rules, finish_rules, still_open, target_of}
-use Rattle.vet_desk.specs.Review.{in_state, is_anothers, is_assigned_to, is_closed, is_open_beyond, is_open_for, review_number, review_of, with_review, with_state, with_state_of}
+use Rattle.vet_desk.specs.DeskLaws.{DeskStaysSound, FinishedEntriesStayGiven, KnownIsNotBeyond, MemberIsAdded}
+use Rattle.vet_desk.specs.DeskLaws.{MembersStay, OnlyItsMemberFinishes, OpenCriteriaStayKnown, OpenWaitsOrIsAssigned}
+use Rattle.vet_desk.specs.DeskLaws.{OtherReviewsStay, ReviewChangesItsState, UnnamedCriterionMayGo}
+use Rattle.vet_desk.specs.DeskLaws.{WaitingOrOwnIsWithdrawn}
+use Rattle.vet_desk.specs.DeskVerdict.{asked_of, both_held, desk_checked, desk_limits, desk_number, desk_references}
+use Rattle.vet_desk.specs.DeskVerdict.{desk_rules, finish_rules, still_open, target_of}
+use Rattle.vet_desk.specs.Review.{in_state, is_anothers, is_assigned_to, is_closed, is_open_beyond, is_open_for}
+use Rattle.vet_desk.specs.Review.{review_number, review_of, with_review, with_state, with_state_of}
 use Rattle.vet_desk.specs.SoundDesk.{HasEntryGiven, HaveEntriesGiven, IsEntryGiven, IsKnownTo}
 use Rattle.vet_desk.proofs.Soundness.{sound_joined, sound_opened, sound_turned}
 

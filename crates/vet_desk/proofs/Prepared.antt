@@ -1,5 +1,6 @@
 -- What is prepared for a command.
-use Rattle.std.proofs.Common.{◌≡◌, ℕ, ◌+◌, ◌<◌, ◌≤◌, true, length, get_or, List, [], ◌∷◌, ◌++◌, Option, Some, None, option_map, refl, sym, ap, subst, ◌∙◌, arith}
+use Rattle.std.proofs.Common.{◌≡◌, ℕ, ◌+◌, ◌<◌, ◌≤◌, true, length, get_or, List, [], ◌∷◌, ◌++◌, Option, Some, None}
+use Rattle.std.proofs.Common.{option_map, refl, sym, ap, subst, ◌∙◌, arith}
 use Rattle.std.proofs.lemmas.Option.{get_or_from_slice_get}
 use Rattle.vet_base.specs.declared.keyed.KeyedEdit.{KeyedEdit}
 use Rattle.vet_base.specs.declared.keyed.KeyedEdit.TheVariants as edit
@@ -13,13 +14,15 @@ use Rattle.vet_entries.specs.declared.entry.Entry.{Entry}
 use Rattle.vet_desk.specs.declared.change.DeskChange.{DeskChange}
 use Rattle.vet_desk.specs.declared.change.DeskChange.TheVariants.{Join, Open, Turn, Finish}
 use Rattle.vet_desk.specs.declared.command.DeskCommand.{DeskCommand}
-use Rattle.vet_desk.specs.declared.command.DeskCommand.TheVariants.{AddMember, OpenReview, AssignReview, FinishReview, WithdrawReview}
+use Rattle.vet_desk.specs.declared.command.DeskCommand.TheVariants.{AddMember, OpenReview, AssignReview, FinishReview}
+use Rattle.vet_desk.specs.declared.command.DeskCommand.TheVariants.{WithdrawReview}
 use Rattle.vet_desk.specs.declared.command.Reviewed.{Reviewed}
 use Rattle.vet_desk.specs.declared.review.Review.{Review}
 use Rattle.vet_desk.specs.declared.review.ReviewState.{ReviewState}
 use Rattle.vet_desk.specs.declared.review.ReviewState.TheVariants.{Assigned, Finished, Withdrawn}
 use Rattle.vet_desk.specs.Desk.{DeskState, desk_after, entry_by, is_member, new_review, own_name, with_member}
-use Rattle.vet_desk.specs.DeskView.{DeskView, FitsDesk, HoldsDeskRoom, IsDeskChange, IsDeskStep, KeepsDeskChanges, desk_changed, members_room, with_state_at}
+use Rattle.vet_desk.specs.DeskView.{DeskView, FitsDesk, HoldsDeskRoom, IsDeskChange, IsDeskStep, KeepsDeskChanges}
+use Rattle.vet_desk.specs.DeskView.{desk_changed, members_room, with_state_at}
 use Rattle.vet_desk.specs.Review.{with_state}
 use Rattle.vet_desk.specs.SoundDesk.{IsSoundDesk}
 use Rattle.vet_desk.proofs.Reviews.{IsFound, StandsAt, found, turned_is}

@@ -14,7 +14,8 @@ use Rattle.vet_entries.specs.declared.kind.Audit.{Audit}
 use Rattle.vet_entries.specs.declared.kind.Kind.{Kind}
 use Rattle.vet_entries.specs.declared.kind.Kind.TheVariants as kind
 use Rattle.vet_desk.specs.declared.command.DeskCommand.{DeskCommand}
-use Rattle.vet_desk.specs.declared.command.DeskCommand.TheVariants.{AddMember, OpenReview, AssignReview, FinishReview, WithdrawReview}
+use Rattle.vet_desk.specs.declared.command.DeskCommand.TheVariants.{AddMember, OpenReview, AssignReview, FinishReview}
+use Rattle.vet_desk.specs.declared.command.DeskCommand.TheVariants.{WithdrawReview}
 use Rattle.vet_desk.specs.declared.command.Reviewed.{Reviewed}
 use Rattle.vet_desk.specs.declared.command.Reviewed.TheVariants.{Version, Delta}
 use Rattle.vet_desk.specs.declared.review.Review.{Review}

@@ -1,12 +1,14 @@
 -- What a command is told at the desk (ours), in parts: held already, limits, number, references, rules. The limit of
 -- steps, which is not the desk's, stands between limits and number.
-use Rattle.std.specs.Prelude.{ℕ, ◌+◌, ◌==◌, ◌&&◌, not, nat_lt, Bool, true, false, is_none, List, Option, Some, None, Ok, length}
+use Rattle.std.specs.Prelude.{ℕ, ◌+◌, ◌==◌, ◌&&◌, not, nat_lt, Bool, true, false, is_none, List, Option, Some, None, Ok}
+use Rattle.std.specs.Prelude.{length}
 use Rattle.std.specs.List.{list_all, list_any}
 use Rattle.std.specs.Option.{option_map_or}
 use Rattle.vet_base.specs.Words.{Name}
 use Rattle.vet_base.specs.declared.limits.TheConstants.{LAST_NUMBER, MOST_MEMBERS, MOST_REVIEWS}
 use Rattle.vet_base.specs.declared.refusal.Limit.TheVariants as limit
-use Rattle.vet_base.specs.declared.refusal.Refusal.TheVariants.{NotDemanded, NotYours, ReviewClosed, TooLarge, UnknownMember, UnknownReview, WrongTarget}
+use Rattle.vet_base.specs.declared.refusal.Refusal.TheVariants.{NotDemanded, NotYours, ReviewClosed, TooLarge}
+use Rattle.vet_base.specs.declared.refusal.Refusal.TheVariants.{UnknownMember, UnknownReview, WrongTarget}
 use Rattle.vet_base.specs.Criteria.{Criteria, least_unknown}
 use Rattle.vet_base.specs.CriteriaChanges.{known}
 use Rattle.vet_base.specs.Gives.{Told, refuse_if, ◌>>=◌}
@@ -16,7 +18,8 @@ use Rattle.vet_base.specs.VersionOrder.{version_eq}
 use Rattle.vet_demand.specs.declared.pair.Pair.{Pair}
 use Rattle.vet_demand.specs.Pair.{pair_eq}
 use Rattle.vet_desk.specs.declared.command.DeskCommand.{DeskCommand}
-use Rattle.vet_desk.specs.declared.command.DeskCommand.TheVariants.{AddMember, OpenReview, AssignReview, FinishReview, WithdrawReview}
+use Rattle.vet_desk.specs.declared.command.DeskCommand.TheVariants.{AddMember, OpenReview, AssignReview, FinishReview}
+use Rattle.vet_desk.specs.declared.command.DeskCommand.TheVariants.{WithdrawReview}
 use Rattle.vet_desk.specs.declared.command.Reviewed.{Reviewed}
 use Rattle.vet_desk.specs.declared.command.Reviewed.TheVariants.{Version, Delta}
 use Rattle.vet_desk.specs.declared.review.Review.{Review}

@@ -1,5 +1,6 @@
 -- What a desk is seen as (ours), and what was prepared for it. This module alone of the desk's knows of room.
-use Rattle.std.specs.Prelude.{◌≡◌, ℕ, ◌+◌, ◌++◌, ◌<◌, ◌≤◌, List, [], ◌∷◌, Option, Some, None, true, is_some, length, slice_get, slice_set, Result, Ok, Err, MatchResult}
+use Rattle.std.specs.Prelude.{◌≡◌, ℕ, ◌+◌, ◌++◌, ◌<◌, ◌≤◌, List, [], ◌∷◌, Option, Some, None, true, is_some, length}
+use Rattle.std.specs.Prelude.{slice_get, slice_set, Result, Ok, Err, MatchResult}
 use Rattle.std.specs.Coded.{coded×}
 use Rattle.std.specs.Ordering.{nat_cmp}
 use Rattle.std.specs.Cmp.Lexicographic.{slice_cmp}
@@ -17,7 +18,8 @@ use Rattle.vet_desk.specs.declared.change.DeskChange.TheVariants.{Join, Open, Tu
 use Rattle.vet_desk.specs.declared.change.DeskStep.{DeskStep}
 use Rattle.vet_desk.specs.declared.change.DeskStep.TheVariants as step
 use Rattle.vet_desk.specs.declared.command.DeskCommand.{DeskCommand}
-use Rattle.vet_desk.specs.declared.command.DeskCommand.TheVariants.{AddMember, OpenReview, AssignReview, FinishReview, WithdrawReview}
+use Rattle.vet_desk.specs.declared.command.DeskCommand.TheVariants.{AddMember, OpenReview, AssignReview, FinishReview}
+use Rattle.vet_desk.specs.declared.command.DeskCommand.TheVariants.{WithdrawReview}
 use Rattle.vet_desk.specs.declared.review.Review.{Review}
 use Rattle.vet_desk.specs.declared.review.ReviewState.{ReviewState}
 use Rattle.vet_desk.specs.declared.review.ReviewState.TheVariants.{Finished}

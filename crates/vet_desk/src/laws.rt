@@ -1,7 +1,10 @@
 //! What follows of the definitions of the desk.
 //!
 //! **Only the member to whom a review is assigned finishes it, and a command leaves all other reviews as they were.**
-ghost use Rattle.vet_desk.specs.DeskLaws.{DeskStaysSound, FinishedEntriesStayGiven, KnownIsNotBeyond, MemberIsAdded, MembersStay, OnlyItsMemberFinishes, OpenCriteriaStayKnown, OpenWaitsOrIsAssigned, OtherReviewsStay, ReviewChangesItsState, UnnamedCriterionMayGo, WaitingOrOwnIsWithdrawn};
+ghost use Rattle.vet_desk.specs.DeskLaws.{DeskStaysSound, FinishedEntriesStayGiven, KnownIsNotBeyond, MemberIsAdded};
+ghost use Rattle.vet_desk.specs.DeskLaws.{MembersStay, OnlyItsMemberFinishes, OpenCriteriaStayKnown};
+ghost use Rattle.vet_desk.specs.DeskLaws.{OpenWaitsOrIsAssigned, OtherReviewsStay, ReviewChangesItsState};
+ghost use Rattle.vet_desk.specs.DeskLaws.{UnnamedCriterionMayGo, WaitingOrOwnIsWithdrawn};
 
 /// A member who is added is held, and who else is a member stays the same. Does nothing.
 pub fn a_member_is_added()

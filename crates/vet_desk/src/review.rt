@@ -1,11 +1,16 @@
 //! Reviews: what is to be reviewed, and how far that has come.
 ghost use Rattle.std.specs.Prelude.{◌≡◌};
+ghost use Rattle.std.specs.Cmp.{nat_cmp_total, on_total};
+ghost use Rattle.std.specs.Ordering.{nat_cmp, on};
 ghost use Rattle.vet_desk.specs.Review.{is_anothers, is_assigned_to, is_closed, is_open_beyond, is_open_for};
+ghost use Rattle.vet_desk.specs.Review.{review_number};
 
+use std::cmp::Ordering;
 use vet_base::criteria_table::CriteriaTable;
 use vet_base::day::Day;
 use vet_base::name::{Name, PackageName};
 use vet_base::names::Names;
+use vet_base::ranked::Ranked;
 use vet_base::version::VetVersion;
 
 /// A version of a package that is to be reviewed for some criteria.
@@ -53,6 +58,16 @@ impl Drop for ReviewState {
             ReviewState::Finished(_) => {}
             ReviewState::Withdrawn => {}
         }
+    }
+}
+
+impl Ranked for Review {
+    ghost rank_cmp = { on review_number nat_cmp };
+
+    ghost rank_total = { on_total review_number nat_cmp_total };
+
+    fn cmp_rank(&self, other: &Review) -> Ordering {
+        self.number.cmp(&other.number)
     }
 }
 

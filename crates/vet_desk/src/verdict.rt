@@ -6,7 +6,10 @@ ghost use Rattle.std.specs.List.{list_all};
 ghost use Rattle.vet_base.specs.CriteriaChanges.{known};
 ghost use Rattle.vet_base.specs.Gives.{Answers};
 ghost use Rattle.std.specs.Option.{option_copied};
-ghost use Rattle.vet_desk.specs.DeskVerdict.{are_demanded, asked_of, both_held, desk_held, desk_limits, desk_number, desk_references, desk_rules, desk_verdict, finish_rules, is_assigned_review, is_demanded, member_limit, review_limit, review_number_limit, still_open, wanted_rules, withdraw_rules};
+ghost use Rattle.vet_desk.specs.DeskVerdict.{are_demanded, asked_of, both_held, desk_held, desk_limits, desk_number};
+ghost use Rattle.vet_desk.specs.DeskVerdict.{desk_references, desk_rules, desk_verdict, finish_rules};
+ghost use Rattle.vet_desk.specs.DeskVerdict.{is_assigned_review, is_demanded, member_limit, review_limit};
+ghost use Rattle.vet_desk.specs.DeskVerdict.{review_number_limit, still_open, wanted_rules, withdraw_rules};
 
 use crate::command::{DeskCommand, Reviewed};
 use crate::desk::Desk;

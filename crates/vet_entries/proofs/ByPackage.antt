@@ -1,11 +1,15 @@
 -- The order of packages, and what an edit leaves of it.
-use Rattle.std.proofs.Common.{◌≡◌, ℕ, ◌+◌, ◌-◌, ◌<◌, ◌≤◌, Bool, true, false, cond, List, ◌∷◌, ◌++◌, map, length, get_or, ltb, ltb-true, ltb-false, lt-ltb, le-ltb, take, drop, refl, sym, ap, subst, ◌∙◌, arith}
+use Rattle.std.proofs.Common.{◌≡◌, ℕ, ◌+◌, ◌-◌, ◌<◌, ◌≤◌, Bool, true, false, cond, List, ◌∷◌, ◌++◌, map, length, get_or}
+use Rattle.std.proofs.Common.{ltb, ltb-true, ltb-false, lt-ltb, le-ltb, take, drop, refl, sym, ap, subst, ◌∙◌, arith}
 use Rattle.std.specs.List.{All, between, filter, insert, range_with_len}
 use Rattle.std.specs.List.Sorted.{IsNonDecreasingBy, IsPartitionPoint}
 use Rattle.std.specs.Ordering.{is_eq, ordering_index}
-use Rattle.std.proofs.lemmas.List.{get_or-map, get_or-take, get_or-drop, length-drop, length-map, length-take, map-append, take-map, drop-map, take-append-le, drop-append-le, take-append-drop, length-take-le}
+use Rattle.std.proofs.lemmas.List.{get_or-map, get_or-take, get_or-drop, length-drop, length-map, length-take}
+use Rattle.std.proofs.lemmas.List.{map-append, take-map, drop-map, take-append-le, drop-append-le, take-append-drop}
+use Rattle.std.proofs.lemmas.List.{length-take-le}
 use Rattle.std.proofs.Math.Seq.{take-append-add, drop-append-add}
-use Rattle.std.proofs.lemmas.List.Elements.{All-append, All-cons, All-take, All-drop, All-map, All-same, All-filter, filter-append}
+use Rattle.std.proofs.lemmas.List.Elements.{All-append, All-cons, All-take, All-drop, All-map, All-same, All-filter}
+use Rattle.std.proofs.lemmas.List.Elements.{filter-append}
 use Rattle.std.proofs.lemmas.List.FromFn.{length-range_with_len, get_or-range_with_len}
 use Rattle.std.proofs.lemmas.List.Kept.{IsNonDecreasingBy-filter}
 use Rattle.std.proofs.lemmas.List.Edits.{split_between, length-insert, length-between}
@@ -13,7 +17,8 @@ use Rattle.std.proofs.lemmas.List.Sorted.{IsNonDecreasingBy-insert}
 use Rattle.vet_entries.specs.declared.facts.HeldEntry.{HeldEntry}
 use Rattle.vet_entries.specs.ByPackage.{IsByPackage, IsRange, IsSlot, stand, is_at, places_of, up}
 use Rattle.vet_base.proofs.ListLemmas.{filter_drops, filter_keeps}
-use Rattle.vet_entries.proofs.Places.{cut_alike, filter-map, filter_front, in_range, map_range, range_around, range_cut, up_above, up_below, up_within}
+use Rattle.vet_entries.proofs.Places.{cut_alike, filter-map, filter_front, in_range, map_range, range_around, range_cut}
+use Rattle.vet_entries.proofs.Places.{up_above, up_below, up_within}
 use Rattle.vet_entries.proofs.Standing.{R, same_name, stand_up, stand_new, stands_to_new}
 
 -- ---- a package's range

@@ -1,5 +1,6 @@
 -- What is held after entries were put in place of those of a source, and after an import.
-use Rattle.std.proofs.Common.{◌≡◌, ◌≢◌, ℕ, ◌+◌, ◌<◌, ◌≤◌, ◌⊎◌, inl, inr, Bool, true, false, cond, not, ◌||◌, List, [], ◌∷◌, ◌++◌, get_or, length, map, refl, sym, ap, subst, ◌∙◌, arith}
+use Rattle.std.proofs.Common.{◌≡◌, ◌≢◌, ℕ, ◌+◌, ◌<◌, ◌≤◌, ◌⊎◌, inl, inr, Bool, true, false, cond, not, ◌||◌, List, []}
+use Rattle.std.proofs.Common.{◌∷◌, ◌++◌, get_or, length, map, refl, sym, ap, subst, ◌∙◌, arith}
 use Rattle.std.specs.List.{All, AllPairs, filter, list_all, list_any}
 use Rattle.std.proofs.lemmas.Bool.{false≢true}
 use Rattle.std.proofs.lemmas.List.{append-nil, length-map}
@@ -14,12 +15,16 @@ use Rattle.vet_entries.specs.Distinct.{firsts}
 use Rattle.vet_entries.specs.Entry.{entry_eq, of_source, own}
 use Rattle.vet_entries.specs.EntryLaws.{entry_eq-Decides}
 use Rattle.vet_entries.specs.HeldPeer.{entries_after_import}
-use Rattle.vet_entries.specs.ImportLaws.{ImportKeepsOrder, ImportKeepsNumbers, ImportTakesEntries, ImportHoldsEachOnce, ImportHoldsItsContent}
+use Rattle.vet_entries.specs.ImportLaws.{ImportKeepsOrder, ImportKeepsNumbers, ImportTakesEntries, ImportHoldsEachOnce}
+use Rattle.vet_entries.specs.ImportLaws.{ImportHoldsItsContent}
 use Rattle.vet_entries.specs.Numbered.{AreByNumber, Rise, numbered}
 use Rattle.vet_entries.specs.PeerContent.{is_own}
 use Rattle.vet_entries.specs.Replaced.{as_of, comes_again, entries_after, is_held, is_new, new_of}
-use Rattle.vet_entries.specs.ReplacedLaws.{AllDiffer, EntriesAreHeld, EntriesAreTaken, EntriesKeepNumbers, EntriesKeepOrder, EntriesStandOnce, NothingNew, entries_of}
-use Rattle.vet_base.proofs.ItemLemmas.{all_in, any_in, filter_in, in_all, in_any, in_append, in_back, in_filter, in_front, in_map, map_in, no_longer, pairs_append, pairs_head, pairs_none, pairs_tail}
+use Rattle.vet_entries.specs.ReplacedLaws.{AllDiffer, EntriesAreHeld, EntriesAreTaken, EntriesKeepNumbers}
+use Rattle.vet_entries.specs.ReplacedLaws.{EntriesKeepOrder, EntriesStandOnce, NothingNew, entries_of}
+use Rattle.vet_base.proofs.ItemLemmas.{all_in, any_in, filter_in, in_all, in_any, in_append, in_back, in_filter}
+use Rattle.vet_base.proofs.ItemLemmas.{in_front, in_map, map_in, no_longer, pairs_append, pairs_head, pairs_none}
+use Rattle.vet_base.proofs.ItemLemmas.{pairs_tail}
 use Rattle.vet_base.proofs.ListLemmas.{filter_drops, filter_keeps}
 use Rattle.vet_entries.proofs.ImportCompared.{is_own_entry, own_source, restored}
 use Rattle.vet_entries.proofs.SameContent.{and_both, passes}

@@ -1,5 +1,6 @@
 -- Items in the order of their names, as a map.
-use Rattle.std.proofs.Common.{◌≡◌, ℕ, ◌<◌, ◌↔◌, ◌==◌, ◌&&◌, Bool, true, false, cond, T, List, [], ◌∷◌, map as mapped, length, Some, option_map, refl, sym, ap, subst, ◌∙◌, arith, eqb-true, eq-eqb}
+use Rattle.std.proofs.Common.{◌≡◌, ℕ, ◌<◌, ◌↔◌, ◌==◌, ◌&&◌, Bool, true, false, cond, T, List, [], ◌∷◌, map as mapped}
+use Rattle.std.proofs.Common.{length, Some, option_map, refl, sym, ap, subst, ◌∙◌, arith, eqb-true, eq-eqb}
 use Rattle.std.specs.Ordering.{eq_by_cmp, is_eq}
 use Rattle.std.specs.Cmp.Lexicographic.{pointwise}
 use Rattle.std.specs.FinSet as set

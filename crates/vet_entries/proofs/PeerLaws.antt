@@ -1,5 +1,6 @@
 -- What is held of peers, after one was exchanged.
-use Rattle.std.proofs.Common.{◌≡◌, ◌+◌, ◌<◌, ◌≤◌, ℕ, suc, arith, [], ◌∷◌, length, get_or, take, false, is_some, List, Option, Some, None, refl, sym, ap, ◌∙◌}
+use Rattle.std.proofs.Common.{◌≡◌, ◌+◌, ◌<◌, ◌≤◌, ℕ, suc, arith, [], ◌∷◌, length, get_or, take, false, is_some, List}
+use Rattle.std.proofs.Common.{Option, Some, None, refl, sym, ap, ◌∙◌}
 use Rattle.std.proofs.lemmas.Cmp.{nat_list_cmp_total}
 use Rattle.std.proofs.Math.Seq.{take-suc}
 use Rattle.std.proofs.lemmas.List.Sums.{sum_by-append, sum_by-cons, sum_by-take-le}
@@ -11,7 +12,8 @@ use Rattle.vet_base.proofs.Rising.{R, only_equal}
 use Rattle.vet_entries.specs.declared.held_peer.HeldPeer.{HeldPeer}
 use Rattle.vet_entries.specs.declared.peer_settings.PeerSettings.{PeerSettings}
 use Rattle.vet_entries.specs.Facts.{entries_of_peers}
-use Rattle.vet_entries.specs.HeldPeer.{holding_or_none, peer_name, peer_of, with_content, with_content_of, with_peer, with_settings, without_peer}
+use Rattle.vet_entries.specs.HeldPeer.{holding_or_none, peer_name, peer_of, with_content, with_content_of, with_peer}
+use Rattle.vet_entries.specs.HeldPeer.{with_settings, without_peer}
 use Rattle.vet_entries.specs.Holding.{HoldingValue}
 
 abbrev pub AreByName : List HeldPeer → Type 0

@@ -1,5 +1,6 @@
 -- What the words of a peer are in one's own table, criterion by criterion.
-use Rattle.std.proofs.Common.{◌≡◌, ℕ, ◌<◌, ◌↔◌, true, false, ◌||◌, List, [], ◌∷◌, length, get_or, Option, Some, None, refl, sym, ap, ◌∙◌, inl, inr}
+use Rattle.std.proofs.Common.{◌≡◌, ℕ, ◌<◌, ◌↔◌, true, false, ◌||◌, List, [], ◌∷◌, length, get_or, Option, Some, None}
+use Rattle.std.proofs.Common.{refl, sym, ap, ◌∙◌, inl, inr}
 use Rattle.std.specs.List.{list_any}
 use Rattle.std.specs.Option.{option_map_or, is_some}
 use Rattle.std.specs.Cmp.{both_ways}
@@ -19,7 +20,8 @@ use Rattle.vet_base.proofs.Tables.{at_place, contains-placed_at, missing_place}
 use Rattle.vet_entries.specs.CriteriaMap.{NamesByName}
 use Rattle.vet_entries.specs.LocalCriteria.{all_beyond, direct, mapped_beyond}
 use Rattle.vet_entries.specs.Mapped.{mapped, mapped_name}
-use Rattle.vet_entries.proofs.MappedNames.{has-placed_union, in_placed, mapped_from, mapped_to, none_placed, one_passes, passes, placed_along, placed_parts}
+use Rattle.vet_entries.proofs.MappedNames.{has-placed_union, in_placed, mapped_from, mapped_to, none_placed, one_passes}
+use Rattle.vet_entries.proofs.MappedNames.{passes, placed_along, placed_parts}
 
 -- ---- one name
 

@@ -1,16 +1,19 @@
 -- What the publisher records of packages are, after those of one were set.
-use Rattle.std.proofs.Common.{◌≡◌, ℕ, ◌+◌, ◌<◌, ◌≤◌, ◌^◌, List, [], ◌∷◌, Option, Some, None, length, refl, sym, ap, subst, ◌∙◌, arith}
+use Rattle.std.proofs.Common.{◌≡◌, ℕ, ◌+◌, ◌<◌, ◌≤◌, ◌^◌, List, [], ◌∷◌, Option, Some, None, length, refl, sym, ap}
+use Rattle.std.proofs.Common.{subst, ◌∙◌, arith}
 use Rattle.std.specs.List.{All}
 use Rattle.std.proofs.lemmas.Cmp.{nat_list_cmp_total}
 use Rattle.vet_base.specs.Keyed.{Fits, IsByKey, KeyedRoom, edited, item_of, with_item}
 use Rattle.vet_base.specs.declared.keyed.KeyedEdit.{KeyedEdit}
 use Rattle.vet_base.proofs.KeyedLemmas.{IsByKey-with_item, item_of-other, item_of-own}
 use Rattle.vet_base.proofs.Comparisons.{equal}
-use Rattle.vet_base.proofs.KeyedParts.{All-with_item, All-without_item, IsByKey-without_item, held_sum, item_found, item_of-gone, item_of-stays, sum_with, sum_without, with_held, without_none}
+use Rattle.vet_base.proofs.KeyedParts.{All-with_item, All-without_item, IsByKey-without_item, held_sum, item_found}
+use Rattle.vet_base.proofs.KeyedParts.{item_of-gone, item_of-stays, sum_with, sum_without, with_held, without_none}
 use Rattle.vet_base.proofs.Rising.{R, only_equal}
 use Rattle.vet_entries.specs.declared.publisher.Publisher.{Publisher}
 use Rattle.vet_entries.specs.declared.publisher_records.PackagePublishers.{PackagePublishers}
-use Rattle.vet_entries.specs.PublisherRecords.{FitsPublishers, HasAny, IsByName, package_of, records_held, records_of, records_total, with_records}
+use Rattle.vet_entries.specs.PublisherRecords.{FitsPublishers, HasAny, IsByName, package_of, records_held, records_of}
+use Rattle.vet_entries.specs.PublisherRecords.{records_total, with_records}
 
 abbrev listed : List ℕ → Publisher → List Publisher → PackagePublishers
 listed name first rest = record { «package» = name; publishers = first ∷ rest }

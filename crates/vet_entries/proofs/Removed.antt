@@ -1,5 +1,6 @@
 -- The order of packages after an entry was taken out.
-use Rattle.std.proofs.Common.{◌≡◌, ℕ, zero, suc, ◌+◌, ◌-◌, ◌<◌, ◌==◌, Bool, true, false, not, cond, ◌&&◌, inl, inr, List, [], ◌∷◌, ◌++◌, map, length, get_or, refl, sym, ap, ◌∙◌, arith, eqb-true, eq-eqb}
+use Rattle.std.proofs.Common.{◌≡◌, ℕ, zero, suc, ◌+◌, ◌-◌, ◌<◌, ◌==◌, Bool, true, false, not, cond, ◌&&◌, inl, inr}
+use Rattle.std.proofs.Common.{List, [], ◌∷◌, ◌++◌, map, length, get_or, refl, sym, ap, ◌∙◌, arith, eqb-true, eq-eqb}
 use Rattle.std.specs.List.{filter, remove, range_with_len}
 use Rattle.std.specs.List.Sorted.{IsNonDecreasingBy}
 use Rattle.std.specs.Ordering.{is_eq, ordering_index}
@@ -13,7 +14,8 @@ use Rattle.std.proofs.lemmas.List.Kept.{IsNonDecreasingBy-filter}
 use Rattle.vet_entries.specs.declared.facts.HeldEntry.{HeldEntry}
 use Rattle.vet_entries.specs.ByPackage.{IsByPackage, stand, is_at, down}
 use Rattle.vet_base.proofs.ListLemmas.{filter_drops, filter_keeps}
-use Rattle.vet_entries.proofs.Places.{down_above, down_below, filter-filter, filter-map, filter_same, filter_swap, in_range, map_range, range_around, range_cut}
+use Rattle.vet_entries.proofs.Places.{down_above, down_below, filter-filter, filter-map, filter_same, filter_swap}
+use Rattle.vet_entries.proofs.Places.{in_range, map_range, range_around, range_cut}
 use Rattle.vet_entries.proofs.Standing.{stand_down}
 
 -- a place is not the one of the entry that goes

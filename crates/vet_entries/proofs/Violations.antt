@@ -9,7 +9,8 @@ use Rattle.vet_base.specs.Req.{req_matches}
 use Rattle.vet_base.specs.Version.{VersionValue}
 use Rattle.vet_entries.specs.declared.kind.Kind.{Kind}
 use Rattle.vet_entries.specs.declared.kind.Kind.TheVariants as kind
-use Rattle.vet_entries.specs.Condemned.{condemned_by, condemns, is_condemned, violated, violates, violation_in, violation_of, violations_of}
+use Rattle.vet_entries.specs.Condemned.{condemned_by, condemns, is_condemned, violated, violates, violation_in}
+use Rattle.vet_entries.specs.Condemned.{violation_of, violations_of}
 use Rattle.vet_entries.specs.Facts.{Facts}
 use Rattle.vet_entries.specs.Step.{SourcedEntry, entries_of}
 

@@ -1,5 +1,6 @@
 -- What is held of packages (ours): a table of criteria, one's own entries, peers with theirs, and publisher records.
-use Rattle.std.specs.Prelude.{ℕ, ◌≡◌, ◌<◌, ◌≤◌, ◌+◌, ◌-◌, ◌||◌, Bool, false, true, List, [], length, insert, is_some, remove}
+use Rattle.std.specs.Prelude.{ℕ, ◌≡◌, ◌<◌, ◌≤◌, ◌+◌, ◌-◌, ◌||◌, Bool, false, true, List, [], length, insert, is_some}
+use Rattle.std.specs.Prelude.{remove}
 use Rattle.std.specs.List.{list_any, sum_by}
 use Rattle.std.specs.FinSet as set
 use Rattle.std.specs.Ordering.{nat_cmp}

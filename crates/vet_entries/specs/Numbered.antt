@@ -5,6 +5,10 @@ use Rattle.vet_entries.specs.declared.entry.Entry.{Entry}
 use Rattle.vet_entries.specs.declared.facts.HeldEntry.{HeldEntry}
 use Rattle.vet_entries.specs.Entry.{entry_eq, own}
 
+-- the number of an entry
+abbrev pub entry_number : HeldEntry → ℕ
+entry_number held = held.number
+
 -- some entries, with numbers from this one on
 abbrev pub numbered : ℕ → List Entry → List HeldEntry
 numbered n [] = []

@@ -1,5 +1,6 @@
 -- The steps of a package (The Cargo Vet Book, audit entries, wildcard audits, trusted publishers and exemptions).
-use Rattle.std.specs.Prelude.{ℕ, ◌≡◌, ◌&&◌, ◌==◌, Bool, true, false, List, Option, Some, None, filter, if◌then◌else◌, map, nat_lt, [], ◌∷◌, ◌++◌}
+use Rattle.std.specs.Prelude.{ℕ, ◌≡◌, ◌&&◌, ◌==◌, Bool, true, false, List, Option, Some, None, filter, if◌then◌else◌}
+use Rattle.std.specs.Prelude.{map, nat_lt, [], ◌∷◌, ◌++◌}
 use Rattle.std.specs.FinSet as set
 use Rattle.std.specs.List.{All, flat_map}
 use Rattle.std.specs.Ordering.{is_le}

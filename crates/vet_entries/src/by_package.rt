@@ -23,11 +23,13 @@
 //! the content is held already. Else what is held after it is made whole. It is copies of the held entries that come
 //! again, with their old numbers, and then the new ones with the next numbers. So the list stands by number without a
 //! sort.
-ghost use Rattle.std.specs.Prelude.{◌≡◌, ◌<◌, ◌≤◌, ◌+◌, ◌-◌, [], IfOk, IsOk, OnOk, OnErr, filter, insert, length, map, remove, slice_index_or, true, false, vec_capacity, vec_len};
+ghost use Rattle.std.specs.Prelude.{◌≡◌, ◌<◌, ◌≤◌, ◌+◌, ◌-◌, [], IfOk, IsOk, OnOk, OnErr, filter, insert, length, map};
+ghost use Rattle.std.specs.Prelude.{remove, slice_index_or, true, false, vec_capacity, vec_len};
 ghost use Rattle.std.specs.List.{All, range_with_len};
 ghost use Rattle.std.specs.List.Sorted.{IsNonDecreasingBy, IsPartitionPoint};
 ghost use Rattle.std.specs.Ordering.{is_le, is_lt, ordering_index};
-ghost use Rattle.vet_entries.specs.ByPackage.{IsByPackage, IsRange, IsSlot, down, gathered, is_of, package_at, places_of, stand, up};
+ghost use Rattle.vet_entries.specs.ByPackage.{IsByPackage, IsRange, IsSlot, down, gathered, is_of, package_at};
+ghost use Rattle.vet_entries.specs.ByPackage.{places_of, stand, up};
 ghost use Rattle.vet_entries.specs.Numbered.{AreByNumber, place_of};
 
 use crate::facts::HeldEntry;

@@ -6,7 +6,8 @@ ghost use Rattle.vet_base.specs.Closures.{AreClosures};
 ghost use Rattle.vet_base.specs.Criteria.{leads_to, placed};
 ghost use Rattle.vet_base.specs.CriteriaSet.{has};
 ghost use Rattle.vet_base.specs.Req.{req_matches};
-ghost use Rattle.vet_entries.specs.Condemned.{ViolationsCondemn, condemned_by, condemns, is_condemned, violates, violation_in, violations_of};
+ghost use Rattle.vet_entries.specs.Condemned.{ViolationsCondemn, condemned_by, condemns, is_condemned, violates};
+ghost use Rattle.vet_entries.specs.Condemned.{violation_in, violations_of};
 ghost use Rattle.vet_entries.specs.PeerWords.{violated_names};
 ghost use Rattle.vet_entries.specs.Source.{IsWithin, entries_from};
 

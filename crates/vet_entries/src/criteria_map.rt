@@ -1,12 +1,15 @@
 //! What the criteria of a peer are in one's own.
-ghost use Rattle.std.specs.Prelude.{◌≡◌, ◌↔◌, IsTrue, Ok, OnOk, OnErr};
+ghost use Rattle.std.specs.Prelude.{◌≡◌, ◌↔◌, [], IfOk, IsTrue, Ok, OnOk, OnErr};
+ghost use Rattle.std.specs.Cmp.Lexicographic.{slice_cmp};
 ghost use Rattle.std.specs.FinMap as map;
 ghost use Rattle.std.specs.FinSet as set;
 ghost use Rattle.std.specs.List.{list_any};
 ghost use Rattle.std.specs.Option.{option_copied};
+ghost use Rattle.std.specs.Ordering.{nat_cmp};
 ghost use Rattle.vet_base.specs.Criteria.{least_unknown};
+ghost use Rattle.vet_base.specs.Keyed.{all_set};
 ghost use Rattle.vet_base.specs.Names.{IsRising};
-ghost use Rattle.vet_entries.specs.CriteriaMap.{by_name, names_of};
+ghost use Rattle.vet_entries.specs.CriteriaMap.{by_name, mapped_name, names_of};
 ghost use Rattle.vet_entries.specs.Mapped.{targets};
 
 use std::alloc::{AllocError, Global};
@@ -122,6 +125,16 @@ impl CriteriaMap {
         CriteriaMap {
             items: Keyed::new(alloc),
         }
+    }
+
+    /// These criteria, in whatever order; of those of one name the last stays. Takes a time of n log n.
+    pub fn of(alloc: Global, items: Vec<MappedCriterion>) -> Result<CriteriaMap, AllocError>
+        ensures { IfOk result (λ m.
+            m ≡ map.from_sorted (by_name (all_set (slice_cmp nat_cmp) mapped_name [] items.items))) }
+    {
+        Ok(CriteriaMap {
+            items: Keyed::of(alloc, items)?,
+        })
     }
 
     /// Puts what a criterion of the peer stands for, in place of what it stood for, which takes

@@ -1,5 +1,6 @@
 //! What is held of packages.
-ghost use Rattle.std.specs.Prelude.{◌≡◌, ◌<◌, ◌+◌, ◌^◌, ◌++◌, ◌∷◌, [], IfOk, IfErr, IsOk, OnErr, filter, length, nat_lt, remove};
+ghost use Rattle.std.specs.Prelude.{◌≡◌, ◌<◌, ◌+◌, ◌^◌, ◌++◌, ◌∷◌, [], IfOk, IfErr, IsOk, OnErr, filter, length};
+ghost use Rattle.std.specs.Prelude.{nat_lt, remove};
 ghost use Rattle.std.specs.List.{All};
 ghost use Rattle.std.specs.Option.{option_copied};
 ghost use Rattle.std.specs.Ordering.{nat_cmp};
@@ -7,8 +8,11 @@ ghost use Rattle.std.specs.Cmp.Lexicographic.{slice_cmp};
 ghost use Rattle.vet_base.specs.Criteria.{IsTable};
 ghost use Rattle.vet_base.specs.Keyed.{IsByKey};
 ghost use Rattle.vet_entries.specs.ByPackage.{gathered, is_of};
-ghost use Rattle.vet_entries.specs.Facts.{Fits, FitsWithMoreRoom, HoldsRoomOf, IsHeld, RoomHoldsItself, RoomHoldsOnward, edited, entries_of_peers, entries_total, is_named, no_facts, peers_room, publishers_room, room_after};
-ghost use Rattle.vet_entries.specs.HeldPeer.{holding_or_none, peer_name, peer_of, with_content, with_settings, without_peer};
+ghost use Rattle.vet_entries.specs.Facts.{Fits, FitsWithMoreRoom, HoldsRoomOf, IsHeld, RoomHoldsItself};
+ghost use Rattle.vet_entries.specs.Facts.{RoomHoldsOnward, edited, entries_of_peers, entries_total, is_named, no_facts};
+ghost use Rattle.vet_entries.specs.Facts.{peers_room, publishers_room, room_after};
+ghost use Rattle.vet_entries.specs.HeldPeer.{holding_or_none, peer_name, peer_of, with_content, with_settings};
+ghost use Rattle.vet_entries.specs.HeldPeer.{without_peer};
 ghost use Rattle.vet_entries.specs.Numbered.{AreByNumber, number_of, numbered, place_of};
 ghost use Rattle.vet_entries.specs.PublisherRecords.{IsByName, records_of, records_total, with_records};
 ghost use Rattle.vet_entries.specs.Publishers.{IsInOrder};

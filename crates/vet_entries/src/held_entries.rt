@@ -2,12 +2,23 @@
 ghost use Rattle.std.specs.List.{list_any};
 ghost use Rattle.std.specs.Prelude.{◌≡◌, IfOk};
 ghost use Rattle.vet_entries.specs.Facts.{is_named_by};
-ghost use Rattle.vet_entries.specs.Numbered.{numbered};
+ghost use Rattle.vet_entries.specs.Numbered.{entry_number, numbered};
 
 use crate::entry::Entry;
 use crate::facts::HeldEntry;
 use std::alloc::{AllocError, Global};
+use vet_base::keyed::HasKey;
 use vet_base::name::Name;
+
+impl HasKey for HeldEntry {
+    type Key = u64;
+
+    ghost key_of = { entry_number };
+
+    fn key(&self) -> &u64 {
+        &self.number
+    }
+}
 
 /// Some entries with the numbers from one on.
 pub(crate) fn numbered(alloc: Global, entries: Vec<Entry>) -> Result<Vec<HeldEntry>, AllocError>

@@ -6,7 +6,8 @@
 ghost use Rattle.std.specs.HashMap.{get};
 ghost use Rattle.std.specs.List.{All, list_all, list_any};
 ghost use Rattle.std.specs.Option.{unwrap_or};
-ghost use Rattle.std.specs.Prelude.{◌≡◌, ◌==◌, ◌<◌, ◌+◌, ◌^◌, ◌++◌, ◌&&◌, ◌||◌, Bool, IfErr, IfOk, None, OnOk, Some, false, filter, if◌then◌else◌, is_none, is_some, length, map, not, option_map, true};
+ghost use Rattle.std.specs.Prelude.{◌≡◌, ◌==◌, ◌<◌, ◌+◌, ◌^◌, ◌++◌, ◌&&◌, ◌||◌, Bool, IfErr, IfOk, None, OnOk, Some};
+ghost use Rattle.std.specs.Prelude.{false, filter, if◌then◌else◌, is_none, is_some, length, map, not, option_map, true};
 ghost use Rattle.vet_base.specs.Defined.{defined};
 ghost use Rattle.vet_base.specs.Definitions.{criteria_eq};
 ghost use Rattle.vet_entries.specs.declared.entry.Entry.{Entry};
@@ -15,7 +16,8 @@ ghost use Rattle.vet_entries.specs.declared.facts.HeldEntry.{HeldEntry};
 ghost use Rattle.vet_entries.specs.Entry.{entry_eq, of_source, own};
 ghost use Rattle.vet_entries.specs.HeldPeer.{imported};
 ghost use Rattle.vet_entries.specs.Import.{compared, compared_own};
-ghost use Rattle.vet_entries.specs.ImportLaws.{ImportHoldsEachOnce, ImportHoldsItsContent, ImportKeepsNumbers, ImportKeepsOrder, ImportTakesEntries, SameItemsAreSame};
+ghost use Rattle.vet_entries.specs.ImportLaws.{ImportHoldsEachOnce, ImportHoldsItsContent, ImportKeepsNumbers};
+ghost use Rattle.vet_entries.specs.ImportLaws.{ImportKeepsOrder, ImportTakesEntries, SameItemsAreSame};
 ghost use Rattle.vet_entries.specs.Numbered.{numbered};
 ghost use Rattle.vet_entries.specs.Replaced.{as_of, entries_after};
 

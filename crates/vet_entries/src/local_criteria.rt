@@ -6,12 +6,11 @@
 //! All that one criterion of a peer implies there is found once, and so is what that stands for here. A name that
 //! the peer doesn't define implies nothing there, so the map alone says what it is. An entry then costs a look for
 //! each name, and one closure.
-ghost use Rattle.std.specs.Prelude.{◌≡◌, ◌<◌, ◌↔◌, ℕ, true, None, Some, [], length, slice_index_or, IfOk, IfErr};
+ghost use Rattle.std.specs.Prelude.{◌≡◌, ◌<◌, ℕ, None, Some, [], length, slice_index_or, IfOk, IfErr};
 ghost use Rattle.std.specs.FinMap as table;
 ghost use Rattle.std.specs.FinSet as set;
 ghost use Rattle.vet_base.specs.Closures.{AreClosures};
 ghost use Rattle.vet_base.specs.Criteria.{closure_of, placed};
-ghost use Rattle.vet_base.specs.CriteriaSet.{has};
 ghost use Rattle.vet_base.specs.Names.{members};
 ghost use Rattle.vet_entries.specs.LocalCriteria.{AreLocal, AreWords, all_beyond, direct, mapped_beyond, stands_for};
 ghost use Rattle.vet_entries.specs.Mapped.{mapped, mapped_name};
@@ -22,7 +21,7 @@ use crate::criteria_map::CriteriaMap;
 use crate::facts::EntryFacts;
 use crate::held_peer::HeldPeer;
 use std::alloc::Global;
-use vet_base::closures::Closures;
+use vet_base::closures::{Closures, union_at};
 use vet_base::criteria_set::CriteriaSet;
 use vet_base::criteria_table::{CriteriaTable, is_built_in};
 use vet_base::definitions::Definitions;
@@ -121,7 +120,7 @@ impl PeerWords {
         let mut stands = [CriteriaSet::empty(); MOST_CRITERIA];
         for place in 0..count {
             let reached = closures.close(&CriteriaSet::empty().with(place));
-            stands[place] = joined(&direct, &reached);
+            stands[place] = union_at(&direct, &reached);
         }
         PeerWords { stands }
     }
@@ -223,18 +222,4 @@ fn itself(criteria: &CriteriaTable, name: &Name) -> CriteriaSet
         Some(place) => CriteriaSet::empty().with(place),
         None => CriteriaSet::empty(),
     }
-}
-
-// What stands at the places of a set, in one.
-fn joined(words: &[CriteriaSet; MOST_CRITERIA], places: &CriteriaSet) -> CriteriaSet
-    ensures { (q : ℕ) → (has q result ≡ true)
-        ↔ ((p : ℕ) × (has p places.now ≡ true) × (has q (slice_index_or words.now p set.empty) ≡ true)) }
-{
-    let mut joined = CriteriaSet::empty();
-    for place in 0..MOST_CRITERIA {
-        if places.has(place) {
-            joined = joined.union(&words[place]);
-        }
-    }
-    joined
 }

@@ -1,7 +1,9 @@
 //! The publisher records of all packages.
-ghost use Rattle.std.specs.Prelude.{◌≡◌, ◌↔◌, ◌<◌, ◌≤◌, ◌+◌, ◌^◌, ◌⊎◌, [], IfOk, IfErr, IsTrue, OnOk, ℕ, List, length, slice_index_or};
+ghost use Rattle.std.specs.Prelude.{◌≡◌, ◌↔◌, ◌<◌, ◌≤◌, ◌+◌, ◌^◌, ◌⊎◌, [], IfOk, IfErr, IsTrue, OnOk, ℕ, List, length};
+ghost use Rattle.std.specs.Prelude.{slice_index_or};
 ghost use Rattle.vet_base.specs.Keyed.{edited, room_after};
-ghost use Rattle.vet_entries.specs.PublisherRecords.{FitsPublishers, HasPackage, IsByName, records_of, records_total, with_records};
+ghost use Rattle.vet_entries.specs.PublisherRecords.{FitsPublishers, HasPackage, IsByName, records_of, records_total};
+ghost use Rattle.vet_entries.specs.PublisherRecords.{with_records};
 ghost use Rattle.vet_entries.specs.Publishers.{IsInOrder};
 ghost use Rattle.vet_entries.specs.declared.publisher_records.PackagePublishers.{PackagePublishers};
 

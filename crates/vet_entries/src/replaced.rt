@@ -1,5 +1,6 @@
 //! What is held of a source, one's own entries or a peer's, after others take their place.
-ghost use Rattle.vet_entries.specs.ReplacedLaws.{EntriesAreHeld, EntriesAreTaken, EntriesKeepNumbers, EntriesKeepOrder, EntriesStandOnce, NothingNew};
+ghost use Rattle.vet_entries.specs.ReplacedLaws.{EntriesAreHeld, EntriesAreTaken, EntriesKeepNumbers, EntriesKeepOrder};
+ghost use Rattle.vet_entries.specs.ReplacedLaws.{EntriesStandOnce, NothingNew};
 
 /// Where the numbers rise below the next one, they still do after, below the next one after it.
 pub fn entries_keep_order()

@@ -3,7 +3,8 @@ ghost use Rattle.std.specs.Prelude.{◌≡◌, ◌<◌, ◌++◌, ◌∷◌, [],
 ghost use Rattle.std.specs.List.{All, flat_map};
 ghost use Rattle.vet_entries.specs.LocalCriteria.{AreLocal};
 ghost use Rattle.vet_entries.specs.PeerWords.{local_criteria};
-ghost use Rattle.vet_entries.specs.Step.{delta_step, entries_of, entry_steps, first_step, is_covered, kind_steps, sourced, steps_of, taken_from, window_steps};
+ghost use Rattle.vet_entries.specs.Step.{delta_step, entries_of, entry_steps, first_step, is_covered, kind_steps};
+ghost use Rattle.vet_entries.specs.Step.{sourced, steps_of, taken_from, window_steps};
 ghost use Rattle.vet_entries.specs.Taken.{HasPeer, all_sourced, peer_at};
 ghost use Rattle.vet_entries.specs.declared.held_peer.HeldPeer.{HeldPeer};
 

@@ -7,11 +7,12 @@ use Rattle.std.specs.Ordering.{nat_cmp}
 use Rattle.std.proofs.lemmas.List.Elements.{All-append, All-head, All-nil, All-tail, All-weaker}
 use Rattle.std.proofs.lemmas.List.Kept.{AllPairs-cons}
 use Rattle.toml.specs.Data.{Data, Members, no_members, member}
-use Rattle.vet_base.specs.Gives.{Told}
+use Rattle.vet_base.specs.Gives.{Told, ◌>>=◌}
 use Rattle.vet_files.specs.declared.found.Found.{Found}
-use Rattle.vet_files.specs.Lists.{nothing}
+use Rattle.vet_files.specs.Lists.{nothing, table_at}
 use Rattle.vet_files.specs.Walk.{IsBelow, IsLess, KeysRise, each_member}
 use Rattle.vet_files.proofs.Rising.{Rises, Rising}
+use Rattle.vet_files.proofs.RisingTables.{table_at-rises}
 use Rattle.vet_files.proofs.Walks.{bind-keeps}
 
 -- each item is apart from those after it
@@ -132,6 +133,18 @@ pub walk-apart : {X : Type 0} (name : X → List ℕ) (R : X → X → Type 0) (
     → (ms : Members) → Rising ms → IfOk (each_member read nothing ms) (Holds R Q)
 walk-apart name R Q apart read step ms rise = walk-holds name R Q Rises apart read step nothing ms (tt, All-nil Q)
     (none-before name ms) (rising-with ms rise)
+
+-- so does the walk over a table at a key
+pub table-apart : {X : Type 0} (name : X → List ℕ) (R : X → X → Type 0) (Q : X → Type 0)
+    → ((a b : X) → IsLess (name a) (name b) → R a b)
+    → (read : Found (List X) → List ℕ → Data → Told (Found (List X)))
+    → ((found : Found (List X)) (key : List ℕ) (d : Data) → Rises d
+    → IfOk (read found key d) (Appends name R Q found key))
+    → (path key : List ℕ) (ms : Members) → Rising ms
+    → IfOk (table_at path key ms >>= each_member read nothing) (Holds R Q)
+table-apart name R Q apart read step path key ms rise =
+    bind-keeps Rising (Holds R Q) (table_at path key ms) (each_member read nothing) (table_at-rises path key ms rise)
+    (walk-apart name R Q apart read step)
 
 -- the same, where nothing is asked of the values
 pub walk-keys : {X : Type 0} (name : X → List ℕ) (R : X → X → Type 0) (Q : X → Type 0)

@@ -1,5 +1,7 @@
 -- The table of an audits file is read again as what it was written of.
-use Rattle.std.proofs.Common.{◌≡◌, ◌⊎◌, ◌+◌, ◌≤◌, ◌&&◌, not, ℕ, Bool, true, false, List, [], ◌∷◌, ◌++◌, length, map, codes, refl, sym, ap, ◌∙◌, subst, inl, inr, append_assoc, append-nil, length-append, lt-ltb, arith}
+use Rattle.std.proofs.Common.{◌≡◌, ◌⊎◌, ◌+◌, ◌≤◌, ◌&&◌, not, ℕ, Bool, true, false, List, [], ◌∷◌, ◌++◌, length, map}
+use Rattle.std.proofs.Common.{codes, refl, sym, ap, ◌∙◌, subst, inl, inr, append_assoc, append-nil, length-append}
+use Rattle.std.proofs.Common.{lt-ltb, arith}
 use Rattle.std.specs.Prelude.{Ok, Some}
 use Rattle.std.specs.FinSet as set
 use Rattle.std.specs.List.{All}
@@ -17,7 +19,8 @@ use Rattle.vet_entries.specs.declared.entry.Entry.{Entry}
 use Rattle.vet_entries.specs.declared.kind.Kind.{Kind}
 use Rattle.vet_entries.specs.declared.kind.Kind.TheVariants.{Full, Delta, Violation, Wildcard, Exemption}
 use Rattle.vet_entries.specs.declared.kind.Kind.TheVariants as kinds
-use Rattle.vet_files.specs.Audits.{audit_told, audits_content, audits_file_told, criteria_of, entries_of, next_criterion, next_package, room_for_criterion, trusted_told, wildcard_told}
+use Rattle.vet_files.specs.Audits.{audit_told, audits_content, audits_file_told, criteria_of, entries_of}
+use Rattle.vet_files.specs.Audits.{next_criterion, next_package, room_for_criterion, trusted_told, wildcard_told}
 use Rattle.vet_files.specs.AuditsTable.{audits_file_table, criteria_table, criterion_table}
 use Rattle.vet_files.specs.Config.{exemption_told}
 use Rattle.vet_files.specs.EntryTables.{entry_table, is_listed, listed_entries, package_lists}
@@ -35,7 +38,8 @@ use Rattle.vet_files.specs.declared.write.sections.Listing.TheVariants.{Audits, 
 use Rattle.vet_files.specs.declared.read.whose.Whose.{Whose}
 use Rattle.vet_files.specs.declared.read.whose.Whose.TheVariants.{Ours, Peers}
 use Rattle.vet_files.proofs.Fields.{Fields, get_field, none_unknown}
-use Rattle.vet_files.proofs.NamedOnce.{All-IsIn, All-each_IsIn, IsIn-either, IsIn-filter, IsIn-left, IsIn-of_filter, IsIn-right, by_name-sorted, sorted, sorted-All, sorted-SameItems, sorted-length}
+use Rattle.vet_files.proofs.NamedOnce.{All-IsIn, All-each_IsIn, IsIn-either, IsIn-filter, IsIn-left, IsIn-of_filter}
+use Rattle.vet_files.proofs.NamedOnce.{IsIn-right, by_name-sorted, sorted, sorted-All, sorted-SameItems, sorted-length}
 use Rattle.vet_files.proofs.PackagesRead.{IsReadBy, all_of, distinct-filter, package_lists_read, unless_empty-read}
 
 -- ---- criteria

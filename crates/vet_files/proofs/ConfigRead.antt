@@ -1,15 +1,12 @@
 -- What is written of a peer's settings and of a policy is read again as them.
-use Rattle.std.proofs.Common.{◌≡◌, ◌==◌, ℕ, ◌||◌, false, List, [], ◌∷◌, length, Option, Some, None, Ok, codes, map, option_map, refl, sym, ap, ◌∙◌, arith}
-use Rattle.std.proofs.lemmas.Bool.{false≢true}
-use Rattle.std.proofs.lemmas.Cmp.{nat_list_cmp_total, tied_itself}
+use Rattle.std.proofs.Common.{◌≡◌, ◌==◌, ℕ, false, List, [], ◌∷◌, length, Option, Some, None, Ok, codes, map}
+use Rattle.std.proofs.Common.{option_map, refl, sym, ap, ◌∙◌, arith}
 use Rattle.std.specs.Cmp.Lexicographic.{slice_cmp}
 use Rattle.std.specs.FinMap as finite
 use Rattle.std.specs.FinSet as set
-use Rattle.std.specs.List.{list_any}
 use Rattle.std.specs.Option.{IfSome}
-use Rattle.std.specs.Ordering.{nat_cmp, eq_by_cmp, is_eq}
+use Rattle.std.specs.Ordering.{nat_cmp}
 use Rattle.toml.specs.Data.{Data, boolean, string, table}
-use Rattle.vet_base.specs.NamesLaws.{any-members}
 use Rattle.vet_base.specs.Names.{NameSet, members}
 use Rattle.vet_demand.specs.declared.dependency_criteria.DependencyItem.{DependencyItem}
 use Rattle.vet_demand.specs.declared.policy.Policy.{Policy}
@@ -18,7 +15,8 @@ use Rattle.vet_entries.specs.declared.peer_settings.PeerSettings.{PeerSettings}
 use Rattle.vet_files.specs.declared.keys.TableKind.TheVariants as kind
 use Rattle.vet_files.specs.Audits.{or_none}
 use Rattle.vet_files.specs.Config.{peer_told, policy_told}
-use Rattle.vet_files.specs.ConfigTable.{dependencies_table, mapped_table, peer_fields, peer_table, policy_fields, policy_table}
+use Rattle.vet_files.specs.ConfigTable.{dependencies_table, mapped_table, peer_fields, peer_table, policy_fields}
+use Rattle.vet_files.specs.ConfigTable.{policy_table}
 use Rattle.vet_files.specs.Field.{a_flag, a_text, names, package_names, texts}
 use Rattle.vet_files.specs.Lists.{found_one}
 use Rattle.vet_files.specs.Maps.{criteria_map, dependency_criteria, or_no_dependencies, or_no_map}
@@ -26,24 +24,14 @@ use Rattle.vet_files.specs.Notices.{no_notices}
 use Rattle.vet_files.specs.ReadAgain.{IsReadAs}
 use Rattle.vet_files.specs.Tables.{list_data, members_from, set_data, some_list, unless_empty, unless_none}
 use Rattle.vet_files.proofs.Fields.{get_field, none_unknown}
+use Rattle.vet_files.proofs.PutSets.{no_members_of}
 use Rattle.vet_files.proofs.KeysRead.{none_is_empty, optional_read, required_read}
 
 -- ---- what is left out
 
--- a list in which nothing is found is empty
-none_found : (texts : List (List ℕ)) → ((t : List ℕ) → list_any (eq_by_cmp (slice_cmp nat_cmp) t) texts ≡ false)
-    → texts ≡ []
-none_found [] none = refl
-none_found (t ∷ rest) none =
-    absurd (false≢true (sym (none t) ∙ ap (λ o. is_eq o || list_any (eq_by_cmp (slice_cmp nat_cmp) t) rest)
-    (tied_itself nat_list_cmp_total t)))
-
-no_members_of : members set.empty ≡ []
-no_members_of = none_found (members set.empty) (λ t. any-members set.empty t ∙ set.contains-empty (slice_cmp nat_cmp) t)
-
 -- an empty set is left out, and another one is not
 pub empty_set_out : (s : NameSet) (d : Data) → s ≡ set.empty → None ≡ unless_none (members s) d
-empty_set_out s d none = ap (λ ns. unless_none ns d) (sym (ap members none ∙ no_members_of))
+empty_set_out s d none = ap (λ ns. unless_none ns d) (sym (no_members_of s none))
 
 pub other_set_in : (s : NameSet) (d : Data) → (s ≡ set.empty → ⊥) → Some d ≡ unless_none (members s) d
 other_set_in s d some = by (members s) refl

@@ -9,6 +9,7 @@ use Rattle.std.specs.List.{All}
 use Rattle.std.proofs.lemmas.Bool.{and_parts}
 use Rattle.std.proofs.lemmas.List.Elements.{All-head, All-tail}
 use Rattle.toml.specs.Data.{Data, Members, get_member, string, table}
+use Rattle.vet_base.specs.Gives.{Told, ◌>>=◌}
 use Rattle.vet_base.specs.Items.{SameItems}
 use Rattle.vet_base.specs.Names.{NameSet}
 use Rattle.vet_demand.specs.declared.policies.KeyedPolicy.{KeyedPolicy}
@@ -23,18 +24,20 @@ use Rattle.vet_files.specs.declared.keys.TableKind.TheVariants as kind
 use Rattle.vet_files.specs.declared.write.sections.Listing.TheVariants.{Exemptions}
 use Rattle.vet_files.specs.declared.read.whose.Whose.TheVariants.{Ours}
 use Rattle.vet_files.specs.Audits.{entries_of, next_package}
-use Rattle.vet_files.specs.Config.{config_file_told, exemption_told, next_peer, next_policy, peers_told, policies_told, vet_version_told}
-use Rattle.vet_files.specs.ConfigTable.{cargo_vet_table, config_fields, config_table, exemptions_table, optional_set, peer_table, peers_table, policies_table}
+use Rattle.vet_files.specs.Config.{config_file_told, exemption_told, next_peer, next_policy, peers_told, policies_told}
+use Rattle.vet_files.specs.Config.{vet_version_told}
+use Rattle.vet_files.specs.ConfigTable.{cargo_vet_table, config_fields, config_table, exemptions_table, optional_set}
+use Rattle.vet_files.specs.ConfigTable.{peer_table, peers_table, policies_table}
 use Rattle.vet_files.specs.EntryTables.{entry_table, is_listed, listed_entries}
 use Rattle.vet_files.specs.Field.{a_text, names, optional}
 use Rattle.vet_files.specs.Keys.{unknown_keys}
-use Rattle.vet_files.specs.Lists.{nothing, found_one}
+use Rattle.vet_files.specs.Lists.{nothing, found_one, table_at}
 use Rattle.vet_files.specs.Notices.{no_notices}
 use Rattle.vet_files.specs.ReadAgain.{IsReadAs, ReadsConfig, ReadsEntry, ReadsPeer, ReadsPolicy, reading_of}
 use Rattle.vet_files.specs.SameContent.{IsConfig, SameConfig, is_own_exemption}
-use Rattle.vet_files.specs.Tables.{set_data}
+use Rattle.vet_files.specs.Tables.{set_data, unless_empty}
 use Rattle.vet_files.specs.Walk.{each_member}
-use Rattle.vet_files.proofs.Fields.{get_field, none_unknown}
+use Rattle.vet_files.proofs.Fields.{field_at, get_field, none_unknown}
 use Rattle.vet_files.proofs.PackagesRead.{IsReadBy, all_of, package_lists_read, unless_empty-read}
 use Rattle.vet_files.proofs.PoliciesRead.{policies_read}
 use Rattle.vet_files.proofs.TablesRead.{IsNext, by_name-read, same_items}
@@ -114,36 +117,29 @@ exemptions_read es once stand reads =
 
 -- ---- the file
 
+-- a table in it is read as it is written
+table_found : {X : Type 0} (content : ConfigContent) (key : List ℕ) (written : Members) (read : Members → Told X)
+    (found : X) → field_at key (config_fields content) ≡ unless_empty written → read written ≡ Ok found
+    → (table_at (codes "top") key (config_table content) >>= read) ≡ Ok found
+table_found content key written read found at told =
+    rw (get_field key (config_fields content), at, unless_empty-read (codes "top") key written) told
+
 exemptions_told : (content : ConfigContent) (found : List Entry)
     → each_member (next_package exemption_told (codes "exemptions")) nothing (exemptions_table content.exemptions)
     ≡ Ok (all_of found)
     → entries_of exemption_told (codes "top") [] (codes "exemptions") (config_table content) ≡ Ok (all_of found)
 exemptions_told content found told =
-    rw (
-      get_field (codes "exemptions") (config_fields content),
-      unless_empty-read (codes "top") (codes "exemptions")
-          (exemptions_table content.exemptions),
-    ) told
+    table_found content (codes "exemptions") (exemptions_table content.exemptions) _ (all_of found) refl told
 
 peers_found : (content : ConfigContent) (found : List PeerSettings)
     → each_member next_peer nothing (peers_table content.peers) ≡ Ok (all_of found)
     → peers_told (config_table content) ≡ Ok (all_of found)
-peers_found content found told =
-    rw (
-      get_field (codes "imports") (config_fields content),
-      unless_empty-read (codes "top") (codes "imports")
-          (peers_table content.peers),
-    ) told
+peers_found content found = table_found content (codes "imports") (peers_table content.peers) _ (all_of found) refl
 
 policies_found : (content : ConfigContent) (found : List KeyedPolicy)
     → each_member next_policy (all_of []) (policies_table content.policies) ≡ Ok (all_of found)
     → policies_told (config_table content) ≡ Ok (all_of found)
-policies_found content found told =
-    rw (
-      get_field (codes "policy") (config_fields content),
-      unless_empty-read (codes "top") (codes "policy")
-          (policies_table content.policies),
-    ) told
+policies_found content found = table_found content (codes "policy") (policies_table content.policies) _ (all_of found) refl
 
 -- a file is told as its parts are
 file_told : (ms : Members) (version : Option (List ℕ)) (default : Option NameSet) (peers : List PeerSettings)

@@ -1,5 +1,6 @@
 -- How deep the tables of files nest: far less than `toml` reads.
-use Rattle.std.proofs.Common.{ℕ, suc, ◌≤◌, Bool, List, [], ◌∷◌, Option, Some, None, Less, Equal, Greater, nat_cmp, map, arith}
+use Rattle.std.proofs.Common.{ℕ, suc, ◌≤◌, Bool, List, [], ◌∷◌, Option, Some, None, Less, Equal, Greater, nat_cmp, map}
+use Rattle.std.proofs.Common.{arith}
 use Rattle.std.specs.Cmp.Lexicographic.{slice_cmp}
 use Rattle.std.specs.FinMap as finite
 use Rattle.std.specs.FinMap.{put}
@@ -26,11 +27,18 @@ use Rattle.vet_files.specs.declared.config_file.ConfigContent.{ConfigContent}
 use Rattle.vet_files.specs.declared.imports_file.ImportedPeer.{ImportedPeer}
 use Rattle.vet_files.specs.declared.imports_file.ImportsContent.{ImportsContent}
 use Rattle.vet_files.specs.declared.write.sections.Listing.TheVariants as listing
-use Rattle.vet_files.specs.AuditsTable.{audits_file_fields, audits_file_table, audits_table, criteria_table, criterion_fields, criterion_table}
-use Rattle.vet_files.specs.ConfigTable.{cargo_vet_table, config_fields, config_table, dependencies_table, exemptions_table, mapped_table, optional_set, peer_fields, peer_table, peers_table, policies_table, policy_fields, policy_table}
-use Rattle.vet_files.specs.EntryTables.{entry_fields, entry_items, entry_table, listed_entries, of_package, package_lists, some_flag, some_text}
-use Rattle.vet_files.specs.ImportsTable.{excluded_of, imported_peers_table, imported_peer_table, imports_fields, imports_table, publisher_fields, publisher_items, publisher_table, publishers_table}
-use Rattle.vet_files.specs.Tables.{by_name, fields, list_data, members_from, one_or_list, put_all, set_data, some_set, text_items, unless_empty, unless_none}
+use Rattle.vet_files.specs.AuditsTable.{audits_file_fields, audits_file_table, audits_table, criteria_table}
+use Rattle.vet_files.specs.AuditsTable.{criterion_fields, criterion_table}
+use Rattle.vet_files.specs.ConfigTable.{cargo_vet_table, config_fields, config_table, dependencies_table}
+use Rattle.vet_files.specs.ConfigTable.{exemptions_table, mapped_table, optional_set, peer_fields, peer_table}
+use Rattle.vet_files.specs.ConfigTable.{peers_table, policies_table, policy_fields, policy_table}
+use Rattle.vet_files.specs.EntryTables.{entry_fields, entry_items, entry_table, listed_entries, of_package}
+use Rattle.vet_files.specs.EntryTables.{package_lists, some_flag, some_text}
+use Rattle.vet_files.specs.ImportsTable.{excluded_of, imported_peers_table, imported_peer_table, imports_fields}
+use Rattle.vet_files.specs.ImportsTable.{imports_table, publisher_fields, publisher_items, publisher_table}
+use Rattle.vet_files.specs.ImportsTable.{publishers_table}
+use Rattle.vet_files.specs.Tables.{by_name, fields, list_data, members_from, one_or_list, put_all, set_data, some_set}
+use Rattle.vet_files.specs.Tables.{text_items, unless_empty, unless_none}
 
 -- ---- tables of known keys, and tables by name
 

@@ -1,5 +1,6 @@
 -- An entry's table is read again as the entry.
-use Rattle.std.proofs.Common.{◌≡◌, ℕ, pos, Bool, true, false, List, codes, Option, Some, None, Ok, is_some, if◌then◌else◌, refl, sym, ap, ◌∙◌}
+use Rattle.std.proofs.Common.{◌≡◌, ℕ, pos, Bool, true, false, List, codes, Option, Some, None, Ok, is_some}
+use Rattle.std.proofs.Common.{if◌then◌else◌, refl, sym, ap, subst, ◌∙◌}
 use Rattle.std.proofs.lemmas.Bool.{false≢true}
 use Rattle.std.specs.Option.{IfSome}
 use Rattle.toml.specs.Data.{string, integer, boolean, Members, get_member}
@@ -18,7 +19,8 @@ use Rattle.vet_entries.specs.declared.kind.Grant.{Grant}
 use Rattle.vet_entries.specs.declared.kind.Kind.{Kind}
 use Rattle.vet_entries.specs.declared.kind.Kind.TheVariants.{Full, Delta, Violation, Wildcard, Trusted, Exemption}
 use Rattle.vet_entries.specs.declared.kind.Window.{Window}
-use Rattle.vet_files.specs.Audits.{audit_kind, audit_of, audit_told, first_key, is_no, is_withheld, own_entry, subject_told, trusted_of, wildcard_of, window_told}
+use Rattle.vet_files.specs.Audits.{audit_kind, audit_of, audit_told, first_key, is_no, is_withheld, own_entry}
+use Rattle.vet_files.specs.Audits.{subject_told, trusted_of, wildcard_of, window_told}
 use Rattle.vet_files.specs.EntryTables.{entry_fields, some_flag, some_text}
 use Rattle.vet_files.specs.Field.{a_day, a_delta, a_flag, a_requirement, a_text, a_user, a_version, names, texts}
 use Rattle.vet_files.specs.Lists.{found_one, skipped}
@@ -42,6 +44,16 @@ pub record ValuesRead (e : Entry) : Type 0 where
   pub named : is_package_name e.«package» ≡ true
   pub criteria : IsReadAs names (set_data e.criteria) e.criteria
   pub notes : IfSome e.notes (λ t. IsReadAs a_text (string t) t)
+
+-- they are where its table's values are read as those that it has
+pub values_read : (e : Entry) (notes : Option (List ℕ)) → is_package_name e.«package» ≡ true
+    → IsReadAs names (set_data e.criteria) e.criteria → notes ≡ e.notes → IfSome notes (λ t. IsReadAs a_text (string t) t)
+    → ValuesRead e
+values_read e notes named criteria same read = record {
+  named = named;
+  criteria = criteria;
+  notes = subst (λ o. IfSome o (λ t. IsReadAs a_text (string t) t)) same read;
+}
 
 abbrev pub FlagRead : Option Bool → Type 0
 FlagRead flag = IfSome flag (λ b. IsReadAs a_flag (boolean b) b)

@@ -1,12 +1,14 @@
 -- Files whose lists are the same as sets hold the same.
-use Rattle.std.proofs.Common.{◌≡◌, ◌⊎◌, ◌||◌, ℕ, inl, inr, Bool, true, false, cond, List, [], ◌∷◌, ◌++◌, Some, refl, sym, ap, ◌∙◌, Less}
+use Rattle.std.proofs.Common.{◌≡◌, ◌⊎◌, ◌||◌, ℕ, inl, inr, Bool, true, false, cond, List, [], ◌∷◌, ◌++◌, Some, refl}
+use Rattle.std.proofs.Common.{sym, ap, ◌∙◌, Less}
 use Rattle.std.specs.List.{list_any}
 use Rattle.std.proofs.lemmas.Bool.{false≢true, true≢false}
 use Rattle.std.proofs.lemmas.Cmp.{nat_list_cmp_total, tied_itself}
 use Rattle.std.specs.Ordering.{is_eq}
 use Rattle.vet_base.specs.Items.{IsIn, NamedOnce, SameItems}
 use Rattle.vet_base.specs.Keyed.{IsByKey, all_set, is_of, item_of, with_item}
-use Rattle.vet_base.proofs.ItemLemmas.{any_in, in_all, in_any, in_append, in_back, in_front, pairs_head, pairs_none, pairs_tail}
+use Rattle.vet_base.proofs.ItemLemmas.{any_in, in_all, in_any, in_append, in_back, in_front, pairs_head, pairs_none}
+use Rattle.vet_base.proofs.ItemLemmas.{pairs_tail}
 use Rattle.vet_base.proofs.KeyedLemmas.{IsByKey-all_set, item_of-other, item_of-own, same_items}
 use Rattle.vet_base.proofs.Comparisons.{equal}
 use Rattle.vet_base.proofs.Rising.{R, only_equal}

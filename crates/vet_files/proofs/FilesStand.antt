@@ -1,5 +1,6 @@
 -- What three files hold is what three files can hold.
-use Rattle.std.proofs.Common.{◌≡◌, ℕ, ◌<◌, ◌&&◌, Bool, true, false, List, [], ◌∷◌, ◌++◌, length, refl, subst, arith, Less}
+use Rattle.std.proofs.Common.{◌≡◌, ℕ, ◌<◌, ◌&&◌, Bool, true, false, List, [], ◌∷◌, ◌++◌, length, refl, subst, arith}
+use Rattle.std.proofs.Common.{Less}
 use Rattle.std.specs.List.{All}
 use Rattle.std.proofs.lemmas.Cmp.{nat_list_cmp_total}
 use Rattle.std.proofs.lemmas.List.Elements.{All-append, All-head, All-nil, All-tail, All-weaker}
@@ -19,7 +20,8 @@ use Rattle.vet_entries.specs.declared.publisher_records.PackagePublishers.{Packa
 use Rattle.vet_files.specs.EntryTables.{is_listed}
 use Rattle.vet_files.specs.FilesContent.{IsFiles, files_of}
 use Rattle.vet_files.specs.Imports.{imported_name}
-use Rattle.vet_files.specs.SameContent.{CanStand, HasRecords, IsAudits, IsConfig, IsImports, is_entry_of, is_kind_of, is_own_exemption}
+use Rattle.vet_files.specs.SameContent.{CanStand, HasRecords, IsAudits, IsConfig, IsImports, is_entry_of, is_kind_of}
+use Rattle.vet_files.specs.SameContent.{is_own_exemption}
 use Rattle.vet_files.specs.declared.audits_file.AuditsContent.{AuditsContent}
 use Rattle.vet_files.specs.declared.config_file.ConfigContent.{ConfigContent}
 use Rattle.vet_files.specs.declared.imports_file.ImportedPeer.{ImportedPeer}

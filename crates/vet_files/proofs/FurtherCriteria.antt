@@ -16,7 +16,9 @@ use Rattle.vet_base.specs.declared.refusal.Refusal.{Refusal}
 use Rattle.vet_files.specs.declared.audits_file.AuditsContent.{AuditsContent}
 use Rattle.vet_files.specs.declared.found.Found.{Found}
 use Rattle.vet_files.specs.declared.read.whose.Whose.{Whose}
-use Rattle.vet_files.specs.Audits.{audit_told, audits_file_told, built_in_criterion, criteria_of, criterion_told, entries_of, further_criterion, next_criterion, room_for_criterion, trusted_told, wildcard_told}
+use Rattle.vet_files.specs.Audits.{audit_told, audits_file_told, built_in_criterion, criteria_of, criterion_told}
+use Rattle.vet_files.specs.Audits.{entries_of, further_criterion, next_criterion, room_for_criterion, trusted_told}
+use Rattle.vet_files.specs.Audits.{wildcard_told}
 use Rattle.vet_files.specs.Field.{fault}
 use Rattle.vet_files.specs.Lists.{nothing, path_below, table_at}
 use Rattle.vet_files.specs.Walk.{each_member}

@@ -1,5 +1,7 @@
 -- Entries by package: one entry more, and the lists of all.
-use Rattle.std.proofs.Common.{◌≡◌, ℕ, ◌+◌, ◌<◌, Bool, true, false, not, cond, ◌&&◌, ◌||◌, All, get_or, length, take, List, [], ◌∷◌, ◌++◌, append-nil, map, Option, Some, None, Less, Equal, Greater, nat_cmp, refl, sym, ap, ◌∙◌, T, subst}
+use Rattle.std.proofs.Common.{◌≡◌, ℕ, ◌+◌, ◌<◌, Bool, true, false, not, cond, ◌&&◌, ◌||◌, All, get_or, length, take}
+use Rattle.std.proofs.Common.{List, [], ◌∷◌, ◌++◌, append-nil, map, Option, Some, None, Less, Equal, Greater, nat_cmp}
+use Rattle.std.proofs.Common.{refl, sym, ap, ◌∙◌, T, subst}
 use Rattle.std.proofs.lemmas.Bool.{true≢false}
 use Rattle.std.proofs.lemmas.Cmp.{nat_list_cmp_total}
 use Rattle.std.proofs.lemmas.List.Elements.{All-push, filter-append}

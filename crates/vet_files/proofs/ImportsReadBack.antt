@@ -14,8 +14,10 @@ use Rattle.vet_files.specs.declared.keys.TableKind.TheVariants as kind
 use Rattle.vet_files.specs.declared.write.sections.Listing.TheVariants.{Audits, Trusted, WildcardAudits}
 use Rattle.vet_files.specs.declared.read.whose.Whose.TheVariants.{Peers}
 use Rattle.vet_files.specs.EntryTables.{listed_entries}
-use Rattle.vet_files.specs.Imports.{imported_told, imports_file_told, next_imported, next_publishers, peer_value, publisher_told, published, publishers_told}
-use Rattle.vet_files.specs.ImportsTable.{excluded_of, imported_peer_table, imports_fields, imports_table, publisher_items, publisher_table, publishers_table}
+use Rattle.vet_files.specs.Imports.{imported_told, imports_file_told, next_imported, next_publishers, peer_value}
+use Rattle.vet_files.specs.Imports.{publisher_told, published, publishers_told}
+use Rattle.vet_files.specs.ImportsTable.{excluded_of, imported_peer_table, imports_fields, imports_table}
+use Rattle.vet_files.specs.ImportsTable.{publisher_items, publisher_table, publishers_table}
 use Rattle.vet_files.specs.Keys.{unknown_keys}
 use Rattle.vet_files.specs.Lists.{each_once, nothing, found_with, path_below}
 use Rattle.vet_files.specs.Notices.{no_notices}

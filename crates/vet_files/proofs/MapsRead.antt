@@ -1,7 +1,9 @@
 -- Maps from names to sets are read again as they were written.
-use Rattle.std.proofs.Common.{◌≡◌, ℕ, ◌+◌, ◌<◌, Bool, true, List, [], ◌∷◌, ◌++◌, map as mapped, length, get_or, take, drop, Ok, Less, refl, sym, ap, subst, ◌∙◌, append_assoc, append-nil, arith}
+use Rattle.std.proofs.Common.{◌≡◌, ℕ, ◌+◌, ◌<◌, Bool, true, List, [], ◌∷◌, ◌++◌, map as mapped, length, get_or, take}
+use Rattle.std.proofs.Common.{drop, Ok, Less, refl, sym, ap, subst, ◌∙◌, append_assoc, append-nil, arith}
 use Rattle.std.proofs.lemmas.Cmp.{nat_list_cmp_total}
-use Rattle.std.proofs.lemmas.List.{drop_more, get_or-map, get_or_append_left, get_or_at, length-append, length-map, map-append, take-append-drop, take_more}
+use Rattle.std.proofs.lemmas.List.{drop_more, get_or-map, get_or_append_left, get_or_at, length-append, length-map}
+use Rattle.std.proofs.lemmas.List.{map-append, take-append-drop, take_more}
 use Rattle.std.proofs.lemmas.List.Elements.{All-head, All-map, All-more, All-same, All-tail}
 use Rattle.std.specs.FinMap as map
 use Rattle.std.specs.FinMap.{empty, entries}

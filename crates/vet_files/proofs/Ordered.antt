@@ -1,5 +1,6 @@
 -- Publisher records, each put where it belongs.
-use Rattle.std.proofs.Common.{◌≡◌, ◌⊎◌, ◌≤◌, suc, List, [], ◌∷◌, length, refl, subst, sym, ap, inl, inr, Ordering, Less, Equal, Greater, arith}
+use Rattle.std.proofs.Common.{◌≡◌, ◌⊎◌, ◌≤◌, suc, List, [], ◌∷◌, length, refl, subst, sym, ap, inl, inr, Ordering, Less}
+use Rattle.std.proofs.Common.{Equal, Greater, arith}
 use Rattle.std.specs.BTreeSet.{insert_key}
 use Rattle.std.specs.List.{Contains}
 use Rattle.std.specs.Ordering.{match_ordering}

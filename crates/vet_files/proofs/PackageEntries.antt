@@ -22,11 +22,14 @@ use Rattle.vet_files.specs.declared.read.subject.Subject.{Subject}
 use Rattle.vet_files.specs.declared.read.subject.Subject.TheVariants as subject
 use Rattle.vet_files.specs.declared.read.subject.SubjectKey.{SubjectKey}
 use Rattle.vet_files.specs.declared.read.whose.Whose.{Whose}
-use Rattle.vet_files.specs.Audits.{audit_kind, audit_of, audit_told, entries_of, first_key, has, is_trusted, is_withheld, next_package, or_none, own_entry, subject_told, trusted_of, trusted_told, wildcard_of, wildcard_told, window_told}
+use Rattle.vet_files.specs.Audits.{audit_kind, audit_of, audit_told, entries_of, first_key, has, is_trusted}
+use Rattle.vet_files.specs.Audits.{is_withheld, next_package, or_none, own_entry, subject_told, trusted_of}
+use Rattle.vet_files.specs.Audits.{trusted_told, wildcard_of, wildcard_told, window_told}
 use Rattle.vet_files.specs.Config.{exemption_told}
 use Rattle.vet_files.specs.EntryTables.{is_listed}
 use Rattle.vet_files.specs.Field.{a_flag, a_text, a_version, fault, names, optional, required, texts}
-use Rattle.vet_files.specs.Lists.{Reading, RisesAt, next_table, nothing, path_in_list, skipped, table_at, tables_of_package}
+use Rattle.vet_files.specs.Lists.{Reading, RisesAt, next_table, nothing, path_in_list, skipped, table_at}
+use Rattle.vet_files.specs.Lists.{tables_of_package}
 use Rattle.vet_files.specs.Walk.{KeysRise, each_item, each_member}
 use Rattle.vet_files.proofs.Apart.{Appends, Holds, IsOther, other-item, walk-keys}
 use Rattle.vet_files.proofs.Once.{distinct-once}

@@ -1,5 +1,6 @@
 -- The lists of entries by package, as they are written, are read again.
-use Rattle.std.proofs.Common.{◌≡◌, ◌+◌, ◌-◌, ◌≤◌, ℕ, suc, Bool, true, false, cond, List, [], ◌∷◌, ◌++◌, length, map, filter, drop, refl, sym, ap, ◌∙◌, subst, inl, inr, append_assoc, append-nil, arith}
+use Rattle.std.proofs.Common.{◌≡◌, ◌+◌, ◌-◌, ◌≤◌, ℕ, suc, Bool, true, false, cond, List, [], ◌∷◌, ◌++◌, length, map}
+use Rattle.std.proofs.Common.{filter, drop, refl, sym, ap, ◌∙◌, subst, inl, inr, append_assoc, append-nil, arith}
 use Rattle.std.specs.Prelude.{Ok}
 use Rattle.std.specs.Cmp.Lexicographic.{bytes_decides}
 use Rattle.std.specs.List.{All, list_any}
@@ -15,12 +16,14 @@ use Rattle.vet_entries.specs.Entry.{entry_eq}
 use Rattle.vet_entries.specs.declared.entry.Entry.{Entry}
 use Rattle.vet_files.specs.Audits.{next_package}
 use Rattle.vet_files.specs.EntryTables.{entry_items, entry_table, of_package, package_lists}
-use Rattle.vet_files.specs.Lists.{Reading, each_once, next_table, nothing, found_one, found_with, table_of, tables_of_package}
+use Rattle.vet_files.specs.Lists.{Reading, each_once, next_table, nothing, found_one, found_with, table_of}
+use Rattle.vet_files.specs.Lists.{tables_of_package}
 use Rattle.vet_files.specs.Notices.{no_notices, only_doubles, sum_of_notices}
 use Rattle.vet_files.specs.Tables.{members_from, unless_empty}
 use Rattle.vet_files.specs.Walk.{each_item, each_member}
 use Rattle.vet_files.specs.declared.found.Found.{Found}
-use Rattle.vet_files.proofs.NamedOnce.{All-IsIn, All-each_IsIn, IsIn-either, IsIn-filter, IsIn-left, IsIn-of_filter, IsIn-right, by_name-sorted, sorted, sorted-All, sorted-named}
+use Rattle.vet_files.proofs.NamedOnce.{All-IsIn, All-each_IsIn, IsIn-either, IsIn-filter, IsIn-left, IsIn-of_filter}
+use Rattle.vet_files.proofs.NamedOnce.{IsIn-right, by_name-sorted, sorted, sorted-All, sorted-named}
 
 -- what is found, and nothing is passed over
 abbrev pub all_of : {A : Type 0} → A → Found A

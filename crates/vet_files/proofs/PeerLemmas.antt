@@ -1,5 +1,6 @@
 -- What the walk of a peer's file gives: criteria that may stand there, not too many, and entries that may.
-use Rattle.std.proofs.Common.{◌≡◌, ◌≤◌, ◌<◌, ℕ, true, false, List, [], ◌∷◌, ◌++◌, length, refl, IfOk, arith, length-append, ltb-true}
+use Rattle.std.proofs.Common.{◌≡◌, ◌≤◌, ◌<◌, ℕ, true, false, List, [], ◌∷◌, ◌++◌, length, refl, IfOk, arith}
+use Rattle.std.proofs.Common.{length-append, ltb-true}
 use Rattle.std.specs.Prelude.{Ok, Err, Option, Some, None, codes, nat_lt, if◌then◌else◌}
 use Rattle.std.specs.List.{All}
 use Rattle.std.specs.Option.{option_to_list}
@@ -23,9 +24,13 @@ use Rattle.vet_files.specs.declared.read.subject.Subject.{Subject}
 use Rattle.vet_files.specs.declared.read.subject.Subject.TheVariants as subject
 use Rattle.vet_files.specs.declared.read.subject.SubjectKey.{SubjectKey}
 use Rattle.vet_files.specs.declared.read.whose.Whose.TheVariants.{Peers}
-use Rattle.vet_files.specs.Audits.{audit_kind, audit_of, audit_told, audits_file_told, built_in_criterion, criteria_of, criterion_told, entries_of, further_criterion, first_key, has, is_no, is_withheld, next_criterion, next_package, or_none, room_for_criterion, subject_told, trusted_told, wildcard_of, wildcard_told, window_told}
+use Rattle.vet_files.specs.Audits.{audit_kind, audit_of, audit_told, audits_file_told, built_in_criterion, criteria_of}
+use Rattle.vet_files.specs.Audits.{criterion_told, entries_of, further_criterion, first_key, has, is_no, is_withheld}
+use Rattle.vet_files.specs.Audits.{next_criterion, next_package, or_none, room_for_criterion, subject_told}
+use Rattle.vet_files.specs.Audits.{trusted_told, wildcard_of, wildcard_told, window_told}
 use Rattle.vet_files.specs.Field.{a_flag, a_text, fault, names, optional, required, texts, told_if_some}
-use Rattle.vet_files.specs.Lists.{Reading, next_table, nothing, path_below, path_in_list, skipped, table_at, tables_of_package}
+use Rattle.vet_files.specs.Lists.{Reading, next_table, nothing, path_below, path_in_list, skipped, table_at}
+use Rattle.vet_files.specs.Lists.{tables_of_package}
 use Rattle.vet_files.specs.Walk.{each_item, each_member}
 use Rattle.vet_files.proofs.Walks.{bind-gives, bind-keeps, each_item-keeps, each_member-keeps}
 

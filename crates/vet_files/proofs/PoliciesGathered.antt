@@ -1,6 +1,7 @@
 -- Policies that are gathered in the order of a file, and then put in the order of their keys, are those that are put in
 -- order one after another.
-use Rattle.std.proofs.Common.{◌≡◌, ℕ, Bool, true, false, cond, List, [], ◌∷◌, ◌++◌, is_some, Option, Some, Ok, Err, refl, sym, ap, ◌∙◌}
+use Rattle.std.proofs.Common.{◌≡◌, ℕ, Bool, true, false, cond, List, [], ◌∷◌, ◌++◌, is_some, Option, Some, Ok, Err}
+use Rattle.std.proofs.Common.{refl, sym, ap, ◌∙◌}
 use Rattle.std.specs.BTreeSet.{BTreeSet, Updates}
 use Rattle.toml.specs.Data.{Data, Members}
 use Rattle.vet_base.specs.Gives.{Told, ◌>>=◌}

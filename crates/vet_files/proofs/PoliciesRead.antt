@@ -1,5 +1,7 @@
 -- Policies that are read in any order are in the order of their keys.
-use Rattle.std.proofs.Common.{◌≡◌, ◌⊎◌, ℕ, suc, Bool, true, false, cond, List, [], ◌∷◌, ◌++◌, is_some, map, filter, find, get_or, Option, Some, None, refl, sym, ap, ◌∙◌, inl, inr, Ordering, Less, Equal, Greater, arith}
+use Rattle.std.proofs.Common.{◌≡◌, ◌⊎◌, ℕ, suc, Bool, true, false, cond, List, [], ◌∷◌, ◌++◌, is_some, map, filter}
+use Rattle.std.proofs.Common.{find, get_or, Option, Some, None, refl, sym, ap, ◌∙◌, inl, inr, Ordering, Less, Equal}
+use Rattle.std.proofs.Common.{Greater, arith}
 use Rattle.std.specs.Prelude.{Ok}
 use Rattle.std.specs.Cmp.{IsTotalOrder, tied_itself}
 use Rattle.std.specs.List.{All, AllPairs}
@@ -19,7 +21,8 @@ use Rattle.vet_files.specs.ConfigTable.{policies_table, policy_table}
 use Rattle.vet_files.specs.ReadAgain.{ReadsPolicy}
 use Rattle.vet_files.specs.Tables.{members_from}
 use Rattle.vet_files.specs.Walk.{each_member}
-use Rattle.vet_files.proofs.NamedOnce.{All-IsIn, IsIn-either, IsIn-filter, IsIn-left, IsIn-of_filter, IsIn-right, by_name-sorted, sorted, sorted-All, sorted-NamedOnce, sorted-SameItems}
+use Rattle.vet_files.proofs.NamedOnce.{All-IsIn, IsIn-either, IsIn-filter, IsIn-left, IsIn-of_filter, IsIn-right}
+use Rattle.vet_files.proofs.NamedOnce.{by_name-sorted, sorted, sorted-All, sorted-NamedOnce, sorted-SameItems}
 use Rattle.vet_files.proofs.PackagesRead.{all_of}
 
 -- ---- entries by keys in a total order, in which only equals tie

@@ -22,7 +22,7 @@ none_found (x ∷ xs) h =
     absurd (false≢true (sym (h x) ∙ ap (λ o. is_eq o || list_any (eq_by_cmp (slice_cmp nat_cmp) x) xs)
     (tied_itself nat_list_cmp_total x)))
 
-no_members_of : (s : NameSet) → s ≡ set.empty → members s ≡ []
+pub no_members_of : (s : NameSet) → s ≡ set.empty → members s ≡ []
 no_members_of s e = ap members e
     ∙ none_found (members set.empty) (λ n. any-members set.empty n ∙ set.contains-empty (slice_cmp nat_cmp) n)
 

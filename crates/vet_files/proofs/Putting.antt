@@ -1,5 +1,6 @@
 -- A key put into a `BTreeMap`, beside the members that it stands for.
-use Rattle.std.proofs.Common.{◌≡◌, List, [], ◌∷◌, length, Some, String, Global, Less, Equal, Greater, string_bytes, refl, ap}
+use Rattle.std.proofs.Common.{◌≡◌, List, [], ◌∷◌, length, Some, String, Global, Less, Equal, Greater, string_bytes}
+use Rattle.std.proofs.Common.{refl, ap}
 use Rattle.std.specs.BTreeMap.{insert_entry}
 use Rattle.std.specs.Ordering.{match_ordering}
 use Rattle.std.specs.FinMap.Entries.{by_order}

@@ -1,12 +1,16 @@
 -- While a text is read, the keys of its tables rise.
-use Rattle.std.proofs.Common.{◌≡◌, ℕ, List, [], ◌∷◌, ◌∙◌, ap, refl, Ordering, Less, Equal, Greater, Option, Some, None, option_map}
+use Rattle.std.proofs.Common.{◌≡◌, ℕ, List, [], ◌∷◌, ◌∙◌, ap, refl, Ordering, Less, Equal, Greater, Option, Some, None}
+use Rattle.std.proofs.Common.{option_map}
 use Rattle.std.specs.Prelude.{IfSome}
 use Rattle.std.specs.Cmp.Lexicographic.{slice_cmp, nat_list_cmp_total}
 use Rattle.std.specs.Ordering.{match_ordering, nat_cmp, ordering_reverse}
 use Rattle.std.proofs.lemmas.Bool.{cond_both}
 use Rattle.toml_parser.specs.Strings.{Key}
 use Rattle.toml.specs.Data.{Data, same_key, table}
-use Rattle.toml.specs.Tables.{Definition, Document, Edit, Node, Nodes, Origin, along_dots, along_header, array_table, at_found, at_key, by_dot, by_header, close, close_node, define, define_as, dot_node, dotted, get_node, header, header_node, implicit, insert, key_value, new_node, no_nodes, node, open_array, open_table, put, redefine, replace, std_table, value}
+use Rattle.toml.specs.Tables.{Definition, Document, Edit, Node, Nodes, Origin, along_dots, along_header, array_table}
+use Rattle.toml.specs.Tables.{at_found, at_key, by_dot, by_header, close, close_node, define, define_as, dot_node}
+use Rattle.toml.specs.Tables.{dotted, get_node, header, header_node, implicit, insert, key_value, new_node, no_nodes}
+use Rattle.toml.specs.Tables.{node, open_array, open_table, put, redefine, replace, std_table, value}
 use Rattle.vet_files.specs.Walk.{IsBelow, IsLess}
 use Rattle.vet_files.proofs.Rising.{AllRise, Rises, Rising, map-if, push-rises}
 

@@ -5,7 +5,8 @@ use Rattle.std.specs.Cmp.Lexicographic.{slice_cmp}
 use Rattle.std.specs.Ordering.{match_ordering, nat_cmp}
 use Rattle.std.specs.Str.{is_utf8}
 use Rattle.std.proofs.lemmas.Bool.{cond_both}
-use Rattle.toml.specs.Data.{Data, string, integer, float, boolean, datetime, array, table, Members, no_members, member, as_table, get_member}
+use Rattle.toml.specs.Data.{Data, string, integer, float, boolean, datetime, array, table, Members, no_members, member}
+use Rattle.toml.specs.Data.{as_table, get_member}
 use Rattle.toml.specs.Parse.{parse_document}
 use Rattle.vet_base.specs.Gives.{Told, found_or}
 use Rattle.vet_base.specs.declared.refusal.Refusal.{Refusal}

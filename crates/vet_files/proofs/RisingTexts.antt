@@ -2,16 +2,20 @@
 use Rattle.std.proofs.Common.{◌==◌, ◌&&◌, ℕ, zero, suc, List, [], length, drop, Some, None}
 use Rattle.std.specs.Prelude.{IfSome, slice_index}
 use Rattle.std.proofs.lemmas.Bool.{cond_both}
-use Rattle.toml_parser.specs.Lexical.{Read, first, left_brace, left_bracket, right_brace, right_bracket, skip_blank, skip_ws}
+use Rattle.toml_parser.specs.Lexical.{Read, first, left_brace, left_bracket, right_brace, right_bracket, skip_blank}
+use Rattle.toml_parser.specs.Lexical.{skip_ws}
 use Rattle.toml_parser.specs.Numbers.{unquoted}
 use Rattle.toml_parser.specs.Strings.{Key, quoted, recursion_limit, starts_string}
 use Rattle.toml_parser.specs.declared.scalar.Scalar.{Scalar}
 use Rattle.toml_parser.specs.declared.scalar.Scalar.TheVariants.{Boolean, Integer, Float, Datetime}
 use Rattle.toml.specs.Data.{Data, Items, array, no_items, push_item, string, table}
-use Rattle.toml.specs.Parse.{after_byte, after_element, atom, ends_line, expression, header_key, items, key_equals, keyval, line, lines, members, parse_document, read_map, scalar_data, skip_bom, val}
-use Rattle.toml.specs.Tables.{Document, Expression, Nodes, array_table, close, define, key_value, no_nodes, put, std_table}
+use Rattle.toml.specs.Parse.{after_byte, after_element, atom, ends_line, expression, header_key, items, key_equals}
+use Rattle.toml.specs.Parse.{keyval, line, lines, members, parse_document, read_map, scalar_data, skip_bom, val}
+use Rattle.toml.specs.Tables.{Document, Expression, Nodes, array_table, close, define, key_value, no_nodes, put}
+use Rattle.toml.specs.Tables.{std_table}
 use Rattle.vet_files.proofs.Rising.{AllRise, Rises, Rising, map-any, map-if, push-rises, then-any, then-if}
-use Rattle.vet_files.proofs.RisingNodes.{DefinitionRises, DocumentRises, NodesRise, close-rises, define-rises, put-rises}
+use Rattle.vet_files.proofs.RisingNodes.{DefinitionRises, DocumentRises, NodesRise, close-rises, define-rises}
+use Rattle.vet_files.proofs.RisingNodes.{put-rises}
 
 -- what is read with the text behind it
 abbrev IfRead : {A : Type 0} → (A → Type 0) → Read A → Type 0

@@ -1,5 +1,6 @@
 -- What an audits file gives can be written again.
-use Rattle.std.proofs.Common.{◌≡◌, ◌&&◌, not, Bool, ℕ, true, false, List, [], ◌++◌, refl, sym, ap, ◌∙◌, IfOk, append-nil}
+use Rattle.std.proofs.Common.{◌≡◌, ◌&&◌, not, Bool, ℕ, true, false, List, [], ◌++◌, refl, sym, ap, ◌∙◌, IfOk}
+use Rattle.std.proofs.Common.{append-nil}
 use Rattle.std.specs.Prelude.{Ok, Err, Option, codes, if◌then◌else◌, length}
 use Rattle.std.specs.List.{All}
 use Rattle.std.specs.Option.{option_to_list}
@@ -24,17 +25,21 @@ use Rattle.vet_files.specs.declared.write.sections.Listing.{Listing}
 use Rattle.vet_files.specs.declared.write.sections.Listing.TheVariants as listing
 use Rattle.vet_files.specs.declared.read.whose.Whose.{Whose}
 use Rattle.vet_files.specs.declared.read.whose.Whose.TheVariants.{Ours, Peers}
-use Rattle.vet_files.specs.Audits.{audit_told, audits_file_told, built_in_criterion, criteria_of, criterion_at, criterion_told, entries_of, further_criterion, next_criterion, or_none, room_for_criterion, trusted_told, wildcard_told}
+use Rattle.vet_files.specs.Audits.{audit_told, audits_file_told, built_in_criterion, criteria_of, criterion_at}
+use Rattle.vet_files.specs.Audits.{criterion_told, entries_of, further_criterion, next_criterion, or_none}
+use Rattle.vet_files.specs.Audits.{room_for_criterion, trusted_told, wildcard_told}
 use Rattle.vet_files.specs.EntryTables.{is_listed}
 use Rattle.vet_files.specs.Imports.{peer_file_told}
 use Rattle.vet_files.specs.Field.{a_text, fault, names, optional}
 use Rattle.vet_files.specs.Lists.{RisesAt, nothing, path_below, table_at}
 use Rattle.vet_files.specs.SameContent.{CanStand, is_entry_of}
 use Rattle.vet_files.specs.Walk.{KeysRise, each_member}
-use Rattle.vet_files.proofs.Apart.{Appends, AreApart, HasOther, Holds, IsOther, apart-append, apart-pairs, other-name, walk-keys}
+use Rattle.vet_files.proofs.Apart.{Appends, AreApart, HasOther, Holds, IsOther, apart-append, apart-pairs, other-name}
+use Rattle.vet_files.proofs.Apart.{walk-keys}
 use Rattle.vet_files.proofs.FurtherCriteria.{further-answered}
 use Rattle.vet_files.proofs.Once.{distinct-apart}
-use Rattle.vet_files.proofs.PackageEntries.{IsOf, StandOnce, audits-listed, entries-once, trusted-listed, wildcards-listed}
+use Rattle.vet_files.proofs.PackageEntries.{IsOf, StandOnce, audits-listed, entries-once, trusted-listed}
+use Rattle.vet_files.proofs.PackageEntries.{wildcards-listed}
 use Rattle.vet_files.proofs.PeerLemmas.{peer_items}
 use Rattle.vet_files.proofs.Rising.{Rising}
 use Rattle.vet_files.proofs.RisingTables.{rising-at}
@@ -104,8 +109,11 @@ criteria-named whose path prefix ms rise =
 
 -- ---- entries of different tables
 
+abbrev NotInBoth : Listing → Listing → Kind → Type 0
+NotInBoth first second k = is_listed first k ≡ true → is_listed second k ≡ true → ⊥
+
 -- no kind stands in two of the tables
-apart-kinds : (first second : Listing) → ((k : Kind) → is_listed first k ≡ true → is_listed second k ≡ true → ⊥)
+apart-kinds : (first second : Listing) → ((k : Kind) → NotInBoth first second k)
     → (xs ys : List Entry) → All (IsOf first) xs → All (IsOf second) ys
     → All (λ x. All (IsOther x) ys) xs
 apart-kinds first second none xs ys in_first in_second =
@@ -114,29 +122,14 @@ apart-kinds first second none xs ys in_first in_second =
     (λ y hy same. none x.kind hx.1 (ap (λ (e : Entry). is_listed second e.kind) same ∙ hy.1)) ys in_second) xs
     in_first
 
-no_wildcard : (k : Kind) → is_listed listing.Audits k ≡ true → is_listed listing.WildcardAudits k ≡ true → ⊥
-no_wildcard (Full v a) h g = cc g
-no_wildcard (Delta d a) h g = cc g
-no_wildcard (Violation r a) h g = cc g
-no_wildcard (Wildcard w g') h g = cc h
-no_wildcard (Trusted w) h g = cc g
-no_wildcard (Exemption v s) h g = cc g
-
-no_trusted : (k : Kind) → is_listed listing.Audits k ≡ true → is_listed listing.Trusted k ≡ true → ⊥
-no_trusted (Full v a) h g = cc g
-no_trusted (Delta d a) h g = cc g
-no_trusted (Violation r a) h g = cc g
-no_trusted (Wildcard w g') h g = cc g
-no_trusted (Trusted w) h g = cc h
-no_trusted (Exemption v s) h g = cc g
-
-no_window : (k : Kind) → is_listed listing.WildcardAudits k ≡ true → is_listed listing.Trusted k ≡ true → ⊥
-no_window (Full v a) h g = cc g
-no_window (Delta d a) h g = cc g
-no_window (Violation r a) h g = cc g
-no_window (Wildcard w g') h g = cc g
-no_window (Trusted w) h g = cc h
-no_window (Exemption v s) h g = cc g
+in_one : (k : Kind) → NotInBoth listing.Audits listing.WildcardAudits k × NotInBoth listing.Audits listing.Trusted k
+    × NotInBoth listing.WildcardAudits listing.Trusted k
+in_one (Full v a) = (λ h g. cc g, λ h g. cc g, λ h g. cc h)
+in_one (Delta d a) = (λ h g. cc g, λ h g. cc g, λ h g. cc h)
+in_one (Violation r a) = (λ h g. cc g, λ h g. cc g, λ h g. cc h)
+in_one (Wildcard w g) = (λ h g. cc h, λ h g. cc h, λ h g. cc g)
+in_one (Trusted w) = (λ h g. cc h, λ h g. cc h, λ h g. cc h)
+in_one (Exemption v s) = (λ h g. cc h, λ h g. cc h, λ h g. cc h)
 
 -- an own entry that is no exemption
 abbrev IsGiven : Entry → Type 0
@@ -171,10 +164,10 @@ three-tables : (audits wildcards trusted : Found (List Entry)) → StandOnce lis
     → AreEntries ((audits.content ++ wildcards.content) ++ trusted.content)
 three-tables audits wildcards trusted a w t =
     let both_apart = apart-append IsOther audits.content wildcards.content a.0 w.0
-    (apart-kinds listing.Audits listing.WildcardAudits no_wildcard audits.content wildcards.content a.1 w.1) in
+    (apart-kinds listing.Audits listing.WildcardAudits (λ k. (in_one k).0) audits.content wildcards.content a.1 w.1) in
     let across = All-append (λ x. All (IsOther x) trusted.content) audits.content wildcards.content
-    (apart-kinds listing.Audits listing.Trusted no_trusted audits.content trusted.content a.1 t.1)
-    (apart-kinds listing.WildcardAudits listing.Trusted no_window wildcards.content trusted.content w.1 t.1) in (
+    (apart-kinds listing.Audits listing.Trusted (λ k. (in_one k).1) audits.content trusted.content a.1 t.1)
+    (apart-kinds listing.WildcardAudits listing.Trusted (λ k. (in_one k).2) wildcards.content trusted.content w.1 t.1) in (
       apart-append IsOther (audits.content ++ wildcards.content) trusted.content both_apart t.0 across,
       All-append IsGiven (audits.content ++ wildcards.content) trusted.content
           (All-append IsGiven audits.content wildcards.content

@@ -20,19 +20,20 @@ use Rattle.vet_files.specs.declared.config_file.ConfigContent.{ConfigContent}
 use Rattle.vet_files.specs.declared.found.Found.{Found}
 use Rattle.vet_files.specs.declared.write.sections.Listing.TheVariants as listing
 use Rattle.vet_files.specs.Audits.{entries_of, or_none}
-use Rattle.vet_files.specs.Config.{config_file_told, exemption_told, new_key, next_peer, next_policy, peer_told, peers_told, policies_told, policy_told, settings_told, vet_version_told}
+use Rattle.vet_files.specs.Config.{config_file_told, exemption_told, new_key, next_peer, next_policy, peer_told}
+use Rattle.vet_files.specs.Config.{peers_told, policies_told, policy_told, settings_told, vet_version_told}
 use Rattle.vet_files.specs.EntryTables.{is_listed}
 use Rattle.vet_files.specs.Field.{fault, names, optional, package_names, required, texts}
-use Rattle.vet_files.specs.Lists.{listed, nothing, found_with, path_below, table_at}
+use Rattle.vet_files.specs.Lists.{listed, found_with, path_below, table_at}
 use Rattle.vet_files.specs.Maps.{criteria_map, or_no_map}
 use Rattle.vet_files.specs.Notices.{no_notices}
 use Rattle.vet_files.specs.SameContent.{IsConfig, is_own_exemption}
 use Rattle.vet_files.specs.Walk.{each_member}
-use Rattle.vet_files.proofs.Apart.{Appends, AreApart, HasOther, Holds, apart-pairs, other-name, walk-apart}
+use Rattle.vet_files.proofs.Apart.{Appends, AreApart, HasOther, Holds, apart-pairs, other-name, table-apart}
 use Rattle.vet_files.proofs.Once.{distinct-apart}
 use Rattle.vet_files.proofs.PackageEntries.{IsOf, StandOnce, entries-once, exemptions-listed}
 use Rattle.vet_files.proofs.Rising.{Rising}
-use Rattle.vet_files.proofs.RisingTables.{rising-at, table_at-rises}
+use Rattle.vet_files.proofs.RisingTables.{rising-at}
 use Rattle.vet_files.proofs.Stands.{both}
 use Rattle.vet_files.proofs.Walks.{bind-gives, bind-keeps, each_member-keeps}
 
@@ -77,11 +78,9 @@ abbrev NamedApart : Found (List PeerSettings) → Type 0
 NamedApart = Holds (HasOther peer_name) Any
 
 peers-named : (ms : Members) → Rising ms → IfOk (peers_told ms) NamedApart
-peers-named ms rise =
-    bind-keeps Rising NamedApart (table_at (codes "top") (codes "imports") ms) (each_member next_peer nothing)
-    (table_at-rises (codes "top") (codes "imports") ms rise)
-    (λ inner inner_rise. walk-apart peer_name (HasOther peer_name) Any (other-name peer_name) next_peer
-    (λ found name d _. next_peer-appends found name d) inner inner_rise)
+peers-named =
+    table-apart peer_name (HasOther peer_name) Any (other-name peer_name) next_peer
+    (λ found name d _. next_peer-appends found name d) (codes "top") (codes "imports")
 
 -- ---- policies
 

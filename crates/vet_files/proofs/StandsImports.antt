@@ -16,15 +16,15 @@ use Rattle.vet_files.specs.declared.imports_file.ImportedPeer.{ImportedPeer}
 use Rattle.vet_files.specs.declared.imports_file.ImportsContent.{ImportsContent}
 use Rattle.vet_files.specs.declared.read.whose.Whose.TheVariants.{Peers}
 use Rattle.vet_files.specs.Field.{fault}
-use Rattle.vet_files.specs.Imports.{imported_at, imported_from, imported_table, imported_told, imports_file_told, next_imported, next_publishers, peer_file_told, publisher_told, publishers_told}
-use Rattle.vet_files.specs.Lists.{listed, nothing, found_with, path_below, table_at, tables_of_package}
+use Rattle.vet_files.specs.Imports.{imported_at, imported_from, imported_table, imported_told, imports_file_told}
+use Rattle.vet_files.specs.Imports.{next_imported, next_publishers, peer_file_told, publisher_told, publishers_told}
+use Rattle.vet_files.specs.Lists.{listed, found_with, path_below, tables_of_package}
 use Rattle.vet_files.specs.Publishers.{in_order}
 use Rattle.vet_files.specs.SameContent.{CanStand, HasRecords, IsImports}
-use Rattle.vet_files.specs.Walk.{each_member}
-use Rattle.vet_files.proofs.Apart.{Appends, AreApart, HasOther, Holds, apart-pairs, other-name, walk-apart}
+use Rattle.vet_files.proofs.Apart.{Appends, AreApart, HasOther, Holds, apart-pairs, other-name, table-apart}
 use Rattle.vet_files.proofs.Ordered.{in_order-AreTheRecords, in_order-is}
 use Rattle.vet_files.proofs.Rising.{Rises, Rising}
-use Rattle.vet_files.proofs.RisingTables.{as_table-rises, table_at-rises}
+use Rattle.vet_files.proofs.RisingTables.{as_table-rises}
 use Rattle.vet_files.proofs.Stands.{PeerStands, peer-stands}
 use Rattle.vet_files.proofs.Walks.{bind-gives, bind-keeps}
 
@@ -66,11 +66,9 @@ abbrev HavePublished : Found (List PackagePublishers) → Type 0
 HavePublished = Holds (HasOther package_of) HasRecords
 
 publishers-stand : (ms : Members) → Rising ms → IfOk (publishers_told ms) HavePublished
-publishers-stand ms rise =
-    bind-keeps Rising HavePublished (table_at (codes "top") (codes "publisher") ms)
-    (each_member next_publishers nothing) (table_at-rises (codes "top") (codes "publisher") ms rise)
-    (λ inner inner_rise. walk-apart package_of (HasOther package_of) HasRecords (other-name package_of) next_publishers
-    (λ found name d _. next_publishers-appends found name d) inner inner_rise)
+publishers-stand =
+    table-apart package_of (HasOther package_of) HasRecords (other-name package_of) next_publishers
+    (λ found name d _. next_publishers-appends found name d) (codes "top") (codes "publisher")
 
 -- ---- peers
 
@@ -117,11 +115,9 @@ abbrev AreStanding : Found (List ImportedPeer) → Type 0
 AreStanding = Holds (HasOther peer_name) IsStanding
 
 peers-stand : (ms : Members) → Rising ms → IfOk (imported_told ms) AreStanding
-peers-stand ms rise =
-    bind-keeps Rising AreStanding (table_at (codes "top") (codes "audits") ms) (each_member next_imported nothing)
-    (table_at-rises (codes "top") (codes "audits") ms rise)
-    (λ inner inner_rise. walk-apart peer_name (HasOther peer_name) IsStanding (other-name peer_name) next_imported
-    next_imported-appends inner inner_rise)
+peers-stand =
+    table-apart peer_name (HasOther peer_name) IsStanding (other-name peer_name) next_imported next_imported-appends
+    (codes "top") (codes "audits")
 
 -- ---- the file
 

@@ -1,5 +1,6 @@
 -- The tables of an audits file (The Cargo Vet Book, audits file; what is skipped and counted is ours).
-use Rattle.std.specs.Prelude.{ℕ, Bool, true, false, List, [], ◌++◌, Option, Some, None, Ok, Err, if◌then◌else◌, is_some, length, nat_lt}
+use Rattle.std.specs.Prelude.{ℕ, Bool, true, false, List, [], ◌++◌, Option, Some, None, Ok, Err, if◌then◌else◌, is_some}
+use Rattle.std.specs.Prelude.{length, nat_lt}
 use Rattle.std.specs.FinSet as set
 use Rattle.std.specs.Option.{option_map_or}
 use Rattle.std.specs.Str.{is_utf8}
@@ -21,7 +22,9 @@ use Rattle.vet_entries.specs.declared.kind.Audit.{Audit}
 use Rattle.vet_entries.specs.declared.kind.Kind.{Kind}
 use Rattle.vet_entries.specs.declared.kind.Kind.TheVariants as entry
 use Rattle.vet_entries.specs.declared.kind.Window.{Window}
-use Rattle.vet_files.specs.KeyNames.{AUDITS, CRITERIA, DELTA, DESCRIPTION, DESCRIPTION_URL, END, IMPLIES, IMPORTABLE, NOTES, RENEW, START, TOP, TRUSTED, USER_ID, VERSION, VIOLATION, WHO, WILDCARD_AUDITS}
+use Rattle.vet_files.specs.KeyNames.{AUDITS, CRITERIA, DELTA, DESCRIPTION, DESCRIPTION_URL, END, IMPLIES, IMPORTABLE}
+use Rattle.vet_files.specs.KeyNames.{NOTES, RENEW, START, TOP, TRUSTED, USER_ID, VERSION, VIOLATION, WHO}
+use Rattle.vet_files.specs.KeyNames.{WILDCARD_AUDITS}
 use Rattle.vet_files.specs.declared.keys.TableKind.TheVariants as kind
 use Rattle.vet_files.specs.declared.audits_file.AuditsContent.{AuditsContent}
 use Rattle.vet_files.specs.declared.found.Found.{Found}
@@ -32,9 +35,11 @@ use Rattle.vet_files.specs.declared.read.subject.SubjectKey.TheVariants as key
 use Rattle.vet_files.specs.declared.read.subject.Subject.TheVariants as subject
 use Rattle.vet_files.specs.declared.read.whose.Whose.{Whose}
 use Rattle.vet_files.specs.declared.read.whose.Whose.TheVariants.{Ours, Peers}
-use Rattle.vet_files.specs.Field.{a_day, a_delta, a_flag, a_requirement, a_text, a_user, a_version, fault, names, optional, required, texts}
+use Rattle.vet_files.specs.Field.{a_day, a_delta, a_flag, a_requirement, a_text, a_user, a_version, fault, names}
+use Rattle.vet_files.specs.Field.{optional, required, texts}
 use Rattle.vet_files.specs.Keys.{unknown_keys}
-use Rattle.vet_files.specs.Lists.{Reading, each_once, listed, nothing, found_one, found_with, path_below, skipped, table_at, tables_of_package}
+use Rattle.vet_files.specs.Lists.{Reading, each_once, listed, nothing, found_one, found_with, path_below, skipped}
+use Rattle.vet_files.specs.Lists.{table_at, tables_of_package}
 use Rattle.vet_files.specs.Notices.{one_key, only_keys, sum_of_notices}
 use Rattle.vet_files.specs.Walk.{each_member}
 

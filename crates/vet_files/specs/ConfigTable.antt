@@ -12,7 +12,9 @@ use Rattle.vet_demand.specs.declared.policy.Policy.{Policy}
 use Rattle.vet_entries.specs.CriteriaMap.{NamesByName}
 use Rattle.vet_entries.specs.declared.entry.Entry.{Entry}
 use Rattle.vet_entries.specs.declared.peer_settings.PeerSettings.{PeerSettings}
-use Rattle.vet_files.specs.KeyNames.{AUDIT_AS_CRATES_IO, CARGO_VET, CRITERIA, CRITERIA_MAP, DEFAULT_CRITERIA, DEPENDENCY_CRITERIA, DEV_CRITERIA, EXCLUDE, EXEMPTIONS, IMPORTS, NOTES, POLICY, URL, VERSION}
+use Rattle.vet_files.specs.KeyNames.{AUDIT_AS_CRATES_IO, CARGO_VET, CRITERIA, CRITERIA_MAP, DEFAULT_CRITERIA}
+use Rattle.vet_files.specs.KeyNames.{DEPENDENCY_CRITERIA, DEV_CRITERIA, EXCLUDE, EXEMPTIONS, IMPORTS, NOTES, POLICY}
+use Rattle.vet_files.specs.KeyNames.{URL, VERSION}
 use Rattle.vet_files.specs.declared.config_file.ConfigContent.{ConfigContent}
 use Rattle.vet_files.specs.declared.write.sections.Listing.TheVariants.{Exemptions}
 use Rattle.vet_files.specs.EntryTables.{listed_entries, package_lists, some_flag, some_text}

@@ -12,7 +12,8 @@ use Rattle.vet_base.specs.Words.{Key, Name, Text}
 use Rattle.vet_entries.specs.declared.entry.Entry.{Entry}
 use Rattle.vet_entries.specs.declared.kind.Kind.{Kind}
 use Rattle.vet_entries.specs.declared.kind.Kind.TheVariants.{Full, Delta, Violation, Wildcard, Trusted, Exemption}
-use Rattle.vet_files.specs.KeyNames.{CRITERIA, DELTA, END, IMPORTABLE, NOTES, RENEW, START, SUGGEST, USER_ID, VERSION, VIOLATION, WHO}
+use Rattle.vet_files.specs.KeyNames.{CRITERIA, DELTA, END, IMPORTABLE, NOTES, RENEW, START, SUGGEST, USER_ID, VERSION}
+use Rattle.vet_files.specs.KeyNames.{VIOLATION, WHO}
 use Rattle.vet_files.specs.declared.write.sections.Listing.{Listing}
 use Rattle.vet_files.specs.declared.write.sections.Listing.TheVariants as listing
 use Rattle.vet_files.specs.Tables.{by_name, fields, set_data, some_set}

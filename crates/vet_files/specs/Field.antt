@@ -1,7 +1,9 @@
 -- What stands at a key of a table, by its type (The Cargo Vet Book, the three files; the faults are ours).
-use Rattle.std.specs.Prelude.{ℕ, Bool, List, [], ◌∷◌, ◌++◌, ℤ, pos, negsuc, Option, Some, None, Ok, Err, if◌then◌else◌, length, nat_le, nat_lt, option_and_then}
+use Rattle.std.specs.Prelude.{ℕ, Bool, List, [], ◌∷◌, ◌++◌, ℤ, pos, negsuc, Option, Some, None, Ok, Err, if◌then◌else◌}
+use Rattle.std.specs.Prelude.{length, nat_le, nat_lt, option_and_then}
 use Rattle.std.specs.FinSet as set
-use Rattle.toml.specs.Data.{Data, string, array, Items, no_items, item, Members, get_member, as_str, as_bool, as_integer, as_datetime, as_array}
+use Rattle.toml.specs.Data.{Data, string, array, Items, no_items, item, Members, get_member, as_str, as_bool}
+use Rattle.toml.specs.Data.{as_integer, as_datetime, as_array}
 use Rattle.toml_datetime.specs.declared.datetime.Date.{Date}
 use Rattle.toml_datetime.specs.declared.datetime.Datetime.{Datetime}
 use Rattle.toml_datetime.specs.declared.datetime.Offset.{Offset}

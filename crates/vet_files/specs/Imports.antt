@@ -19,7 +19,8 @@ use Rattle.vet_files.specs.declared.keys.TableKind.TheVariants as kind
 use Rattle.vet_files.specs.declared.read.whose.Whose.TheVariants.{Peers}
 use Rattle.vet_files.specs.Field.{a_day, a_text, a_user, a_version, fault, optional, required}
 use Rattle.vet_files.specs.Keys.{unknown_keys}
-use Rattle.vet_files.specs.Lists.{Reading, each_once, listed, nothing, found_one, found_with, path_below, skipped, table_at, tables_of_package}
+use Rattle.vet_files.specs.Lists.{Reading, each_once, listed, nothing, found_one, found_with, path_below, skipped}
+use Rattle.vet_files.specs.Lists.{table_at, tables_of_package}
 use Rattle.vet_files.specs.Notices.{only_keys, sum_of_notices}
 use Rattle.vet_files.specs.Walk.{each_member}
 

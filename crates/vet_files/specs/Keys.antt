@@ -3,7 +3,11 @@ use Rattle.std.specs.Prelude.{ℕ, suc, ◌||◌, Bool, if◌then◌else◌}
 use Rattle.std.specs.Str.{bytes_eq}
 use Rattle.toml.specs.Data.{Members, no_members, member}
 use Rattle.vet_base.specs.Words.{Key}
-use Rattle.vet_files.specs.KeyNames.{AUDITS, AUDIT_AS_CRATES_IO, CARGO_VET, CRITERIA, CRITERIA_MAP, DEFAULT_CRITERIA, DELTA, DEPENDENCY_CRITERIA, DESCRIPTION, DESCRIPTION_URL, DEV_CRITERIA, END, EXCLUDE, EXEMPTIONS, IMPLIES, IMPORTABLE, IMPORTS, NOTES, POLICY, PUBLISHER, RENEW, START, SUGGEST, TRUSTED, URL, USER_ID, USER_LOGIN, USER_NAME, VERSION, VIOLATION, WHEN, WHO, WILDCARD_AUDITS}
+use Rattle.vet_files.specs.KeyNames.{AUDITS, AUDIT_AS_CRATES_IO, CARGO_VET, CRITERIA, CRITERIA_MAP, DEFAULT_CRITERIA}
+use Rattle.vet_files.specs.KeyNames.{DELTA, DEPENDENCY_CRITERIA, DESCRIPTION, DESCRIPTION_URL, DEV_CRITERIA, END}
+use Rattle.vet_files.specs.KeyNames.{EXCLUDE, EXEMPTIONS, IMPLIES, IMPORTABLE, IMPORTS, NOTES, POLICY, PUBLISHER, RENEW}
+use Rattle.vet_files.specs.KeyNames.{START, SUGGEST, TRUSTED, URL, USER_ID, USER_LOGIN, USER_NAME, VERSION, VIOLATION}
+use Rattle.vet_files.specs.KeyNames.{WHEN, WHO, WILDCARD_AUDITS}
 use Rattle.vet_files.specs.declared.keys.TableKind.{TableKind}
 use Rattle.vet_files.specs.declared.keys.TableKind.TheVariants as kind
 

@@ -1,5 +1,6 @@
 //! What stands at a key of a table, by its type, and the faults that it can have.
-ghost use Rattle.std.specs.Prelude.{◌≡◌, ◌⊎◌, List, ℕ, pos, Option, Some, IfOk, option_map, option_and_then, string_bytes};
+ghost use Rattle.std.specs.Prelude.{◌≡◌, ◌⊎◌, List, ℕ, pos, Option, Some, IfOk, option_map, option_and_then};
+ghost use Rattle.std.specs.Prelude.{string_bytes};
 ghost use Rattle.toml.specs.Data.{Data, as_integer, boolean, get_member, integer, string};
 ghost use Rattle.toml.specs.View.{table_view, view};
 ghost use Rattle.vet_base.specs.Gives.{Gives, Told};
@@ -8,7 +9,9 @@ ghost use Rattle.vet_base.specs.Delta.{delta_text, read_delta};
 ghost use Rattle.vet_base.specs.Name.{read_name, read_package_name};
 ghost use Rattle.vet_base.specs.Req.{read_req};
 ghost use Rattle.vet_base.specs.Version.{read_version, version_text};
-ghost use Rattle.vet_files.specs.Field.{a_day, a_delta, a_reading, a_flag, a_name, a_package, a_requirement, a_text, a_user, a_version, day_of, day_of_date, fault, local_date, optional, required, user_of};
+ghost use Rattle.vet_files.specs.Field.{a_day, a_delta, a_reading, a_flag, a_name, a_package, a_requirement, a_text};
+ghost use Rattle.vet_files.specs.Field.{a_user, a_version, day_of, day_of_date, fault, local_date, optional, required};
+ghost use Rattle.vet_files.specs.Field.{user_of};
 ghost use Rattle.vet_files.specs.ReadAgain.{IsReadAs};
 
 pub(crate) mod maps;

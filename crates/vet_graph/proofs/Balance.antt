@@ -1,5 +1,6 @@
 -- Counts of the pairs in each class, before and after moves.
-use Rattle.std.proofs.Common.{◌≡◌, ℕ, ◌+◌, Bool, cond, List, [], ◌∷◌, ◌++◌, map, length, Some, refl, ap, arith, inl, inr}
+use Rattle.std.proofs.Common.{◌≡◌, ℕ, ◌+◌, Bool, cond, List, [], ◌∷◌, ◌++◌, map, length, Some, refl, ap, arith, inl}
+use Rattle.std.proofs.Common.{inr}
 use Rattle.std.specs.Option.{option_eq}
 use Rattle.std.specs.declared.cmp.Ordering.{Ordering}
 use Rattle.std.specs.declared.cmp.Ordering.TheVariants.{Less, Equal, Greater}
@@ -10,7 +11,8 @@ use Rattle.vet_graph.specs.declared.class.Class.{Class}
 use Rattle.vet_graph.specs.declared.class.Class.TheVariants.{Conflicting, Full, Partial, Exempted, Unvetted}
 use Rattle.vet_graph.specs.declared.moves.Move.{Move}
 use Rattle.vet_graph.specs.declared.standing.Stand.{Stand}
-use Rattle.vet_graph.specs.Moves.{arrivals_of, changes, comes, departures_of, leaves, moves_between, moves_by, moves_past}
+use Rattle.vet_graph.specs.Moves.{arrivals_of, changes, comes, departures_of, leaves, moves_between, moves_by}
+use Rattle.vet_graph.specs.Moves.{moves_past}
 use Rattle.vet_graph.specs.Standing.{count_of, counts_of, same_class, total_of}
 use Rattle.vet_graph.proofs.SameClass.{same_class-Decides}
 

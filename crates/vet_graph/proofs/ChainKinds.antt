@@ -1,8 +1,10 @@
 -- What a search says of each kind of chain.
-use Rattle.std.proofs.Common.{◌≡◌, ◌≢◌, ℕ, Bool, true, false, List, [], ◌∷◌, ◌++◌, None, Some, Option, length, inl, inr, length-append, refl, ap, sym, subst, ◌∙◌, ◌↔◌, IsTrue, arith, get_or, Result, Bor}
+use Rattle.std.proofs.Common.{◌≡◌, ◌≢◌, ℕ, Bool, true, false, List, [], ◌∷◌, ◌++◌, None, Some, Option, length, inl, inr}
+use Rattle.std.proofs.Common.{length-append, refl, ap, sym, subst, ◌∙◌, ◌↔◌, IsTrue, arith, get_or, Result, Bor}
 use Rattle.std.specs.Prelude.{IfOk}
 use Rattle.std.specs.List.{All, AllPairs, Contains}
-use Rattle.std.proofs.lemmas.List.Elements.{All-nil, All-cons, All-head, All-tail, All-map, All-weaker, All-push, All-contains, Contains-push}
+use Rattle.std.proofs.lemmas.List.Elements.{All-nil, All-cons, All-head, All-tail, All-map, All-weaker, All-push}
+use Rattle.std.proofs.lemmas.List.Elements.{All-contains, Contains-push}
 use Rattle.std.proofs.lemmas.Bool.{not-true, not_from_false, and_left, and_right, and_cases, cases_Bool, false≢true}
 use Rattle.std.proofs.lemmas.List.{get_or_append_left, get_or_push}
 use Rattle.std.proofs.lemmas.Result.{IfOk-weaker}
@@ -15,7 +17,8 @@ use Rattle.vet_graph.specs.declared.guarded.GuardedStep.{GuardedStep}
 use Rattle.vet_graph.specs.declared.search.Skip.{Skip}
 use Rattle.vet_graph.specs.declared.search.Skip.TheVariants.{Nothing, Exempt, ExemptTo}
 use Rattle.vet_graph.specs.declared.search.Terms.{Terms}
-use Rattle.vet_graph.specs.Chain.{Condemned, EndsReviewed, HasChain, HasCleanChain, HasNoExempt, IsAny, IsChain, IsClean, Leads}
+use Rattle.vet_graph.specs.Chain.{Condemned, EndsReviewed, HasChain, HasCleanChain, HasNoExempt, IsAny, IsChain}
+use Rattle.vet_graph.specs.Chain.{IsClean, Leads}
 use Rattle.vet_graph.specs.Class.{IsConflicting, IsExempted, IsFull, IsPartial}
 use Rattle.vet_graph.specs.Search.{AreGuardedAt, IsReached, may_take, steps_in}
 use Rattle.vet_graph.proofs.Reach.{All-unmapped, Contains-unmapped}

@@ -1,7 +1,9 @@
 -- How the index of a package's steps grows.
-use Rattle.std.proofs.Common.{◌≡◌, ◌≢◌, ℕ, ◌+◌, ◌<◌, cond, List, [], ◌∷◌, ◌++◌, Option, Some, None, length, get_or, set, replicate, refl, sym, ◌∙◌, ap, inl, inr, arith, unwrap_or, Vec, Global}
+use Rattle.std.proofs.Common.{◌≡◌, ◌≢◌, ℕ, ◌+◌, ◌<◌, cond, List, [], ◌∷◌, ◌++◌, Option, Some, None, length, get_or, set}
+use Rattle.std.proofs.Common.{replicate, refl, sym, ◌∙◌, ap, inl, inr, arith, unwrap_or, Vec, Global}
 use Rattle.std.proofs.lemmas.Bool.{cases_Bool, cases_lt, false≢true}
-use Rattle.std.proofs.lemmas.List.{get_or_append_left, get_or_push, get_or-map, get_or-replicate, get_or-set_same, get_or-set_other, get_or_default, map-set, length-set, length-replicate, length_push}
+use Rattle.std.proofs.lemmas.List.{get_or_append_left, get_or_push, get_or-map, get_or-replicate, get_or-set_same}
+use Rattle.std.proofs.lemmas.List.{get_or-set_other, get_or_default, map-set, length-set, length-replicate, length_push}
 use Rattle.std.proofs.lemmas.List.Elements.{All-nil, All-push, All-weaker, Contains-append_left, Contains-push}
 use Rattle.vet_base.specs.Version.{VersionValue}
 use Rattle.vet_base.specs.VersionOrder.{version_eq}

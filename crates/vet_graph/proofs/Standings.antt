@@ -1,5 +1,6 @@
 -- The standing of a demand, pair by pair, and what no steps give.
-use Rattle.std.proofs.Common.{◌≡◌, ℕ, Bool, true, false, cond, inl, inr, List, [], ◌∷◌, Option, Some, None, refl, sym, ap, ◌∙◌, ◌<◌, ◌+◌, ◌++◌, length, take, get_or, arith}
+use Rattle.std.proofs.Common.{◌≡◌, ℕ, Bool, true, false, cond, inl, inr, List, [], ◌∷◌, Option, Some, None, refl, sym}
+use Rattle.std.proofs.Common.{ap, ◌∙◌, ◌<◌, ◌+◌, ◌++◌, length, take, get_or, arith}
 use Rattle.std.specs.Prelude.{MatchOption}
 use Rattle.std.specs.List.{Contains}
 use Rattle.std.specs.Option.{option_map_or}
@@ -21,7 +22,8 @@ use Rattle.vet_demand.specs.Pair.{IsInOrder, pair_eq}
 use Rattle.vet_demand.specs.PairLaws.{pair_eq-Decides}
 use Rattle.vet_graph.specs.Standing.{IsStanding, class_in, pairs_of}
 use Rattle.vet_graph.specs.PackageSteps.{AreStepsOf}
-use Rattle.vet_graph.specs.StandingOf.{PairClassHolds, PairClassIsOnly, PairsStandAtTheirClass, class_of_pair, condemned_of, standing_of}
+use Rattle.vet_graph.specs.StandingOf.{PairClassHolds, PairClassIsOnly, PairsStandAtTheirClass, class_of_pair}
+use Rattle.vet_graph.specs.StandingOf.{condemned_of, standing_of}
 use Rattle.vet_entries.specs.declared.condemned.Violation.{Violation}
 use Rattle.vet_entries.specs.Condemned.{ViolationsCondemn, condemned_by, violations_of}
 use Rattle.vet_graph.specs.declared.guarded.GuardedStep.{GuardedStep}

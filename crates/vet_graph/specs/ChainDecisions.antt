@@ -14,7 +14,8 @@ use Rattle.vet_base.specs.VersionOrderLaws.{same_or_other, version_eq-Decides}
 use Rattle.vet_entries.specs.declared.step.Step.{Step}
 use Rattle.vet_graph.specs.Chain.{Condemned, EndsReviewed, HasCleanChain, HasNoExempt, IsChain, IsClean, Leads}
 use Rattle.vet_graph.specs.Class.{IsConflicting}
-use Rattle.vet_graph.specs.Decisions.{Answer, answer_of_both, all_three, each, each_pair, is_true, lists_up_to, opposite, same_answer, some}
+use Rattle.vet_graph.specs.Decisions.{Answer, answer_of_both, all_three, each, each_pair, is_true, lists_up_to}
+use Rattle.vet_graph.specs.Decisions.{opposite, same_answer, some}
 use Rattle.vet_graph.specs.DecisionsLaws.{All-lists_up_to, Contains-lists_up_to}
 use Rattle.vet_graph.specs.ListLaws.{AllPairs-map, Contains-map}
 

@@ -3,7 +3,8 @@ ghost use Rattle.std.specs.Prelude.{◌≡◌, IfOk, string_bytes};
 ghost use Rattle.toml.specs.Data.{as_table};
 ghost use Rattle.toml.specs.View.{table_view, view};
 ghost use Rattle.vet_base.specs.Gives.{Gives};
-ghost use Rattle.vet_files.specs.Audits.{built_in_criterion, criterion_at, criterion_told, further_criterion, next_criterion, room_for_criterion};
+ghost use Rattle.vet_files.specs.Audits.{built_in_criterion, criterion_at, criterion_told, further_criterion};
+ghost use Rattle.vet_files.specs.Audits.{next_criterion, room_for_criterion};
 ghost use Rattle.vet_files.specs.Lists.{path_below};
 
 use crate::field::{fault, optional};

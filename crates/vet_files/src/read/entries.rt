@@ -3,7 +3,8 @@ ghost use Rattle.std.specs.Prelude.{◌≡◌, IfOk, Some, option_map};
 ghost use Rattle.toml.specs.View.{table_view, view};
 ghost use Rattle.vet_base.specs.Gives.{Gives};
 ghost use Rattle.vet_files.specs.Lists.{skipped};
-ghost use Rattle.vet_files.specs.Audits.{absent, audit_of, audit_of_subject, audit_told, first_key, has, is_no, is_withheld, own_entry, subject_told};
+ghost use Rattle.vet_files.specs.Audits.{absent, audit_of, audit_of_subject, audit_told, first_key, has, is_no};
+ghost use Rattle.vet_files.specs.Audits.{is_withheld, own_entry, subject_told};
 
 use crate::field::{fault, optional, required, value_at};
 use crate::found::Found;

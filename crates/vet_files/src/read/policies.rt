@@ -3,7 +3,8 @@ ghost use Rattle.std.specs.Prelude.{Ok};
 ghost use Rattle.toml.specs.View.{table_view, view};
 ghost use Rattle.vet_base.specs.Gives.{Gives};
 ghost use Rattle.vet_demand.specs.Policies.{in_key_order};
-ghost use Rattle.vet_files.specs.Config.{all_policies_told, dependency_policy_told, new_key_told, policies_told, policy_at, policy_told};
+ghost use Rattle.vet_files.specs.Config.{all_policies_told, dependency_policy_told, new_key_told, policies_told};
+ghost use Rattle.vet_files.specs.Config.{policy_at, policy_told};
 ghost use Rattle.vet_files.specs.GatheredPolicies.{next_gathered, policy_behind};
 
 use crate::field::{fault, optional};

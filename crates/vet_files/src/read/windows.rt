@@ -2,7 +2,8 @@
 ghost use Rattle.std.specs.Prelude.{◌≡◌};
 ghost use Rattle.toml.specs.View.{table_view};
 ghost use Rattle.vet_base.specs.Gives.{Gives};
-ghost use Rattle.vet_files.specs.Audits.{is_trusted, trusted_of, trusted_told, wildcard_of, wildcard_of_window, wildcard_told, window_told};
+ghost use Rattle.vet_files.specs.Audits.{is_trusted, trusted_of, trusted_told, wildcard_of, wildcard_of_window};
+ghost use Rattle.vet_files.specs.Audits.{wildcard_told, window_told};
 
 use crate::field::{optional, required};
 use crate::found::Found;

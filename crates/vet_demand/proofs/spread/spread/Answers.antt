@@ -1,7 +1,8 @@
 use Rattle.std.proofs.Common.{◌<◌, ap, arith, length, subst, sym}
 use Rattle.std.specs.List.{All, Contains}
 use Rattle.std.proofs.lemmas.List.{length-take}
-use Rattle.vet_demand.proofs.Spreading.{IsDone-next, IsDone-none, IsReaching-start, IsSpread-done, length-le_from_IsReaching, next_below, next_led, next_list}
+use Rattle.vet_demand.proofs.Spreading.{IsDone-next, IsDone-none, IsReaching-start, IsSpread-done}
+use Rattle.vet_demand.proofs.Spreading.{length-le_from_IsReaching, next_below, next_led, next_list}
 use Rattle.vet_demand.specs.Spread.{lists_in}
 use Rattle.vet_demand.proofs.spread.spread.Goals as goal
 

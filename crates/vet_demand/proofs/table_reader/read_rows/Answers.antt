@@ -1,6 +1,7 @@
 use Rattle.std.proofs.Common.{inl}
 use Rattle.csv.specs.Records.{fields_of}
-use Rattle.vet_demand.proofs.ReadingLemmas.{RowsSoFar-next, RowsSoFar-none, found_end, found_more, handed_on, memory_wanting, told_all, told_end, told_refused}
+use Rattle.vet_demand.proofs.ReadingLemmas.{RowsSoFar-next, RowsSoFar-none, found_end, found_more, handed_on}
+use Rattle.vet_demand.proofs.ReadingLemmas.{memory_wanting, told_all, told_end, told_refused}
 use Rattle.vet_demand.proofs.table_reader.read_rows.Goals as goal
 
 pub rows-init : goal.rows-init

@@ -3,7 +3,8 @@ use Rattle.std.specs.Prelude.{◌&&◌}
 use Rattle.csv.specs.Records.{fields_of}
 use Rattle.vet_demand.specs.DependencyRecord.{is_header}
 use Rattle.vet_demand.proofs.ReadingLemmas.{found_more, handed_on, no_header, told_alike, under_header}
-use Rattle.vet_demand.proofs.table_reader.read_table.Goals.{then-not-found-via-then-not-found, then-not-found-via-else-not-found+then-not-is_header}
+use Rattle.vet_demand.proofs.table_reader.read_table.Goals.{then-not-found-via-then-not-found}
+use Rattle.vet_demand.proofs.table_reader.read_table.Goals.{then-not-found-via-else-not-found+then-not-is_header}
 use Rattle.vet_demand.proofs.table_reader.read_table.Goals as goal
 
 pub returns-in_err-found : goal.returns-in_err-found

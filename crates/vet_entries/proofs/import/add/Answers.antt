@@ -6,7 +6,8 @@ use Rattle.vet_entries.specs.declared.facts.HeldEntry.{HeldEntry}
 use Rattle.vet_entries.specs.Entry.{of_source}
 use Rattle.vet_entries.specs.Numbered.{numbered}
 use Rattle.vet_entries.specs.Replaced.{as_of}
-use Rattle.vet_entries.proofs.ImportMarks.{count, count_more, count_within, filter_one, item_at, map_more, mark_of, marks_count}
+use Rattle.vet_entries.proofs.ImportMarks.{count, count_more, count_within, filter_one, item_at, map_more, mark_of}
+use Rattle.vet_entries.proofs.ImportMarks.{marks_count}
 use Rattle.vet_entries.proofs.Numbers.{numbered_push}
 use Rattle.vet_entries.proofs.import.add.Goals as goal
 use Rattle.vet_entries.proofs.import.add.Goals.{then-fresh-place+in_ok-entry+in_ok-push, else-fresh-place}

@@ -1,6 +1,7 @@
 use Rattle.std.proofs.Common.{subst, ap}
 use Rattle.vet_entries.specs.PublisherRecords.{IsByName}
-use Rattle.vet_entries.proofs.PublisherLaws.{IsByName-with_records, records_of-other, records_of-own, records_of-total, records_total-with_records, with_same_records}
+use Rattle.vet_entries.proofs.PublisherLaws.{IsByName-with_records, records_of-other, records_of-own, records_of-total}
+use Rattle.vet_entries.proofs.PublisherLaws.{records_total-with_records, with_same_records}
 use Rattle.vet_entries.proofs.publisher_records.records_after_setting.Goals as goal
 
 pub returns : goal.returns

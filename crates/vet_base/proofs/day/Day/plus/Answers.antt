@@ -16,7 +16,7 @@ returns-in-Ok c =
     let later = c.in-Ok.ensures.value ∙ sum in
     record {
       past = (λ never. absurd (false≢true (sym never)), λ past. absurd (not_past _ c.in-Ok.date later past));
-      number = c.from_date.ensures ∙ later;
+      number = c.from_date.ensures.number ∙ later;
     }
 
 pub returns-in-Err-clause-past : goal.returns-in-Err-clause-past

@@ -1,17 +1,14 @@
-use Rattle.std.proofs.Common.{◌∙◌, ap, sym}
-use Rattle.std.specs.FinMap as map
+use Rattle.std.proofs.Common.{◌∙◌}
 use Rattle.vet_base.proofs.Rising.{searched_in}
-use Rattle.vet_base.proofs.Tables.{keys_kept, few_kept, within_few, place_searched}
+use Rattle.vet_base.proofs.Tables.{few_kept, place_told, within_few}
 use Rattle.vet_base.proofs.definitions.Definitions.place.Goals as goal
 
 pub returns-clause-value : goal.returns-clause-value
 returns-clause-value c =
-    let e = c.binary_search.ensures in
-    let names = c.self.inside.names.items in
-    let answer = searched_in names c.deref.result.now c.args.name.now c.binary_search.result c.deref.ensures.value
-    c.self.invariant.rising e.bound e.position in
-    let keys = ap map.keys (sym c.self.view_is) ∙ keys_kept names c.self.inside.criteria.items c.self.invariant in
-    c.ok.ensures.value ∙ place_searched c.args.self.now names c.args.name.now c.binary_search.result keys answer
+    c.ok.ensures.value
+    ∙ place_told _ _ c.self.invariant _ c.self.view_is c.args.name.now c.binary_search.result
+    (searched_in _ _ _ c.binary_search.result c.deref.ensures.value c.self.invariant.rising
+    c.binary_search.ensures.bound c.binary_search.ensures.position)
 
 pub returns-clause-within : goal.returns-clause-within
 returns-clause-within c =

@@ -9,30 +9,20 @@ use Rattle.vet_base.proofs.definitions.Definitions.remove.Goals as goal
 
 pub returns-in_default : goal.returns-in_default
 returns-in_default c =
-    let names = c.self.inside.names.items in
-    let e = c.in_default.ensures in
-    let lacks = searched_in names c.deref.result.now c.args.name.now (Err c.in_default.field-0) c.deref.ensures.value
-    c.self.invariant.rising e.bound e.position in
-    absurd (false≢true (sym
-    (not_held names c.self.inside.criteria.items c.self.invariant c.args.self.now c.args.name.now
-    c.in_default.field-0 c.self.view_is lacks) ∙ c.requires))
+    let lacks = searched_in _ _ _ (Err c.in_default.field-0) c.deref.ensures.value c.self.invariant.rising
+    c.in_default.ensures.bound c.in_default.ensures.position in
+    absurd (false≢true (sym (not_held _ _ c.self.invariant _ _ c.in_default.field-0 c.self.view_is lacks) ∙ c.requires))
 
 pub invariant_of-self : goal.invariant_of-self
 invariant_of-self c =
-    let names = c.self.inside.names.items in
-    let e = c.in-Ok.ensures in
-    let found = searched_in names c.deref.result.now c.args.name.now (Ok c.in-Ok.place) c.deref.ensures.value
-    c.self.invariant.rising e.bound e.position in
+    let found = searched_in _ _ _ (Ok c.in-Ok.place) c.deref.ensures.value c.self.invariant.rising
+    c.in-Ok.ensures.bound c.in-Ok.ensures.position in
     rw (c.remove.ensures.items, c.remove-2.ensures.items)
-    (kept_after_remove names c.self.inside.criteria.items c.self.invariant c.args.self.now c.self.view_is c.in-Ok.place
-    c.args.name.now found.0 (found.1 []))
+    (kept_after_remove _ _ c.self.invariant _ c.self.view_is c.in-Ok.place c.args.name.now found.0 (found.1 []))
 
 pub returns : goal.returns
 returns c =
-    let names = c.self.inside.names.items in
-    let e = c.in-Ok.ensures in
-    let found = searched_in names c.deref.result.now c.args.name.now (Ok c.in-Ok.place) c.deref.ensures.value
-    c.self.invariant.rising e.bound e.position in
+    let found = searched_in _ _ _ (Ok c.in-Ok.place) c.deref.ensures.value c.self.invariant.rising
+    c.in-Ok.ensures.bound c.in-Ok.ensures.position in
     ap (λ cs. map.from_sorted {R = R} (by_name cs)) c.remove-2.ensures.items
-    ∙ view_after_remove names c.self.inside.criteria.items c.self.invariant c.args.self.now c.self.view_is
-    c.in-Ok.place c.args.name.now found.0 (found.1 [])
+    ∙ view_after_remove _ _ c.self.invariant _ c.self.view_is c.in-Ok.place c.args.name.now found.0 (found.1 [])

@@ -10,32 +10,24 @@ use Rattle.vet_base.proofs.definitions.Definitions.set.Goals as goal
 
 pub invariant_of-self : goal.invariant_of-self
 invariant_of-self c =
-    let names = c.self.inside.names.items in
-    let e = c.in-Ok.ensures in
-    let found = searched_in names c.deref.result.now c.args.criterion.name (Ok c.in-Ok.place) c.deref.ensures.value
-    c.self.invariant.rising e.bound e.position in
-    kept_after_set names c.self.inside.criteria.items c.self.invariant c.args.self.now c.self.view_is c.in-Ok.place
-    c.args.criterion found.0 (found.1 [])
+    let found = searched_in _ _ _ (Ok c.in-Ok.place) c.deref.ensures.value c.self.invariant.rising
+    c.in-Ok.ensures.bound c.in-Ok.ensures.position in
+    kept_after_set _ _ c.self.invariant _ c.self.view_is c.in-Ok.place c.args.criterion found.0 (found.1 [])
 
 pub returns-in-Ok-clause-ok : goal.returns-in-Ok-clause-ok
 returns-in-Ok-clause-ok c =
-    let names = c.self.inside.names.items in
-    let e = c.in-Ok.ensures in
-    let found = searched_in names c.deref.result.now c.args.criterion.name (Ok c.in-Ok.place) c.deref.ensures.value
-    c.self.invariant.rising e.bound e.position in
-    view_after_set names c.self.inside.criteria.items c.self.invariant c.args.self.now c.self.view_is c.in-Ok.place
-    c.args.criterion found.0 (found.1 [])
+    let found = searched_in _ _ _ (Ok c.in-Ok.place) c.deref.ensures.value c.self.invariant.rising
+    c.in-Ok.ensures.bound c.in-Ok.ensures.position in
+    view_after_set _ _ c.self.invariant _ c.self.view_is c.in-Ok.place c.args.criterion found.0 (found.1 [])
 
 pub invariant_of-self-in-Err : goal.invariant_of-self-in-Err
 invariant_of-self-in-Err c =
-    let names = c.self.inside.names.items in
-    let e = c.in-Err.ensures in
-    let lacks = searched_in names c.deref.result.now c.args.criterion.name (Err c.in-Err.place) c.deref.ensures.value
-    c.self.invariant.rising e.bound e.position in
+    let lacks = searched_in _ _ _ (Err c.in-Err.place) c.deref.ensures.value c.self.invariant.rising
+    c.in-Err.ensures.bound c.in-Err.ensures.position in
     let h = c.in_ok-name-in-Err.ensures.cases in
     let copy = sym h.3 ∙ sym h.4.3 ∙ h.4.4 ∙ h.4.2 ∙ h.2 in
-    let new = kept_after_insert names c.self.inside.criteria.items c.self.invariant c.args.self.now c.self.view_is
-    c.in-Err.place c.args.criterion lacks c.requires.room in
+    let new = kept_after_insert _ _ c.self.invariant _ c.self.view_is c.in-Err.place c.args.criterion lacks
+    c.requires.room in
     either_end c.put.result c.put.ensures.names c.put.ensures.criteria c.put.ensures.names_stay
     c.put.ensures.criteria_stay
     (λ a b. rw (a, b, copy) new)
@@ -43,30 +35,20 @@ invariant_of-self-in-Err c =
 
 pub returns-in_ok-name-in-Err-clause-ok : goal.returns-in_ok-name-in-Err-clause-ok
 returns-in_ok-name-in-Err-clause-ok c =
-    let names = c.self.inside.names.items in
-    let e = c.in-Err.ensures in
-    let lacks = searched_in names c.deref.result.now c.args.criterion.name (Err c.in-Err.place) c.deref.ensures.value
-    c.self.invariant.rising e.bound e.position in
+    let lacks = searched_in _ _ _ (Err c.in-Err.place) c.deref.ensures.value c.self.invariant.rising
+    c.in-Err.ensures.bound c.in-Err.ensures.position in
     on_ok_weaker c.put.result (λ a. ap (λ cs. map.from_sorted {R = R} (by_name cs)) a
-    ∙ view_after_insert names c.self.inside.criteria.items c.self.invariant c.args.self.now c.self.view_is
-    c.in-Err.place c.args.criterion lacks) c.put.ensures.criteria
+    ∙ view_after_insert _ _ c.self.invariant _ c.self.view_is c.in-Err.place c.args.criterion lacks)
+    c.put.ensures.criteria
 
 pub returns-in_err-name-in-Err-clause-held : goal.returns-in_err-name-in-Err-clause-held
 returns-in_err-name-in-Err-clause-held c held =
-    let names = c.self.inside.names.items in
-    let e = c.in-Err.ensures in
-    let lacks = searched_in names c.deref.result.now c.args.criterion.name (Err c.in-Err.place) c.deref.ensures.value
-    c.self.invariant.rising e.bound e.position in
-    absurd (false≢true (sym
-    (not_held names c.self.inside.criteria.items c.self.invariant c.args.self.now c.args.criterion.name
-    c.in-Err.place c.self.view_is lacks) ∙ held))
+    let lacks = searched_in _ _ _ (Err c.in-Err.place) c.deref.ensures.value c.self.invariant.rising
+    c.in-Err.ensures.bound c.in-Err.ensures.position in
+    absurd (false≢true (sym (not_held _ _ c.self.invariant _ _ c.in-Err.place c.self.view_is lacks) ∙ held))
 
 pub returns-in_ok-name-in-Err-clause-held : goal.returns-in_ok-name-in-Err-clause-held
 returns-in_ok-name-in-Err-clause-held c held =
-    let names = c.self.inside.names.items in
-    let e = c.in-Err.ensures in
-    let lacks = searched_in names c.deref.result.now c.args.criterion.name (Err c.in-Err.place) c.deref.ensures.value
-    c.self.invariant.rising e.bound e.position in
-    absurd (false≢true (sym
-    (not_held names c.self.inside.criteria.items c.self.invariant c.args.self.now c.args.criterion.name
-    c.in-Err.place c.self.view_is lacks) ∙ held))
+    let lacks = searched_in _ _ _ (Err c.in-Err.place) c.deref.ensures.value c.self.invariant.rising
+    c.in-Err.ensures.bound c.in-Err.ensures.position in
+    absurd (false≢true (sym (not_held _ _ c.self.invariant _ _ c.in-Err.place c.self.view_is lacks) ∙ held))

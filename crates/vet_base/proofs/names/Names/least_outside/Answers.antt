@@ -1,24 +1,14 @@
-use Rattle.std.proofs.Common.{◌≡◌, ◌<◌, [], not, ap, sym, ◌∙◌, get_or, length, arith}
+use Rattle.std.proofs.Common.{sym, ◌∙◌}
 use Rattle.std.specs.FinSet as set
-use Rattle.std.proofs.lemmas.List.{get_or_default}
-use Rattle.vet_base.specs.Names.{members}
-use Rattle.vet_base.proofs.Walks.{find_first, find_none}
+use Rattle.vet_base.proofs.Walks.{first_lacked, none_lacked}
 use Rattle.vet_base.proofs.names.Names.least_outside.Goals as goal
 
 pub returns-then-not-contains : goal.returns-then-not-contains
 returns-then-not-contains c =
-    let xs = members c.args.self.now in
-    let i = c.loop-name.name-index in
-    let x = c.name-item.result in
-    let is = c.as_slice-name-items.ensures.members in
-    let l : i < length xs = rw is at c.loop-name-test.true in
-    let at : get_or xs i [] ≡ x = get_or_default xs i [] x l ∙ sym (c.name-item.is ∙ ap (λ ys. get_or ys i x) is) in
-    sym (find_first (λ n. not (set.contains c.args.known.now n)) xs i x l (λ k m. ap not (c.loop-name.invariant k m))
-    at (ap not (sym c.contains.ensures ∙ c.if-not-contains.true)))
+    sym (first_lacked (set.contains c.args.known.now) _ _ _ _ c.as_slice-name-items.ensures.members
+    c.loop-name-test.true c.name-item.is c.loop-name.invariant (sym c.contains.ensures ∙ c.if-not-contains.true))
 
 pub returns : goal.returns
 returns c =
-    let xs = members c.args.self.now in
-    let is = c.as_slice-name-items.ensures.members in
-    sym (find_none (λ n. not (set.contains c.args.known.now n)) xs
-    (λ k m. ap not (c.loop-name.invariant k (omega (arith, m, ap length is, c.loop-name-test.false)))))
+    sym (none_lacked (set.contains c.args.known.now) _ _ _ c.as_slice-name-items.ensures.members
+    c.loop-name-test.false c.loop-name.invariant)

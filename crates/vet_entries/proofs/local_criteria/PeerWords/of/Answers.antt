@@ -39,11 +39,11 @@ loop-place-preserved c =
     let within : place < length c.loop-place.stands =
     omega (arith, c.loop-place.invariant.long, c.names-count.ensures.few, c.loop-place-test.true) in
     record {
-      long = length-set c.loop-place.stands place c.joined.result ∙ c.loop-place.invariant.long;
-      below = set_below c.loop-place.stands place c.joined.result
+      long = length-set c.loop-place.stands place c.union_at.result ∙ c.loop-place.invariant.long;
+      below = set_below c.loop-place.stands place c.union_at.result
           (λ p. stands_for table peer (get_or (map.keys defined) p [])) within
-          (words_joined defined m n held table words c.close-reached.result c.joined.result are reached
-          c.joined.ensures)
+          (words_joined defined m n held table words c.close-reached.result c.union_at.result are reached
+          c.union_at.ensures)
           c.loop-place.invariant.below;
     }
 

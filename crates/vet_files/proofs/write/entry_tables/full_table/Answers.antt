@@ -1,13 +1,10 @@
-use Rattle.vet_files.proofs.EntriesRead.{ValuesRead, full_read}
+use Rattle.std.proofs.Common.{subst}
+use Rattle.vet_files.proofs.EntriesRead.{FlagRead, full_read, values_read}
 use Rattle.vet_files.proofs.write.entry_tables.full_table.Goals as goal
 
 pub returns-clause-read : goal.returns-clause-read
 returns-clause-read c =
-    let values : ValuesRead c.args.entry.now = record {
-      named = c.in_ok-table.ensures.named;
-      criteria = c.in_ok-table.ensures.read;
-      notes = rw c.as_ref-2.ensures.value at c.in_ok-put_some-2.ensures.read;
-    } in
-    full_read c.args.entry.now c.args.version.now c.args.audit.now values
-    (rw c.as_ref.ensures.value at c.in_ok-put_some.ensures.read)
-    c.in_ok-put_texts.ensures.read c.in_ok-put.ensures.read
+    full_read c.args.entry.now c.args.version.now c.args.audit.now (values_read c.args.entry.now _ c.in_ok-table.ensures.named
+    c.in_ok-table.ensures.read c.as_ref-2.ensures.value c.in_ok-put_some-2.ensures.read)
+    (subst FlagRead c.as_ref.ensures.value c.in_ok-put_some.ensures.read) c.in_ok-put_texts.ensures.read
+    c.in_ok-put.ensures.read

@@ -6,7 +6,8 @@ use Rattle.vet_files.specs.ListAt.{list_at}
 use Rattle.vet_files.specs.Tables.{put_member}
 use Rattle.vet_files.proofs.Grouped.{entry_passed, entry_put}
 use Rattle.vet_files.proofs.write.lists_by_package.package_lists.Goals as goal
-use Rattle.vet_files.proofs.write.lists_by_package.package_lists.Goals.{then-is_written+in_ok-written+in_ok-push_at, else-is_written}
+use Rattle.vet_files.proofs.write.lists_by_package.package_lists.Goals.{then-is_written+in_ok-written+in_ok-push_at}
+use Rattle.vet_files.proofs.write.lists_by_package.package_lists.Goals.{else-is_written}
 
 pub entries-preserved : goal.entries-preserved
 entries-preserved c =

@@ -6,8 +6,8 @@ use Rattle.std.proofs.lemmas.List.{get_or_default, get_or_past}
 use Rattle.std.proofs.lemmas.Bool.{cases_lt, false≢true}
 use Rattle.vet_base.specs.CriteriaSet.{has}
 use Rattle.vet_base.proofs.Closed.{one_more_found, none_more_found}
-use Rattle.vet_base.proofs.closures.Closures.joined.Goals as goal
-use Rattle.vet_base.proofs.closures.Closures.joined.Goals.{then-has, else-has}
+use Rattle.vet_base.proofs.closures.union_at.Goals as goal
+use Rattle.vet_base.proofs.closures.union_at.Goals.{then-has, else-has}
 
 pub loop-place-init : goal.loop-place-init
 loop-place-init c q = (
@@ -18,14 +18,14 @@ loop-place-init c q = (
 pub loop-place-preserved : goal.loop-place-preserved
 loop-place-preserved c q =
     let n = c.loop-place.place in
-    let closed = c.args.self.now.closed in
-    let held = λ (p : ℕ). (has p c.args.set.now ≡ true) × (has q (get_or closed p set.empty) ≡ true) in
+    let closed = c.args.sets.now in
+    let held = λ (p : ℕ). (has p c.args.places.now ≡ true) × (has q (get_or closed p set.empty) ≡ true) in
     let old = c.loop-place.invariant q in
     elim c.if-has.branch [
       | then-has w ↦ (let long : length closed ≡ 64 = search in
           let found = get_or closed n set.empty in
-          let here : get_or closed n w.index-self-place.result ≡ found =
-          get_or_default closed n w.index-self-place.result set.empty (omega (arith, c.loop-place-test.true, long))
+          let here : get_or closed n w.index-sets-place.result ≡ found =
+          get_or_default closed n w.index-sets-place.result set.empty (omega (arith, c.loop-place-test.true, long))
           in
           let is : has q c.if-has.joined ≡ (has q c.loop-place.joined || has q found) =
           ap (has q) (w.joined-is ∙ w.union-joined.ensures ∙ ap (set.union c.loop-place.joined) here)
@@ -43,12 +43,12 @@ returns c q = (
   λ h. (c.loop-place.invariant q).1 (h.0, low h.0 h.2, (h.1, h.2)),
 )
   where
-    low : (p : ℕ) → has q (get_or c.args.self.now.closed p set.empty) ≡ true → p < c.loop-place.place
+    low : (p : ℕ) → has q (get_or c.args.sets.now p set.empty) ≡ true → p < c.loop-place.place
     low p h =
-        let long : length c.args.self.now.closed ≡ 64 = search in
+        let long : length c.args.sets.now ≡ 64 = search in
         elim (cases_lt p 64) [
           | inl less ↦ omega (arith, less, c.loop-place-test.false)
-          | inr high ↦ absurd
-              (false≢true (sym (set.contains-empty nat_cmp q)
-              ∙ ap (has q) (sym (get_or_past c.args.self.now.closed p set.empty (omega (arith, high, long)))) ∙ h))
+          | inr high ↦ absurd (false≢true
+              (sym (set.contains-empty nat_cmp q)
+              ∙ ap (has q) (sym (get_or_past c.args.sets.now p set.empty (omega (arith, high, long)))) ∙ h))
         ]

@@ -2,9 +2,9 @@
 use Rattle.std.proofs.Common.{◌≡◌, ◌↔◌, ℕ, true, ◌<◌, get_or}
 use Rattle.std.specs.FinSet as set
 use Rattle.vet_base.specs.CriteriaSet.{has}
-use Rattle.vet_base.proofs.closures.Closures.joined.Given as goal
+use Rattle.vet_base.proofs.closures.union_at.Given as goal
 
 abbrev pub invariant-loop-place : goal.invariant-loop-place
 invariant-loop-place l =
     (q : ℕ) → (has q l.joined ≡ true) ↔
-    ((p : ℕ) × (p < l.place) × ((has p l.set ≡ true) × (has q (get_or l.self.closed p set.empty) ≡ true)))
+    ((p : ℕ) × (p < l.place) × ((has p l.places ≡ true) × (has q (get_or l.sets p set.empty) ≡ true)))
