@@ -1,5 +1,6 @@
 -- The answer to an action: what is judged of it, or its effect.
-use Rattle.std.proofs.Common.{◌≡◌, ◌⊎◌, ℕ, ◌<◌, ◌^◌, Bool, true, false, cond, Option, Some, None, List, [], Result, Ok, Err, refl, sym, ap, subst, ◌∙◌, inl, inr, arith}
+use Rattle.std.proofs.Common.{◌≡◌, ◌⊎◌, ℕ, ◌<◌, ◌^◌, Bool, true, false, cond, Option, Some, None, List, [], Result, Ok}
+use Rattle.std.proofs.Common.{Err, refl, sym, ap, subst, ◌∙◌, inl, inr, arith}
 use Rattle.std.proofs.lemmas.Bool.{ltb-false}
 use Rattle.vet_base.specs.declared.criterion.Criterion.{Criterion}
 use Rattle.vet_base.specs.declared.limits.TheConstants.{MOST_PUBLISHERS}
@@ -7,7 +8,8 @@ use Rattle.vet_base.specs.declared.refusal.Limit.TheVariants as limit
 use Rattle.vet_base.specs.declared.refusal.Refusal.{Refusal}
 use Rattle.vet_base.specs.declared.refusal.Refusal.TheVariants.{CriterionInUse, NoMemory, TooLarge, UnknownCriterion}
 use Rattle.vet_base.specs.Criteria.{IsTable}
-use Rattle.vet_base.specs.CriteriaChanges.{remove_rules, remove_verdict, set_limits, set_references, set_rules, set_verdict}
+use Rattle.vet_base.specs.CriteriaChanges.{remove_rules, remove_verdict, set_limits, set_references, set_rules}
+use Rattle.vet_base.specs.CriteriaChanges.{set_verdict}
 use Rattle.vet_base.specs.Day.{DayValue}
 use Rattle.vet_base.specs.Gives.{Answers, Refuses, Told, refuse_if, ◌>>=◌}
 use Rattle.vet_base.proofs.Telling.{not_refused, then_told}
@@ -29,8 +31,10 @@ use Rattle.vet_register.specs.declared.verdict.Answer.TheVariants.{Already, Acce
 use Rattle.vet_register.specs.declared.held.HeldEdit.TheVariants as edit
 use Rattle.vet_register.specs.Held.{Fits, edited}
 use Rattle.vet_register.specs.Changes.{desk_edited}
-use Rattle.vet_register.specs.Machine.{desk_by, facts_after, held_after, number_after, number_given, policies_by, projects_by, settings_by}
-use Rattle.vet_register.specs.RegisterView.{Asks, AsksBy, AsksExactly, HoldsDesk, IsEffect, IsExact, IsExactly, RegisterView, desk_room, held_room}
+use Rattle.vet_register.specs.Machine.{desk_by, facts_after, held_after, number_after, number_given, policies_by}
+use Rattle.vet_register.specs.Machine.{projects_by, settings_by}
+use Rattle.vet_register.specs.RegisterView.{Asks, AsksBy, AsksExactly, HoldsDesk, IsEffect, IsExact, IsExactly}
+use Rattle.vet_register.specs.RegisterView.{RegisterView, desk_room, held_room}
 use Rattle.vet_register.specs.Sound.{ArePublishers, IsSound, IsSoundHeld}
 use Rattle.vet_register.specs.State.{State}
 use Rattle.vet_register.specs.Verdict.{is_used, judged, publisher_limit, step_limit, wants_memory}

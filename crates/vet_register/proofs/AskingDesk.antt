@@ -1,5 +1,6 @@
 -- The answer to a command to the desk: what is judged of it, or its effect.
-use Rattle.std.proofs.Common.{◌≡◌, ◌⊎◌, Bool, true, false, cond, ◌&&◌, is_ok, is_some, Option, Some, None, option_map, Result, Ok, Err, refl, sym, ap, subst, ◌∙◌, inl, inr, arith}
+use Rattle.std.proofs.Common.{◌≡◌, ◌⊎◌, Bool, true, false, cond, ◌&&◌, is_ok, is_some, Option, Some, None, option_map}
+use Rattle.std.proofs.Common.{Result, Ok, Err, refl, sym, ap, subst, ◌∙◌, inl, inr, arith}
 use Rattle.vet_base.specs.declared.refusal.Refusal.{Refusal}
 use Rattle.vet_base.specs.declared.refusal.Refusal.TheVariants.{NoMemory, UnknownCriterion}
 use Rattle.vet_base.specs.Criteria.{IsTable}
@@ -10,7 +11,8 @@ use Rattle.vet_desk.specs.declared.change.DeskChange.{DeskChange}
 use Rattle.vet_desk.specs.declared.command.DeskCommand.{DeskCommand}
 use Rattle.vet_desk.specs.declared.verdict.DeskAnswer.TheVariants as at_desk
 use Rattle.vet_desk.specs.Desk.{entry_of}
-use Rattle.vet_desk.specs.DeskVerdict.{already_or, desk_checked, desk_held, desk_limits, desk_number, desk_references, desk_rules, desk_verdict}
+use Rattle.vet_desk.specs.DeskVerdict.{already_or, desk_checked, desk_held, desk_limits, desk_number, desk_references}
+use Rattle.vet_desk.specs.DeskVerdict.{desk_rules, desk_verdict}
 use Rattle.vet_desk.specs.DeskView.{IsDeskChange}
 use Rattle.vet_register.specs.declared.command.Action.TheVariants.{Desk}
 use Rattle.vet_register.specs.declared.edits.Effect.{Effect}
@@ -18,10 +20,12 @@ use Rattle.vet_register.specs.declared.verdict.Answer.{Answer}
 use Rattle.vet_register.specs.declared.verdict.Answer.TheVariants.{Accepted}
 use Rattle.vet_register.specs.AtDesk.{added_by, entry_number, finishes}
 use Rattle.vet_register.specs.Changes.{desk_edited}
-use Rattle.vet_register.specs.RegisterView.{Asks, AsksBy, HoldsDesk, IsDeskEffect, IsEffect, KeepsRoom, RegisterView, desk_room}
+use Rattle.vet_register.specs.RegisterView.{Asks, AsksBy, HoldsDesk, IsDeskEffect, IsEffect, KeepsRoom, RegisterView}
+use Rattle.vet_register.specs.RegisterView.{desk_room}
 use Rattle.vet_register.specs.Sound.{ArePublishers, IsSound}
 use Rattle.vet_register.specs.State.{State, demanded}
-use Rattle.vet_register.specs.Verdict.{asked_before, checked, entry_limits, held_or, judged, limits, limits_after_rules, references, step_before_rules}
+use Rattle.vet_register.specs.Verdict.{asked_before, checked, entry_limits, held_or, judged, limits, limits_after_rules}
+use Rattle.vet_register.specs.Verdict.{references, step_before_rules}
 use Rattle.vet_register.proofs.Asking.{exactly, no_memory, refused, refuses_too}
 use Rattle.vet_register.proofs.Effects.{passes_desk}
 use Rattle.vet_register.proofs.HeldEffects.{same_criteria, same_publishers, sound_held}

@@ -1,5 +1,6 @@
 -- An entry that is dropped is the one at its number's place.
-use Rattle.std.proofs.Common.{◌≡◌, ℕ, suc, ◌<◌, ◌≤◌, Bool, true, false, not, cond, ltb, is_some, List, [], ◌∷◌, length, filter, Some, None, IfErr, Ok, Err, refl, sym, ap, subst, ◌∙◌, arith, eqb-true, inl, inr}
+use Rattle.std.proofs.Common.{◌≡◌, ℕ, suc, ◌<◌, ◌≤◌, Bool, true, false, not, cond, ltb, is_some, List, [], ◌∷◌, length}
+use Rattle.std.proofs.Common.{filter, Some, None, IfErr, Ok, Err, refl, sym, ap, subst, ◌∙◌, arith, eqb-true, inl, inr}
 use Rattle.std.specs.List.{All, AllPairs, list_any, position, position_or_len, remove}
 use Rattle.std.proofs.lemmas.Bool.{cases_Bool, false≢true, lt-ltb, le-ltb, ltb-true}
 use Rattle.std.proofs.lemmas.List.Elements.{All-head, All-tail}

@@ -1,5 +1,6 @@
 -- What a command that is accepted leaves of what is held is sound.
-use Rattle.std.proofs.Common.{◌≡◌, ◌≢◌, ℕ, ◌+◌, ◌≤◌, ◌&&◌, Bool, true, false, not, is_none, List, [], ◌∷◌, ◌++◌, filter, length, Option, Some, None, Ok, Err, refl, sym, ap, subst, cond, ◌∙◌, arith, inl, inr}
+use Rattle.std.proofs.Common.{◌≡◌, ◌≢◌, ℕ, ◌+◌, ◌≤◌, ◌&&◌, Bool, true, false, not, is_none, List, [], ◌∷◌, ◌++◌, filter}
+use Rattle.std.proofs.Common.{length, Option, Some, None, Ok, Err, refl, sym, ap, subst, cond, ◌∙◌, arith, inl, inr}
 use Rattle.std.specs.List.{All, find}
 use Rattle.std.specs.Option.{option_map, option_map_or}
 use Rattle.std.specs.Prelude.{nat_lt}
@@ -16,7 +17,8 @@ use Rattle.vet_base.specs.Day.{DayValue}
 use Rattle.vet_base.specs.Gives.{Told, ◌>>=◌}
 use Rattle.vet_base.proofs.Telling.{not_refused, then_told}
 use Rattle.vet_desk.specs.declared.command.DeskCommand.{DeskCommand}
-use Rattle.vet_desk.specs.declared.command.DeskCommand.TheVariants.{AddMember, OpenReview, AssignReview, FinishReview, WithdrawReview}
+use Rattle.vet_desk.specs.declared.command.DeskCommand.TheVariants.{AddMember, OpenReview, AssignReview, FinishReview}
+use Rattle.vet_desk.specs.declared.command.DeskCommand.TheVariants.{WithdrawReview}
 use Rattle.vet_desk.specs.Desk.{entry_of}
 use Rattle.vet_desk.specs.DeskVerdict.{desk_checked, desk_limits, desk_number, desk_references, desk_rules}
 use Rattle.vet_desk.specs.SoundDesk.{AreKnownTo}
@@ -36,19 +38,25 @@ use Rattle.vet_base.proofs.ItemLemmas.{in_all, in_append, in_filter}
 use Rattle.vet_entries.proofs.ImportLaws.{holds_each_once}
 use Rattle.vet_entries.proofs.PeerLaws.{entries_with, entries_without, found_name}
 use Rattle.vet_register.specs.declared.command.Action.{Action}
-use Rattle.vet_register.specs.declared.command.Action.TheVariants.{SetCriterion, RemoveCriterion, AddEntry, DropEntry, SetPeer, DropPeer, ImportPeer, SetPublishers, SetPolicy, DropPolicy, LoadProject, DropProject, ReplaceFiles, Desk, ClosePeriod}
+use Rattle.vet_register.specs.declared.command.Action.TheVariants.{SetCriterion, RemoveCriterion, AddEntry, DropEntry}
+use Rattle.vet_register.specs.declared.command.Action.TheVariants.{SetPeer, DropPeer, ImportPeer, SetPublishers}
+use Rattle.vet_register.specs.declared.command.Action.TheVariants.{SetPolicy, DropPolicy, LoadProject, DropProject}
+use Rattle.vet_register.specs.declared.command.Action.TheVariants.{ReplaceFiles, Desk, ClosePeriod}
 use Rattle.vet_register.specs.declared.verdict.Answer.{Answer}
 use Rattle.vet_register.specs.declared.verdict.Answer.TheVariants.{Already, Accepted}
 use Rattle.vet_register.specs.AtDesk.{added_by, finishes, if_new, unless_held}
 use Rattle.vet_register.specs.Machine.{facts_after, number_after, numbers_given, with_entry}
 use Rattle.vet_register.specs.Sound.{AreEntries, ArePublishers, AreSound, Differ, IsFrom, IsGiven, IsSoundPeer}
 use Rattle.vet_register.specs.State.{State, demanded}
-use Rattle.vet_register.specs.Verdict.{checked, entries_beside, entry_limit, entry_limits, held_as, held_or, judged, limits, limits_after_rules, number_limit, peer_limit, policy_limit, project_limit, publisher_limit, references, rules, step_before_rules, step_limit}
+use Rattle.vet_register.specs.Verdict.{checked, entries_beside, entry_limit, entry_limits, held_as, held_or, judged}
+use Rattle.vet_register.specs.Verdict.{limits, limits_after_rules, number_limit, peer_limit, policy_limit}
+use Rattle.vet_register.specs.Verdict.{project_limit, publisher_limit, references, rules, step_before_rules, step_limit}
 use Rattle.vet_register.proofs.FilesEffects.{files_counted, files_entries, files_peers}
 use Rattle.vet_register.proofs.FilesPassed.{files_fit}
 use Rattle.vet_register.proofs.Known.{known_after}
 use Rattle.vet_register.proofs.Lists.{AllPairs-append, AllPairs-single, all_fail, filter-fewer}
-use Rattle.vet_register.proofs.PeerEffects.{PeersSound, dropped_peer, found_in, imported_peer, later_entries, own_changed, settings_set}
+use Rattle.vet_register.proofs.PeerEffects.{PeersSound, dropped_peer, found_in, imported_peer, later_entries}
+use Rattle.vet_register.proofs.PeerEffects.{own_changed, settings_set}
 
 -- ---- what an accepted command passed
 

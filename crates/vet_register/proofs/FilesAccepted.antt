@@ -1,5 +1,6 @@
 -- What is judged of three files, and how their contents stand to what is held of peers.
-use Rattle.std.proofs.Common.{◌≡◌, ◌⊎◌, ◌∙◌, ℕ, ◌+◌, ◌≤◌, ◌&&◌, Bool, true, false, cond, is_some, not, List, [], ◌∷◌, map, Option, Some, None, Result, Ok, Err, inl, inr, refl, sym, ap, subst, arith}
+use Rattle.std.proofs.Common.{◌≡◌, ◌⊎◌, ◌∙◌, ℕ, ◌+◌, ◌≤◌, ◌&&◌, Bool, true, false, cond, is_some, not, List, [], ◌∷◌}
+use Rattle.std.proofs.Common.{map, Option, Some, None, Result, Ok, Err, inl, inr, refl, sym, ap, subst, arith}
 use Rattle.std.specs.FinMap as table
 use Rattle.std.specs.List.{find, list_all, list_any, sum_by}
 use Rattle.std.specs.Option.{option_map_or}
@@ -32,7 +33,8 @@ use Rattle.vet_register.specs.declared.files_comparison.FilesComparison.{FilesCo
 use Rattle.vet_register.specs.declared.verdict.Answer.TheVariants.{Already, Accepted}
 use Rattle.vet_register.specs.Already.{has_files, has_peer, has_settings}
 use Rattle.vet_register.specs.Machine.{numbers_given}
-use Rattle.vet_register.specs.Replacing.{compared_peer, count_of_peer, entries_of_files, held_of_peer, new_of_files, new_of_peer}
+use Rattle.vet_register.specs.Replacing.{compared_peer, count_of_peer, entries_of_files, held_of_peer, new_of_files}
+use Rattle.vet_register.specs.Replacing.{new_of_peer}
 use Rattle.vet_register.specs.ReplacingFound.{AreAccepted, IsCompared}
 use Rattle.vet_register.specs.State.{State}
 use Rattle.vet_register.specs.Verdict.{checked, held_or, judged}

@@ -1,5 +1,6 @@
 -- What entries and peers are after three files took the place of what is held.
-use Rattle.std.proofs.Common.{◌≡◌, ◌⊎◌, ℕ, ◌+◌, ◌≤◌, List, [], ◌∷◌, length, map, Option, Some, None, inl, inr, refl, sym, ap, subst, ◌∙◌, arith}
+use Rattle.std.proofs.Common.{◌≡◌, ◌⊎◌, ℕ, ◌+◌, ◌≤◌, List, [], ◌∷◌, length, map, Option, Some, None, inl, inr, refl}
+use Rattle.std.proofs.Common.{sym, ap, subst, ◌∙◌, arith}
 use Rattle.std.specs.List.{All, AllPairs, sum_by}
 use Rattle.std.specs.declared.cmp.Ordering.TheVariants.{Less}
 use Rattle.std.proofs.lemmas.List.Elements.{All-nil, All-cons, All-weaker}
@@ -20,15 +21,19 @@ use Rattle.vet_entries.specs.HeldPeer.{holding_or_none, peer_name, peer_of}
 use Rattle.vet_entries.specs.PeerContent.{IsPeerContent}
 use Rattle.vet_entries.specs.PeerSettings.{settings_name}
 use Rattle.vet_entries.specs.Replaced.{as_of, entries_after}
-use Rattle.vet_entries.proofs.ImportLaws.{entries_are_taken, entries_keep_order, entries_stand_once, entry_keeps_number, holds_each_once, number_kept}
+use Rattle.vet_entries.proofs.ImportLaws.{entries_are_taken, entries_keep_order, entries_stand_once, entry_keeps_number}
+use Rattle.vet_entries.proofs.ImportLaws.{holds_each_once, number_kept}
 use Rattle.vet_entries.proofs.PeerLaws.{found_name}
 use Rattle.vet_files.specs.FilesContent.{FilesValue, IsFiles, content_for, content_held}
 use Rattle.vet_files.specs.Imports.{imported_name}
 use Rattle.vet_files.specs.declared.imports_file.ImportedPeer.{ImportedPeer}
-use Rattle.vet_register.specs.Replacing.{count_of_peer, entries_of_files, facts_of_files, held_of_peer, new_of_files, new_of_peer, new_own, peer_after, peers_after}
+use Rattle.vet_register.specs.Replacing.{count_of_peer, entries_of_files, facts_of_files, held_of_peer, new_of_files}
+use Rattle.vet_register.specs.Replacing.{new_of_peer, new_own, peer_after, peers_after}
 use Rattle.vet_register.specs.Sound.{AreEntries, ArePeers, IsFrom, IsGiven, IsSoundPeer, ShareNone}
 use Rattle.vet_register.specs.State.{State}
-use Rattle.vet_register.proofs.PeerEffects.{PeersSound, found_in, found_sound, imported_sound, later_entries, later_peer, none_shared, nothing_readable, other_names, peers_apart, set_from_own, set_sound, set_to, share_none, shared, theirs}
+use Rattle.vet_register.proofs.PeerEffects.{PeersSound, found_in, found_sound, imported_sound, later_entries}
+use Rattle.vet_register.proofs.PeerEffects.{later_peer, none_shared, nothing_readable, other_names, peers_apart}
+use Rattle.vet_register.proofs.PeerEffects.{set_from_own, set_sound, set_to, share_none, shared, theirs}
 
 -- ---- what is held before
 

@@ -5,7 +5,8 @@ use Rattle.std.specs.List.{All}
 use Rattle.std.specs.Prelude.{nat_lt}
 use Rattle.std.proofs.lemmas.Bool.{ltb-false}
 use Rattle.std.proofs.lemmas.List.Elements.{All-cons, All-head, All-nil, All-tail, All-weaker}
-use Rattle.vet_base.specs.declared.limits.TheConstants.{LAST_NUMBER, MOST_ENTRIES, MOST_PEERS, MOST_POLICIES, MOST_PUBLISHERS}
+use Rattle.vet_base.specs.declared.limits.TheConstants.{LAST_NUMBER, MOST_ENTRIES, MOST_PEERS, MOST_POLICIES}
+use Rattle.vet_base.specs.declared.limits.TheConstants.{MOST_PUBLISHERS}
 use Rattle.vet_base.specs.declared.refusal.Limit.TheVariants as limit
 use Rattle.vet_base.specs.declared.refusal.Refusal.TheVariants.{TooLarge, UnknownPeer}
 use Rattle.vet_base.specs.Criteria.{Criteria, least_unknown}
@@ -35,7 +36,8 @@ use Rattle.vet_files.specs.FilesContent.{FilesValue, IsFiles, each_is_set}
 use Rattle.vet_files.specs.declared.imports_file.ImportedPeer.{ImportedPeer}
 use Rattle.vet_register.specs.declared.command.Action.TheVariants.{ReplaceFiles}
 use Rattle.vet_register.specs.NamesOfFiles.{counted, unknown_of_entries, unknown_of_files, unknown_of_policies}
-use Rattle.vet_register.specs.Replacing.{entries_of_files, facts_of_files, new_of_files, new_of_peer, peer_after, peers_after}
+use Rattle.vet_register.specs.Replacing.{entries_of_files, facts_of_files, new_of_files, new_of_peer, peer_after}
+use Rattle.vet_register.specs.Replacing.{peers_after}
 use Rattle.vet_register.specs.Sound.{ArePublishers}
 use Rattle.vet_register.specs.State.{State}
 use Rattle.vet_register.specs.Verdict.{entry_limit, files_limits, files_references, limits, number_limit, step_limit}

@@ -1,5 +1,6 @@
 -- What is judged of an import.
-use Rattle.std.proofs.Common.{◌≡◌, ℕ, ◌+◌, ◌≤◌, is_none, List, [], ◌∷◌, filter, length, Option, Some, None, Ok, Err, refl, ap, subst, ◌∙◌, arith}
+use Rattle.std.proofs.Common.{◌≡◌, ℕ, ◌+◌, ◌≤◌, is_none, List, [], ◌∷◌, filter, length, Option, Some, None, Ok, Err}
+use Rattle.std.proofs.Common.{refl, ap, subst, ◌∙◌, arith}
 use Rattle.std.specs.List.{All}
 use Rattle.std.proofs.lemmas.List.{length-map}
 use Rattle.vet_base.specs.declared.refusal.Refusal.TheVariants.{UnknownPeer}

@@ -1,5 +1,6 @@
 -- The criteria that own entries name, and those to which the maps of peers lead, are known after each command too.
-use Rattle.std.proofs.Common.{◌≡◌, ℕ, Bool, true, false, ◌||◌, not, cond, is_some, List, [], get_or, Option, Some, None, option_map, Ok, refl, sym, subst, ◌∙◌}
+use Rattle.std.proofs.Common.{◌≡◌, ℕ, Bool, true, false, ◌||◌, not, cond, is_some, List, [], get_or, Option, Some, None}
+use Rattle.std.proofs.Common.{option_map, Ok, refl, sym, subst, ◌∙◌}
 use Rattle.std.specs.List.{All, list_any}
 use Rattle.std.specs.Ordering.{nat_cmp, eq_by_cmp}
 use Rattle.std.specs.Cmp.{eq_by_cmp_equiv}
@@ -22,7 +23,8 @@ use Rattle.vet_base.proofs.Rising.{R}
 use Rattle.vet_base.proofs.Telling.{all_known, not_refused, then_told}
 use Rattle.vet_demand.specs.PolicyNames.{policy_names}
 use Rattle.vet_desk.specs.declared.command.DeskCommand.{DeskCommand}
-use Rattle.vet_desk.specs.declared.command.DeskCommand.TheVariants.{AddMember, OpenReview, AssignReview, FinishReview, WithdrawReview}
+use Rattle.vet_desk.specs.declared.command.DeskCommand.TheVariants.{AddMember, OpenReview, AssignReview, FinishReview}
+use Rattle.vet_desk.specs.declared.command.DeskCommand.TheVariants.{WithdrawReview}
 use Rattle.vet_desk.specs.declared.review.Review.{Review}
 use Rattle.vet_desk.specs.Desk.{entry_by, entry_of}
 use Rattle.vet_desk.specs.DeskVerdict.{asked_of, desk_rules, finish_rules, still_open, target_of}
@@ -38,7 +40,10 @@ use Rattle.vet_entries.specs.Numbered.{has_number, number_of}
 use Rattle.vet_entries.specs.PeerWords.{targets}
 use Rattle.vet_entries.specs.Step.{AreKnown, HasKnownCriteria, HasKnownTargets}
 use Rattle.vet_register.specs.declared.command.Action.{Action}
-use Rattle.vet_register.specs.declared.command.Action.TheVariants.{SetCriterion, RemoveCriterion, AddEntry, DropEntry, SetPeer, DropPeer, ImportPeer, SetPublishers, SetPolicy, DropPolicy, LoadProject, DropProject, ReplaceFiles, Desk, ClosePeriod}
+use Rattle.vet_register.specs.declared.command.Action.TheVariants.{SetCriterion, RemoveCriterion, AddEntry, DropEntry}
+use Rattle.vet_register.specs.declared.command.Action.TheVariants.{SetPeer, DropPeer, ImportPeer, SetPublishers}
+use Rattle.vet_register.specs.declared.command.Action.TheVariants.{SetPolicy, DropPolicy, LoadProject, DropProject}
+use Rattle.vet_register.specs.declared.command.Action.TheVariants.{ReplaceFiles, Desk, ClosePeriod}
 use Rattle.vet_register.specs.AtDesk.{added_by, if_new, unless_held}
 use Rattle.vet_register.specs.Machine.{facts_after, held_of, with_entry}
 use Rattle.vet_register.specs.State.{State, demanded}

@@ -1,6 +1,8 @@
 pub mod Asking
 pub mod AskingDesk
+pub mod Balancing
 pub mod Beginnings
+pub mod Checked
 pub mod ClassOfFileLemmas
 pub mod DeskEffects
 pub mod Drops
@@ -23,6 +25,9 @@ pub mod Publishing
 pub mod Readable
 pub mod RepeatLaws
 pub mod RepeatedFilesLaws
+pub mod SoundMoves
+pub mod SoundNumbers
+pub mod SoundPeers
 pub mod Soundness
 pub mod Turns
 pub mod UnknownNames

@@ -1,5 +1,6 @@
 -- Laws of lists.
-use Rattle.std.proofs.Common.{◌≡◌, suc, ◌≤◌, Bool, true, false, is_none, is_some, List, [], ◌∷◌, ◌++◌, map, length, filter, Option, Some, None, refl, arith, inl, inr}
+use Rattle.std.proofs.Common.{◌≡◌, suc, ◌≤◌, Bool, true, false, is_none, is_some, List, [], ◌∷◌, ◌++◌, map, length}
+use Rattle.std.proofs.Common.{filter, Option, Some, None, refl, arith, inl, inr}
 use Rattle.std.specs.List.{All, AllPairs, find, list_any}
 use Rattle.std.proofs.lemmas.Bool.{cases_Bool}
 use Rattle.std.proofs.lemmas.List.Elements.{All-nil, All-cons, All-head, All-tail, All-append}

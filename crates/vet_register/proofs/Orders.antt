@@ -9,7 +9,8 @@ use Rattle.vet_register.specs.declared.command.Action.TheVariants.{Desk}
 use Rattle.vet_register.specs.declared.verdict.Answer.{Answer}
 use Rattle.vet_register.specs.declared.verdict.Answer.TheVariants.{Accepted}
 use Rattle.vet_register.specs.State.{State, demanded}
-use Rattle.vet_register.specs.ToldInOrder.{FinishedIsHeldBeforeStep, NumberBeforeCriteria, PeriodAsksForStep, ReviewsBeforeStep, StepBeforeNumber}
+use Rattle.vet_register.specs.ToldInOrder.{FinishedIsHeldBeforeStep, NumberBeforeCriteria, PeriodAsksForStep}
+use Rattle.vet_register.specs.ToldInOrder.{ReviewsBeforeStep, StepBeforeNumber}
 use Rattle.vet_register.specs.Verdict.{held_or, limits_after_rules, references, rules, step_limit}
 
 -- what a review that is opened is told, by what is told of reviews, step and number

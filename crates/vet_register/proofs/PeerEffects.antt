@@ -1,5 +1,7 @@
 -- What peers are after one was set, dropped or imported.
-use Rattle.std.proofs.Common.{◌≡◌, ◌⊎◌, ℕ, ◌+◌, ◌<◌, ◌≤◌, true, false, not, ◌&&◌, is_none, List, [], ◌∷◌, filter, get_or, length, map, Option, Some, None, inl, inr, refl, sym, ap, subst, ◌∙◌, arith, eqb-true}
+use Rattle.std.proofs.Common.{◌≡◌, ◌⊎◌, ℕ, ◌+◌, ◌<◌, ◌≤◌, true, false, not, ◌&&◌, is_none, List, [], ◌∷◌, filter}
+use Rattle.std.proofs.Common.{get_or, length, map, Option, Some, None, inl, inr, refl, sym, ap, subst, ◌∙◌, arith}
+use Rattle.std.proofs.Common.{eqb-true}
 use Rattle.std.specs.Cmp.{tied_itself}
 use Rattle.std.specs.Cmp.Lexicographic.{nat_list_cmp_total}
 use Rattle.std.specs.List.{All, AllPairs}
@@ -21,10 +23,12 @@ use Rattle.vet_entries.specs.declared.entry.Source.TheVariants.{Peer}
 use Rattle.vet_entries.specs.declared.facts.HeldEntry.{HeldEntry}
 use Rattle.vet_entries.specs.declared.held_peer.HeldPeer.{HeldPeer}
 use Rattle.vet_entries.specs.declared.peer_settings.PeerSettings.{PeerSettings}
-use Rattle.vet_entries.specs.HeldPeer.{as_peers, entries_after_import, holding_or_none, imported, new_entries, peer_name, peer_of, with_content_of, with_peer, with_settings, without_peer}
+use Rattle.vet_entries.specs.HeldPeer.{as_peers, entries_after_import, holding_or_none, imported, new_entries}
+use Rattle.vet_entries.specs.HeldPeer.{peer_name, peer_of, with_content_of, with_peer, with_settings, without_peer}
 use Rattle.vet_entries.specs.Numbered.{Rise, has_number}
 use Rattle.vet_entries.specs.PeerContent.{IsPeerContent, PeerContentValue}
-use Rattle.vet_base.proofs.ItemLemmas.{all_in, any_in, in_all, in_any, in_append, in_filter, in_map, map_in, pairs_head, pairs_none, pairs_tail}
+use Rattle.vet_base.proofs.ItemLemmas.{all_in, any_in, in_all, in_any, in_append, in_filter, in_map, map_in, pairs_head}
+use Rattle.vet_base.proofs.ItemLemmas.{pairs_none, pairs_tail}
 use Rattle.vet_entries.proofs.ImportLaws.{holds_each_once, holds_its_content, keeps_order, number_kept, takes_entries}
 use Rattle.vet_entries.proofs.PeerLaws.{found_name}
 use Rattle.vet_register.specs.Sound.{AreEntries, ArePeers, Differ, IsFrom, IsGiven, IsOfContent, IsSoundPeer, ShareNone}

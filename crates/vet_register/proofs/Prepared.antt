@@ -15,8 +15,10 @@ use Rattle.vet_register.specs.declared.command.Action.{Action}
 use Rattle.vet_register.specs.declared.verdict.Answer.TheVariants.{Accepted}
 use Rattle.vet_register.specs.Changes.{FitsMoves, changed, demand_by, desk_edited, first_by, moves_by}
 use Rattle.vet_register.specs.Held.{Fits, HeldEditsFit, demand_in, edited, held_with, standing_in}
-use Rattle.vet_register.specs.Machine.{desk_by, first_after, held_after, moves_after, next, number_after, outcome_of, touched_by}
-use Rattle.vet_register.specs.RegisterView.{HoldsDesk, IsStep, KeepsPrepared, KeepsReady, KeepsRoom, RegisterView, desk_room, held_room}
+use Rattle.vet_register.specs.Machine.{desk_by, first_after, held_after, moves_after, next, number_after, outcome_of}
+use Rattle.vet_register.specs.Machine.{touched_by}
+use Rattle.vet_register.specs.RegisterView.{HoldsDesk, IsStep, KeepsPrepared, KeepsReady, KeepsRoom, RegisterView}
+use Rattle.vet_register.specs.RegisterView.{desk_room, held_room}
 use Rattle.vet_register.specs.Sound.{IsSound, IsSoundHeld}
 use Rattle.vet_register.specs.State.{State, demanded}
 use Rattle.vet_register.specs.Verdict.{fitting, judged, moves_fit, verdict}

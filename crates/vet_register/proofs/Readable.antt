@@ -1,10 +1,12 @@
 -- What is held can be read from files.
-use Rattle.std.proofs.Common.{◌≡◌, ◌≢◌, ◌&&◌, ℕ, ◌≤◌, ◌<◌, Bool, true, List, [], ◌∷◌, get_or, length, map, sym, ap, subst, ◌∙◌, arith}
+use Rattle.std.proofs.Common.{◌≡◌, ◌≢◌, ◌&&◌, ℕ, ◌≤◌, ◌<◌, Bool, true, List, [], ◌∷◌, get_or, length, map, sym, ap}
+use Rattle.std.proofs.Common.{subst, ◌∙◌, arith}
 use Rattle.std.specs.List.{All, AllPairs, filter}
 use Rattle.std.specs.Ordering.{nat_cmp, is_eq}
 use Rattle.std.specs.Cmp.Lexicographic.{slice_cmp}
 use Rattle.std.proofs.lemmas.Bool.{false≢true}
 use Rattle.std.proofs.lemmas.Cmp.{nat_list_cmp_total, tied_itself}
+use Rattle.std.proofs.lemmas.List.{get_or-map, length-map}
 use Rattle.std.proofs.lemmas.List.Kept.{AllPairs-filter}
 use Rattle.vet_base.specs.declared.criterion.Criterion.{Criterion}
 use Rattle.vet_base.specs.declared.limits.TheConstants.{MOST_PEER_CRITERIA}
@@ -36,7 +38,8 @@ use Rattle.vet_files.proofs.Once.{distinct-apart}
 use Rattle.vet_files.proofs.Ordered.{in_order-is}
 use Rattle.vet_files.proofs.PeerStanding.{can-stand}
 use Rattle.vet_register.specs.Held.{HeldValue}
-use Rattle.vet_register.specs.HeldFiles.{audits_of, config_of, content_of, imported_of, imports_of, is_audit, is_exemption, spoken, unnumbered}
+use Rattle.vet_register.specs.HeldFiles.{audits_of, config_of, content_of, imported_of, imports_of, is_audit}
+use Rattle.vet_register.specs.HeldFiles.{is_exemption, spoken, unnumbered}
 use Rattle.vet_register.specs.Sound.{AreSound, Differ, IsFrom, IsOfContent, IsSoundHeld, IsSoundPeer}
 use Rattle.vet_register.proofs.FurtherCriteria.{named_once, none_built_in}
 use Rattle.vet_register.proofs.Lists.{AllPairs-map}
@@ -84,7 +87,7 @@ pairs_apart R [] h = tt
 pairs_apart R (x ∷ xs) h = (pairs_head R x xs h, pairs_apart R xs (pairs_tail R x xs h))
 
 -- no entry is passed over where all differ
-each_once : (entries : List Entry) → AllPairs IsOther entries → distinct entries ≡ entries
+pub each_once : (entries : List Entry) → AllPairs IsOther entries → distinct entries ≡ entries
 each_once entries differ = distinct-apart entries (pairs_apart IsOther entries differ)
 
 -- held entries differ without their numbers too
@@ -92,13 +95,21 @@ unnumbered_differ : (held : List HeldEntry) → AllPairs Differ held → AllPair
 unnumbered_differ held differ = AllPairs-map (λ (h : HeldEntry). h.entry) IsOther held differ
 
 -- and those of one source do as each speaks of its own
-spoken_differ : (source : Source) (held : List HeldEntry) → All (IsFrom source) held → AllPairs Differ held → AllPairs
-    IsOther (spoken held)
+pub spoken_differ : (source : Source) (held : List HeldEntry) → All (IsFrom source) held → AllPairs Differ held
+    → AllPairs IsOther (spoken held)
 spoken_differ source held from differ =
     AllPairs-map (λ (h : HeldEntry). own h.entry) IsOther held
     (λ i j d l m same. differ i j d l m
     (sym (restored (get_or held i d).entry source (from i d (omega (arith, l, m)))) ∙ ap (of_source source) same ∙
     restored (get_or held j d).entry source (from j d m)))
+
+-- what differs as each speaks of its own differs
+pub said_differ : (held : List HeldEntry) → AllPairs IsOther (spoken held) → AllPairs Differ held
+said_differ held differ i j d l m same =
+    let in_front : i < length held = omega (arith, l, m) in
+    differ i j (own d.entry) l (rw length-map m)
+    (get_or-map (λ (h : HeldEntry). own h.entry) held i d (own d.entry) in_front ∙ ap own same
+    ∙ sym (get_or-map (λ (h : HeldEntry). own h.entry) held j d (own d.entry) m))
 
 -- ---- peers
 

@@ -28,7 +28,8 @@ use Rattle.vet_register.specs.declared.command.Action.TheVariants.{ReplaceFiles}
 use Rattle.vet_register.specs.Already.{has_files}
 use Rattle.vet_register.specs.Machine.{held_after, next, number_after}
 use Rattle.vet_register.specs.NamesOfFiles.{unknown_of_files}
-use Rattle.vet_register.specs.RepeatedFiles.{HeldFilesAreAlready, RepeatedFilesAreAlready, SameContents, SayTheSame, SayWhatIsHeld, SaysWhatIsHeld, replace_on}
+use Rattle.vet_register.specs.RepeatedFiles.{HeldFilesAreAlready, RepeatedFilesAreAlready, SameContents, SayTheSame}
+use Rattle.vet_register.specs.RepeatedFiles.{SayWhatIsHeld, SaysWhatIsHeld, replace_on}
 use Rattle.vet_register.specs.Replacing.{held_of_peer, new_of_peer, new_own, peer_after, peers_after}
 use Rattle.vet_register.specs.State.{State}
 use Rattle.vet_register.specs.Verdict.{files_references, judged}

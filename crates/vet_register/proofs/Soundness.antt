@@ -1,5 +1,6 @@
 -- An accepted command leads from a sound state to a sound one.
-use Rattle.std.proofs.Common.{◌≡◌, ℕ, ◌+◌, Bool, true, false, cond, List, [], ◌∷◌, ◌++◌, map, length, Ok, refl, sym, ap, ◌∙◌, arith, inl, inr}
+use Rattle.std.proofs.Common.{◌≡◌, ℕ, ◌+◌, Bool, true, false, cond, List, [], ◌∷◌, ◌++◌, map, length, Ok, refl, sym, ap}
+use Rattle.std.proofs.Common.{◌∙◌, arith, inl, inr}
 use Rattle.std.specs.List.{All}
 use Rattle.std.specs.Prelude.{nat_lt}
 use Rattle.std.proofs.lemmas.Bool.{ltb-false}
@@ -17,15 +18,20 @@ use Rattle.vet_graph.specs.declared.class.Class.{Class}
 use Rattle.vet_graph.specs.declared.class.Class.TheVariants.{Conflicting, Full, Partial, Exempted, Unvetted}
 use Rattle.vet_graph.specs.declared.moves.Move.{Move}
 use Rattle.vet_graph.specs.declared.standing.Stand.{Stand}
-use Rattle.vet_graph.specs.Moves.{ArrivalsAdd, DeparturesAdd, MovesAreDifferences, MovesBalance, arrivals_of, departures_of}
+use Rattle.vet_graph.specs.Moves.{ArrivalsAdd, DeparturesAdd, MovesAreDifferences, MovesBalance, arrivals_of}
+use Rattle.vet_graph.specs.Moves.{departures_of}
 use Rattle.vet_graph.specs.Standing.{IsStanding, count_in, count_of, counts_of, pairs_of}
 use Rattle.vet_graph.specs.StandingOf.{standing_of}
 use Rattle.vet_register.specs.declared.command.Action.{Action}
-use Rattle.vet_register.specs.declared.command.Action.TheVariants.{SetCriterion, RemoveCriterion, AddEntry, DropEntry, SetPeer, DropPeer, ImportPeer, SetPublishers, SetPolicy, DropPolicy, LoadProject, DropProject, ReplaceFiles, Desk, ClosePeriod}
+use Rattle.vet_register.specs.declared.command.Action.TheVariants.{SetCriterion, RemoveCriterion, AddEntry, DropEntry}
+use Rattle.vet_register.specs.declared.command.Action.TheVariants.{SetPeer, DropPeer, ImportPeer, SetPublishers}
+use Rattle.vet_register.specs.declared.command.Action.TheVariants.{SetPolicy, DropPolicy, LoadProject, DropProject}
+use Rattle.vet_register.specs.declared.command.Action.TheVariants.{ReplaceFiles, Desk, ClosePeriod}
 use Rattle.vet_register.specs.declared.command.Command.{Command}
 use Rattle.vet_register.specs.declared.moves.RecordedMove.{RecordedMove}
 use Rattle.vet_register.specs.declared.verdict.Answer.TheVariants.{Accepted}
-use Rattle.vet_register.specs.Machine.{ends_period, held_after, moves_after, moves_of, next, number_after, recorded, records_of}
+use Rattle.vet_register.specs.Machine.{ends_period, held_after, moves_after, moves_of, next, number_after, recorded}
+use Rattle.vet_register.specs.Machine.{records_of}
 use Rattle.vet_register.specs.Sound.{AreInOrder, ComesBefore, IsBalanced, IsBy, IsSound, IsSoundHeld}
 use Rattle.vet_register.specs.Held.{HeldValue, demand_in, standing_in}
 use Rattle.vet_register.specs.State.{State, changes_of, standing}
@@ -129,7 +135,7 @@ ends_only s (ReplaceFiles f) h = cc h
 ends_only s (Desk command) h = cc h
 ends_only s ClosePeriod h = refl
 
-counted_in : (class : Class) (stands : List Stand) → count_in class (counts_of stands) ≡ count_of class stands
+pub counted_in : (class : Class) (stands : List Stand) → count_in class (counts_of stands) ≡ count_of class stands
 counted_in Conflicting stands = refl
 counted_in Full stands = refl
 counted_in Partial stands = refl

@@ -1,5 +1,6 @@
 -- What follows where no name is unknown, and that names alone are as many as the criteria of these names.
-use Rattle.std.proofs.Common.{◌≡◌, ◌∙◌, ℕ, Bool, false, not, List, [], ◌∷◌, map, Option, Some, None, Ok, refl, sym, ap, inl, inr}
+use Rattle.std.proofs.Common.{◌≡◌, ◌∙◌, ℕ, Bool, false, not, List, [], ◌∷◌, map, Option, Some, None, Ok, refl, sym, ap}
+use Rattle.std.proofs.Common.{inl, inr}
 use Rattle.std.specs.Cmp.Lexicographic.{slice_cmp}
 use Rattle.std.specs.FinMap as table
 use Rattle.std.specs.FinSet as set

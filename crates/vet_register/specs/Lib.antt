@@ -1,6 +1,7 @@
 pub mod Already
 pub mod AtDesk
 pub mod Changes
+pub mod Checks
 pub mod ClassOfFile
 pub mod Encodings
 pub mod Held
@@ -8,14 +9,19 @@ pub mod HeldFiles
 pub mod Importing
 pub mod Machine
 pub mod NamesOfFiles
+pub mod Numbers
 pub mod RegisterView
 pub mod RepeatedFiles
 pub mod Repeats
 pub mod Replacing
 pub mod ReplacingFound
+pub mod Restored
 pub mod Runs
 pub mod Sound
+pub mod SoundMoves
+pub mod SoundPeers
 pub mod State
+pub mod StateEncodings
 pub mod ToldInOrder
 pub mod ToolSettings
 pub mod ToolSettingsLaws

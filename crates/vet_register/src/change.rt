@@ -1,4 +1,5 @@
 //! Changes that a register prepared.
+ghost use Rattle.std.specs.Option.{option_copied};
 ghost use Rattle.std.specs.Prelude.{◌≡◌};
 
 use crate::command::Outcome;
@@ -12,9 +13,9 @@ use vet_graph::touched::Touched;
 /// What an accepted command changes at the desk.
 #[derive(Drop)]
 pub struct DeskEdit {
-    pub(crate) change: DeskChange,
-    // the number of the entry of a review that is finished
-    pub(crate) entry: Option<u64>,
+    pub change: DeskChange,
+    /// The number of the entry of a review that is finished.
+    pub entry: Option<u64>,
 }
 
 /// What an accepted command changes: the register that prepared it installs it.
@@ -46,6 +47,43 @@ impl<K: Keeper> Change<K> {
         ensures { result.now ≡ K.keeping.touched_of self.now.update }
     {
         K::touched(&self.update)
+    }
+}
+
+impl<K: Keeper> Change<K> {
+    /// The edit of what is held. Takes no memory.
+    pub fn edit(&self) -> &HeldEdit
+        ensures { result.now ≡ self.now.edit }
+    {
+        &self.edit
+    }
+
+    /// The edit of the desk, unless that stays. Takes no memory.
+    pub fn desk(&self) -> Option<&DeskEdit>
+        ensures { option_copied result ≡ self.now.desk }
+    {
+        self.desk.as_ref()
+    }
+
+    /// The moves that are recorded, or the counts with which a period begins. Takes no memory.
+    pub fn recording(&self) -> &Recording
+        ensures { result.now ≡ self.now.recording }
+    {
+        &self.recording
+    }
+
+    /// How many commands are accepted with this one. Takes no memory.
+    pub fn step(&self) -> u64
+        ensures { result ≡ self.now.step }
+    {
+        self.step
+    }
+
+    /// The number that the next entry gets. Takes no memory.
+    pub fn next_entry(&self) -> u64
+        ensures { result ≡ self.now.next_entry }
+    {
+        self.next_entry
     }
 }
 

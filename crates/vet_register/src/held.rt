@@ -53,9 +53,9 @@ pub enum HeldEdit {
 /// All that files hold: what is held but for the projects.
 #[derive(Drop)]
 pub struct FilesHeld {
-    pub(crate) facts: EntryFacts,
-    pub(crate) policies: Keyed<KeyedPolicy>,
-    pub(crate) settings: ToolSettings,
+    pub facts: EntryFacts,
+    pub policies: Keyed<KeyedPolicy>,
+    pub settings: ToolSettings,
 }
 
 impl HeldEdit {

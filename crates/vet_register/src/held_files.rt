@@ -130,8 +130,8 @@ fn further_named(
     Ok(copies)
 }
 
-// The criterion of a name, where a table has one that is not built in.
-fn further_at<'t>(table: &'t CriteriaTable, name: &Name) -> Option<&'t Criterion>
+/// The criterion of a name, where a table has one that is not built in. Takes no memory.
+pub fn further_at<'t>(table: &'t CriteriaTable, name: &Name) -> Option<&'t Criterion>
     ensures { option_copied result ≡ further_at table.now name.now }
 {
     if is_built_in(name) {

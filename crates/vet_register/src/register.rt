@@ -363,6 +363,20 @@ impl<K: Keeper> Register<K> {
         self.step
     }
 
+    /// The number that the next entry gets. Takes no memory.
+    pub fn next_entry(&self) -> u64
+        ensures { result ≡ self.now.state.next_entry }
+    {
+        self.next_entry
+    }
+
+    /// The most moves that are recorded. Takes no memory.
+    pub fn moves_limit(&self) -> usize
+        ensures { result ≡ self.now.state.moves_limit }
+    {
+        self.moves_limit
+    }
+
     /// All that is held of packages. Takes no memory.
     pub fn facts(&self) -> &EntryFacts
         ensures value { result.now.content ≡ self.now.state.held.facts }

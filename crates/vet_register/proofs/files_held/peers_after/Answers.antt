@@ -8,7 +8,8 @@ use Rattle.vet_entries.specs.HeldPeer.{imported, peer_name}
 use Rattle.vet_entries.specs.Import.{ComparisonValue, compared}
 use Rattle.vet_files.specs.FilesContent.{content_for}
 use Rattle.vet_register.specs.Replacing.{held_of_peer, new_own, peer_after, peers_after}
-use Rattle.vet_register.proofs.FilesHeld.{after_by_name, after_more, compared_at, count_at, new_more, numbers_at, settings_at}
+use Rattle.vet_register.proofs.FilesHeld.{after_by_name, after_more, compared_at, count_at, new_more, numbers_at}
+use Rattle.vet_register.proofs.FilesHeld.{settings_at}
 use Rattle.vet_register.proofs.files_held.peers_after.Goals as goal
 
 pub peers-init : goal.peers-init

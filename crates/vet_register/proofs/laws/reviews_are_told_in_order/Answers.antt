@@ -1,4 +1,5 @@
-use Rattle.vet_register.proofs.Orders.{held_before_step, number_before_criteria, reviews_before_step, step_before_number}
+use Rattle.vet_register.proofs.Orders.{held_before_step, number_before_criteria, reviews_before_step}
+use Rattle.vet_register.proofs.Orders.{step_before_number}
 use Rattle.vet_register.proofs.laws.reviews_are_told_in_order.Goals as goal
 
 pub returns-clause-reviews : goal.returns-clause-reviews

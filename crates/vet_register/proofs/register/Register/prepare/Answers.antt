@@ -13,7 +13,8 @@ use Rattle.vet_register.specs.Verdict.{judged, step_limit}
 use Rattle.vet_register.proofs.Asking.{accepted, accepted_exact, refusal_exact, refusal_told}
 use Rattle.vet_register.proofs.AskingDesk.{room_onward}
 use Rattle.vet_register.proofs.Effects.{passed, step_passed}
-use Rattle.vet_register.proofs.Prepared.{AreParts, IsUpdate, desk_still, fit_told, fits_told, is_step, prepared_stays, same_keeper}
+use Rattle.vet_register.proofs.Prepared.{AreParts, IsUpdate, desk_still, fit_told, fits_told, is_step, prepared_stays}
+use Rattle.vet_register.proofs.Prepared.{same_keeper}
 use Rattle.vet_register.proofs.Soundness.{MoveLaws}
 use Rattle.vet_register.proofs.register.Register.prepare.Goals as goal
 

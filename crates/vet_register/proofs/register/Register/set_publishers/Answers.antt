@@ -9,7 +9,8 @@ use Rattle.vet_register.specs.RegisterView.{RegisterView}
 use Rattle.vet_register.specs.Sound.{IsSound}
 use Rattle.vet_register.specs.State.{State}
 use Rattle.vet_register.specs.Verdict.{judged}
-use Rattle.vet_register.proofs.Asking.{some_day, answered, facts_effect, effective, records_counted, records_differ, records_sound}
+use Rattle.vet_register.proofs.Asking.{some_day, answered, facts_effect, effective, records_counted, records_differ}
+use Rattle.vet_register.proofs.Asking.{records_sound}
 use Rattle.vet_register.proofs.register.Register.set_publishers.Goals as goal
 
 pub publishers_edit-requires-clause-some : goal.publishers_edit-requires-clause-some

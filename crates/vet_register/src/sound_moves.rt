@@ -1,0 +1,128 @@
+//! Whether recorded moves are sound, and the counts balanced.
+//!
+//! **Moves pass just where they stand in the order in which they were recorded, within the step and the limit. Counts
+//! are balanced just where, of each class, what was there at first and what arrived is what is there now and what
+//! departed.**
+ghost use Rattle.std.specs.List.{All, AllPairs};
+ghost use Rattle.std.specs.Option.{option_eq};
+ghost use Rattle.std.specs.Prelude.{◌≡◌, ◌↔◌, IsTrue, Some};
+ghost use Rattle.vet_graph.specs.Moves.{arrivals_of, departures_of};
+ghost use Rattle.vet_graph.specs.Standing.{same_class};
+ghost use Rattle.vet_register.specs.Checks.{Checks};
+ghost use Rattle.vet_register.specs.Sound.{AreInOrder, ComesBefore, IsBy};
+ghost use Rattle.vet_register.specs.SoundMoves.{AreBalanced, comes_before, is_balanced_in};
+ghost use Rattle.vet_register.specs.State.{changes_of};
+
+use crate::moves::RecordedMove;
+use vet_base::refusal::Refusal;
+use vet_graph::class::Class;
+use vet_graph::standing::Counts;
+
+/// Whether moves stand in their order, none of a later step than this, and within a limit. Costs a look at each, and a
+/// comparison with the next.
+pub(crate) fn check_moves(moves: &[RecordedMove], step: u64, limit: usize) -> Result<(), Refusal>
+    ensures { Checks (AreInOrder moves.now step limit) result }
+{
+    if moves.len() > limit {
+        return Err(Refusal::NotARegister);
+    }
+    if !are_by(step, moves) {
+        return Err(Refusal::NotARegister);
+    }
+    if !are_in_order(moves) {
+        return Err(Refusal::NotARegister);
+    }
+    Ok(())
+}
+
+/// Whether moves lead from some counts to others. Costs two looks at each move for each class.
+pub(crate) fn are_balanced(first: Counts, now: Counts, moves: &[RecordedMove]) -> bool
+    ensures { IsTrue result ↔ AreBalanced first now (changes_of moves.now) }
+{
+    if !is_balanced(Class::Conflicting, first, now, moves) {
+        return false;
+    }
+    if !is_balanced(Class::Full, first, now, moves) {
+        return false;
+    }
+    if !is_balanced(Class::Partial, first, now, moves) {
+        return false;
+    }
+    if !is_balanced(Class::Exempted, first, now, moves) {
+        return false;
+    }
+    is_balanced(Class::Unvetted, first, now, moves)
+}
+
+// Whether no move is of a later step than this.
+fn are_by(step: u64, moves: &[RecordedMove]) -> bool
+    ensures { IsTrue result ↔ All (IsBy step) moves.now }
+{
+    moves.iter().all(|recorded| recorded.step <= step)
+}
+
+// Whether each move was recorded before those behind it.
+fn are_in_order(moves: &[RecordedMove]) -> bool
+    ensures { IsTrue result ↔ AllPairs ComesBefore moves.now }
+{
+    let mut place = 1;
+    'moves: while place < moves.len() {
+        let before = &moves[place - 1];
+        let after = &moves[place];
+        if !comes_before(before, after) {
+            return false;
+        }
+        place += 1;
+    }
+    true
+}
+
+// Whether a move was recorded before another.
+fn comes_before(before: &RecordedMove, after: &RecordedMove) -> bool
+    ensures { result ≡ comes_before before.now after.now }
+{
+    before
+        .step
+        .cmp(&after.step)
+        .then(before.change.pair.cmp(&after.change.pair))
+        .is_lt()
+}
+
+// Whether moves lead from some counts to others in one class.
+fn is_balanced(class: Class, first: Counts, now: Counts, moves: &[RecordedMove]) -> bool
+    ensures { result ≡ is_balanced_in class first now (changes_of moves.now) }
+{
+    let came = u128::from(first.of(class)) + arrivals(class, moves) as u128;
+    let went = u128::from(now.of(class)) + departures(class, moves) as u128;
+    came == went
+}
+
+// How many moves arrive at a class.
+fn arrivals(class: Class, moves: &[RecordedMove]) -> usize
+    ensures { result ≡ arrivals_of class (changes_of moves.now) }
+{
+    moves
+        .iter()
+        .filter(|recorded| is_in(recorded.change.after, class))
+        .count()
+}
+
+// How many moves depart from a class.
+fn departures(class: Class, moves: &[RecordedMove]) -> usize
+    ensures { result ≡ departures_of class (changes_of moves.now) }
+{
+    moves
+        .iter()
+        .filter(|recorded| is_in(recorded.change.before, class))
+        .count()
+}
+
+// Whether this is a class.
+fn is_in(found: Option<Class>, class: Class) -> bool
+    ensures { result ≡ option_eq same_class found (Some class) }
+{
+    match found {
+        Some(other) => other == class,
+        None => false,
+    }
+}
