@@ -1,5 +1,6 @@
 -- What a packed list is read as.
-use Rattle.std.proofs.Common.{◌≡◌, ◌<◌, ◌^◌, ◌∷◌, ◌∙◌, All, List, [], None, Option, Some, length, map, refl, sym, ap, subst}
+use Rattle.std.proofs.Common.{◌≡◌, ◌<◌, ◌^◌, ◌∷◌, ◌∙◌, All, List, [], None, Option, Some, length, map, refl, sym, ap}
+use Rattle.std.proofs.Common.{subst}
 use Rattle.std.proofs.lemmas.List.Elements.{All-head, All-tail}
 use Rattle.vet_base.specs.Words.{Bytes}
 use Rattle.vet_rows.specs.Packed.{packed}

@@ -1,5 +1,6 @@
 -- Packed lists: how a column keeps many values (ours).
-use Rattle.std.specs.Prelude.{◌≡◌, ◌&&◌, ◌||◌, Bool, List, [], ◌∷◌, ◌++◌, get_or, length, codes, nat_eq, nat_le, nat_lt, not, Option, Some, None}
+use Rattle.std.specs.Prelude.{◌≡◌, ◌&&◌, ◌||◌, Bool, List, [], ◌∷◌, ◌++◌, get_or, length, codes, nat_eq, nat_le, nat_lt}
+use Rattle.std.specs.Prelude.{not, Option, Some, None}
 use Rattle.std.specs.Fmt.{decimal}
 use Rattle.vet_base.specs.Words.{Bytes}
 

@@ -1,12 +1,24 @@
 //! The rows of a register's tables.
 //!
-//! **A packed list is read as the items that were written, and nothing else reads as one.**
+//! **`rows_of` gives the rows of a register's state: of each thing that is held its one row. `row_changes` leads from
+//! these to the rows of the state after a change. `state_of` gives the state again of its rows, in whatever order. A
+//! packed list is read as the items that were written, and nothing else reads as one.**
 //!
-//! Scope of this crate today: packed lists, in which a column keeps many values, and sets of names as such lists.
+//! Scope of this crate today: the rows of the twelve tables, what changes of a row each make of them, the rows of a
+//! state, the changes of rows that a prepared change of the register makes, and the state of rows; packed lists, in
+//! which a column keeps many values, and sets of names and texts as such lists.
 #![tactic(auto)]
 
+pub mod column;
 pub mod laws;
 pub mod packed;
 pub mod packed_item;
 pub mod packed_names;
 mod packed_text;
+mod read;
+pub mod row;
+pub mod row_change;
+pub mod row_changes;
+pub mod rows;
+pub mod rows_of;
+pub mod state_of;

@@ -1,5 +1,6 @@
 //! Packed lists: many values in one column, each as its length in bytes in decimal, a colon, and its bytes.
-ghost use Rattle.std.specs.Prelude.{IfOk, OnErr, OnOk, map, option_map, ◌≡◌, ℕ, ◌<◌, ◌^◌, ◌≤◌, ◌++◌, IfSome, codes, false, get_or, is_none, length, take, true};
+ghost use Rattle.std.specs.Prelude.{IfOk, OnErr, OnOk, map, option_map, ◌≡◌, ℕ, ◌<◌, ◌^◌, ◌≤◌, ◌++◌, IfSome, codes};
+ghost use Rattle.std.specs.Prelude.{false, get_or, is_none, length, take, true};
 ghost use Rattle.std.specs.Char.{is_ascii_digit};
 ghost use Rattle.std.specs.Fmt.{decimal};
 ghost use Rattle.std.specs.Str.Parse.{AllDigits, digits_value};

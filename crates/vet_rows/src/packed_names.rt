@@ -1,8 +1,9 @@
-//! Sets of names as packed lists: their members in the order of their bytes, each once.
+//! Sets of names and of texts as packed lists: their members in the order of their bytes, each once.
 ghost use Rattle.std.specs.Prelude.{◌≡◌, IfOk};
 ghost use Rattle.vet_base.specs.Names.{members};
 ghost use Rattle.vet_rows.specs.Packed.{packed};
 ghost use Rattle.vet_rows.specs.PackedItems.{IsReadAsSet, as_text};
+ghost use Rattle.vet_base.specs.Text.{read_text};
 ghost use Rattle.vet_base.specs.Name.{read_name, read_package_name};
 
 use crate::packed_item::{pack, unpack};
@@ -10,6 +11,8 @@ use std::alloc::{AllocError, Global};
 use vet_base::name::{Name, PackageName};
 use vet_base::names::Names;
 use vet_base::package_names::PackageNames;
+use vet_base::text::Text;
+use vet_base::texts::Texts;
 
 /// The packed list of a set of names. Refused for want of memory alone.
 pub fn pack_names(alloc: Global, names: &Names) -> Result<Vec<u8>, AllocError>
@@ -43,6 +46,24 @@ pub fn unpack_packages(alloc: Global, bytes: &[u8]) -> Result<Option<PackageName
 {
     match unpack::<PackageName>(alloc, bytes)? {
         Some(packages) => Ok(Some(PackageNames::of(alloc, packages)?)),
+        None => Ok(None),
+    }
+}
+
+/// The packed list of a set of texts. Refused for want of memory alone.
+pub fn pack_texts(alloc: Global, texts: &Texts) -> Result<Vec<u8>, AllocError>
+    ensures { IfOk result (λ bytes. bytes.items ≡ packed (members texts.now)) }
+{
+    pack(alloc, texts.as_slice())
+}
+
+/// The set of the texts in a packed list, or none if the bytes are no packed list of texts. Refused for want of
+/// memory alone.
+pub fn unpack_texts(alloc: Global, bytes: &[u8]) -> Result<Option<Texts>, AllocError>
+    ensures { IfOk result (λ texts. IsReadAsSet (as_text read_text) bytes.now texts) }
+{
+    match unpack::<Text>(alloc, bytes)? {
+        Some(texts) => Ok(Some(Texts::of(alloc, texts)?)),
         None => Ok(None),
     }
 }

@@ -1,4 +1,5 @@
-use Rattle.std.proofs.Common.{◌≡◌, ◌==◌, ◌++◌, ◌∷◌, ◌∙◌, ◌<◌, ◌^◌, Bool, Bor, List, ℕ, [], length, map, sym, ap, subst, refl, false, arith}
+use Rattle.std.proofs.Common.{◌≡◌, ◌==◌, ◌++◌, ◌∷◌, ◌∙◌, ◌<◌, ◌^◌, Bool, Bor, List, ℕ, [], length, map, sym, ap, subst}
+use Rattle.std.proofs.Common.{refl, false, arith}
 use Rattle.std.proofs.lemmas.Bool.Decides.{nat_tests}
 use Rattle.std.proofs.lemmas.List.{map-append}
 use Rattle.vet_base.specs.Words.{Bytes}

@@ -1,4 +1,5 @@
-use Rattle.std.proofs.Common.{◌≡◌, ◌<◌, ◌^◌, Bor, Global, List, Option, Vec, ℕ, length, map, option_map, sym, subst, arith}
+use Rattle.std.proofs.Common.{◌≡◌, ◌<◌, ◌^◌, Bor, Global, List, Option, Vec, ℕ, length, map, option_map, sym, subst}
+use Rattle.std.proofs.Common.{arith}
 use Rattle.std.proofs.lemmas.Result.{IfOk-weaker}
 use Rattle.vet_base.specs.Words.{Bytes}
 use Rattle.vet_rows.specs.Packed.{IsUnpacked, packed}

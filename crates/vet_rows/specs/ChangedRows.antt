@@ -1,0 +1,69 @@
+-- The rows that go and that come by a change of a register (ours).
+use Rattle.std.specs.Prelude.{List, [], ◌∷◌, Option, Some, None}
+use Rattle.vet_desk.specs.Desk.{DeskState}
+use Rattle.vet_register.specs.Changes.{changed}
+use Rattle.vet_register.specs.State.{State}
+use Rattle.vet_register.specs.declared.change.Change.{Change}
+use Rattle.vet_register.specs.declared.change.DeskEdit.{DeskEdit}
+use Rattle.vet_rows.specs.DeskChanges as desk
+use Rattle.vet_rows.specs.HeldChanges.{criteria_coming, criteria_going, edges_coming, edges_going, entries_coming}
+use Rattle.vet_rows.specs.HeldChanges.{entries_going, nodes_coming, nodes_going, peers_coming, peers_going}
+use Rattle.vet_rows.specs.HeldChanges.{policies_coming, policies_going, publishers_coming, publishers_going}
+use Rattle.vet_rows.specs.Rows.{RowsValue}
+use Rattle.vet_rows.specs.RowsOf.{meta_row}
+use Rattle.vet_rows.specs.StandingChanges.{moves_coming, moves_going, standing_coming, standing_going}
+use Rattle.vet_rows.specs.declared.row.MemberRow.{MemberRow}
+use Rattle.vet_rows.specs.declared.row.ReviewRow.{ReviewRow}
+
+-- ---- the desk, where it changes
+
+abbrev pub members_going : Option DeskEdit → DeskState → List MemberRow
+members_going None d = []
+members_going (Some e) d = desk.members_going e.change d
+
+abbrev pub members_coming : Option DeskEdit → List MemberRow
+members_coming None = []
+members_coming (Some e) = desk.members_coming e.change
+
+abbrev pub reviews_going : Option DeskEdit → DeskState → List ReviewRow
+reviews_going None d = []
+reviews_going (Some e) d = desk.reviews_going e.change e.entry d
+
+abbrev pub reviews_coming : Option DeskEdit → DeskState → List ReviewRow
+reviews_coming None d = []
+reviews_coming (Some e) d = desk.reviews_coming e.change e.entry d
+
+-- ---- all tables
+
+-- the one row of `meta` is put in place of the one that is there
+abbrev pub rows_going : {K U : Type 0} → State → Change K U → RowsValue
+rows_going s change = record {
+  meta = [];
+  criteria = criteria_going change.edit s.held;
+  entries = entries_going change.edit s.held;
+  publishers = publishers_going change.edit s.held;
+  policies = policies_going change.edit s.held;
+  peers = peers_going change.edit s.held;
+  nodes = nodes_going change.edit s.held;
+  edges = edges_going change.edit s.held;
+  standing = standing_going change.recording;
+  moves = moves_going change.recording s.moves;
+  members = members_going change.desk s.desk;
+  reviews = reviews_going change.desk s.desk;
+}
+
+abbrev pub rows_coming : {K U : Type 0} → State → Change K U → RowsValue
+rows_coming s change = record {
+  meta = meta_row (changed change s) ∷ [];
+  criteria = criteria_coming change.edit;
+  entries = entries_coming change.edit;
+  publishers = publishers_coming change.edit;
+  policies = policies_coming change.edit;
+  peers = peers_coming change.edit;
+  nodes = nodes_coming change.edit;
+  edges = edges_coming change.edit;
+  standing = standing_coming change.recording;
+  moves = moves_coming change.recording;
+  members = members_coming change.desk;
+  reviews = reviews_coming change.desk s.desk;
+}

@@ -1,0 +1,28 @@
+//! The items of a list by key that an edit takes out of it and puts into it.
+ghost use Rattle.std.specs.Option.{option_copied};
+ghost use Rattle.std.specs.Prelude.{◌≡◌};
+ghost use Rattle.vet_rows.specs.KeyedItems.{comes, goes};
+
+use vet_base::keyed::KeyedEdit;
+
+/// The item that goes, or in whose place another comes. Takes no memory.
+pub fn goes<'a, T: Drop>(edit: &KeyedEdit<T>, items: &'a [T]) -> Option<&'a T>
+    ensures { option_copied result ≡ goes edit.now items.now }
+{
+    match edit {
+        KeyedEdit::Put(_, _) => None,
+        KeyedEdit::Take(place) => items.get(*place),
+        KeyedEdit::Swap(place, _) => items.get(*place),
+    }
+}
+
+/// The item that comes. Takes no memory.
+pub fn comes<T: Drop>(edit: &KeyedEdit<T>) -> Option<&T>
+    ensures { option_copied result ≡ comes edit.now }
+{
+    match edit {
+        KeyedEdit::Put(_, item) => Some(item),
+        KeyedEdit::Take(_) => None,
+        KeyedEdit::Swap(_, item) => Some(item),
+    }
+}

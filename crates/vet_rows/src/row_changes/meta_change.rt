@@ -1,0 +1,83 @@
+//! The one row of `meta` after a change.
+ghost use Rattle.std.specs.Option.{option_copied};
+ghost use Rattle.std.specs.Prelude.{◌≡◌, ◌<◌, ◌^◌, IfOk};
+ghost use Rattle.vet_register.specs.Changes.{changed, desk_edited, first_by};
+ghost use Rattle.vet_register.specs.Held.{edited};
+ghost use Rattle.vet_rows.specs.Numbers.{CountsFit, NumbersFit};
+ghost use Rattle.vet_rows.specs.RowsOf.{meta_row};
+
+use crate::row::MetaRow;
+use crate::rows_of::columns::{names_or_none, text_or_none};
+use std::alloc::{AllocError, Global};
+use vet_desk::change::DeskChange;
+use vet_desk::desk::Desk;
+use vet_graph::keeper::Keeper;
+use vet_graph::standing::Counts;
+use vet_register::change::{Change, DeskEdit};
+use vet_register::held::HeldEdit;
+use vet_register::moves::Recording;
+use vet_register::register::Register;
+use vet_register::tool_settings::ToolSettings;
+
+/// The row of `meta` after a change. Asks that its numbers have columns. Refused for want of memory alone.
+pub fn meta_row_after<K: Keeper>(
+    alloc: Global,
+    register: &Register<K>,
+    change: &Change<K>,
+) -> Result<MetaRow, AllocError>
+    requires numbers { NumbersFit (changed change.now register.now.state) }
+    requires counts { CountsFit (changed change.now register.now.state).first }
+    ensures { IfOk result (λ row. row ≡ meta_row (changed change.now register.now.state)) }
+{
+    let first = first_after(register, change.recording());
+    let settings = settings_after(register, change.edit());
+    Ok(MetaRow {
+        one: 1,
+        version: 1,
+        step: change.step() as i64,
+        next_entry: change.next_entry() as i64,
+        next_review: next_review_after(register.desk(), change.desk()) as i64,
+        moves_limit: register.moves_limit() as i64,
+        first0: first.conflicting as i64,
+        first1: first.full as i64,
+        first2: first.partial as i64,
+        first3: first.exempted as i64,
+        first4: first.unvetted as i64,
+        vet_version: text_or_none(alloc, &settings.vet_version)?,
+        default_criteria: names_or_none(alloc, &settings.default_criteria)?,
+    })
+}
+
+// The counts at first after what is recorded.
+fn first_after<K: Keeper>(register: &Register<K>, recording: &Recording) -> Counts
+    ensures { result ≡ first_by recording.now register.now.state.first }
+{
+    match recording {
+        Recording::Behind(_) => register.first_counts(),
+        Recording::Anew(counts) => *counts,
+    }
+}
+
+// What a config file says to the tool alone, after an edit.
+fn settings_after<'a, K: Keeper>(register: &'a Register<K>, edit: &'a HeldEdit) -> &'a ToolSettings
+    ensures { result.now ≡ (edited edit.now register.now.state.held).settings }
+{
+    match edit {
+        HeldEdit::Files(files) => &files.settings,
+        _ => register.settings(),
+    }
+}
+
+// The number of the next review after an edit of the desk, if there is one.
+fn next_review_after(desk: &Desk, edit: Option<&DeskEdit>) -> u64
+    requires { (desk_edited (option_copied edit) desk.now.content).next_review < 2 ^ 63 }
+    ensures { result ≡ (desk_edited (option_copied edit.entry) desk.now.content).next_review }
+{
+    match edit {
+        Some(edit) => match &edit.change {
+            DeskChange::Open(_) => desk.next_review() + 1,
+            _ => desk.next_review(),
+        },
+        None => desk.next_review(),
+    }
+}

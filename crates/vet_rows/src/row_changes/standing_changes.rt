@@ -1,0 +1,83 @@
+//! The rows of the standing and of moves that go and that come by what is recorded.
+//!
+//! **Rows of the standing are those of the pairs that move, and of no others.**
+ghost use Rattle.std.specs.List.{All};
+ghost use Rattle.std.specs.Prelude.{◌≡◌, IfOk, filter, map};
+ghost use Rattle.vet_rows.specs.Numbers.{MoveFits};
+ghost use Rattle.vet_rows.specs.StandingChanges.{leaves, moved_row, moves_coming, moves_going, recorded_moves};
+ghost use Rattle.vet_rows.specs.StandingChanges.{stands};
+
+use crate::column::TextColumn;
+use crate::row::{MoveRow, StandingRow};
+use crate::rows_of::columns::{class_or_none, version_column};
+use crate::rows_of::standing_rows::all_moves;
+use std::alloc::{AllocError, Global};
+use vet_register::moves::{RecordedMove, Recording};
+
+/// The moves that are recorded. Takes no memory.
+pub fn recorded_moves(recording: &Recording) -> &[RecordedMove]
+    ensures { result.now ≡ recorded_moves recording.now }
+{
+    match recording {
+        Recording::Behind(more) => more.as_slice(),
+        Recording::Anew(_) => &[],
+    }
+}
+
+/// The rows of the pairs that aren't demanded any more. Refused for want of memory alone.
+pub fn standing_going(alloc: Global, moves: &[RecordedMove]) -> Result<Vec<StandingRow>, AllocError>
+    ensures { IfOk result (λ rows. rows.items ≡ map moved_row (filter leaves moves.now)) }
+{
+    let mut rows = Vec::new(alloc);
+    'moves: for recorded in moves {
+        if recorded.change.after.is_none() {
+            rows.push(moved_row(alloc, recorded)?)?;
+        }
+    }
+    Ok(rows)
+}
+
+/// The rows of the pairs that come to a class. Refused for want of memory alone.
+pub fn standing_coming(
+    alloc: Global,
+    moves: &[RecordedMove],
+) -> Result<Vec<StandingRow>, AllocError>
+    ensures { IfOk result (λ rows. rows.items ≡ map moved_row (filter stands moves.now)) }
+{
+    let mut rows = Vec::new(alloc);
+    'moves: for recorded in moves {
+        if recorded.change.after.is_some() {
+            rows.push(moved_row(alloc, recorded)?)?;
+        }
+    }
+    Ok(rows)
+}
+
+// The row of the pair of a move.
+fn moved_row(alloc: Global, recorded: &RecordedMove) -> Result<StandingRow, AllocError>
+    ensures { IfOk result (λ row. row ≡ moved_row recorded.now) }
+{
+    let change = &recorded.change;
+    Ok(StandingRow {
+        package: TextColumn::of(alloc, change.pair.package.as_str())?,
+        version: version_column(alloc, &change.pair.version)?,
+        criterion: TextColumn::of(alloc, change.pair.criterion.as_str())?,
+        class: class_or_none(change.after),
+    })
+}
+
+/// The rows of moves that go: all, where a period begins. Asks that their steps are below 2^63. Refused for want of
+/// memory alone.
+pub fn moves_going(
+    alloc: Global,
+    recording: &Recording,
+    moves: &[RecordedMove],
+) -> Result<Vec<MoveRow>, AllocError>
+    requires { All MoveFits moves.now }
+    ensures { IfOk result (λ rows. rows.items ≡ moves_going recording.now moves.now) }
+{
+    match recording {
+        Recording::Behind(_) => Ok(Vec::new(alloc)),
+        Recording::Anew(_) => all_moves(alloc, moves),
+    }
+}
