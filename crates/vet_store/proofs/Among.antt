@@ -1,0 +1,68 @@
+-- Items of which each equals one of others are among these, where only an item itself is equal to it.
+use Rattle.std.proofs.Common.{Bool, List, [], ap, false, inl, inr, refl, subst, subst₂}
+use Rattle.std.proofs.Common.{sym, true, ◌&&◌, ◌||◌, ◌∙◌, ◌∷◌, ◌≡◌}
+use Rattle.std.specs.Bool.{Decides}
+use Rattle.std.specs.List.{list_all, list_any}
+use Rattle.std.proofs.lemmas.Bool.{false≢true}
+use Rattle.std.proofs.lemmas.Bool.Decides.{Decides-and, Decides-like}
+use Rattle.vet_rows.specs.Rows.{RowsValue}
+use Rattle.vet_base.specs.Items.{IsIn, SameItems}
+
+module _ {X : Type 0} (eq : X → X → Bool) (only : (a b : X) → Decides (eq a b) (a ≡ b)) where
+  any_is_in : (x : X) (ys : List X) → list_any (eq x) ys ≡ true → IsIn x ys
+  any_is_in x [] h = absurd (false≢true h)
+  any_is_in x (y ∷ ys) h = by (eq x y) refl (any_is_in x ys)
+    where
+      by : (b : Bool) → eq x y ≡ b → (list_any (eq x) ys ≡ true → IsIn x ys) → IsIn x (y ∷ ys)
+      by true e further = inl ((only x y).0 e)
+      by false e further = inr (further (ap (λ c. c || list_any (eq x) ys) (sym e) ∙ h))
+
+  in_is_any : (x : X) (ys : List X) → IsIn x ys → list_any (eq x) ys ≡ true
+  in_is_any x [] i = absurd i
+  in_is_any x (y ∷ ys) (inl same) = ap (λ c. c || list_any (eq x) ys) ((only x y).1 same)
+  in_is_any x (y ∷ ys) (inr rest) = by (eq x y) (in_is_any x ys rest)
+    where
+      by : (b : Bool) → list_any (eq x) ys ≡ true → (b || list_any (eq x) ys) ≡ true
+      by true further = refl
+      by false further = further
+
+  all_are_in : (xs ys : List X) → list_all (λ x. list_any (eq x) ys) xs ≡ true → (x : X) → IsIn x xs → IsIn x ys
+  all_are_in [] ys h x i = absurd i
+  all_are_in (a ∷ xs) ys h x i = by (list_any (eq a) ys) refl i (λ e rest. all_are_in xs ys e x rest)
+    where
+      by : (b : Bool) → list_any (eq a) ys ≡ b → IsIn x (a ∷ xs)
+          → (list_all (λ v. list_any (eq v) ys) xs ≡ true → IsIn x xs → IsIn x ys) → IsIn x ys
+      by true e (inl same) further = subst (λ v. IsIn v ys) (sym same) (any_is_in a ys e)
+      by true e (inr rest) further =
+          further (ap (λ c. c && list_all (λ v. list_any (eq v) ys) xs) (sym e) ∙ h) rest
+      by false e k further = absurd (false≢true (ap (λ c. c && list_all (λ v. list_any (eq v) ys) xs) (sym e) ∙ h))
+
+  in_are_all : (xs ys : List X) → ((x : X) → IsIn x xs → IsIn x ys) → list_all (λ x. list_any (eq x) ys) xs ≡ true
+  in_are_all [] ys h = refl
+  in_are_all (a ∷ xs) ys h =
+      ap (λ c. c && list_all (λ v. list_any (eq v) ys) xs) (in_is_any a ys (h a (inl refl)))
+      ∙ in_are_all xs ys (λ x i. h x (inr i))
+
+  pub among_decides : (xs ys : List X)
+      → Decides (list_all (λ x. list_any (eq x) ys) xs) ((x : X) → IsIn x xs → IsIn x ys)
+  among_decides xs ys = (all_are_in xs ys, in_are_all xs ys)
+
+  pub same_decides : (xs ys : List X) (r : Bool)
+      → r ≡ (list_all (λ x. list_any (eq x) ys) xs && list_all (λ x. list_any (eq x) xs) ys)
+      → Decides r (SameItems xs ys)
+  same_decides xs ys r is = subst (λ b. Decides b (SameItems xs ys)) (sym is)
+      (Decides-and _ _ (among_decides xs ys) (among_decides ys xs))
+
+-- what is decided of the rows of a table that were read from some fields is decided of the table
+pub decided_table : {X : Type 0} (of : RowsValue → List X) (r : Bool) (xs ys : List X) (v a w b : RowsValue)
+    → v ≡ a → w ≡ b → xs ≡ of v → ys ≡ of w → Decides r (SameItems xs ys) → Decides r (SameItems (of a) (of b))
+decided_table of r xs ys v a w b first second p q d =
+    subst₂ (λ as_read other. Decides r (SameItems as_read other)) (p ∙ ap of first) (q ∙ ap of second) d
+
+-- where a part does not hold, the whole does not
+pub refuted : {P Q : Type 0} (r : Bool) → Decides r P → r ≡ false → (Q → P) → Decides false Q
+refuted r d fails part = (λ e. absurd (false≢true e), λ whole. sym fails ∙ d.1 (part whole))
+
+-- where the other parts hold, the whole holds just where the last one does
+pub last_decides : {P Q : Type 0} (r : Bool) → (P → Q) → (Q → P) → Decides r P → Decides r Q
+last_decides r whole part d = Decides-like r whole part d

@@ -1,0 +1,128 @@
+-- The tables stay tied to the register.
+use Rattle.std.proofs.Common.{◌≡◌, ◌⊎◌, Bool, false, IsTrue, List, map, sym, ap, subst, ◌∙◌, inl, inr, arith}
+use Rattle.sqlite_trees.specs.Tree.{Trees}
+use Rattle.sqlite.specs.Effect.{Database}
+use Rattle.sqlite.specs.State.{HasCleanDisk, Survives}
+use Rattle.sqlite.specs.State as sqlite
+use Rattle.sqlite.proofs.StateLemmas.{survives_weaker}
+use Rattle.vet_base.specs.Items.{IsIn, SameItems}
+use Rattle.vet_base.proofs.ItemLemmas.{in_map, map_in}
+use Rattle.vet_rows.specs.Rows.{RowsValue}
+use Rattle.vet_rows.specs.SameRows.{SameRows}
+use Rattle.vet_store.specs.Cells.{cells_in}
+use Rattle.vet_store.specs.Committed.{AreTreesOf, IsAfter}
+use Rattle.vet_store.specs.Stands.{Holds, Stands}
+use Rattle.vet_store.specs.Tied.{IsTied, IsWritten, Leaves}
+use Rattle.vet_store.specs.declared.table_name.TableName.{TableName}
+use Rattle.vet_store.specs.declared.table_name.TableName.TheVariants.{Meta, Criteria, Entries, Publishers}
+use Rattle.vet_store.specs.declared.table_name.TableName.TheVariants.{Policies, Peers, Nodes, Edges, Standing}
+use Rattle.vet_store.specs.declared.table_name.TableName.TheVariants.{Moves, Members, Reviews}
+
+-- ---- the same rows in whatever order
+
+same_map : {X Y : Type 0} (f : X → Y) (xs ys : List X) → SameItems xs ys → SameItems (map f xs) (map f ys)
+same_map f xs ys same = (
+  λ y i. (let m = in_map f xs y i in subst (λ v. IsIn v (map f ys)) (sym m.1.1) (map_in f ys m.0 (same.0 m.0 m.1.0))),
+  λ y i. (let m = in_map f ys y i in subst (λ v. IsIn v (map f xs)) (sym m.1.1) (map_in f xs m.0 (same.1 m.0 m.1.0))),
+)
+
+same_cells : (name : TableName) (a b : RowsValue) → SameRows a b → SameItems (cells_in name a) (cells_in name b)
+same_cells Meta a b same = same_map _ a.meta b.meta same.meta
+same_cells Criteria a b same = same_map _ a.criteria b.criteria same.criteria
+same_cells Entries a b same = same_map _ a.entries b.entries same.entries
+same_cells Publishers a b same = same_map _ a.publishers b.publishers same.publishers
+same_cells Policies a b same = same_map _ a.policies b.policies same.policies
+same_cells Peers a b same = same_map _ a.peers b.peers same.peers
+same_cells Nodes a b same = same_map _ a.nodes b.nodes same.nodes
+same_cells Edges a b same = same_map _ a.edges b.edges same.edges
+same_cells Standing a b same = same_map _ a.standing b.standing same.standing
+same_cells Moves a b same = same_map _ a.moves b.moves same.moves
+same_cells Members a b same = same_map _ a.members b.members same.members
+same_cells Reviews a b same = same_map _ a.reviews b.reviews same.reviews
+
+pub holds_also : (db : Database) (a b : RowsValue) → SameRows a b → Holds db a → Holds db b
+holds_also db a b same h = record {
+  sound = h.sound;
+  has = h.has;
+  shows = λ name. (let cells = same_cells name a b same in record {
+    numbered = (h.shows name).numbered;
+    same = (
+      λ x i. (h.shows name).same.0 x (cells.1 x i),
+      λ x i. cells.0 x ((h.shows name).same.1 x i),
+    );
+  });
+}
+
+pub stands_also : (c : sqlite.State) (a b : RowsValue) → SameRows a b → Stands c a → Stands c b
+stands_also c a b same h = record { rests = h.rests; holds = holds_also c.now a b same h.holds }
+
+-- ---- what a crash leaves
+
+-- while a connection serves, a crash leaves what stands there
+pub leaves_standing : (c : sqlite.State) (rows : RowsValue)
+    → ((trees : Trees) → c.may_leave trees → trees ≡ c.committed.trees) → Stands c rows → Leaves c rows
+leaves_standing c rows settled h trees leaves =
+    (c.now, settled trees leaves ∙ ap (λ (d : Database). d.trees) (sym h.rests.settled), h.holds)
+
+-- where a crash leaves only what it could before, it leaves the same rows
+pub leaves_still : (old new : sqlite.State) (rows : RowsValue) → Survives old new (λ _. ⊥) → HasCleanDisk new
+    → Leaves old rows → Leaves new rows
+leaves_still old new rows s clean h trees leaves = by (s.crash clean trees leaves)
+  where
+    by : old.may_leave trees ⊎ ⊥ → AreTreesOf rows trees
+    by (inl before) = h trees before
+    by (inr none) = absurd none
+
+pub still_clean : (old new : sqlite.State) (P : Trees → Type 0) → Survives old new P → HasCleanDisk new
+    → HasCleanDisk old
+still_clean old new P s clean = omega (arith, s.clean)
+
+-- what the changes make of the rows is the next rows, in whatever order
+pub written_next : (c : sqlite.State) (change : RowsValue → RowsValue) (rows next : RowsValue)
+    → SameRows (change rows) next → (trees : Trees) → IsAfter c change trees → IsWritten c rows next trees
+written_next c change rows next same trees h =
+    (h.0, h.1, λ stands. holds_also h.0 (change rows) next same (h.2 rows stands))
+
+-- a crash leaves what it could before, or the rows that were written, where those before them stood
+pub survives_written : (old new : sqlite.State) (shut : Bool) (rows next : RowsValue)
+    → IsTied old shut rows → shut ≡ false → IsTrue old.is_open
+    → Survives old new (IsWritten old rows next) → Survives old new (AreTreesOf next)
+survives_written old new shut rows next tied unshut serves s =
+    survives_weaker old new (IsWritten old rows next) (AreTreesOf next)
+    (λ clean trees h. (h.0, h.1, h.2 (tied.stands (still_clean old new _ s clean) unshut serves))) s
+
+-- ---- the store stays tied
+
+-- where changes were refused, the tables have the rows as before
+pub tied_refused : (old new : sqlite.State) (was shut : Bool) (rows : RowsValue) → IsTied old was rows → was ≡ false
+    → new.in_transaction ≡ false
+    → (HasCleanDisk new → IsTrue new.is_open → Stands old rows → Stands new rows)
+    → (HasCleanDisk new → IsTrue new.is_open → IsTrue old.is_open)
+    → (shut ≡ false → Survives old new (λ _. ⊥))
+    → IsTied new shut rows
+tied_refused old new was shut rows tied unshut autocommit kept was_open before = record {
+  autocommit = autocommit;
+  stands = λ clean open_still serves. (let s = before open_still in kept clean serves
+      (tied.stands (still_clean old new _ s clean) unshut (was_open clean serves)));
+  leaves = λ clean open_still. (let s = before open_still in leaves_still old new rows s clean
+      (tied.leaves (still_clean old new _ s clean) unshut));
+}
+
+-- where they were committed, the tables have the next rows
+pub tied_written : (old new : sqlite.State) (was shut : Bool) (rows next : RowsValue) (P : Trees → Type 0)
+    → IsTied old was rows → was ≡ false
+    → new.in_transaction ≡ false
+    → (HasCleanDisk new → Stands old rows → Stands new next)
+    → (HasCleanDisk new → IsTrue old.is_open)
+    → Survives old new P
+    → ((trees : Trees) → IsTrue new.is_open → new.may_leave trees → trees ≡ new.committed.trees)
+    → IsTied new shut next
+tied_written old new was shut rows next P tied unshut autocommit written was_open s settled = record {
+  autocommit = autocommit;
+  stands = λ clean _ _. stand clean;
+  leaves = λ clean _. (let now = stand clean in
+      leaves_standing new next (λ trees leaves. settled trees now.rests.is_open leaves) now);
+}
+  where
+    stand : HasCleanDisk new → Stands new next
+    stand clean = written clean (tied.stands (still_clean old new P s clean) unshut (was_open clean))

@@ -1,0 +1,24 @@
+use Rattle.std.proofs.Common.{rules, arith}
+use Rattle.sqlite.proofs.StateLemmas.{survives_then}
+use Rattle.sqlite.specs.Held.{state}
+use Rattle.sqlite.specs.State.{HasCleanDisk}
+use Rattle.vet_store.proofs.Steps.{changes_more, keeps_then}
+use Rattle.vet_store.proofs.apply.apply_all.Goals as goal
+
+pub loop-change-preserved : goal.loop-change-preserved
+loop-change-preserved g c =
+    let a = state g.S.Store c.args.tx.now.conn.now in
+    let b = state g.S.Store c.loop-change.tx.conn.now in
+    let d = state g.S.Store c.apply.new.tx.conn.now in
+    record {
+      same_reference = search rules;
+      kept = λ clean. keeps_then a b d (c.loop-change.invariant.kept (omega (arith, c.apply.ensures.survives.clean)))
+          (c.apply.ensures.kept clean);
+      survives = survives_then a b d _ _ _ (λ _ db none. none)
+          (λ _ db none. none) c.loop-change.invariant.survives c.apply.ensures.survives;
+      changes = λ clean serves inside.
+          let early : HasCleanDisk b = omega (arith, c.apply.ensures.survives.clean) in
+          let was = c.loop-change.invariant.changes early serves inside in
+          changes_more a b d c.args.changes.now c.change-item.result c.loop-change.change-index
+          c.loop-change-test.true was (c.in_ok-apply.ensures.changes clean was.inside) c.change-item.is;
+    }

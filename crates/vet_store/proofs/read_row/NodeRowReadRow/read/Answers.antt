@@ -1,0 +1,14 @@
+use Rattle.std.proofs.Common.{◌≡◌, arith, of_z, rules, to_z, w64}
+use Rattle.vet_store.proofs.WholeRows.{whole}
+use Rattle.vet_store.proofs.read_row.NodeRowReadRow.read.Goals as goal
+
+pub returns : goal.returns
+returns c typed =
+    let whole-party : to_z w64 (of_z w64 c.int_at.result) ≡ c.int_at.result = search rules in
+    rw (
+      whole-party,
+      ← c.in_ok-text_at.ensures (typed.cells 0 (omega arith)),
+      ← c.in_ok-text_at-2.ensures (typed.cells 1 (omega arith)),
+      ← c.in_ok-text_at-3.ensures (typed.cells 2 (omega arith)),
+      ← c.int_at.ensures (typed.cells 3 (omega arith)),
+    ) (whole c.args.row.now 5 typed.width)

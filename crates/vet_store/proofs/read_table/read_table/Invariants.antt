@@ -1,0 +1,20 @@
+use Rattle.std.proofs.Common.{◌≡◌, [], drop, List, map}
+use Rattle.sqlite.specs.Given.{HasGiven}
+use Rattle.sqlite.specs.Held.{state}
+use Rattle.sqlite.specs.State.{HasCleanDisk, IsUnchanged, Survives}
+use Rattle.sqlite_value.specs.Order.{Row as Cells}
+use Rattle.vet_store.proofs.Readings.{Rise}
+use Rattle.vet_store.proofs.read_table.read_table.Given as goal
+use Rattle.vet_store.specs.Cells.{cells_of}
+use Rattle.vet_store.specs.Forms.{form_of}
+use Rattle.vet_store.specs.Texts.{select_text}
+
+abbrev pub invariant-rows : goal.invariant-rows
+invariant-rows g l =
+    let old = state g.S.Store l.fn.conn in
+    let now = state g.S.Store l.found.conn.now in
+    (l.found.conn.ghost_name ≡ l.initial.found.conn.ghost_name) × Survives old now (λ _. ⊥)
+    × (HasCleanDisk now
+    → (given : List Cells) × HasGiven g.S.Store (select_text (form_of g.R.ReadRow.name)) [] l.found.conn.now given
+    × IsUnchanged old now
+    × (map (drop 1) given ≡ map (λ r. cells_of (g.R.TableRow.any r)) l.rows.items) × Rise l.last given)

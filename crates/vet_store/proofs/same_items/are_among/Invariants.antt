@@ -1,0 +1,13 @@
+-- What was seen are the items so far; and each of the others so far is one of them.
+use Rattle.std.proofs.Common.{◌≡◌, true, take}
+use Rattle.std.specs.HashSet.{contains}
+use Rattle.std.specs.List.{list_all, list_any}
+use Rattle.vet_store.proofs.same_items.are_among.Given as goal
+
+abbrev pub invariant-ys : goal.invariant-ys
+invariant-ys g l =
+    (x : g.row.T.Denot) → contains g.T.PartialEq.eq l.seen x
+    ≡ list_any (g.T.PartialEq.eq x) (take l.y-index l.ys)
+
+abbrev pub invariant-xs : goal.invariant-xs
+invariant-xs g l = list_all (λ x. list_any (g.T.PartialEq.eq x) l.ys) (take l.x-index l.xs) ≡ true

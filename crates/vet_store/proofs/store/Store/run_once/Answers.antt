@@ -1,0 +1,126 @@
+use Rattle.std.proofs.Common.{◌≡◌, ◌∙◌, IsTrue, Ok, Err, sym, ap, subst}
+use Rattle.sqlite.specs.Held.{state}
+use Rattle.sqlite.specs.State.{Survives}
+use Rattle.vet_register.specs.Machine.{next}
+use Rattle.vet_register.specs.RegisterView.{IsAnswer, IsPrepared, answer_of}
+use Rattle.vet_register.specs.declared.change.Prepared.{Prepared}
+use Rattle.vet_register.specs.State.{State}
+use Rattle.vet_register.proofs.Turns.{turn_already, turn_done, turn_refused}
+use Rattle.vet_register.specs.declared.command.Outcome.TheVariants.{Already}
+use Rattle.vet_rows.specs.RowsOf.{rows_of}
+use Rattle.vet_store.specs.Committed.{AreTreesOf}
+use Rattle.vet_store.specs.Runs.{IsTurn}
+use Rattle.vet_store.specs.StoreView.{StoreView}
+use Rattle.vet_store.specs.Tied.{IsTied}
+use Rattle.vet_store.proofs.Running.{turn_of}
+use Rattle.vet_store.proofs.Tying.{survives_written, tied_refused, tied_written}
+use Rattle.vet_store.proofs.store.Store.run_once.Goals as goal
+
+pub returns-in-Err-clause-turn : goal.returns-in-Err-clause-turn
+returns-in-Err-clause-turn g c =
+    let s = c.self.inside.register.state in
+    let command = c.args.command.now in
+    let turn = turn_of s c.prepare.new.self.state command (Err c.in-Err.refusal)
+    (turn_refused s c.prepare.new.self.state command c.in-Err.refusal c.in-Err.ensures.told c.prepare.ensures.state) in
+    subst (λ (v : StoreView _ _). IsTurn v.register.state command (Err c.in-Err.refusal) c.prepare.new.self.state)
+    c.self.view_is turn
+
+pub returns-in-Ok-Already-clause-turn : goal.returns-in-Ok-Already-clause-turn
+returns-in-Ok-Already-clause-turn g c =
+    let s = c.self.inside.register.state in
+    let command = c.args.command.now in
+    let number = c.in-Ok-Already.number in
+    let turn = turn_of s c.prepare.new.self.state command (Ok (Already number))
+    (turn_already s c.prepare.new.self.state command number
+    (c.in-Ok-Already.ensures.told ∙ ap (λ (p : Prepared _ _). Ok (answer_of p)) c.in-Ok-Already.field-0-is)
+    c.prepare.ensures.state) in
+    subst (λ (v : StoreView _ _). IsTurn v.register.state command (Ok (Already number)) c.prepare.new.self.state)
+    c.self.view_is turn
+
+pub invariant_of-self-in-Err-write_change : goal.invariant_of-self-in-Err-write_change
+invariant_of-self-in-Err-write_change g c =
+    let old = state g.S.Store c.self.inside.conn in
+    let tied = subst (λ (s : State). IsTied old c.self.inside.shut (rows_of s)) (sym c.prepare.ensures.state)
+    c.self.invariant in
+    let h = c.in-Err-write_change.ensures in
+    tied_refused old (state g.S.Store c.write_change.new.conn) c.self.inside.shut c.write_change.new.shut
+    (rows_of c.prepare.new.self.state) tied c.if-self.false h.autocommit h.kept h.was_open h.before
+
+pub returns-in-Err-write_change-clause-tables : goal.returns-in-Err-write_change-clause-tables
+returns-in-Err-write_change-clause-tables g c =
+    let old = state g.S.Store c.self.inside.conn in
+    let tied = subst (λ (s : State). IsTied old c.self.inside.shut (rows_of s)) (sym c.prepare.ensures.state)
+    c.self.invariant in
+    let h = c.in-Err-write_change.ensures in
+    tied_refused old (state g.S.Store c.write_change.new.conn) c.self.inside.shut c.write_change.new.shut
+    (rows_of c.prepare.new.self.state) tied c.if-self.false h.autocommit h.kept h.was_open h.before
+
+pub returns-in-Ok-clause-turn : goal.returns-in-Ok-clause-turn
+returns-in-Ok-clause-turn g c =
+    let command = c.args.command.now in
+    let s = c.prepare.new.self.state in
+    let prepared : IsPrepared g.K.Keeper.keeping c.prepare.new.self command c.in-Ok-Change.change =
+    subst (λ (p : Prepared _ _). IsAnswer g.K.Keeper.keeping c.prepare.new.self command p) c.in-Ok-Change.field-0-is
+    c.in-Ok-Change.ensures.prepared in
+    let turn = turn_of s c.install.new.self.state command (Ok c.outcome-outcome.result)
+    (turn_done s c.install.new.self.state command c.outcome-outcome.result prepared.step.accepts
+    (c.outcome-outcome.ensures ∙ prepared.step.outcome) (c.install.ensures command prepared)) in
+    let same : s ≡ c.args.self.now.register.state =
+    c.prepare.ensures.state ∙ ap (λ (v : StoreView _ _). v.register.state) c.self.view_is in
+    subst (λ (t : State). IsTurn t command (Ok c.outcome-outcome.result) c.install.new.self.state) same turn
+
+pub invariant_of-self-in-Ok : goal.invariant_of-self-in-Ok
+invariant_of-self-in-Ok g c =
+    let command = c.args.command.now in
+    let old = state g.S.Store c.self.inside.conn in
+    let new = state g.S.Store c.write_change.new.conn in
+    let s = c.prepare.new.self.state in
+    let tied = subst (λ (t : State). IsTied old c.self.inside.shut (rows_of t)) (sym c.prepare.ensures.state)
+    c.self.invariant in
+    let prepared : IsPrepared g.K.Keeper.keeping c.prepare.new.self command c.in-Ok-Change.change =
+    subst (λ (p : Prepared _ _). IsAnswer g.K.Keeper.keeping c.prepare.new.self command p) c.in-Ok-Change.field-0-is
+    c.in-Ok-Change.ensures.prepared in
+    let h = c.in-Ok.ensures in
+    let after = tied_written old new c.self.inside.shut c.write_change.new.shut (rows_of s) (rows_of (next s command)) _
+    tied c.if-self.false h.autocommit (h.written command prepared) h.opens (h.crash command prepared)
+    (λ trees serves leaves. g.met.S.Store.settled c.write_change.new.conn.store trees serves leaves) in
+    subst (λ (t : State). IsTied new c.write_change.new.shut (rows_of t)) (sym (c.install.ensures command prepared))
+    after
+
+pub returns-in-Ok-clause-tables : goal.returns-in-Ok-clause-tables
+returns-in-Ok-clause-tables g c =
+    let command = c.args.command.now in
+    let old = state g.S.Store c.self.inside.conn in
+    let new = state g.S.Store c.write_change.new.conn in
+    let s = c.prepare.new.self.state in
+    let tied = subst (λ (t : State). IsTied old c.self.inside.shut (rows_of t)) (sym c.prepare.ensures.state)
+    c.self.invariant in
+    let prepared : IsPrepared g.K.Keeper.keeping c.prepare.new.self command c.in-Ok-Change.change =
+    subst (λ (p : Prepared _ _). IsAnswer g.K.Keeper.keeping c.prepare.new.self command p) c.in-Ok-Change.field-0-is
+    c.in-Ok-Change.ensures.prepared in
+    let h = c.in-Ok.ensures in
+    let after = tied_written old new c.self.inside.shut c.write_change.new.shut (rows_of s) (rows_of (next s command)) _
+    tied c.if-self.false h.autocommit (h.written command prepared) h.opens (h.crash command prepared)
+    (λ trees serves leaves. g.met.S.Store.settled c.write_change.new.conn.store trees serves leaves) in
+    subst (λ (t : State). IsTied new c.write_change.new.shut (rows_of t)) (sym (c.install.ensures command prepared))
+    after
+
+pub returns-in-Ok-clause-crash : goal.returns-in-Ok-clause-crash
+returns-in-Ok-clause-crash g c =
+    let command = c.args.command.now in
+    let old = state g.S.Store c.self.inside.conn in
+    let new = state g.S.Store c.write_change.new.conn in
+    let s = c.prepare.new.self.state in
+    let tied = subst (λ (t : State). IsTied old c.self.inside.shut (rows_of t)) (sym c.prepare.ensures.state)
+    c.self.invariant in
+    let prepared : IsPrepared g.K.Keeper.keeping c.prepare.new.self command c.in-Ok-Change.change =
+    subst (λ (p : Prepared _ _). IsAnswer g.K.Keeper.keeping c.prepare.new.self command p) c.in-Ok-Change.field-0-is
+    c.in-Ok-Change.ensures.prepared in
+    let crash = λ (serves : IsTrue old.is_open). survives_written old new c.self.inside.shut (rows_of s)
+    (rows_of (next s command)) tied c.if-self.false serves (c.write_change.ensures.crash command prepared) in
+    let same : s ≡ c.args.self.now.register.state =
+    c.prepare.ensures.state ∙ ap (λ (v : StoreView _ _). v.register.state) c.self.view_is in
+    let conn : c.self.inside.conn ≡ c.args.self.now.conn = ap (λ (v : StoreView _ _). v.conn) c.self.view_is in
+    subst (λ h. IsTrue (state g.S.Store h).is_open → Survives (state g.S.Store h) new
+    (AreTreesOf (rows_of (next c.args.self.now.register.state command)))) conn
+    (subst (λ (t : State). IsTrue old.is_open → Survives old new (AreTreesOf (rows_of (next t command)))) same crash)

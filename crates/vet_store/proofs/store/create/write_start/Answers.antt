@@ -1,0 +1,21 @@
+use Rattle.std.proofs.Common.{◌≡◌, ◌∙◌, not, ap, subst}
+use Rattle.sqlite.specs.Held.{state}
+use Rattle.vet_rows.specs.RowChanges.{all_changed}
+use Rattle.vet_rows.specs.RowsOf.{rows_of}
+use Rattle.vet_store.specs.Committed.{no_rows}
+use Rattle.vet_store.specs.Stands.{Rests, Stands}
+use Rattle.vet_store.proofs.store.create.write_start.Goals as goal
+
+pub returns-in-Ok-clause-done : goal.returns-in-Ok-clause-done
+returns-in-Ok-clause-done g c clean =
+    let serves = c.in-Ok.ensures.opens clean in
+    let rests : Rests (state g.S.Store c.args.conn.now) = record {
+      is_open = serves;
+      autocommit = c.requires.autocommit;
+      settled = c.is_autocommit-rests.ensures.settled
+          (c.is_autocommit-rests.ensures.value ∙ ap not c.requires.autocommit) serves;
+    } in
+    let got = c.in-Ok.ensures.done clean rests c.requires.free in
+    let rows : all_changed c.as_slice.result.now no_rows ≡ rows_of c.args.register.now.state =
+    ap (λ items. all_changed items no_rows) c.as_slice.ensures.value ∙ c.in_ok-changes.ensures.ok in
+    (subst (λ r. Stands (state g.S.Store c.make_tables.new.conn) r) rows got.0, got.1)

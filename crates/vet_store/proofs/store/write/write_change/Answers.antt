@@ -1,0 +1,53 @@
+use Rattle.std.proofs.Common.{sym, subst}
+use Rattle.sqlite.specs.Held.{state}
+use Rattle.sqlite.proofs.StateLemmas.{survives_weaker}
+use Rattle.vet_register.specs.Machine.{next}
+use Rattle.vet_rows.specs.RowChanges.{all_changed}
+use Rattle.vet_rows.specs.RowsOf.{rows_of}
+use Rattle.vet_rows.specs.SameRows.{SameRows}
+use Rattle.vet_store.specs.Committed.{IsAfter}
+use Rattle.vet_store.specs.Tied.{IsWritten}
+use Rattle.vet_store.proofs.Tying.{stands_also, written_next}
+use Rattle.vet_store.proofs.store.write.write_change.Goals as goal
+
+pub returns-in-Ok-clause-written : goal.returns-in-Ok-clause-written
+returns-in-Ok-clause-written g c command prepared clean was =
+    let s = c.args.register.now.state in
+    let changes = c.as_slice.result.now in
+    let same = subst (λ items. SameRows (all_changed items (rows_of s)) (rows_of (next s command)))
+    (sym c.as_slice.ensures.value) (c.in_ok-changes.ensures.ok command prepared) in
+    stands_also (state g.S.Store c.commit_changes.new.conn) (all_changed changes (rows_of s)) (rows_of (next s command))
+    same
+    (c.in-Ok.ensures.done clean (rows_of s) was)
+
+pub returns-in-Ok-clause-crash : goal.returns-in-Ok-clause-crash
+returns-in-Ok-clause-crash g c command prepared =
+    let s = c.args.register.now.state in
+    let change = all_changed c.as_slice.result.now in
+    let old = state g.S.Store c.args.conn.now in
+    let same = subst (λ items. SameRows (all_changed items (rows_of s)) (rows_of (next s command)))
+    (sym c.as_slice.ensures.value) (c.in_ok-changes.ensures.ok command prepared) in
+    survives_weaker old (state g.S.Store c.commit_changes.new.conn) (IsAfter old change)
+    (IsWritten old (rows_of s) (rows_of (next s command)))
+    (λ clean trees h. written_next old change (rows_of s) (rows_of (next s command)) same trees h)
+    c.commit_changes.ensures.crash
+
+pub returns-in-Err-Before-clause-kept : goal.returns-in-Err-Before-clause-kept
+returns-in-Err-Before-clause-kept g c clean serves was =
+    c.in-Err-Before.ensures.kept clean serves (rows_of c.args.register.now.state) was
+
+pub returns-clause-kept : goal.returns-clause-kept
+returns-clause-kept g c clean serves was =
+    c.in-Err-Commit.ensures.kept clean serves (rows_of c.args.register.now.state) was
+
+pub returns-clause-crash : goal.returns-clause-crash
+returns-clause-crash g c command prepared =
+    let s = c.args.register.now.state in
+    let change = all_changed c.as_slice.result.now in
+    let old = state g.S.Store c.args.conn.now in
+    let same = subst (λ items. SameRows (all_changed items (rows_of s)) (rows_of (next s command)))
+    (sym c.as_slice.ensures.value) (c.in_ok-changes.ensures.ok command prepared) in
+    survives_weaker old (state g.S.Store c.commit_changes.new.conn) (IsAfter old change)
+    (IsWritten old (rows_of s) (rows_of (next s command)))
+    (λ clean trees h. written_next old change (rows_of s) (rows_of (next s command)) same trees h)
+    c.commit_changes.ensures.crash

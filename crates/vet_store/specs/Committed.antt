@@ -1,0 +1,39 @@
+-- What a transaction leaves (ours).
+use Rattle.std.specs.Prelude.{◌≡◌, [], ⊤}
+use Rattle.sqlite.specs.Effect.{Database}
+use Rattle.sqlite.specs.State.{State}
+use Rattle.sqlite_trees.specs.Tree.{Trees}
+use Rattle.vet_rows.specs.Rows.{RowsValue}
+use Rattle.vet_store.specs.Stands.{Holds, Stands}
+use Rattle.vet_store.specs.declared.change.Stop.{Stop}
+use Rattle.vet_store.specs.declared.change.Stop.TheVariants.{Before, Commit}
+
+-- it stopped before the commit, which a crash then shows nothing of
+abbrev pub IsBefore : Stop → Type 0
+IsBefore (Before e) = ⊤
+IsBefore (Commit e) = ⊥
+
+-- the trees of a database that has these rows
+abbrev pub AreTreesOf : RowsValue → Trees → Type 0
+AreTreesOf rows trees = (db : Database) × (trees ≡ db.trees) × Holds db rows
+
+-- the trees of a database that has the rows after the change
+abbrev pub IsAfter : State → (RowsValue → RowsValue) → Trees → Type 0
+IsAfter s change trees = (db : Database) × (trees ≡ db.trees)
+    × ((rows : RowsValue) → Stands s rows → Holds db (change rows))
+
+abbrev pub no_rows : RowsValue
+no_rows = record {
+  meta = [];
+  criteria = [];
+  entries = [];
+  publishers = [];
+  policies = [];
+  peers = [];
+  nodes = [];
+  edges = [];
+  standing = [];
+  moves = [];
+  members = [];
+  reviews = [];
+}

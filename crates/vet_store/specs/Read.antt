@@ -1,0 +1,21 @@
+-- What a read of a table answers (ours).
+use Rattle.std.specs.Prelude.{List}
+use Rattle.sqlite.specs.Effect.{Database}
+use Rattle.sqlite_value.specs.Order.{Row as Cells}
+use Rattle.vet_rows.specs.Rows.{RowsValue}
+use Rattle.vet_store.specs.Cells.{cells_in}
+use Rattle.vet_store.specs.Forms.{form_of}
+use Rattle.vet_store.specs.Has.{HasTable}
+use Rattle.vet_store.specs.Stands.{Shows}
+use Rattle.vet_store.specs.Typed.{AreReadable}
+use Rattle.vet_store.specs.declared.table_name.TableName.{TableName}
+
+-- the rows of the table show these cells
+abbrev pub AreRead : Database → TableName → List Cells → Type 0
+AreRead db name cells = (has : HasTable db.schema (form_of name)) → Shows (form_of name) (db.trees has.tree) cells
+
+-- no rows stand in the table
+abbrev pub IsUnread : Database → TableName → Type 0
+IsUnread db name =
+    (has : HasTable db.schema (form_of name)) (rows : RowsValue) → AreReadable rows
+    → Shows (form_of name) (db.trees has.tree) (cells_in name rows) → ⊥

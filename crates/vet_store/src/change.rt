@@ -1,0 +1,79 @@
+//! Changes of the tables, all in one transaction.
+ghost use Rattle.std.specs.Prelude.{◌≡◌, false, IfErr, IsTrue, OnErr, OnOk};
+ghost use Rattle.sqlite.specs.Held.{state};
+ghost use Rattle.sqlite.specs.State.{HasCleanDisk, Survives};
+ghost use Rattle.vet_rows.specs.RowChanges.{all_changed};
+ghost use Rattle.vet_store.specs.Committed.{IsAfter, IsBefore, no_rows};
+ghost use Rattle.vet_store.specs.Made.{AreFree, IsMade, SparesOthers};
+ghost use Rattle.vet_store.specs.Stands.{Rests, Stands};
+
+use crate::apply::{apply_all, fill};
+use sqlite::{Alter, Connection, Error};
+use vet_rows::row_change::RowChange;
+
+/// Where the changes stopped. At `Commit` a crash may leave either state.
+#[derive(Drop)]
+pub enum Stop {
+    Before(Error),
+    Commit(Error),
+}
+
+/// Makes the changes in one transaction, in their order.
+pub fn commit_changes<S: Alter>(conn: &mut Connection<S>, changes: &[RowChange]) -> Result<(), Stop>
+    requires { conn.old.in_transaction ≡ false }
+    ensures autocommit { conn.new.in_transaction ≡ false }
+    ensures done { HasCleanDisk (state S.Store conn.new) → OnOk result (
+        (rows : _) → Stands (state S.Store conn.old) rows
+        → Stands (state S.Store conn.new) (all_changed changes.now rows)) }
+    ensures kept { HasCleanDisk (state S.Store conn.new) → IsTrue (state S.Store conn.new).is_open → OnErr result (
+        (rows : _) → Stands (state S.Store conn.old) rows → Stands (state S.Store conn.new) rows) }
+    ensures opens { HasCleanDisk (state S.Store conn.new) → OnOk result (IsTrue (state S.Store conn.old).is_open) }
+    ensures was_open { HasCleanDisk (state S.Store conn.new) → IsTrue (state S.Store conn.new).is_open
+        → IsTrue (state S.Store conn.old).is_open }
+    ensures before { IfErr result (λ e. IsBefore e
+        → Survives (state S.Store conn.old) (state S.Store conn.new) (λ _. ⊥)) }
+    ensures crash { Survives (state S.Store conn.old) (state S.Store conn.new)
+        (IsAfter (state S.Store conn.old) (all_changed changes.now)) }
+{
+    let mut tx = conn.transaction();
+    if let Err(error) = apply_all(&mut tx, changes) {
+        tx.rollback();
+        return Err(Stop::Before(error));
+    }
+    match tx.commit() {
+        Ok(()) => Ok(()),
+        Err(error) => Err(Stop::Commit(error)),
+    }
+}
+
+/// Makes the twelve tables and then the changes, all in one transaction. Other tables stay as they are. It stops
+/// where a name of a table is taken.
+pub fn make_tables<S: Alter>(conn: &mut Connection<S>, changes: &[RowChange]) -> Result<(), Stop>
+    requires { conn.old.in_transaction ≡ false }
+    ensures autocommit { conn.new.in_transaction ≡ false }
+    ensures done { HasCleanDisk (state S.Store conn.new) → OnOk result (Rests (state S.Store conn.old)
+        → AreFree (state S.Store conn.old).now.schema
+        → Stands (state S.Store conn.new) (all_changed changes.now no_rows)
+        × SparesOthers (state S.Store conn.old).now (state S.Store conn.new).now) }
+    ensures opens { HasCleanDisk (state S.Store conn.new) → OnOk result (IsTrue (state S.Store conn.old).is_open) }
+    ensures kept { HasCleanDisk (state S.Store conn.new) → IsTrue (state S.Store conn.new).is_open → OnErr result (
+        Rests (state S.Store conn.old) → Rests (state S.Store conn.new)
+        × ((state S.Store conn.new).now ≡ (state S.Store conn.old).now)) }
+    ensures was_open { HasCleanDisk (state S.Store conn.new) → IsTrue (state S.Store conn.new).is_open
+        → IsTrue (state S.Store conn.old).is_open }
+    ensures before { IfErr result (λ e. IsBefore e
+        → Survives (state S.Store conn.old) (state S.Store conn.new) (λ _. ⊥)) }
+    ensures crash { Survives (state S.Store conn.old) (state S.Store conn.new)
+        (IsMade (state S.Store conn.old) (all_changed changes.now no_rows)) }
+{
+    let _live = conn.schema();
+    let mut tx = conn.transaction();
+    if let Err(error) = fill(&mut tx, changes) {
+        tx.rollback();
+        return Err(Stop::Before(error));
+    }
+    match tx.commit() {
+        Ok(()) => Ok(()),
+        Err(error) => Err(Stop::Commit(error)),
+    }
+}

@@ -1,0 +1,30 @@
+//! A register in the tables of a database.
+//!
+//! **After every list of commands the tables have the rows of the machine which keeps alone those that were done. A
+//! change of rows is one transaction: the tables have all of it or none of it.**
+//!
+//! Scope of this crate today: the twelve tables, their statements and transactions, what stands in them, and the store,
+//! which is made with the tables of a register that holds nothing, and runs commands.
+#![tactic(auto)]
+
+pub mod apply;
+mod cells;
+pub mod change;
+mod demand_rows;
+mod desk_rows;
+mod exact_rows;
+mod fact_rows;
+pub mod find;
+pub mod laws;
+mod lent;
+pub mod read;
+mod read_row;
+mod read_table;
+pub mod refused;
+mod same_items;
+mod same_rows;
+pub mod statements;
+pub mod store;
+pub mod table_name;
+pub mod table_row;
+pub mod texts;

@@ -1,0 +1,58 @@
+//! Reading a table, a row at a time.
+ghost use Rattle.std.specs.Prelude.{◌≡◌, ◌<ℤ◌, false, IfOk, IfSome, IsTrue, map, OnOk};
+ghost use Rattle.sqlite.specs.Held.{state};
+ghost use Rattle.sqlite.specs.State.{HasCleanDisk, IsUnchanged, Survives};
+ghost use Rattle.vet_store.specs.Cells.{cells_of};
+ghost use Rattle.vet_store.specs.Has.{HasTables};
+ghost use Rattle.vet_store.specs.Read.{AreRead, IsUnread};
+
+use crate::cells::{are_typed, int_at, kinds};
+use crate::read_row::ReadRow;
+use crate::texts::select_text;
+use sqlite::{Alter, Connection, Error, ErrorCode};
+use std::alloc::Global;
+
+fn rises(last: Option<i64>, id: i64) -> bool
+    ensures { IsTrue result → IfSome last (λ m. m <ℤ id) }
+{
+    match last {
+        None => true,
+        Some(last) => last < id,
+    }
+}
+
+/// The rows of a table. None where a cell isn't of the type of its column.
+pub fn read_table<R: ReadRow + Drop, S: Alter>(
+    alloc: Global,
+    conn: &mut Connection<S>,
+) -> Result<Option<Vec<R>>, Error>
+    requires { HasCleanDisk (state S.Store conn.old) → HasTables (state S.Store conn.old).now.schema }
+    ensures found { HasCleanDisk (state S.Store conn.new) → IfOk result (λ found. IfSome found (λ rows.
+        AreRead (state S.Store conn.old).now R.ReadRow.name (map (λ r. cells_of (R.TableRow.any r)) rows.items))) }
+    ensures none { HasCleanDisk (state S.Store conn.new) → result ≡ Ok None
+        → IsUnread (state S.Store conn.old).now R.ReadRow.name }
+    ensures same { HasCleanDisk (state S.Store conn.new) → OnOk result (
+        IsUnchanged (state S.Store conn.old) (state S.Store conn.new)) }
+    ensures survives { Survives (state S.Store conn.old) (state S.Store conn.new) (λ _. ⊥) }
+{
+    let _live = conn.schema();
+    let table = R::table();
+    let mut rows = Vec::new(alloc);
+    let mut last = None;
+    let mut found = conn.query(select_text(table), &[])?;
+    'rows: for _ in 0..u64::MAX {
+        let Some(row) = found.next()? else {
+            return Ok(Some(rows));
+        };
+        if !are_typed(&row, kinds(table)) {
+            return Ok(None);
+        }
+        let id = int_at(&row, 0);
+        if !rises(last, id) {
+            return Err(Error::SqliteFailure(ErrorCode::DatabaseCorrupt));
+        }
+        last = Some(id);
+        rows.push(R::read(alloc, &row)?)?;
+    }
+    Err(Error::SqliteFailure(ErrorCode::OutOfMemory))
+}

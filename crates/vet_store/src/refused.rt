@@ -1,0 +1,31 @@
+//! What the database refuses, as a refusal; and a refusal that gives the connection back.
+ghost use Rattle.std.specs.Prelude.{◌≡◌, ◌⊎◌};
+ghost use Rattle.vet_store.specs.Runs.{IsOfStore};
+
+use sqlite::{Alter, Connection, Error, ErrorCode};
+use vet_base::refusal::Refusal;
+
+/// Why no store was made, and the connection that was handed in.
+pub struct Refused<S: Alter> {
+    pub refusal: Refusal,
+    pub conn: Connection<S>,
+}
+
+impl<S: Alter + Drop> Drop for Refused<S> {
+    fn drop(self) {
+        let Refused {
+            refusal: _,
+            conn: _,
+        } = self;
+    }
+}
+
+/// What an error of the database is told as: `NoMemory` where memory was wanting, else `StoreRefused`.
+pub(crate) fn refusal_of(error: Error) -> Refusal
+    ensures { IsOfStore result }
+{
+    match error {
+        Error::SqliteFailure(ErrorCode::OutOfMemory) => Refusal::NoMemory,
+        _ => Refusal::StoreRefused,
+    }
+}

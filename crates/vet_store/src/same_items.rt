@@ -1,0 +1,43 @@
+//! Lists of the same items, in whatever order.
+ghost use Rattle.std.specs.Bool.{Decides};
+ghost use Rattle.std.specs.List.{list_all, list_any};
+ghost use Rattle.std.specs.Prelude.{◌≡◌, IfOk};
+ghost use Rattle.vet_base.specs.Items.{SameItems};
+
+use crate::lent::Lent;
+use std::alloc::{AllocError, Global};
+use std::collections::HashSet;
+use std::hash::Hash;
+
+/// Values of which only one itself is equal to it.
+pub(crate) trait Exactly: Eq + Hash {
+    /// Only the value itself is equal to it.
+    ghost only_itself: { (a b : Self) → Decides (Self.eq a b) (a ≡ b) };
+}
+
+/// Whether two lists have the same items. Costs two look-ups by a hash of each item, and copies none.
+pub(crate) fn have_same_items<T: Exactly>(
+    alloc: Global,
+    xs: &[T],
+    ys: &[T],
+) -> Result<bool, AllocError>
+    ensures { IfOk result (λ same. Decides same (SameItems xs.now ys.now)) }
+{
+    Ok(are_among(alloc, xs, ys)? && are_among(alloc, ys, xs)?)
+}
+
+// Whether each of some items equals one of the others.
+fn are_among<T: Exactly>(alloc: Global, xs: &[T], ys: &[T]) -> Result<bool, AllocError>
+    ensures { IfOk result (λ all. all ≡ list_all (λ x. list_any (T.eq x) ys.now) xs.now) }
+{
+    let mut seen = HashSet::new(alloc);
+    'ys: for y in ys {
+        let _ = seen.insert(Lent::of(y))?;
+    }
+    'xs: for x in xs {
+        if !seen.contains(&Lent::of(x)) {
+            return Ok(false);
+        }
+    }
+    Ok(true)
+}

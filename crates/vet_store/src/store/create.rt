@@ -1,0 +1,140 @@
+//! A store is made in a database that has no register yet.
+ghost use Rattle.std.specs.Prelude.{◌≡◌, ◌<◌, ◌≤◌, ◌⊎◌, false, IfErr, IfOk, IsErrAnd, IsTrue};
+ghost use Rattle.std.specs.Prelude.{MatchResult, OnErr, OnOk, ℕ, ◌∷◌, []};
+ghost use Rattle.sqlite.specs.Held.{state};
+ghost use Rattle.sqlite.specs.State.{HasCleanDisk, Survives};
+ghost use Rattle.vet_register.specs.State.{start};
+ghost use Rattle.vet_rows.specs.RowChanges.{all_changed};
+ghost use Rattle.vet_rows.specs.RowsOf.{rows_of};
+ghost use Rattle.vet_rows.specs.declared.row.MetaRow.{MetaRow as MetaValue};
+ghost use Rattle.vet_store.specs.Committed.{no_rows};
+ghost use Rattle.vet_store.specs.Made.{AreFree, IsMade, SparesOthers};
+ghost use Rattle.vet_store.specs.Runs.{IsOfStore};
+ghost use Rattle.vet_store.specs.Stands.{Rests, Stands};
+ghost use Rattle.vet_store.specs.Tied.{IsTied};
+
+use super::Store;
+use crate::change::{Stop, make_tables};
+use crate::find::has_name_taken;
+use crate::refused::{Refused, refusal_of};
+use sqlite::{Alter, Connection};
+use std::alloc::Global;
+use vet_base::limits::MOST_MOVES;
+use vet_base::refusal::Refusal;
+use vet_demand::laws::nothing_is_demanded;
+use vet_graph::keeper::Keeper;
+use vet_register::register::Register;
+use vet_rows::row::MetaRow;
+use vet_rows::row_change::{Row, RowChange};
+use vet_rows::rows::Rows;
+use vet_rows::rows_of::rows_of;
+
+impl<S: Alter + Drop, K: Keeper> Store<S, K> {
+    /// Makes the tables of a register that holds nothing, in a database where none of their names is taken, whatever
+    /// else it has. Asks for a connection outside a transaction, and a limit of 1 to 1,000,000 moves. A refusal gives
+    /// the connection back, and the database is as it was. Refused: `NoMemory`, `StoreRefused`, or `NotARegister` where a
+    /// table, an index or a view has the name of a table of a register.
+    pub fn create(
+        alloc: Global,
+        conn: Connection<S>,
+        moves_limit: usize,
+    ) -> Result<Store<S, K>, Refused<S>>
+        requires limit { (0 < moves_limit) × (moves_limit ≤ MOST_MOVES) }
+        requires autocommit { conn.in_transaction ≡ false }
+        ensures start { IfOk result (λ s. s.register.state ≡ start moves_limit) }
+        ensures tables { IfOk result (λ s. (s.shut ≡ false)
+            × IsTied (state S.Store s.conn) s.shut (rows_of s.register.state)) }
+        ensures others { IfOk result (λ s. HasCleanDisk (state S.Store s.conn)
+            → SparesOthers (state S.Store conn).now (state S.Store s.conn).now) }
+        ensures taken { (AreFree (state S.Store conn).now.schema → ⊥)
+            → IsErrAnd result (λ e. (e.refusal ≡ Refusal.NotARegister) × (e.conn ≡ conn)) }
+        ensures refused { AreFree (state S.Store conn).now.schema → IfErr result (λ e. IsOfStore e.refusal) }
+        ensures autocommit { IfErr result (λ e. e.conn.in_transaction ≡ false) }
+        ensures as_before { IfErr result (λ e. HasCleanDisk (state S.Store e.conn)
+            → IsTrue (state S.Store e.conn).is_open
+            → Rests (state S.Store e.conn) × ((state S.Store e.conn).now ≡ (state S.Store conn).now)) }
+        ensures crash { MatchResult result
+            (λ s. Survives (state S.Store conn) (state S.Store s.conn)
+            (IsMade (state S.Store conn) (rows_of (start moves_limit))))
+            (λ e. Survives (state S.Store conn) (state S.Store e.conn)
+            (IsMade (state S.Store conn) (rows_of (start moves_limit)))) }
+    {
+        let _rests = conn.is_autocommit();
+        if has_name_taken(conn.schema()) {
+            let refusal = Refusal::NotARegister;
+            return Err(Refused { refusal, conn });
+        }
+        let register = match Register::new(alloc, moves_limit) {
+            Ok(register) => register,
+            Err(refusal) => return Err(Refused { refusal, conn }),
+        };
+        let mut conn = conn;
+        match write_start(alloc, &mut conn, &register) {
+            Ok(()) => Ok(Store {
+                conn,
+                register,
+                shut: false,
+            }),
+            Err(refusal) => Err(Refused { refusal, conn }),
+        }
+    }
+}
+
+// Makes the tables, and writes the rows of a register that holds nothing.
+fn write_start<S: Alter, K: Keeper>(
+    alloc: Global,
+    conn: &mut Connection<S>,
+    register: &Register<K>,
+) -> Result<(), Refusal>
+    requires start { (limit : ℕ) × (register.now.state ≡ start limit) }
+    requires autocommit { conn.old.in_transaction ≡ false }
+    requires free { AreFree (state S.Store conn.old).now.schema }
+    ensures autocommit { conn.new.in_transaction ≡ false }
+    ensures done { HasCleanDisk (state S.Store conn.new) → OnOk result (
+        Stands (state S.Store conn.new) (rows_of register.now.state)
+        × SparesOthers (state S.Store conn.old).now (state S.Store conn.new).now) }
+    ensures kept { HasCleanDisk (state S.Store conn.new) → IsTrue (state S.Store conn.new).is_open
+        → OnErr result (Rests (state S.Store conn.new)
+        × ((state S.Store conn.new).now ≡ (state S.Store conn.old).now)) }
+    ensures refused { IfErr result IsOfStore }
+    ensures crash { Survives (state S.Store conn.old) (state S.Store conn.new)
+        (IsMade (state S.Store conn.old) (rows_of register.now.state)) }
+{
+    let _rests = conn.is_autocommit();
+    let changes = start_changes(alloc, register)?;
+    match make_tables(conn, changes.as_slice()) {
+        Ok(()) => Ok(()),
+        Err(Stop::Before(error)) => Err(refusal_of(error)),
+        Err(Stop::Commit(error)) => Err(refusal_of(error)),
+    }
+}
+
+// What makes the rows of a register that holds nothing of empty tables: its one row.
+fn start_changes<K: Keeper>(
+    alloc: Global,
+    register: &Register<K>,
+) -> Result<Vec<RowChange>, Refusal>
+    requires { (limit : ℕ) × (register.now.state ≡ start limit) }
+    ensures ok { IfOk result (λ changes. all_changed changes.items no_rows ≡ rows_of register.now.state) }
+    ensures memory { IfErr result (λ e. e ≡ Refusal.NoMemory) }
+{
+    nothing_is_demanded();
+    let rows = rows_of(alloc, register)?;
+    let meta = only_row(rows)?;
+    let mut changes = Vec::new(alloc);
+    changes.push(RowChange::Put(Row::Meta(meta)))?;
+    Ok(changes)
+}
+
+// The one row of `meta`.
+fn only_row(rows: Rows) -> Result<MetaRow, Refusal>
+    requires { (row : MetaValue) × (rows.meta ≡ row ∷ []) }
+    ensures ok { IfOk result (λ row. rows.meta ≡ row ∷ []) }
+    ensures memory { IfErr result (λ e. e ≡ Refusal.NoMemory) }
+{
+    let mut rows = rows;
+    match rows.meta.pop() {
+        Some(row) => Ok(row),
+        None => Err(Refusal::NoMemory),
+    }
+}

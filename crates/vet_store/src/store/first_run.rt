@@ -1,0 +1,60 @@
+//! A store is made, and the first commands are run on it.
+//!
+//! **They leave what the machine makes of them from its beginning.**
+ghost use Rattle.std.specs.Prelude.{◌≡◌, ◌<◌, ◌≤◌, IfOk, false};
+ghost use Rattle.vet_register.specs.State.{start};
+ghost use Rattle.vet_store.specs.Runs.{IsOfDone, Ran};
+
+use super::Store;
+use crate::refused::Refused;
+use sqlite::{Alter, Connection};
+use std::alloc::Global;
+use vet_base::limits::MOST_MOVES;
+use vet_base::refusal::Refusal;
+use vet_graph::keeper::Keeper;
+use vet_register::command::{Command, Outcome};
+
+/// A store that was made, and what the first commands were told.
+pub struct FirstRun<S: Alter, K: Keeper> {
+    pub store: Store<S, K>,
+    pub answers: Vec<Result<Outcome, Refusal>>,
+}
+
+impl<S: Alter + Drop, K: Keeper> Drop for FirstRun<S, K> {
+    fn drop(self) {
+        let FirstRun {
+            store: _,
+            answers: _,
+        } = self;
+    }
+}
+
+impl<S: Alter + Drop, K: Keeper> Store<S, K> {
+    /// Makes a store and runs commands on it. Asks for what `create` asks. Refused: what `create` refuses, and
+    /// `NoMemory` with nothing run.
+    pub fn create_and_run(
+        alloc: Global,
+        conn: Connection<S>,
+        moves_limit: usize,
+        commands: &[Command],
+    ) -> Result<FirstRun<S, K>, Refused<S>>
+        requires limit { (0 < moves_limit) × (moves_limit ≤ MOST_MOVES) }
+        requires autocommit { conn.in_transaction ≡ false }
+        ensures ran { IfOk result (λ r.
+            Ran (start moves_limit) commands.now r.answers.items r.store.register.state) }
+        ensures kept { IfOk result (λ r.
+            IsOfDone (start moves_limit) commands.now r.answers.items r.store.register.state) }
+    {
+        let mut store = match Store::create(alloc, conn, moves_limit) {
+            Ok(store) => store,
+            Err(refused) => return Err(refused),
+        };
+        match store.run_all(alloc, commands) {
+            Ok(answers) => Ok(FirstRun { store, answers }),
+            Err(refusal) => Err(Refused {
+                refusal,
+                conn: store.close(),
+            }),
+        }
+    }
+}

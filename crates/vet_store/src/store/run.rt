@@ -1,0 +1,96 @@
+//! A command is run: it is judged, its rows are written in one transaction, and then it is installed.
+//!
+//! **The register is installed only once the rows are committed. A commit that fails shuts the store: then nobody can
+//! tell whether the rows of the last command stand.**
+ghost use Rattle.std.specs.Prelude.{◌≡◌, ◌⊎◌, true, false, OnErr, IsTrue};
+ghost use Rattle.sqlite.specs.Held.{state};
+ghost use Rattle.sqlite.specs.State.{HasCleanDisk, Survives};
+ghost use Rattle.vet_register.specs.Machine.{next};
+ghost use Rattle.vet_rows.specs.RowsOf.{rows_of};
+ghost use Rattle.vet_store.specs.Repeats.{IsReadable, RepeatsStay};
+ghost use Rattle.vet_store.specs.Runs.{Fails, IsTurn};
+ghost use Rattle.vet_store.specs.Committed.{AreTreesOf};
+ghost use Rattle.vet_store.specs.Tied.{IsTied};
+
+use super::Store;
+use super::write::write_change;
+use sqlite::Alter;
+use std::alloc::Global;
+use vet_base::refusal::Refusal;
+use vet_graph::keeper::Keeper;
+use vet_register::change::{Change, Prepared};
+use vet_register::command::{Action, Command, Outcome};
+
+impl<S: Alter, K: Keeper> Store<S, K> {
+    /// Runs a command. After a refusal the register and the tables are as before. Refused: what `Register::prepare`
+    /// refuses, or `NoMemory` or `StoreRefused` by the store. If these come of the commit, the store is shut. A shut
+    /// store answers `StoreRefused` and touches nothing.
+    pub fn run(&mut self, alloc: Global, command: &Command) -> Result<Outcome, Refusal>
+        ensures turn { IsTurn self.old.register.state command.now result self.new.register.state }
+        ensures repeats { RepeatsStay self.old.register.state command.now result self.new.register.state }
+        ensures tables { IsTied (state S.Store self.new.conn) self.new.shut (rows_of self.new.register.state) }
+        ensures closed { IsTrue self.old.shut → (result ≡ Err Refusal.StoreRefused) × (self.new ≡ self.old) }
+        ensures shuts { self.old.shut ≡ false → IsTrue self.new.shut → Fails result }
+        ensures before { OnErr result (self.new.shut ≡ false
+            → Survives (state S.Store self.old.conn) (state S.Store self.new.conn) (λ _. ⊥)) }
+        ensures crash { IsTrue (state S.Store self.old.conn).is_open
+            → Survives (state S.Store self.old.conn) (state S.Store self.new.conn)
+            (AreTreesOf (rows_of (next self.old.register.state command.now))) }
+    {
+        command_is_readable(command);
+        let _sound = self.register().facts();
+        self.run_once(alloc, command)
+    }
+
+    // The same, but for commands whose content is held.
+    fn run_once(&mut self, alloc: Global, command: &Command) -> Result<Outcome, Refusal>
+        ensures turn { IsTurn self.old.register.state command.now result self.new.register.state }
+        ensures tables { IsTied (state S.Store self.new.conn) self.new.shut (rows_of self.new.register.state) }
+        ensures closed { IsTrue self.old.shut → (result ≡ Err Refusal.StoreRefused) × (self.new ≡ self.old) }
+        ensures shuts { self.old.shut ≡ false → IsTrue self.new.shut → Fails result }
+        ensures before { OnErr result (self.new.shut ≡ false
+            → Survives (state S.Store self.old.conn) (state S.Store self.new.conn) (λ _. ⊥)) }
+        ensures crash { IsTrue (state S.Store self.old.conn).is_open
+            → Survives (state S.Store self.old.conn) (state S.Store self.new.conn)
+            (AreTreesOf (rows_of (next self.old.register.state command.now))) }
+    {
+        if self.shut {
+            return Err(Refusal::StoreRefused);
+        }
+        match self.register.prepare(alloc, command) {
+            Err(refusal) => Err(refusal),
+            Ok(Prepared::Already(number)) => Ok(Outcome::Already(number)),
+            Ok(Prepared::Change(change)) => {
+                let conn = &mut self.conn;
+                let shut = &mut self.shut;
+                match write_change(alloc, conn, shut, &self.register, &change) {
+                    Err(refusal) => {
+                        let_go(change);
+                        Err(refusal)
+                    }
+                    Ok(()) => {
+                        let outcome = change.outcome();
+                        self.register.install(change);
+                        Ok(outcome)
+                    }
+                }
+            }
+        }
+    }
+}
+
+// Lets a change go that was not written.
+fn let_go<K: Keeper>(_change: Change<K>) {}
+
+// What a command imports, or puts in place, is what files can hold. Does nothing.
+fn command_is_readable(command: &Command)
+    ensures { IsReadable command.now.action }
+{
+    match &command.action {
+        Action::ImportPeer(_, content) => {
+            let _ = content.criteria();
+        }
+        Action::ReplaceFiles(files) => files.is_of_files(),
+        _ => {}
+    }
+}

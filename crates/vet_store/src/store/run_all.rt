@@ -1,0 +1,89 @@
+//! Commands are run one after the other: **the headline over commands**.
+//!
+//! **Whatever commands are run, the register is that of the machine which keeps alone the commands that were done, and
+//! each was told the same there. Each demanded pair stands in just the class that chains of entries give it, the five
+//! classes add up to the demand, and each has what it had at first, with what came and without what went. An import or
+//! files whose content is held in their turn change nothing. The tables have the register's rows.**
+//!
+//! The tables alone rest on a premise: the disk returned what was written, and the connection serves. They are told of
+//! while the store is not shut.
+ghost use Rattle.std.specs.Prelude.{◌≡◌, IfOk, IfErr, OnErr, length};
+ghost use Rattle.sqlite.specs.Held.{state};
+ghost use Rattle.vet_register.specs.Sound.{IsBalanced};
+ghost use Rattle.vet_rows.specs.RowsOf.{rows_of};
+ghost use Rattle.vet_store.specs.Classes.{AddsUp, HasClassesOfChains};
+ghost use Rattle.vet_store.specs.Repeats.{IsTurnWithRepeats};
+ghost use Rattle.vet_store.specs.Runs.{Each, IsOfDone, Ran};
+ghost use Rattle.vet_store.specs.Tied.{IsTied};
+
+use super::Store;
+use sqlite::Alter;
+use std::alloc::Global;
+use vet_base::refusal::Refusal;
+use vet_demand::laws::demand_is_least;
+use vet_graph::keeper::Keeper;
+use vet_graph::laws::each_pair_has_its_class;
+use vet_register::command::{Command, Outcome};
+use vet_register::register::Register;
+
+impl<S: Alter, K: Keeper> Store<S, K> {
+    /// Runs commands one after the other, whatever becomes of each, and answers what each was told in the state of its
+    /// turn, or that it met a want of memory or the store refused it. Room for the answers is taken first. Refused,
+    /// with nothing run: `NoMemory`.
+    pub fn run_all(
+        &mut self,
+        alloc: Global,
+        commands: &[Command],
+    ) -> Result<Vec<Result<Outcome, Refusal>>, Refusal>
+        ensures ran { IfOk result (λ answers.
+            Ran self.old.register.state commands.now answers.items self.new.register.state) }
+        ensures answered { IfOk result (λ answers. length answers.items ≡ length commands.now) }
+        ensures kept { IfOk result (λ answers.
+            IsOfDone self.old.register.state commands.now answers.items self.new.register.state) }
+        ensures classes { HasClassesOfChains self.new.register.state }
+        ensures adds_up { AddsUp self.new.register.state }
+        ensures balance { IsBalanced self.new.register.state }
+        ensures repeats { IfOk result (λ answers.
+            Each IsTurnWithRepeats self.old.register.state commands.now answers.items self.new.register.state) }
+        ensures tables { IsTied (state S.Store self.new.conn) self.new.shut (rows_of self.new.register.state) }
+        ensures memory { IfErr result (λ e. e ≡ Refusal.NoMemory) }
+        ensures err { OnErr result (self.new ≡ self.old) }
+    {
+        let answers = self.run_each(alloc, commands);
+        self.tables_are_of_register();
+        classes_are_of_chains(self.register());
+        answers
+    }
+
+    // The same, told turn by turn.
+    fn run_each(
+        &mut self,
+        alloc: Global,
+        commands: &[Command],
+    ) -> Result<Vec<Result<Outcome, Refusal>>, Refusal>
+        ensures turns { IfOk result (λ answers.
+            Each IsTurnWithRepeats self.old.register.state commands.now answers.items self.new.register.state) }
+        ensures memory { IfErr result (λ e. e ≡ Refusal.NoMemory) }
+        ensures err { OnErr result (self.new ≡ self.old) }
+    {
+        let mut answers = Vec::new(alloc);
+        answers.reserve(commands.len())?;
+        for command in commands {
+            let answer = self.run(alloc, command);
+            answers.push_reserved(answer);
+        }
+        Ok(answers)
+    }
+}
+
+/// The classes of a register are those that chains of entries give the least demand, they add up to it, and they are
+/// balanced with the moves. Does nothing.
+fn classes_are_of_chains<K: Keeper>(register: &Register<K>)
+    ensures classes { HasClassesOfChains register.now.state }
+    ensures adds_up { AddsUp register.now.state }
+    ensures balance { IsBalanced register.now.state }
+{
+    each_pair_has_its_class();
+    demand_is_least();
+    let _ = register.counts();
+}
