@@ -5,6 +5,7 @@ pub mod Creates
 pub mod Edits
 pub mod Effects
 pub mod Extends
+pub mod FormColumns
 pub mod KeyTests
 pub mod Keyed
 pub mod Makes
