@@ -43,4 +43,5 @@ pub mod Sourcing
 pub mod StandingExchanges
 pub mod StateRead
 pub mod TableChanges
+pub mod TablesHeld
 pub mod TextsAfter

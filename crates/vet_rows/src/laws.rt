@@ -1,13 +1,18 @@
 //! Laws of rows. What these functions ensure are facts.
-ghost use Rattle.std.specs.Prelude.{OnOk};
-ghost use Rattle.vet_rows.specs.HeldState.{AreOfOneState};
+ghost use Rattle.std.specs.Prelude.{◌≡◌, IfErr, OnOk};
+ghost use Rattle.vet_rows.specs.HeldState.{AreOfOneState, SameButStanding};
 ghost use Rattle.vet_rows.specs.PackedLaws.{PackedOnce, ValuesAreReadBack};
+ghost use Rattle.vet_rows.specs.RowsOf.{rows_of};
 
+use crate::held_register::register_is_held;
 use crate::packed_item::PackedItem;
 use crate::rows::Rows;
+use crate::rows_of::rows_of;
 use crate::state_of::state_of;
 use std::alloc::Global;
 use vet_base::refusal::Refusal;
+use vet_graph::keeper::Keeper;
+use vet_register::register::Register;
 
 /// Two lists of values that a column keeps as the same bytes are the same list. Does nothing.
 pub fn packed_lists_are_read_back()
@@ -24,6 +29,28 @@ pub fn rows_are_of_one_state(alloc: Global, rows: &Rows) -> Result<(), Refusal>
     ensures { OnOk result (AreOfOneState rows.now) }
 {
     match state_of(alloc, rows) {
+        Ok(_) => Ok(()),
+        Err(refusal) => Err(refusal),
+    }
+}
+
+/// Registers whose states differ have different rows, those of `standing` aside, as far as there is memory to read them
+/// again. Refused: `NoMemory`.
+pub fn registers_differ_in_rows<K: Keeper, L: Keeper>(
+    alloc: Global,
+    register: &Register<K>,
+    other: &Register<L>,
+) -> Result<(), Refusal>
+    ensures differ { OnOk result (SameButStanding (rows_of register.now.state) (rows_of other.now.state)
+        → register.now.state ≡ other.now.state) }
+    ensures memory { IfErr result (λ e. e ≡ Refusal.NoMemory) }
+{
+    register_is_held(register);
+    register_is_held(other);
+    let _ = register.facts();
+    let _ = other.facts();
+    let rows = rows_of(alloc, register)?;
+    match state_of(alloc, &rows) {
         Ok(_) => Ok(()),
         Err(refusal) => Err(refusal),
     }

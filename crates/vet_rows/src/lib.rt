@@ -5,11 +5,13 @@
 //! packed list is read as the items that were written, and nothing else reads as one.**
 //!
 //! Scope of this crate today: the rows of the twelve tables, what changes of a row each make of them, the rows of a
-//! state, the changes of rows that a prepared change of the register makes, and the state of rows; packed lists, in
-//! which a column keeps many values, and sets of names and texts as such lists.
+//! state, the changes of rows that a prepared change of the register makes, and the state of rows; that a register's
+//! state can be held in rows; packed lists, in which a column keeps many values, and sets of names and texts as such
+//! lists.
 #![tactic(auto)]
 
 pub mod column;
+pub mod held_register;
 pub mod laws;
 pub mod packed;
 pub mod packed_item;
