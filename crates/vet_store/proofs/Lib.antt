@@ -15,6 +15,7 @@ pub mod Numbers
 pub mod ReadRows
 pub mod Readings
 pub mod RepeatLaws
+pub mod Resting
 pub mod RowSets
 pub mod Running
 pub mod Selects

@@ -1,10 +1,10 @@
 //! What stands in the tables.
-ghost use Rattle.std.specs.Prelude.{◌≡◌, ◌⊎◌, IfOk, IfSome, map, OnOk};
+ghost use Rattle.std.specs.Prelude.{◌≡◌, ◌⊎◌, false, IfOk, IfSome, map, OnOk};
 ghost use Rattle.sqlite.specs.Held.{state};
 ghost use Rattle.sqlite.specs.State.{HasCleanDisk, IsUnchanged, Survives};
 ghost use Rattle.vet_store.specs.Cells.{cells_of};
 ghost use Rattle.vet_store.specs.Has.{HasTables};
-ghost use Rattle.vet_store.specs.Read.{AreRead, IsUnread};
+ghost use Rattle.vet_store.specs.Read.{AreRead, IsUnread, KeepsRest};
 ghost use Rattle.vet_store.specs.Stands.{Holds};
 ghost use Rattle.vet_store.specs.Typed.{AreReadable};
 
@@ -33,6 +33,9 @@ fn read_three<A: ReadRow + Drop, B: ReadRow + Drop, C: ReadRow + Drop, S: Alter>
         ⊎ IsUnread (state S.Store conn.old).now C.ReadRow.name) }
     ensures same { HasCleanDisk (state S.Store conn.new) → OnOk result (
         IsUnchanged (state S.Store conn.old) (state S.Store conn.new)) }
+    ensures kept { HasCleanDisk (state S.Store conn.new)
+        → KeepsRest (state S.Store conn.old) (state S.Store conn.new) }
+    ensures mode { conn.old.in_transaction ≡ false → conn.new.in_transaction ≡ false }
     ensures survives { Survives (state S.Store conn.old) (state S.Store conn.new) (λ _. ⊥) }
 {
     let Some(first) = read_table::<A, S>(alloc, conn)? else {
@@ -56,6 +59,9 @@ pub fn read_rows<S: Alter>(alloc: Global, conn: &mut Connection<S>) -> Result<Op
         → (rows : _) → AreReadable rows → Holds (state S.Store conn.old).now rows → ⊥ }
     ensures same { HasCleanDisk (state S.Store conn.new) → OnOk result (
         IsUnchanged (state S.Store conn.old) (state S.Store conn.new)) }
+    ensures kept { HasCleanDisk (state S.Store conn.new)
+        → KeepsRest (state S.Store conn.old) (state S.Store conn.new) }
+    ensures mode { conn.old.in_transaction ≡ false → conn.new.in_transaction ≡ false }
     ensures survives { Survives (state S.Store conn.old) (state S.Store conn.new) (λ _. ⊥) }
 {
     let _live = conn.schema();

@@ -4,7 +4,7 @@ ghost use Rattle.sqlite.specs.Held.{state};
 ghost use Rattle.sqlite.specs.State.{HasCleanDisk, IsUnchanged, Survives};
 ghost use Rattle.vet_store.specs.Cells.{cells_of};
 ghost use Rattle.vet_store.specs.Has.{HasTables};
-ghost use Rattle.vet_store.specs.Read.{AreRead, IsUnread};
+ghost use Rattle.vet_store.specs.Read.{AreRead, IsUnread, KeepsRest};
 
 use crate::cells::{are_typed, int_at, kinds};
 use crate::read_row::ReadRow;
@@ -33,6 +33,9 @@ pub fn read_table<R: ReadRow + Drop, S: Alter>(
         → IsUnread (state S.Store conn.old).now R.ReadRow.name }
     ensures same { HasCleanDisk (state S.Store conn.new) → OnOk result (
         IsUnchanged (state S.Store conn.old) (state S.Store conn.new)) }
+    ensures kept { HasCleanDisk (state S.Store conn.new)
+        → KeepsRest (state S.Store conn.old) (state S.Store conn.new) }
+    ensures mode { conn.old.in_transaction ≡ false → conn.new.in_transaction ≡ false }
     ensures survives { Survives (state S.Store conn.old) (state S.Store conn.new) (λ _. ⊥) }
 {
     let _live = conn.schema();

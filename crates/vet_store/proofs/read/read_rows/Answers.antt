@@ -2,6 +2,7 @@ use Rattle.std.proofs.Common.{Ok, ap, arith, subst, ◌⊎◌, ◌∙◌}
 use Rattle.sqlite.specs.Held.{state}
 use Rattle.sqlite.specs.State.{HasCleanDisk}
 use Rattle.vet_store.proofs.ReadRows.{all_stand, none_stands}
+use Rattle.vet_store.proofs.Resting.{keeps_then, keeps_three}
 use Rattle.vet_store.proofs.read.read_rows.Goals as goal
 use Rattle.vet_rows.specs.Rows.{RowsValue}
 use Rattle.vet_store.specs.Cells.{cells_in}
@@ -95,3 +96,82 @@ returns-clause-found g c clean =
     (subst (λ db. AreRead db Moves (cells_in Moves rows) × AreRead db Members (cells_in Members rows)
     × AreRead db Reviews (cells_in Reviews rows)) (same-2)
     (rw c.in-Some-4.is at (c.in_ok-moves.ensures.found clean)))
+
+pub returns-in_err-publishers-clause-kept : goal.returns-in_err-publishers-clause-kept
+returns-in_err-publishers-clause-kept g c clean =
+    let clean-0 : HasCleanDisk (state g.S.Store c.read_three.new.conn) =
+    omega (arith, c.read_three-2.ensures.survives.clean, clean) in
+    keeps_then (state g.S.Store c.args.conn.now) (state g.S.Store c.read_three.new.conn)
+    (state g.S.Store c.read_three-2.new.conn) (c.read_three.ensures.kept clean-0) (c.read_three-2.ensures.kept clean)
+
+pub returns-in_default-2-clause-kept : goal.returns-in_default-2-clause-kept
+returns-in_default-2-clause-kept g c clean =
+    let clean-0 : HasCleanDisk (state g.S.Store c.read_three.new.conn) =
+    omega (arith, c.read_three-2.ensures.survives.clean, clean) in
+    keeps_then (state g.S.Store c.args.conn.now) (state g.S.Store c.read_three.new.conn)
+    (state g.S.Store c.read_three-2.new.conn) (c.read_three.ensures.kept clean-0) (c.read_three-2.ensures.kept clean)
+
+pub returns-in_err-nodes-clause-kept : goal.returns-in_err-nodes-clause-kept
+returns-in_err-nodes-clause-kept g c clean =
+    let clean-1 : HasCleanDisk (state g.S.Store c.read_three-2.new.conn) =
+    omega (arith, c.read_three-3.ensures.survives.clean, clean) in
+    let clean-0 : HasCleanDisk (state g.S.Store c.read_three.new.conn) =
+    omega (arith, c.read_three-2.ensures.survives.clean, clean-1) in
+    keeps_three (state g.S.Store c.args.conn.now) (state g.S.Store c.read_three.new.conn)
+    (state g.S.Store c.read_three-2.new.conn) (state g.S.Store c.read_three-3.new.conn)
+    (c.read_three.ensures.kept clean-0) (c.read_three-2.ensures.kept clean-1) (c.read_three-3.ensures.kept clean)
+
+pub returns-in_default-3-clause-kept : goal.returns-in_default-3-clause-kept
+returns-in_default-3-clause-kept g c clean =
+    let clean-1 : HasCleanDisk (state g.S.Store c.read_three-2.new.conn) =
+    omega (arith, c.read_three-3.ensures.survives.clean, clean) in
+    let clean-0 : HasCleanDisk (state g.S.Store c.read_three.new.conn) =
+    omega (arith, c.read_three-2.ensures.survives.clean, clean-1) in
+    keeps_three (state g.S.Store c.args.conn.now) (state g.S.Store c.read_three.new.conn)
+    (state g.S.Store c.read_three-2.new.conn) (state g.S.Store c.read_three-3.new.conn)
+    (c.read_three.ensures.kept clean-0) (c.read_three-2.ensures.kept clean-1) (c.read_three-3.ensures.kept clean)
+
+pub returns-in_err-moves-clause-kept : goal.returns-in_err-moves-clause-kept
+returns-in_err-moves-clause-kept g c clean =
+    let clean-2 : HasCleanDisk (state g.S.Store c.read_three-3.new.conn) =
+    omega (arith, c.read_three-4.ensures.survives.clean, clean) in
+    let clean-1 : HasCleanDisk (state g.S.Store c.read_three-2.new.conn) =
+    omega (arith, c.read_three-3.ensures.survives.clean, clean-2) in
+    let clean-0 : HasCleanDisk (state g.S.Store c.read_three.new.conn) =
+    omega (arith, c.read_three-2.ensures.survives.clean, clean-1) in
+    keeps_then (state g.S.Store c.args.conn.now) (state g.S.Store c.read_three-3.new.conn)
+    (state g.S.Store c.read_three-4.new.conn)
+    (keeps_three (state g.S.Store c.args.conn.now) (state g.S.Store c.read_three.new.conn)
+    (state g.S.Store c.read_three-2.new.conn) (state g.S.Store c.read_three-3.new.conn)
+    (c.read_three.ensures.kept clean-0) (c.read_three-2.ensures.kept clean-1) (c.read_three-3.ensures.kept clean-2))
+    (c.read_three-4.ensures.kept clean)
+
+pub returns-in_default-4-clause-kept : goal.returns-in_default-4-clause-kept
+returns-in_default-4-clause-kept g c clean =
+    let clean-2 : HasCleanDisk (state g.S.Store c.read_three-3.new.conn) =
+    omega (arith, c.read_three-4.ensures.survives.clean, clean) in
+    let clean-1 : HasCleanDisk (state g.S.Store c.read_three-2.new.conn) =
+    omega (arith, c.read_three-3.ensures.survives.clean, clean-2) in
+    let clean-0 : HasCleanDisk (state g.S.Store c.read_three.new.conn) =
+    omega (arith, c.read_three-2.ensures.survives.clean, clean-1) in
+    keeps_then (state g.S.Store c.args.conn.now) (state g.S.Store c.read_three-3.new.conn)
+    (state g.S.Store c.read_three-4.new.conn)
+    (keeps_three (state g.S.Store c.args.conn.now) (state g.S.Store c.read_three.new.conn)
+    (state g.S.Store c.read_three-2.new.conn) (state g.S.Store c.read_three-3.new.conn)
+    (c.read_three.ensures.kept clean-0) (c.read_three-2.ensures.kept clean-1) (c.read_three-3.ensures.kept clean-2))
+    (c.read_three-4.ensures.kept clean)
+
+pub returns-clause-kept : goal.returns-clause-kept
+returns-clause-kept g c clean =
+    let clean-2 : HasCleanDisk (state g.S.Store c.read_three-3.new.conn) =
+    omega (arith, c.read_three-4.ensures.survives.clean, clean) in
+    let clean-1 : HasCleanDisk (state g.S.Store c.read_three-2.new.conn) =
+    omega (arith, c.read_three-3.ensures.survives.clean, clean-2) in
+    let clean-0 : HasCleanDisk (state g.S.Store c.read_three.new.conn) =
+    omega (arith, c.read_three-2.ensures.survives.clean, clean-1) in
+    keeps_then (state g.S.Store c.args.conn.now) (state g.S.Store c.read_three-3.new.conn)
+    (state g.S.Store c.read_three-4.new.conn)
+    (keeps_three (state g.S.Store c.args.conn.now) (state g.S.Store c.read_three.new.conn)
+    (state g.S.Store c.read_three-2.new.conn) (state g.S.Store c.read_three-3.new.conn)
+    (c.read_three.ensures.kept clean-0) (c.read_three-2.ensures.kept clean-1) (c.read_three-3.ensures.kept clean-2))
+    (c.read_three-4.ensures.kept clean)

@@ -1,6 +1,7 @@
 use Rattle.std.proofs.Common.{inl, inr, Ok, ap, arith, map, subst, ◌∙◌}
 use Rattle.sqlite.specs.Held.{state}
 use Rattle.sqlite.specs.State.{HasCleanDisk}
+use Rattle.vet_store.proofs.Resting.{keeps_then, keeps_three}
 use Rattle.vet_store.proofs.read.read_three.Goals as goal
 use Rattle.vet_store.specs.Cells.{cells_of}
 use Rattle.vet_store.specs.Read.{AreRead, IsUnread}
@@ -38,3 +39,47 @@ returns-clause-found g c clean =
       subst (λ db. AreRead db g.C.ReadRow.name (map (λ r. cells_of (g.C.TableRow.any r)) c.in-Some-3.third.items)) two
           (rw c.in-Some-3.is at (c.in_ok-third.ensures.found clean)),
     )
+
+pub returns-in_err-second-clause-kept : goal.returns-in_err-second-clause-kept
+returns-in_err-second-clause-kept g c clean =
+    let early : HasCleanDisk (state g.S.Store c.read_table.new.conn) =
+    omega (arith, c.read_table-2.ensures.survives.clean, clean) in
+    keeps_then (state g.S.Store c.args.conn.now) (state g.S.Store c.read_table.new.conn)
+    (state g.S.Store c.read_table-2.new.conn) (c.read_table.ensures.kept early) (c.read_table-2.ensures.kept clean)
+
+pub returns-in_default-2-clause-kept : goal.returns-in_default-2-clause-kept
+returns-in_default-2-clause-kept g c clean =
+    let early : HasCleanDisk (state g.S.Store c.read_table.new.conn) =
+    omega (arith, c.read_table-2.ensures.survives.clean, clean) in
+    keeps_then (state g.S.Store c.args.conn.now) (state g.S.Store c.read_table.new.conn)
+    (state g.S.Store c.read_table-2.new.conn) (c.read_table.ensures.kept early) (c.read_table-2.ensures.kept clean)
+
+pub returns-in_err-third-clause-kept : goal.returns-in_err-third-clause-kept
+returns-in_err-third-clause-kept g c clean =
+    let later : HasCleanDisk (state g.S.Store c.read_table-2.new.conn) =
+    omega (arith, c.read_table-3.ensures.survives.clean, clean) in
+    let early : HasCleanDisk (state g.S.Store c.read_table.new.conn) =
+    omega (arith, c.read_table-2.ensures.survives.clean, later) in
+    keeps_three (state g.S.Store c.args.conn.now) (state g.S.Store c.read_table.new.conn)
+    (state g.S.Store c.read_table-2.new.conn) (state g.S.Store c.read_table-3.new.conn)
+    (c.read_table.ensures.kept early) (c.read_table-2.ensures.kept later) (c.read_table-3.ensures.kept clean)
+
+pub returns-in_default-3-clause-kept : goal.returns-in_default-3-clause-kept
+returns-in_default-3-clause-kept g c clean =
+    let later : HasCleanDisk (state g.S.Store c.read_table-2.new.conn) =
+    omega (arith, c.read_table-3.ensures.survives.clean, clean) in
+    let early : HasCleanDisk (state g.S.Store c.read_table.new.conn) =
+    omega (arith, c.read_table-2.ensures.survives.clean, later) in
+    keeps_three (state g.S.Store c.args.conn.now) (state g.S.Store c.read_table.new.conn)
+    (state g.S.Store c.read_table-2.new.conn) (state g.S.Store c.read_table-3.new.conn)
+    (c.read_table.ensures.kept early) (c.read_table-2.ensures.kept later) (c.read_table-3.ensures.kept clean)
+
+pub returns-clause-kept : goal.returns-clause-kept
+returns-clause-kept g c clean =
+    let later : HasCleanDisk (state g.S.Store c.read_table-2.new.conn) =
+    omega (arith, c.read_table-3.ensures.survives.clean, clean) in
+    let early : HasCleanDisk (state g.S.Store c.read_table.new.conn) =
+    omega (arith, c.read_table-2.ensures.survives.clean, later) in
+    keeps_three (state g.S.Store c.args.conn.now) (state g.S.Store c.read_table.new.conn)
+    (state g.S.Store c.read_table-2.new.conn) (state g.S.Store c.read_table-3.new.conn)
+    (c.read_table.ensures.kept early) (c.read_table-2.ensures.kept later) (c.read_table-3.ensures.kept clean)

@@ -1,4 +1,4 @@
-use Rattle.std.proofs.Common.{◌≡◌, ◌++◌, [], ◌∷◌, drop, map, refl, ap, subst, ◌∙◌, rules, arith, to_z, of_z, w64}
+use Rattle.std.proofs.Common.{◌≡◌, ◌++◌, [], ◌∷◌, drop, false, map, refl, ap, subst, ◌∙◌, rules, arith, to_z, of_z, w64}
 use Rattle.std.proofs.lemmas.List.{map-append}
 use Rattle.sqlite.proofs.Callers.{given_begin, unchanged_then}
 use Rattle.sqlite.proofs.StateLemmas.{survives_then}
@@ -6,9 +6,11 @@ use Rattle.sqlite.specs.Held.{state}
 use Rattle.sqlite.specs.State.{CommitsShowing, HasCleanDisk, Survives}
 use Rattle.vet_store.proofs.Readings.{begun_quiet, read_shows, rise_more, rise_none, row_typed, survives_quiet}
 use Rattle.vet_store.proofs.Readings.{unchanged_self}
+use Rattle.vet_store.proofs.Resting.{keeps_failed, keeps_unchanged}
 use Rattle.vet_store.proofs.read_table.read_table.Goals as goal
 use Rattle.vet_store.specs.Cells.{cells_of}
 use Rattle.vet_store.specs.Forms.{form_of}
+use Rattle.vet_store.specs.Read.{KeepsRest}
 use Rattle.vet_store.specs.Texts.{select_text}
 use Rattle.vet_store.specs.Typed.{AreTyped, kinds_of}
 
@@ -20,6 +22,14 @@ returns-in_err-found-clause-survives g c =
     let kept : Survives old new (CommitsShowing c.select_text.result.now [] old) = search rules in
     survives_quiet g.R.ReadRow.name old new (rw (c.select_text.ensures, c.table-table.ensures.named) at kept)
 
+pub returns-in_err-found-clause-kept : goal.returns-in_err-found-clause-kept
+returns-in_err-found-clause-kept g c clean =
+    let old = state g.S.Store c.args.conn.now in
+    let new = state g.S.Store c.query.follows.lender-at-none in
+    let held = rw c.in_err-found.was at c.query.follows.holds-at-none in
+    keeps_failed g.R.ReadRow.name old new _
+    (rw (c.select_text.ensures, c.table-table.ensures.named) at (held.err clean))
+
 pub rows-init : goal.rows-init
 rows-init g c =
     let made = c.in_ok-found.ensures in (
@@ -30,6 +40,7 @@ rows-init g c =
           let it = begun_quiet g.S.Store g.R.ReadRow.name c.args.conn.now c.in_ok-found.found.conn.now
           (rw (c.select_text.ensures, c.table-table.ensures.named) at (made.begun clean)) in
           ([], it.0, it.1, rw c.new-rows.ensures.items refl, rise_none),
+      made.mode,
     )
 
 pub returns-in_default-clause-found : goal.returns-in_default-clause-found
@@ -75,6 +86,61 @@ returns-in_err-push-clause-survives g c =
     let same : now ≡ c.conn-in_err-push-1.given.0 = search rules in
     subst (λ h. Survives old (state g.S.Store h) (λ _. ⊥)) same whole
 
+pub returns-in_err-row-clause-mode : goal.returns-in_err-row-clause-mode
+returns-in_err-row-clause-mode g c before =
+    let moved = c.next.follows.holds-at-none in
+    let late : c.next.follows.lender-at-none.conn.now.in_transaction ≡ false =
+    moved.mode (c.rows.invariant.3 before) in
+    search rules
+
+pub returns-in_default-clause-mode : goal.returns-in_default-clause-mode
+returns-in_default-clause-mode g c before =
+    let moved = c.next.follows.holds-at-none in
+    let late : c.next.follows.lender-at-none.conn.now.in_transaction ≡ false =
+    moved.mode (c.rows.invariant.3 before) in
+    search rules
+
+pub returns-then-not-are_typed-clause-mode : goal.returns-then-not-are_typed-clause-mode
+returns-then-not-are_typed-clause-mode g c before =
+    let moved = c.next.follows.holds-at-none in
+    let late : c.next.follows.lender-at-none.conn.now.in_transaction ≡ false =
+    moved.mode (c.rows.invariant.3 before) in
+    search rules
+
+pub returns-then-not-rises-clause-mode : goal.returns-then-not-rises-clause-mode
+returns-then-not-rises-clause-mode g c before =
+    let moved = c.next.follows.holds-at-none in
+    let late : c.next.follows.lender-at-none.conn.now.in_transaction ≡ false =
+    moved.mode (c.rows.invariant.3 before) in
+    search rules
+
+pub returns-in_err-read-clause-mode : goal.returns-in_err-read-clause-mode
+returns-in_err-read-clause-mode g c before =
+    let moved = c.next.follows.holds-at-none in
+    let late : c.next.follows.lender-at-none.conn.now.in_transaction ≡ false =
+    moved.mode (c.rows.invariant.3 before) in
+    search rules
+
+pub returns-in_err-push-clause-mode : goal.returns-in_err-push-clause-mode
+returns-in_err-push-clause-mode g c before =
+    let moved = c.next.follows.holds-at-none in
+    let now = c.next.follows.lender-at-none.conn.now in
+    let same : now ≡ c.conn-in_err-push-1.given.0 = search rules in
+    subst (λ h. h.in_transaction ≡ false) same (moved.mode (c.rows.invariant.3 before))
+
+pub returns-in_err-push-clause-kept : goal.returns-in_err-push-clause-kept
+returns-in_err-push-clause-kept g c clean =
+    let old = state g.S.Store c.args.conn.now in
+    let before = state g.S.Store c.rows.found.conn.now in
+    let moved = c.next.follows.holds-at-none in
+    let now = c.next.follows.lender-at-none.conn.now in
+    let late : HasCleanDisk (state g.S.Store now) = search rules in
+    let was = c.rows.invariant.2 (omega (arith, moved.survives.clean)) in
+    let whole = keeps_unchanged old (state g.S.Store now)
+    (unchanged_then old before (state g.S.Store now) was.2 (rw c.in_ok-row.was at (moved.same late))) in
+    let same : now ≡ c.conn-in_err-push-1.given.0 = search rules in
+    subst (λ h. KeepsRest old (state g.S.Store h)) same whole
+
 pub rows-preserved : goal.rows-preserved
 rows-preserved g c =
     let old = state g.S.Store c.args.conn.now in
@@ -109,4 +175,5 @@ rows-preserved g c =
             rw id (rise_more c.rows.last c.int_at-id.result was.0 row (c.int_at-id.ensures typed.rowid)
                 (rw id at (c.rises.ensures c.if-not-rises.false)) was.4),
           ),
+      λ before. moved.mode (c.rows.invariant.3 before),
     )

@@ -1,4 +1,4 @@
-use Rattle.std.proofs.Common.{◌≡◌, [], drop, List, map}
+use Rattle.std.proofs.Common.{◌≡◌, [], drop, false, List, map}
 use Rattle.sqlite.specs.Given.{HasGiven}
 use Rattle.sqlite.specs.Held.{state}
 use Rattle.sqlite.specs.State.{HasCleanDisk, IsUnchanged, Survives}
@@ -18,3 +18,4 @@ invariant-rows g l =
     → (given : List Cells) × HasGiven g.S.Store (select_text (form_of g.R.ReadRow.name)) [] l.found.conn.now given
     × IsUnchanged old now
     × (map (drop 1) given ≡ map (λ r. cells_of (g.R.TableRow.any r)) l.rows.items) × Rise l.last given)
+    × (l.fn.conn.in_transaction ≡ false → l.found.conn.now.in_transaction ≡ false)
