@@ -15,6 +15,7 @@ pub mod Making
 pub mod Meanings
 pub mod Numbers
 pub mod OneRows
+pub mod Opening
 pub mod ReadRows
 pub mod Readings
 pub mod RepeatLaws

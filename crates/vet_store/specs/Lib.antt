@@ -7,6 +7,7 @@ pub mod Forms
 pub mod Has
 pub mod Made
 pub mod Numbered
+pub mod Opened
 pub mod Read
 pub mod Repeats
 pub mod RowLaws

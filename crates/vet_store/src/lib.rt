@@ -4,7 +4,7 @@
 //! change of rows is one transaction: the tables have all of it or none of it.**
 //!
 //! Scope of this crate today: the twelve tables, their statements and transactions, what stands in them, and the store,
-//! which is made with the tables of a register that holds nothing, and runs commands.
+//! which is made with the tables of a register that holds nothing, or opened from the tables of one, and runs commands.
 #![tactic(auto)]
 
 pub mod apply;

@@ -20,6 +20,16 @@ impl<S: Alter + Drop> Drop for Refused<S> {
     }
 }
 
+impl<S: Alter + Drop> Refused<S> {
+    /// The connection that was handed in. Takes no memory.
+    pub fn into_conn(self) -> Connection<S>
+        ensures { result ≡ self.conn }
+    {
+        let Refused { refusal: _, conn } = self;
+        conn
+    }
+}
+
 /// What an error of the database is told as: `NoMemory` where memory was wanting, else `StoreRefused`.
 pub(crate) fn refusal_of(error: Error) -> Refusal
     ensures { IsOfStore result }

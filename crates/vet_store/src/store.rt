@@ -12,6 +12,7 @@ use vet_register::register::Register;
 
 mod create;
 pub mod first_run;
+mod open;
 mod run;
 mod run_all;
 mod write;

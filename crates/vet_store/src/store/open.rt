@@ -1,0 +1,128 @@
+//! A store is opened: a register is made of the tables again.
+//!
+//! **It is the sound state whose rows stand in the tables, and only where there is none is the database refused as no
+//! register.** So no table is mended: the rows of the state that was read are compared with the rows that stand there,
+//! the classes of `standing` among them.
+ghost use Rattle.std.specs.Prelude.{◌≡◌, ◌⊎◌, false, Err, IfErr, IfOk, IsTrue, MatchResult, OnOk};
+ghost use Rattle.sqlite.specs.Held.{state};
+ghost use Rattle.sqlite.specs.State.{HasCleanDisk, IsUnchanged, Survives};
+ghost use Rattle.vet_register.specs.Sound.{IsSound};
+ghost use Rattle.vet_register.specs.State as machine;
+ghost use Rattle.vet_rows.specs.HeldState.{IsHeldState};
+ghost use Rattle.vet_rows.specs.RowsOf.{rows_of};
+ghost use Rattle.vet_rows.specs.SameRows.{SameRows};
+ghost use Rattle.vet_store.specs.Opened.{IsStored, IsToldBy};
+ghost use Rattle.vet_store.specs.Read.{KeepsRest};
+ghost use Rattle.vet_store.specs.Runs.{IsOfStore};
+ghost use Rattle.vet_store.specs.Stands.{Holds, Rests};
+ghost use Rattle.vet_store.specs.Tied.{IsTied};
+
+use super::Store;
+use crate::find::has_tables;
+use crate::read::read_rows;
+use crate::refused::{Refused, refusal_of};
+use crate::same_rows::have_same_rows;
+use sqlite::{Alter, Connection};
+use std::alloc::Global;
+use vet_base::refusal::Refusal;
+use vet_graph::keeper::Keeper;
+use vet_register::register::Register;
+use vet_rows::held_register::register_is_held;
+use vet_rows::rows::Rows;
+use vet_rows::rows_of::rows_of;
+use vet_rows::state_of::state_of;
+
+impl<S: Alter + Drop, K: Keeper> Store<S, K> {
+    /// Opens the register whose rows stand in the tables, whatever else the database has. Nothing is written. Asks for
+    /// a connection outside a transaction. A refusal gives the connection back. Refused: `NotARegister` where the
+    /// tables have the rows of no sound state, `NoMemory`, or `StoreRefused`.
+    pub fn open(alloc: Global, conn: Connection<S>) -> Result<Store<S, K>, Refused<S>>
+        requires autocommit { conn.in_transaction ≡ false }
+        ensures found { IfOk result (λ s. HasCleanDisk (state S.Store s.conn)
+            → Holds (state S.Store conn).now (rows_of s.register.state)) }
+        ensures sound { IfOk result (λ s. IsSound s.register.state) }
+        ensures held { IfOk result (λ s. IsHeldState s.register.state) }
+        ensures only { IfOk result (λ s. HasCleanDisk (state S.Store s.conn)
+            → (t : machine.State) → IsStored (state S.Store conn).now t → s.register.state ≡ t) }
+        ensures tables { IfOk result (λ s. (s.shut ≡ false)
+            × IsTied (state S.Store s.conn) s.shut (rows_of s.register.state)) }
+        ensures unchanged { IfOk result (λ s. HasCleanDisk (state S.Store s.conn)
+            → IsUnchanged (state S.Store conn) (state S.Store s.conn)) }
+        ensures none { IfErr result (λ e. e.refusal ≡ Refusal.NotARegister → HasCleanDisk (state S.Store e.conn)
+            → (t : machine.State) → IsStored (state S.Store conn).now t → ⊥) }
+        ensures refused { IfErr result (λ e. IsOfStore e.refusal ⊎ (e.refusal ≡ Refusal.NotARegister)) }
+        ensures autocommit { IfErr result (λ e. e.conn.in_transaction ≡ false) }
+        ensures as_before { IfErr result (λ e. HasCleanDisk (state S.Store e.conn)
+            → IsTrue (state S.Store e.conn).is_open
+            → Rests (state S.Store e.conn) × ((state S.Store e.conn).now ≡ (state S.Store conn).now)) }
+        ensures was_open { IfErr result (λ e. HasCleanDisk (state S.Store e.conn)
+            → IsTrue (state S.Store e.conn).is_open → IsTrue (state S.Store conn).is_open) }
+        ensures crash { MatchResult result
+            (λ s. Survives (state S.Store conn) (state S.Store s.conn) (λ _. ⊥))
+            (λ e. Survives (state S.Store conn) (state S.Store e.conn) (λ _. ⊥)) }
+    {
+        let _rests = conn.is_autocommit();
+        let mut conn = conn;
+        match read_register(alloc, &mut conn) {
+            Ok(register) => Ok(Store {
+                conn,
+                register,
+                shut: false,
+            }),
+            Err(refusal) => Err(Refused { refusal, conn }),
+        }
+    }
+}
+
+// The register whose rows stand in the tables.
+fn read_register<S: Alter, K: Keeper>(
+    alloc: Global,
+    conn: &mut Connection<S>,
+) -> Result<Register<K>, Refusal>
+    requires autocommit { conn.old.in_transaction ≡ false }
+    ensures sound { IfOk result (λ r. IsSound r.state) }
+    ensures held { IfOk result (λ r. IsHeldState r.state) }
+    ensures found { HasCleanDisk (state S.Store conn.new) → IfOk result (λ r.
+        Holds (state S.Store conn.old).now (rows_of r.state)) }
+    ensures only { HasCleanDisk (state S.Store conn.new) → IfOk result (λ r.
+        (t : machine.State) → IsStored (state S.Store conn.old).now t → r.state ≡ t) }
+    ensures none { HasCleanDisk (state S.Store conn.new) → result ≡ Err Refusal.NotARegister
+        → (t : machine.State) → IsStored (state S.Store conn.old).now t → ⊥ }
+    ensures refused { IfErr result (λ e. IsOfStore e ⊎ (e ≡ Refusal.NotARegister)) }
+    ensures same { HasCleanDisk (state S.Store conn.new) → OnOk result (
+        IsUnchanged (state S.Store conn.old) (state S.Store conn.new)) }
+    ensures kept { HasCleanDisk (state S.Store conn.new)
+        → KeepsRest (state S.Store conn.old) (state S.Store conn.new) }
+    ensures mode { conn.new.in_transaction ≡ false }
+    ensures survives { Survives (state S.Store conn.old) (state S.Store conn.new) (λ _. ⊥) }
+{
+    if !has_tables(conn.schema()) {
+        return Err(Refusal::NotARegister);
+    }
+    match read_rows(alloc, conn) {
+        Err(error) => Err(refusal_of(error)),
+        Ok(None) => Err(Refusal::NotARegister),
+        Ok(Some(rows)) => register_of(alloc, &rows),
+    }
+}
+
+// The register of which these are the rows, in whatever order.
+fn register_of<K: Keeper>(alloc: Global, rows: &Rows) -> Result<Register<K>, Refusal>
+    ensures sound { IfOk result (λ r. IsSound r.state) }
+    ensures held { IfOk result (λ r. IsHeldState r.state) }
+    ensures found { IfOk result (λ r. SameRows rows.now (rows_of r.state)) }
+    ensures only { IfOk result (λ r. (t : machine.State) → IsToldBy rows.now t → r.state ≡ t) }
+    ensures none { result ≡ Err Refusal.NotARegister → (t : machine.State) → IsToldBy rows.now t → ⊥ }
+    ensures refused { IfErr result (λ e. (e ≡ Refusal.NoMemory) ⊎ (e ≡ Refusal.NotARegister)) }
+{
+    let state = state_of(alloc, rows)?;
+    let register: Register<K> = Register::restore(alloc, state)?;
+    let again = rows_of(alloc, &register)?;
+    if have_same_rows(alloc, rows, &again)? {
+        let _sound = register.facts();
+        register_is_held(&register);
+        Ok(register)
+    } else {
+        Err(Refusal::NotARegister)
+    }
+}
