@@ -18,6 +18,7 @@ pub mod OneRows
 pub mod Opening
 pub mod ReadRows
 pub mod Readings
+pub mod Reopening
 pub mod RepeatLaws
 pub mod ReqTexts
 pub mod Resting

@@ -13,6 +13,7 @@ use vet_register::register::Register;
 mod create;
 pub mod first_run;
 mod open;
+pub mod reopen;
 mod run;
 mod run_all;
 mod write;
