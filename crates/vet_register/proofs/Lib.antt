@@ -1,9 +1,11 @@
 pub mod Asking
 pub mod AskingDesk
+pub mod AskingEdits
 pub mod Balancing
 pub mod Beginnings
 pub mod Checked
 pub mod ClassOfFileLemmas
+pub mod DeskAsked
 pub mod DeskEffects
 pub mod Drops
 pub mod Effects
@@ -21,6 +23,7 @@ pub mod Lists
 pub mod Orders
 pub mod PeerEffects
 pub mod Prepared
+pub mod PreparedParts
 pub mod Publishing
 pub mod Readable
 pub mod RepeatLaws

@@ -136,3 +136,14 @@ pub numbers_told : (facts : Facts) (next : ℕ) (numbers : List ℕ)
     → All (IsSoundPeer next) facts.peers → AreOther numbers ↔ AreApart facts
 numbers_told facts next numbers is rise peers =
     subst (λ ns. AreOther ns ↔ AreApart facts) (sym is) (apart-told facts next rise peers)
+
+-- also where they were gathered from one after the other
+pub gathered_told : (facts : Facts) (next : ℕ) (entries : List HeldEntry) (peers : List HeldPeer)
+    (none own all numbers : List ℕ) → none ≡ [] → entries ≡ facts.entries → peers ≡ facts.peers
+    → own ≡ none ++ numbers_of entries → all ≡ own ++ peers_numbers peers → numbers ≡ all
+    → AreByNumber facts.entries → All (IsSoundPeer next) facts.peers → AreOther numbers ↔ AreApart facts
+gathered_told facts next entries peers none own all numbers nothing mine theirs first second last =
+    let ours = first ∙ ap (λ ns. ns ++ numbers_of entries) nothing ∙ ap numbers_of mine in
+    numbers_told facts next numbers
+    (last ∙ second ∙ ap (λ ns. ns ++ peers_numbers peers) ours
+    ∙ ap (λ ps. numbers_of facts.entries ++ peers_numbers ps) theirs)

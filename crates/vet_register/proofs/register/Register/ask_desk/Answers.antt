@@ -1,7 +1,6 @@
-use Rattle.std.proofs.Common.{◌≡◌, ◌∙◌, sym, ap, subst, false, Ok}
+use Rattle.std.proofs.Common.{◌≡◌, ◌∙◌, sym, ap, subst, Ok}
 use Rattle.std.proofs.lemmas.Result.{err_from_is_err_and}
 use Rattle.vet_base.specs.Gives.{Gives}
-use Rattle.vet_desk.specs.DeskVerdict.{desk_held}
 use Rattle.vet_desk.specs.DeskView.{IsDeskChange}
 use Rattle.vet_register.specs.declared.command.Action.TheVariants as action
 use Rattle.vet_register.specs.declared.verdict.Answer.TheVariants.{Accepted}
@@ -11,16 +10,15 @@ use Rattle.vet_register.specs.State.{State}
 use Rattle.vet_register.specs.Verdict.{asked_before, judged, limits_after_rules}
 use Rattle.vet_register.proofs.Asking.{answered, effective, exactly}
 use Rattle.vet_register.proofs.AskingDesk.{accepted_after, desk_effective, refused_before, refused_last, room_onward}
+use Rattle.vet_register.proofs.DeskAsked.{not_at_desk}
 use Rattle.vet_register.proofs.register.Register.ask_desk.Goals as goal
 
 pub returns-in_err-check_command-clause-asked : goal.returns-in_err-check_command-clause-asked
 returns-in_err-check_command-clause-asked g c =
-    let state = c.args.self.now.state in
-    let command = c.args.command.now in
-    let new : desk_held state.desk command ≡ false = ap (λ (r : RegisterView _). desk_held r.state.desk command)
-    (sym c.self.view_is) ∙ sym c.is_held.ensures ∙ c.if-is_held.false in
     let passed = err_from_is_err_and c.from_residual.result c.from_residual.ensures.1 in
-    rw (passed.1, passed.2) (refused_before _ state c.args.day command new _ c.in_err-check_command.ensures)
+    rw (passed.1, passed.2) (refused_before _ c.args.self.now.state c.args.day c.args.command.now
+    (not_at_desk _ _ c.args.command.now _ c.self.view_is c.is_held.ensures c.if-is_held.false) _
+    c.in_err-check_command.ensures)
 
 pub desk_effect-requires-clause-asked : goal.desk_effect-requires-clause-asked
 desk_effect-requires-clause-asked g c =
@@ -31,8 +29,7 @@ pub returns-in_err-effect-clause-asked : goal.returns-in_err-effect-clause-asked
 returns-in_err-effect-clause-asked g c =
     let state = c.args.self.now.state in
     let command = c.args.command.now in
-    let new : desk_held state.desk command ≡ false = ap (λ (r : RegisterView _). desk_held r.state.desk command)
-    (sym c.self.view_is) ∙ sym c.is_held.ensures ∙ c.if-is_held.false in
+    let new = not_at_desk _ _ command _ c.self.view_is c.is_held.ensures c.if-is_held.false in
     let before : asked_before state command ≡ Ok tt = answered _ _ c.in_ok-check_command.ensures in
     let passed = err_from_is_err_and c.from_residual-in_err-effect.result c.from_residual-in_err-effect.ensures.1 in
     let told = subst (λ (t : State). Gives (λ e. tt) (limits_after_rules t command) c.desk_effect.result)
@@ -49,8 +46,7 @@ returns-clause-asked g c =
     let state = c.args.self.now.state in
     let command = c.args.command.now in
     let sound : IsSound state = subst (λ (r : RegisterView _). IsSound r.state) c.self.view_is c.self.invariant.1 in
-    let new : desk_held state.desk command ≡ false = ap (λ (r : RegisterView _). desk_held r.state.desk command)
-    (sym c.self.view_is) ∙ sym c.is_held.ensures ∙ c.if-is_held.false in
+    let new = not_at_desk _ _ command _ c.self.view_is c.is_held.ensures c.if-is_held.false in
     let before : asked_before state command ≡ Ok tt = answered _ _ c.in_ok-check_command.ensures in
     let last : limits_after_rules state command ≡ Ok tt =
     ap (λ (t : State). limits_after_rules t command) (sym c.desk_change.ensures.state) ∙ c.in_ok-effect.ensures.told in

@@ -1,11 +1,12 @@
-use Rattle.std.proofs.Common.{◌≡◌, ◌∙◌, ap, subst, Ok, Err, arith}
+use Rattle.std.proofs.Common.{◌≡◌, ◌∙◌, ap, subst, Ok, Err}
 use Rattle.std.proofs.lemmas.Result.{err_from_is_err_and}
 use Rattle.vet_desk.specs.declared.verdict.DeskAnswer.TheVariants as at_desk
 use Rattle.vet_desk.specs.DeskVerdict.{desk_verdict}
-use Rattle.vet_desk.specs.DeskView.{DeskView, KeepsDeskChanges, TellsDesk}
-use Rattle.vet_register.specs.RegisterView.{RegisterView, desk_room}
+use Rattle.vet_desk.specs.DeskView.{TellsDesk}
+use Rattle.vet_register.specs.RegisterView.{RegisterView}
 use Rattle.vet_register.specs.State.{demanded}
 use Rattle.vet_register.proofs.AskingDesk.{desk_accepts}
+use Rattle.vet_register.proofs.DeskAsked.{desk_room_stays}
 use Rattle.vet_register.proofs.register.Register.desk_change.Goals as goal
 
 pub returns-in_err-change-clause-memory : goal.returns-in_err-change-clause-memory
@@ -26,38 +27,8 @@ returns-in_err-change-clause-memory g c =
 
 pub returns-in_err-change-clause-room_stays : goal.returns-in_err-change-clause-room_stays
 returns-in_err-change-clause-room_stays g c =
-    let entries = ap (λ (r : RegisterView _). r.room.held.facts.entries) c.self.view_is in
-    let peers = ap (λ (r : RegisterView _). r.room.held.facts.peers) c.self.view_is in
-    let packages = ap (λ (r : RegisterView _). r.room.held.facts.packages) c.self.view_is in
-    let policies = ap (λ (r : RegisterView _). r.room.held.policies) c.self.view_is in
-    let projects = ap (λ (r : RegisterView _). r.room.held.projects) c.self.view_is in
-    let moves = ap (λ (r : RegisterView _). r.room.moves) c.self.view_is in (
-      (
-        (omega (arith, entries), (omega (arith, peers), omega (arith, packages))),
-        (omega (arith, policies), omega (arith, projects)),
-      ),
-      (
-        omega (arith, moves),
-        subst (λ (d : DeskView). KeepsDeskChanges d c.prepare.new.self)
-            (ap (λ (r : RegisterView _). desk_room r) c.self.view_is) c.in_err-change.ensures.prepared_stays,
-      ),
-    )
+    desk_room_stays _ _ c.prepare.new.self c.self.view_is c.in_err-change.ensures.prepared_stays
 
 pub returns-clause-room_stays : goal.returns-clause-room_stays
 returns-clause-room_stays g c =
-    let entries = ap (λ (r : RegisterView _). r.room.held.facts.entries) c.self.view_is in
-    let peers = ap (λ (r : RegisterView _). r.room.held.facts.peers) c.self.view_is in
-    let packages = ap (λ (r : RegisterView _). r.room.held.facts.packages) c.self.view_is in
-    let policies = ap (λ (r : RegisterView _). r.room.held.policies) c.self.view_is in
-    let projects = ap (λ (r : RegisterView _). r.room.held.projects) c.self.view_is in
-    let moves = ap (λ (r : RegisterView _). r.room.moves) c.self.view_is in (
-      (
-        (omega (arith, entries), (omega (arith, peers), omega (arith, packages))),
-        (omega (arith, policies), omega (arith, projects)),
-      ),
-      (
-        omega (arith, moves),
-        subst (λ (d : DeskView). KeepsDeskChanges d c.prepare.new.self)
-            (ap (λ (r : RegisterView _). desk_room r) c.self.view_is) c.in_ok-change.ensures.prepared_stays,
-      ),
-    )
+    desk_room_stays _ _ c.prepare.new.self c.self.view_is c.in_ok-change.ensures.prepared_stays

@@ -5,16 +5,16 @@ use Rattle.vet_register.specs.Held.{Fits, demand_in, edited, held_with, standing
 use Rattle.vet_register.specs.declared.verdict.Answer.TheVariants.{Accepted}
 use Rattle.vet_register.specs.Changes.{demand_by, desk_edited}
 use Rattle.vet_register.specs.Machine.{moves_of, number_after, number_given}
-use Rattle.vet_register.specs.RegisterView.{Asks, HoldsDesk, IsStep, desk_room, held_room}
+use Rattle.vet_register.specs.RegisterView.{HoldsDesk, IsStep, desk_room, held_room}
 use Rattle.vet_graph.specs.Moves.{moves_between}
 use Rattle.vet_register.specs.State.{State, demanded, standing}
 use Rattle.vet_register.specs.Sound.{IsSoundHeld}
 use Rattle.vet_register.specs.Verdict.{judged, step_limit}
-use Rattle.vet_register.proofs.Asking.{accepted, accepted_exact, refusal_exact, refusal_told}
+use Rattle.vet_register.proofs.Asking.{accepted_exact, refusal_exact, refusal_told}
 use Rattle.vet_register.proofs.AskingDesk.{room_onward}
 use Rattle.vet_register.proofs.Effects.{passed, step_passed}
-use Rattle.vet_register.proofs.Prepared.{AreParts, IsUpdate, desk_still, fit_told, fits_told, is_step, prepared_stays}
-use Rattle.vet_register.proofs.Prepared.{same_keeper}
+use Rattle.vet_register.proofs.Prepared.{AreParts, IsUpdate, desk_still, fit_told, fits_told, is_step}
+use Rattle.vet_register.proofs.PreparedParts.{asked_stays, changed_stays, effect_of, planned_stays, rooms_onward}
 use Rattle.vet_register.proofs.Soundness.{MoveLaws}
 use Rattle.vet_register.proofs.register.Register.prepare.Goals as goal
 
@@ -31,82 +31,47 @@ returns-in_err-number-clause-exact g c =
 pub change-requires-clause-step : goal.change-requires-clause-step
 change-requires-clause-step g c =
     let command = c.args.command.now in
-    let action = command.action in
-    let asks = accepted c.asked_by.new.self command.day action c.args.self.now.state
-    (judged c.args.self.now.state command.day action) c.in-Effect.effect
-    (subst (Asks c.args.self.now.state c.asked_by.new.self command.day action
-    (judged c.args.self.now.state command.day action)) (ap Ok c.in-Effect.is) c.in_ok-number.ensures.asked) in
     let s = c.args.self.now.state in
+    let asks = effect_of s command c.in-Effect.is c.in_ok-number.ensures.asked in
     subst (λ (t : State). step_limit t ≡ Ok tt) (sym (c.plan.ensures.state ∙ c.asked_by.ensures.state))
-    (step_passed s command.day action (passed s command.day action asks.0))
+    (step_passed s command.day command.action (passed s command.day command.action asks.0))
 
 pub change-requires-clause-next_entry : goal.change-requires-clause-next_entry
 change-requires-clause-next_entry g c =
-    let command = c.args.command.now in
-    let action = command.action in
-    let asks = accepted c.asked_by.new.self command.day action c.args.self.now.state
-    (judged c.args.self.now.state command.day action) c.in-Effect.effect
-    (subst (Asks c.args.self.now.state c.asked_by.new.self command.day action
-    (judged c.args.self.now.state command.day action)) (ap Ok c.in-Effect.is) c.in_ok-number.ensures.asked) in
-    asks.1.next_entry ∙ ap (λ (t : State). number_after t action) (sym c.plan.ensures.state)
+    (effect_of c.args.self.now.state c.args.command.now c.in-Effect.is c.in_ok-number.ensures.asked).1.next_entry
+    ∙ ap (λ (t : State). number_after t c.args.command.now.action) (sym c.plan.ensures.state)
 
 pub change-requires-clause-moves : goal.change-requires-clause-moves
 change-requires-clause-moves g c =
-    let command = c.args.command.now in
-    let action = command.action in
-    let asks = accepted c.asked_by.new.self command.day action c.args.self.now.state
-    (judged c.args.self.now.state command.day action) c.in-Effect.effect
-    (subst (Asks c.args.self.now.state c.asked_by.new.self command.day action
-    (judged c.args.self.now.state command.day action)) (ap Ok c.in-Effect.is) c.in_ok-number.ensures.asked) in
-    let s = c.asked_by.new.self.state in
-    c.in_ok-planned-in-Effect.ensures.moves ∙ ap (λ h. moves_between (standing s) (standing_in h)) asks.1.held
-    ∙ ap (λ (t : State). moves_of t action) (sym c.plan.ensures.state)
+    let asks = effect_of c.args.self.now.state c.args.command.now c.in-Effect.is c.in_ok-number.ensures.asked in
+    c.in_ok-planned-in-Effect.ensures.moves
+    ∙ ap (λ h. moves_between (standing c.asked_by.new.self.state) (standing_in h)) asks.1.held
+    ∙ ap (λ (t : State). moves_of t c.args.command.now.action) (sym c.plan.ensures.state)
 
 pub returns-in_err-change-in-Effect-clause-told : goal.returns-in_err-change-in-Effect-clause-told
 returns-in_err-change-in-Effect-clause-told g c =
-    let command = c.args.command.now in
-    let action = command.action in
-    let asks = accepted c.asked_by.new.self command.day action c.args.self.now.state
-    (judged c.args.self.now.state command.day action) c.in-Effect.effect
-    (subst (Asks c.args.self.now.state c.asked_by.new.self command.day action
-    (judged c.args.self.now.state command.day action)) (ap Ok c.in-Effect.is) c.in_ok-number.ensures.asked) in
+    let s = c.args.self.now.state in
+    let asks = effect_of s c.args.command.now c.in-Effect.is c.in_ok-number.ensures.asked in
     let gone = err_from_is_err_and c.from_residual-in_err-change-in-Effect.result
     c.from_residual-in_err-change-in-Effect.ensures.1 in
-    rw (gone.1, gone.2) (fit_told c.args.self.now.state c.plan.new.self.state command _
-    (c.plan.ensures.state ∙ c.asked_by.ensures.state) asks.0
-    c.in_err-change-in-Effect.ensures.told)
+    rw (gone.1, gone.2) (fit_told s c.plan.new.self.state c.args.command.now _
+    (c.plan.ensures.state ∙ c.asked_by.ensures.state) asks.0 c.in_err-change-in-Effect.ensures.told)
 
 pub returns-in_err-change-in-Effect-clause-exact : goal.returns-in_err-change-in-Effect-clause-exact
-returns-in_err-change-in-Effect-clause-exact g c =
-    let command = c.args.command.now in
-    let action = command.action in
-    let asks = accepted c.asked_by.new.self command.day action c.args.self.now.state
-    (judged c.args.self.now.state command.day action) c.in-Effect.effect
-    (subst (Asks c.args.self.now.state c.asked_by.new.self command.day action
-    (judged c.args.self.now.state command.day action)) (ap Ok c.in-Effect.is) c.in_ok-number.ensures.asked) in
-    accepted_exact c.args.self.now.state action (judged c.args.self.now.state command.day action)
-    c.from_residual-in_err-change-in-Effect.result asks.0
+returns-in_err-change-in-Effect-clause-exact g c = accepted_exact c.args.self.now.state c.args.command.now.action _
+    c.from_residual-in_err-change-in-Effect.result
+    (effect_of c.args.self.now.state c.args.command.now c.in-Effect.is c.in_ok-number.ensures.asked).0
 
 pub returns-in_ok-change-in-Effect-clause-told : goal.returns-in_ok-change-in-Effect-clause-told
 returns-in_ok-change-in-Effect-clause-told g c =
-    let command = c.args.command.now in
-    let action = command.action in
-    let asks = accepted c.asked_by.new.self command.day action c.args.self.now.state
-    (judged c.args.self.now.state command.day action) c.in-Effect.effect
-    (subst (Asks c.args.self.now.state c.asked_by.new.self command.day action
-    (judged c.args.self.now.state command.day action)) (ap Ok c.in-Effect.is) c.in_ok-number.ensures.asked) in
-    fits_told c.args.self.now.state c.plan.new.self.state command (c.plan.ensures.state ∙ c.asked_by.ensures.state)
-    asks.0 c.in_ok-change-in-Effect.ensures.told
+    let s = c.args.self.now.state in
+    fits_told s c.plan.new.self.state c.args.command.now (c.plan.ensures.state ∙ c.asked_by.ensures.state)
+    (effect_of s c.args.command.now c.in-Effect.is c.in_ok-number.ensures.asked).0
+    c.in_ok-change-in-Effect.ensures.told
 
 pub returns-in_ok-change-in-Effect-clause-exact : goal.returns-in_ok-change-in-Effect-clause-exact
-returns-in_ok-change-in-Effect-clause-exact g c =
-    let command = c.args.command.now in
-    let action = command.action in
-    let asks = accepted c.asked_by.new.self command.day action c.args.self.now.state
-    (judged c.args.self.now.state command.day action) c.in-Effect.effect
-    (subst (Asks c.args.self.now.state c.asked_by.new.self command.day action
-    (judged c.args.self.now.state command.day action)) (ap Ok c.in-Effect.is) c.in_ok-number.ensures.asked) in
-    accepted_exact c.args.self.now.state action (judged c.args.self.now.state command.day action) _ asks.0
+returns-in_ok-change-in-Effect-clause-exact g c = accepted_exact c.args.self.now.state c.args.command.now.action _ _
+    (effect_of c.args.self.now.state c.args.command.now c.in-Effect.is c.in_ok-number.ensures.asked).0
 
 pub returns-in_ok-change-in-Effect-clause-prepared : goal.returns-in_ok-change-in-Effect-clause-prepared
 returns-in_ok-change-in-Effect-clause-prepared g c =
@@ -114,10 +79,7 @@ returns-in_ok-change-in-Effect-clause-prepared g c =
     let action = command.action in
     let change = c.in_ok-change-in-Effect.change in
     let s = c.asked_by.new.self.state in
-    let asks = accepted c.asked_by.new.self command.day action c.args.self.now.state
-    (judged c.args.self.now.state command.day action) c.in-Effect.effect
-    (subst (Asks c.args.self.now.state c.asked_by.new.self command.day action
-    (judged c.args.self.now.state command.day action)) (ap Ok c.in-Effect.is) c.in_ok-number.ensures.asked) in
+    let asks = effect_of c.args.self.now.state command c.in-Effect.is c.in_ok-number.ensures.asked in
     let told = subst (λ (s : State). judged s command.day action ≡ Ok Accepted) (sym c.asked_by.ensures.state) asks.0 in
     let planned = c.in_ok-planned-in-Effect.ensures in
     let made = c.in_ok-change-in-Effect.ensures in
@@ -168,50 +130,30 @@ returns-in_ok-change-in-Effect-clause-prepared g c =
 
 pub plan-requires-clause-sound : goal.plan-requires-clause-sound
 plan-requires-clause-sound g c =
-    let command = c.args.command.now in
-    let action = command.action in
-    let s = c.asked_by.new.self.state in
-    let asks = accepted c.asked_by.new.self command.day action c.args.self.now.state
-    (judged c.args.self.now.state command.day action) c.in-Effect.effect
-    (subst (Asks c.args.self.now.state c.asked_by.new.self command.day action
-    (judged c.args.self.now.state command.day action)) (ap Ok c.in-Effect.is) c.in_ok-number.ensures.asked) in
-    (number_after s action, subst (λ h. IsSoundHeld h (number_after s action)) (sym asks.1.held) asks.1.sound)
+    let next = number_after c.asked_by.new.self.state c.args.command.now.action in
+    let asks = effect_of c.args.self.now.state c.args.command.now c.in-Effect.is c.in_ok-number.ensures.asked in
+    (next, subst (λ h. IsSoundHeld h next) (sym asks.1.held) asks.1.sound)
 
 pub plan-requires-clause-fits : goal.plan-requires-clause-fits
 plan-requires-clause-fits g c =
-    let command = c.args.command.now in
-    let action = command.action in
-    let asks = accepted c.asked_by.new.self command.day action c.args.self.now.state
-    (judged c.args.self.now.state command.day action) c.in-Effect.effect
-    (subst (Asks c.args.self.now.state c.asked_by.new.self command.day action
-    (judged c.args.self.now.state command.day action)) (ap Ok c.in-Effect.is) c.in_ok-number.ensures.asked) in
-    asks.1.fits
+    (effect_of c.args.self.now.state c.args.command.now c.in-Effect.is c.in_ok-number.ensures.asked).1.fits
 
 pub change-requires-clause-number : goal.change-requires-clause-number
 change-requires-clause-number g c =
-    let command = c.args.command.now in
-    let action = command.action in
-    let asks = accepted c.asked_by.new.self command.day action c.args.self.now.state
-    (judged c.args.self.now.state command.day action) c.in-Effect.effect
-    (subst (Asks c.args.self.now.state c.asked_by.new.self command.day action
-    (judged c.args.self.now.state command.day action)) (ap Ok c.in-Effect.is) c.in_ok-number.ensures.asked) in
-    asks.1.number ∙ ap (λ (t : State). number_given t action) (sym c.plan.ensures.state)
+    let asks = effect_of c.args.self.now.state c.args.command.now c.in-Effect.is c.in_ok-number.ensures.asked in
+    asks.1.number ∙ ap (λ (t : State). number_given t c.args.command.now.action) (sym c.plan.ensures.state)
 
 -- ---- what was prepared before
 
 pub returns-in_err-number-clause-prepared_stays : goal.returns-in_err-number-clause-prepared_stays
-returns-in_err-number-clause-prepared_stays g c =
-    let keeping = g.K.Keeper.keeping in
-    prepared_stays c.held_edits_fit_with_more_room.ensures.fits keeping c.args.self.now c.asked_by.new.self
-    c.asked_by.ensures.state
-    (same_keeper keeping c.args.self.now c.asked_by.new.self c.asked_by.ensures.keeper) c.asked_by.ensures.room_stays
+returns-in_err-number-clause-prepared_stays g c = asked_stays c.held_edits_fit_with_more_room.ensures.fits
+    g.K.Keeper.keeping c.args.self.now c.asked_by.new.self c.asked_by.ensures.state c.asked_by.ensures.keeper
+    c.asked_by.ensures.room_stays
 
 pub returns-in-Already-clause-prepared_stays : goal.returns-in-Already-clause-prepared_stays
-returns-in-Already-clause-prepared_stays g c =
-    let keeping = g.K.Keeper.keeping in
-    prepared_stays c.held_edits_fit_with_more_room.ensures.fits keeping c.args.self.now c.asked_by.new.self
-    c.asked_by.ensures.state
-    (same_keeper keeping c.args.self.now c.asked_by.new.self c.asked_by.ensures.keeper) c.asked_by.ensures.room_stays
+returns-in-Already-clause-prepared_stays g c = asked_stays c.held_edits_fit_with_more_room.ensures.fits
+    g.K.Keeper.keeping c.args.self.now c.asked_by.new.self c.asked_by.ensures.state c.asked_by.ensures.keeper
+    c.asked_by.ensures.room_stays
 
 pub returns-in_err-planned-in-Effect-clause-room_stays : goal.returns-in_err-planned-in-Effect-clause-room_stays
 returns-in_err-planned-in-Effect-clause-room_stays g c = room_onward c.args.self.now c.asked_by.new.self
@@ -219,46 +161,31 @@ returns-in_err-planned-in-Effect-clause-room_stays g c = room_onward c.args.self
 
 pub returns-in_err-planned-in-Effect-clause-prepared_stays : goal.returns-in_err-planned-in-Effect-clause-prepared_stays
 returns-in_err-planned-in-Effect-clause-prepared_stays g c =
-    let keeping = g.K.Keeper.keeping in
-    let asked = same_keeper keeping c.args.self.now c.asked_by.new.self c.asked_by.ensures.keeper in
-    prepared_stays c.held_edits_fit_with_more_room.ensures.fits keeping c.args.self.now c.plan.new.self
-    (c.plan.ensures.state ∙ c.asked_by.ensures.state)
-    (λ u h. c.plan.ensures.ready_stays u (asked u h))
-    (room_onward c.args.self.now c.asked_by.new.self c.plan.new.self c.asked_by.ensures.room_stays
-    c.plan.ensures.room_stays)
+    planned_stays c.held_edits_fit_with_more_room.ensures.fits g.K.Keeper.keeping c.args.self.now c.asked_by.new.self
+    c.asked_by.ensures.state c.asked_by.ensures.keeper c.asked_by.ensures.room_stays c.plan.new.self
+    c.plan.ensures.state c.plan.ensures.ready_stays c.plan.ensures.room_stays
 
 pub returns-in_err-change-in-Effect-clause-room_stays : goal.returns-in_err-change-in-Effect-clause-room_stays
-returns-in_err-change-in-Effect-clause-room_stays g c =
-    room_onward c.args.self.now c.plan.new.self c.change.new.self
-    (room_onward c.args.self.now c.asked_by.new.self c.plan.new.self c.asked_by.ensures.room_stays
-    c.plan.ensures.room_stays) c.change.ensures.room_stays
+returns-in_err-change-in-Effect-clause-room_stays g c = rooms_onward c.args.self.now c.asked_by.new.self
+    c.plan.new.self c.change.new.self c.asked_by.ensures.room_stays c.plan.ensures.room_stays
+    c.change.ensures.room_stays
 
 pub returns-in_err-change-in-Effect-clause-prepared_stays : goal.returns-in_err-change-in-Effect-clause-prepared_stays
 returns-in_err-change-in-Effect-clause-prepared_stays g c =
-    let keeping = g.K.Keeper.keeping in
-    let asked = same_keeper keeping c.args.self.now c.asked_by.new.self c.asked_by.ensures.keeper in
-    let after = same_keeper keeping c.plan.new.self c.change.new.self c.change.ensures.keeper in
-    prepared_stays c.held_edits_fit_with_more_room.ensures.fits keeping c.args.self.now c.change.new.self
-    (c.change.ensures.state ∙ c.plan.ensures.state ∙ c.asked_by.ensures.state)
-    (λ u h. after u (c.plan.ensures.ready_stays u (asked u h)))
-    (room_onward c.args.self.now c.plan.new.self c.change.new.self
-    (room_onward c.args.self.now c.asked_by.new.self c.plan.new.self c.asked_by.ensures.room_stays
-    c.plan.ensures.room_stays) c.change.ensures.room_stays)
+    let asked = c.asked_by.ensures in
+    let plan = c.plan.ensures in
+    changed_stays c.held_edits_fit_with_more_room.ensures.fits g.K.Keeper.keeping c.args.self.now c.asked_by.new.self
+    asked.state asked.keeper asked.room_stays c.plan.new.self plan.state plan.ready_stays plan.room_stays
+    c.change.new.self c.change.ensures.state c.change.ensures.keeper c.change.ensures.room_stays
 
 pub returns-in_ok-change-in-Effect-clause-room_stays : goal.returns-in_ok-change-in-Effect-clause-room_stays
 returns-in_ok-change-in-Effect-clause-room_stays g c =
-    room_onward c.args.self.now c.plan.new.self c.change.new.self
-    (room_onward c.args.self.now c.asked_by.new.self c.plan.new.self c.asked_by.ensures.room_stays
-    c.plan.ensures.room_stays) c.change.ensures.room_stays
+    rooms_onward c.args.self.now c.asked_by.new.self c.plan.new.self c.change.new.self c.asked_by.ensures.room_stays
+    c.plan.ensures.room_stays c.change.ensures.room_stays
 
 pub returns-in_ok-change-in-Effect-clause-prepared_stays : goal.returns-in_ok-change-in-Effect-clause-prepared_stays
 returns-in_ok-change-in-Effect-clause-prepared_stays g c =
-    let keeping = g.K.Keeper.keeping in
-    let asked = same_keeper keeping c.args.self.now c.asked_by.new.self c.asked_by.ensures.keeper in
-    let after = same_keeper keeping c.plan.new.self c.change.new.self c.change.ensures.keeper in
-    prepared_stays c.held_edits_fit_with_more_room.ensures.fits keeping c.args.self.now c.change.new.self
-    (c.change.ensures.state ∙ c.plan.ensures.state ∙ c.asked_by.ensures.state)
-    (λ u h. after u (c.plan.ensures.ready_stays u (asked u h)))
-    (room_onward c.args.self.now c.plan.new.self c.change.new.self
-    (room_onward c.args.self.now c.asked_by.new.self c.plan.new.self c.asked_by.ensures.room_stays
-    c.plan.ensures.room_stays) c.change.ensures.room_stays)
+    changed_stays c.held_edits_fit_with_more_room.ensures.fits g.K.Keeper.keeping c.args.self.now c.asked_by.new.self
+    c.asked_by.ensures.state c.asked_by.ensures.keeper c.asked_by.ensures.room_stays c.plan.new.self
+    c.plan.ensures.state c.plan.ensures.ready_stays c.plan.ensures.room_stays c.change.new.self
+    c.change.ensures.state c.change.ensures.keeper c.change.ensures.room_stays

@@ -19,50 +19,43 @@ use Rattle.vet_register.proofs.register.Register.replace_files.Goals as goal
 
 pub new_count-requires : goal.new_count-requires
 new_count-requires g c =
-    let state = c.args.self.now.state in
-    let files = c.args.files.now in
-    let accepted = accepted_files state some_day files c.in_ok-comparison.field-0 c.in-Some.comparison c.in-Some.is
+    let accepted = accepted_files c.args.self.now.state some_day c.args.files.now _ _ c.in-Some.is
     (c.in_ok-comparison.ensures some_day) in
     omega (
       arith,
-      files_numbered state some_day files c.in-Some.comparison accepted,
-      files_new state files
-          c.in-Some.comparison accepted.compared,
+      files_numbered c.args.self.now.state some_day c.args.files.now c.in-Some.comparison accepted,
+      files_new c.args.self.now.state c.args.files.now c.in-Some.comparison accepted.compared,
     )
 
 pub overflow_add-next_entry : goal.overflow_add-next_entry
 overflow_add-next_entry g c =
     let state = c.args.self.now.state in
     let files = c.args.files.now in
-    let accepted = accepted_files state some_day files c.in_ok-comparison.field-0 c.in-Some.comparison c.in-Some.is
-    (c.in_ok-comparison.ensures some_day) in
+    let accepted = accepted_files state some_day files _ _ c.in-Some.is (c.in_ok-comparison.ensures some_day) in
     let held = ap (λ (r : RegisterView _). r.state.next_entry) c.self.view_is in
     omega (
       arith,
       held,
       files_numbered state some_day files c.in-Some.comparison accepted,
-      files_new state files
-          c.in-Some.comparison accepted.compared,
+      files_new state files c.in-Some.comparison accepted.compared,
       c.new_count.ensures,
     )
 
 pub files_held-requires-clause-defined : goal.files_held-requires-clause-defined
 files_held-requires-clause-defined g c =
-    let state = c.args.self.now.state in
-    let files = c.args.files.now in
-    let accepted = accepted_files state some_day files c.in_ok-comparison.field-0 c.in-Some.comparison c.in-Some.is
+    let accepted = accepted_files c.args.self.now.state some_day c.args.files.now _ _ c.in-Some.is
     (c.in_ok-comparison.ensures some_day) in
-    let p = passed state some_day (action.ReplaceFiles files) accepted.told in
-    files_table files c.is_of_files.ensures (files_fit state files p.limits).criteria (files_know files p.references)
+    let p = passed c.args.self.now.state some_day (action.ReplaceFiles c.args.files.now) accepted.told in
+    files_table c.args.files.now c.is_of_files.ensures
+    (files_fit c.args.self.now.state c.args.files.now p.limits).criteria
+    (files_know c.args.files.now p.references)
 
 pub files_held-requires-clause-compared : goal.files_held-requires-clause-compared
 files_held-requires-clause-compared g c =
-    let state = c.args.self.now.state in
-    let files = c.args.files.now in
-    let accepted = accepted_files state some_day files c.in_ok-comparison.field-0 c.in-Some.comparison c.in-Some.is
-    (c.in_ok-comparison.ensures some_day) in
-    subst (λ (r : RegisterView _). IsCompared r.state.held.facts files c.in-Some.comparison) (sym c.self.view_is)
-    accepted.compared
+    subst (λ (r : RegisterView _). IsCompared r.state.held.facts c.args.files.now c.in-Some.comparison)
+    (sym c.self.view_is)
+    (accepted_files c.args.self.now.state some_day c.args.files.now _ _ c.in-Some.is
+    (c.in_ok-comparison.ensures some_day)).compared
 
 pub files_held-requires-clause-own : goal.files_held-requires-clause-own
 files_held-requires-clause-own g c = c.self.invariant.1.held.facts.entries.numbers_given
@@ -74,25 +67,19 @@ files_held-requires-clause-peers g c p =
 
 pub files_held-requires-clause-numbers : goal.files_held-requires-clause-numbers
 files_held-requires-clause-numbers g c =
-    let state = c.args.self.now.state in
     let files = c.args.files.now in
-    let accepted = accepted_files state some_day files c.in_ok-comparison.field-0 c.in-Some.comparison c.in-Some.is
-    (c.in_ok-comparison.ensures some_day) in
-    let count = files_numbered state some_day files c.in-Some.comparison accepted in
+    let count = files_numbered c.args.self.now.state some_day files c.in-Some.comparison
+    (accepted_files c.args.self.now.state some_day files _ _ c.in-Some.is (c.in_ok-comparison.ensures some_day)) in
     let held = ap (λ (r : RegisterView _). number_after r.state (action.ReplaceFiles files)) c.self.view_is in
     omega (arith, held, count)
 
 pub files_held-requires-clause-records : goal.files_held-requires-clause-records
 files_held-requires-clause-records g c =
-    let state = c.args.self.now.state in
-    let files = c.args.files.now in
-    let accepted = accepted_files state some_day files c.in_ok-comparison.field-0 c.in-Some.comparison c.in-Some.is
+    let asks = action.ReplaceFiles c.args.files.now in
+    let accepted = accepted_files c.args.self.now.state some_day c.args.files.now _ _ c.in-Some.is
     (c.in_ok-comparison.ensures some_day) in
-    omega (
-      arith,
-      (files_fit state files
-          (passed state some_day (action.ReplaceFiles files) accepted.told).limits).records,
-    )
+    let p = passed c.args.self.now.state some_day asks accepted.told in
+    omega (arith, (files_fit c.args.self.now.state c.args.files.now p.limits).records)
 
 pub returns-clause-asked : goal.returns-clause-asked
 returns-clause-asked g c day =

@@ -1,55 +1,30 @@
-use Rattle.std.proofs.Common.{arith, ◌≡◌, ◌∙◌, ap, refl, subst, Ok}
-use Rattle.std.proofs.lemmas.Result.{err_from_is_err_and}
+use Rattle.std.proofs.Common.{◌∙◌, ap, refl, subst}
 use Rattle.std.specs.FinMap as map
 use Rattle.vet_base.specs.Criteria.{IsTable}
-use Rattle.vet_entries.specs.Facts.{Fits, edited}
-use Rattle.vet_register.specs.declared.command.Action.TheVariants as action
-use Rattle.vet_register.specs.declared.verdict.Answer.TheVariants.{Accepted}
-use Rattle.vet_register.specs.Machine.{number_after}
-use Rattle.vet_register.specs.RegisterView.{RegisterView, held_room}
-use Rattle.vet_register.specs.Sound.{IsSound}
-use Rattle.vet_register.specs.Verdict.{judged}
-use Rattle.vet_register.proofs.Asking.{some_day, answered, facts_effect, effective, refused, set_passed}
 use Rattle.vet_base.specs.CriteriaChanges.{set_verdict}
+use Rattle.vet_register.specs.declared.command.Action.TheVariants as action
+use Rattle.vet_register.proofs.Asking.{some_day, set_passed}
+use Rattle.vet_register.proofs.AskingEdits.{accepts, facts_asks_still, none_given, passed_on, state_before, told_before}
 use Rattle.vet_register.proofs.register.Register.set_criterion.Goals as goal
 
 pub returns-in_err-number-clause-asked : goal.returns-in_err-number-clause-asked
-returns-in_err-number-clause-asked g c day =
-    let passed = err_from_is_err_and c.from_residual.result c.from_residual.ensures.1 in
-    rw (passed.1, passed.2) (refused _ _ _ _ _ (c.in_err-number.ensures day))
+returns-in_err-number-clause-asked g c day = passed_on _ _ _ _ _ _ c.from_residual.ensures.1 (c.in_err-number.ensures day)
 
 pub with_criterion-requires : goal.with_criterion-requires
 with_criterion-requires g c =
-    let state = c.args.self.now.state in
-    let told : judged state some_day (action.SetCriterion c.args.criterion.now) ≡ Ok Accepted = answered _ _
-    (c.in_ok-number.ensures some_day) ∙ ap Ok c.in_default.is in
-    let table = c.criteria.ensures.value ∙ ap (λ (r : RegisterView _). r.state.held.facts.criteria) c.self.view_is in
-    ap (λ t. set_verdict t c.args.criterion.now) table ∙ set_passed state some_day c.args.criterion.now told
+    let criterion = c.args.criterion.now in
+    ap (λ t. set_verdict t criterion) c.criteria.ensures.value ∙ set_passed (state_before c.self.view_is) some_day
+    criterion
+    (told_before c.self.view_is some_day (action.SetCriterion criterion)
+    (accepts (c.in_ok-number.ensures some_day) c.in_default.is))
 
 pub returns-clause-asked : goal.returns-clause-asked
 returns-clause-asked g c day =
-    let state = c.args.self.now.state in
-    let asks = action.SetCriterion c.args.criterion.now in
-    let sound : IsSound state = subst (λ (r : RegisterView _). IsSound r.state) c.self.view_is c.self.invariant.1 in
-    let told : judged state day asks ≡ Ok Accepted = answered _ _ (c.in_ok-number.ensures day) ∙ ap Ok c.in_default.is
-    in
-    let made = c.in_ok-table.ensures in
-    let table = made.ok ∙ ap (λ t. map.insert t c.args.criterion.now.name c.args.criterion.now)
-    (c.criteria.ensures.value ∙ ap (λ (r : RegisterView _). r.state.held.facts.criteria) c.self.view_is) in
-    let edit = subst (λ (r : RegisterView _). edited c.edit_of_criteria.result r.state.held.facts ≡ record
-    r.state.held.facts { criteria = c.in_ok-table.table })
-    c.self.view_is c.edit_of_criteria.ensures.edit in
-    let facts = edit ∙ (λ i. record {
-      criteria = table i;
-      entries = state.held.facts.entries;
-      peers = state.held.facts.peers;
-      publishers =
-          state.held.facts.publishers;
-    }) in
-    let fits = subst (λ (r : RegisterView _). Fits c.edit_of_criteria.result (held_room r).facts) c.self.view_is
-    c.edit_of_criteria.ensures.fits in
-    let held = ap (λ (r : RegisterView _). r.state.next_entry) c.self.view_is in
-    let next : c.self.inside.next_entry ≡ number_after state asks = omega (arith, held) in
-    effective _ _ _ _ _ told
-    (facts_effect _ _ asks state c.edit_of_criteria.result _ _ refl sound told tt facts refl refl refl refl refl
-    next fits (subst IsTable table made.table) sound.held.facts.publishers)
+    let criterion = c.args.criterion.now in
+    let facts = c.self.inside.held.facts.content in
+    let made = c.edit_of_criteria.ensures in
+    let table = c.in_ok-table.ensures.ok ∙ ap (λ t. map.insert t criterion.name criterion) c.criteria.ensures.value in
+    facts_asks_still c.self.view_is c.self.invariant.1 day (action.SetCriterion criterion) tt
+    (accepts (c.in_ok-number.ensures day) c.in_default.is) refl _ (made.edit ∙ λ i. record facts { criteria = table i })
+    (subst IsTable table c.in_ok-table.ensures.table) c.self.invariant.1.held.facts.publishers
+    _ _ refl refl (none_given refl) made.fits

@@ -1,55 +1,18 @@
-use Rattle.std.proofs.Common.{◌≡◌, ◌∙◌, ap, arith, refl, subst, Ok}
-use Rattle.std.proofs.lemmas.Result.{err_from_is_err_and}
-use Rattle.vet_entries.specs.Facts.{edited}
+use Rattle.std.proofs.Common.{◌∙◌, ap, refl}
 use Rattle.vet_entries.specs.HeldPeer.{with_settings}
 use Rattle.vet_register.specs.declared.command.Action.TheVariants as action
-use Rattle.vet_register.specs.declared.verdict.Answer.TheVariants.{Accepted}
-use Rattle.vet_register.specs.Held.{content_of}
-use Rattle.vet_register.specs.Machine.{number_after}
-use Rattle.vet_register.specs.RegisterView.{RegisterView}
-use Rattle.vet_register.specs.Sound.{IsSound}
-use Rattle.vet_register.specs.State.{State}
-use Rattle.vet_register.specs.Verdict.{judged}
-use Rattle.vet_register.proofs.Asking.{answered, facts_effect, effective, refused}
+use Rattle.vet_register.proofs.AskingEdits.{accepts, facts_asks, none_given, passed_on}
 use Rattle.vet_register.proofs.register.Register.set_peer.Goals as goal
 
 pub returns-in_err-number-clause-asked : goal.returns-in_err-number-clause-asked
-returns-in_err-number-clause-asked g c day =
-    let passed = err_from_is_err_and c.from_residual.result c.from_residual.ensures.1 in
-    rw (passed.1, passed.2) (refused _ _ _ _ _ (c.in_err-number.ensures day))
+returns-in_err-number-clause-asked g c day = passed_on _ _ _ _ _ _ c.from_residual.ensures.1 (c.in_err-number.ensures day)
 
 pub returns-clause-asked : goal.returns-clause-asked
 returns-clause-asked g c day =
-    let state = c.args.self.now.state in
-    let asks = action.SetPeer c.args.settings.now in
-    let sound : IsSound state = subst (λ (r : RegisterView _). IsSound r.state) c.self.view_is c.self.invariant.1 in
-    let told : judged state day asks ≡ Ok Accepted = answered _ _ (c.in_ok-number.ensures day) ∙ ap Ok c.in_default.is
-    in
+    let was = c.self.inside.held.facts.content in
+    let sound = c.self.invariant.1.held.facts in
     let set = c.in_ok-edit_of_settings.ensures in
-    let before : State = record {
-      held = content_of c.self.inside.held;
-      desk = c.self.inside.desk.content;
-      step = c.self.inside.step;
-      next_entry = c.self.inside.next_entry;
-      moves_limit = c.self.inside.moves_limit;
-      first = c.self.inside.first;
-      moves = c.self.inside.moves.items;
-    } in
-    let stays = (λ i. record before { held = record (content_of c.self.inside.held) { facts = set.content i } }) ∙ ap
-    (λ (r : RegisterView _). r.state) c.self.view_is in
-    let edit = subst (λ (r : RegisterView _). edited c.in_ok-edit_of_settings.field-0 r.state.held.facts
-    ≡ record r.state.held.facts { peers = with_settings c.in_ok-copy.copy r.state.held.facts.peers }) c.self.view_is
-    set.edit in
-    let same : c.in_ok-copy.copy ≡ c.args.settings.now = c.in_ok-copy.ensures.cases in
-    let facts = edit ∙ (λ i. record {
-      criteria = state.held.facts.criteria;
-      entries = state.held.facts.entries;
-      peers = with_settings (same i)
-          state.held.facts.peers;
-      publishers = state.held.facts.publishers;
-    }) in
-    let held = ap (λ (r : RegisterView _). r.state.next_entry) c.self.view_is in
-    let next : c.self.inside.next_entry ≡ number_after state asks = omega (arith, held) in
-    effective _ _ _ _ _ told
-    (facts_effect _ _ asks state c.in_ok-edit_of_settings.field-0 _ _ stays sound told tt facts refl refl refl
-    refl refl next set.fits sound.held.facts.criteria sound.held.facts.publishers)
+    facts_asks c.self.view_is c.self.invariant.1 day (action.SetPeer c.args.settings.now) tt
+    (accepts (c.in_ok-number.ensures day) c.in_default.is) refl _
+    (set.edit ∙ (λ i. record was { peers = with_settings (c.in_ok-copy.ensures.cases i) was.peers }))
+    sound.criteria sound.publishers _ _ _ _ _ set.content refl refl (none_given refl) set.fits

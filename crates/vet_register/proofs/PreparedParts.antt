@@ -1,0 +1,53 @@
+-- What the parts of a preparation leave, one after the other.
+use Rattle.std.proofs.Common.{◌≡◌, ap, subst, ◌∙◌, Ok}
+use Rattle.vet_graph.specs.Keeping.{Keeping}
+use Rattle.vet_register.specs.declared.command.Command.{Command}
+use Rattle.vet_register.specs.declared.edits.Asked.{Asked}
+use Rattle.vet_register.specs.declared.edits.Asked.TheVariants as asked
+use Rattle.vet_register.specs.declared.edits.Effect.{Effect}
+use Rattle.vet_register.specs.declared.verdict.Answer.TheVariants.{Accepted}
+use Rattle.vet_register.specs.Held.{HeldEditsFit}
+use Rattle.vet_register.specs.RegisterView.{Asks, IsEffect, KeepsPrepared, KeepsReady, KeepsRoom, RegisterView}
+use Rattle.vet_register.specs.State.{State}
+use Rattle.vet_register.specs.Verdict.{judged}
+use Rattle.vet_register.proofs.Asking.{accepted}
+use Rattle.vet_register.proofs.AskingDesk.{room_onward}
+use Rattle.vet_register.proofs.Prepared.{prepared_stays, same_keeper}
+
+-- a command that has an effect was accepted
+pub effect_of : {K : Type 0} {r : RegisterView K} (s : State) (c : Command) {x : Asked} {e : Effect}
+    → x ≡ asked.Effect e → Asks s r c.day c.action (judged s c.day c.action) (Ok x)
+    → (judged s c.day c.action ≡ Ok Accepted) × IsEffect r c.day c.action e
+effect_of {r = r} s c {x = x} {e = e} is asks =
+    accepted r c.day c.action s (judged s c.day c.action) e
+    (subst (Asks s r c.day c.action (judged s c.day c.action)) (ap Ok is) asks)
+
+-- no room is lost by three things, one after another, that each lose none
+pub rooms_onward : {K : Type 0} (a b c d : RegisterView K) → KeepsRoom a b → KeepsRoom b c → KeepsRoom c d → KeepsRoom a d
+rooms_onward a b c d h k l = room_onward a c d (room_onward a b c h k) l
+
+module _ (law : HeldEditsFit) {K U : Type 0} (keeping : Keeping K U) (old first : RegisterView K)
+    (state : first.state ≡ old.state) (keeper : first.keeper ≡ old.keeper) (room : KeepsRoom old first) where
+  -- what was prepared before stays so by the first part
+  pub asked_stays : KeepsPrepared keeping old first
+  asked_stays = prepared_stays law keeping old first state (same_keeper keeping old first keeper) room
+
+  module _ (second : RegisterView K) (further : second.state ≡ first.state) (ready : KeepsReady keeping first second)
+      (more : KeepsRoom first second) where
+    room_stays : KeepsRoom old second
+    room_stays = room_onward old first second room more
+
+    still_ready : KeepsReady keeping old second
+    still_ready u h = ready u (same_keeper keeping old first keeper u h)
+
+    -- by a second
+    pub planned_stays : KeepsPrepared keeping old second
+    planned_stays = prepared_stays law keeping old second (further ∙ state) still_ready room_stays
+
+    module _ (third : RegisterView K) (last : third.state ≡ second.state) (same : third.keeper ≡ second.keeper)
+        (most : KeepsRoom second third) where
+      -- and by a third
+      pub changed_stays : KeepsPrepared keeping old third
+      changed_stays = prepared_stays law keeping old third (last ∙ further ∙ state)
+          (λ u h. same_keeper keeping second third same u (still_ready u h))
+          (rooms_onward old first second third room more most)
