@@ -27,6 +27,7 @@ pub mod Rising
 pub mod SameKeys
 pub mod SemverErrors
 pub mod SetsByKey
+pub mod SetsGrown
 pub mod Tables
 pub mod Telling
 pub mod VersionBytes

@@ -1,23 +1,13 @@
-use Rattle.std.proofs.Common.{ap, subst, sym, ◌∙◌}
-use Rattle.std.specs.FinSet as set
-use Rattle.std.proofs.lemmas.Cmp.{nat_list_cmp_total}
-use Rattle.vet_base.specs.Names.{IsRising}
-use Rattle.vet_base.proofs.KeyedLemmas.{IsByKey-with_item}
-use Rattle.vet_base.proofs.Rising.{R, only_equal}
-use Rattle.vet_base.proofs.SetsByKey.{contains_is, from_list-with_item, own}
+use Rattle.std.proofs.Common.{◌∙◌}
+use Rattle.vet_base.proofs.SetsByKey.{contains_is}
+use Rattle.vet_base.proofs.SetsGrown.{set_grown, still_rising}
 use Rattle.vet_base.proofs.texts.Texts.insert.Goals as goal
 
-pub returns-in_err-insert-clause-held : goal.returns-in_err-insert-clause-held
-returns-in_err-insert-clause-held c held =
-    cc (c.in_err-insert.ensures.held
-    (contains_is c.self.inside.texts.items c.args.self.now c.args.text c.self.view_is ∙ held))
-
 pub invariant_of-self-2 : goal.invariant_of-self-2
-invariant_of-self-2 c =
-    subst IsRising (sym c.in_ok-insert.ensures.ok)
-    (IsByKey-with_item R nat_list_cmp_total only_equal own c.self.inside.texts.items c.args.text c.self.invariant)
+invariant_of-self-2 c = still_rising _ _ _ c.in_ok-insert.ensures.ok c.self.invariant
 
 pub returns-clause-ok : goal.returns-clause-ok
-returns-clause-ok c =
-    ap set.from_list c.in_ok-insert.ensures.ok ∙ from_list-with_item c.self.inside.texts.items c.args.text
-    ∙ ap (λ s. set.insert s c.args.text) c.self.view_is
+returns-clause-ok c = set_grown _ _ _ c.in_ok-insert.ensures.ok _ c.self.view_is
+
+pub returns-in_err-insert-clause-held : goal.returns-in_err-insert-clause-held
+returns-in_err-insert-clause-held c held = cc (c.in_err-insert.ensures.held (contains_is _ _ _ c.self.view_is ∙ held))
