@@ -1,6 +1,7 @@
 pub mod ByNumber
 pub mod ByPackage
 pub mod Edits
+pub mod EntriesBack
 pub mod Firsts
 pub mod Gathered
 pub mod ImportCompared
@@ -10,6 +11,7 @@ pub mod JoinedWords
 pub mod Judging
 pub mod MappedCriteria
 pub mod MappedNames
+pub mod NumberAmong
 pub mod NumberPlaces
 pub mod Numbers
 pub mod PeerLaws

@@ -8,16 +8,6 @@ use Rattle.vet_entries.proofs.JoinedWords.{of_all, of_more, of_none}
 use Rattle.vet_entries.proofs.MappedNames.{has-all_mapped}
 use Rattle.vet_entries.proofs.local_criteria.mapped_set.Goals as goal
 
-pub loop-name-init : goal.loop-name-init
-loop-name-init c = of_none c.empty-set.result c.empty-set.ensures
-
-pub loop-name-preserved : goal.loop-name-preserved
-loop-name-preserved c =
-    of_more (λ n. placed c.args.criteria.now (mapped_name c.args.map.now n)) c.as_slice-name-items.result.now
-    c.loop-name.name-index c.name-item.result c.loop-name.set c.union-set.result
-    c.loop-name-test.true c.name-item.is c.loop-name.invariant
-    (c.union-set.ensures ∙ ap (set.union c.loop-name.set) c.word.ensures)
-
 pub returns : goal.returns
 returns c =
     let table = c.args.criteria.now in
@@ -27,3 +17,13 @@ returns c =
     c.loop-name.name-index c.loop-name.set
     c.loop-name-test.false c.as_slice-name-items.ensures.members c.loop-name.invariant q
     ∙ sym (has-all_mapped table m names q))
+
+pub loop-name-init : goal.loop-name-init
+loop-name-init c = of_none c.empty-set.result c.empty-set.ensures
+
+pub loop-name-preserved : goal.loop-name-preserved
+loop-name-preserved c =
+    of_more (λ n. placed c.args.criteria.now (mapped_name c.args.map.now n)) c.as_slice-name-items.result.now
+    c.loop-name.name-index c.name-item.result c.loop-name.set c.union-set.result
+    c.loop-name-test.true c.name-item.is c.loop-name.invariant
+    (c.union-set.ensures ∙ ap (set.union c.loop-name.set) c.word.ensures)

@@ -8,15 +8,15 @@ use Rattle.vet_entries.proofs.JoinedWords.{of_all, of_more, of_none}
 use Rattle.vet_entries.proofs.PeerWords.{has-all_beyond}
 use Rattle.vet_entries.proofs.local_criteria.words_beyond.Goals as goal
 
-pub loop-name-init : goal.loop-name-init
-loop-name-init c = of_none c.empty-set.result c.empty-set.ensures
-
 pub loop-name-preserved : goal.loop-name-preserved
 loop-name-preserved c =
     of_more (λ n. placed c.args.criteria.now (mapped_beyond c.args.definitions.now c.args.map.now n))
     c.as_slice-name-items.result.now c.loop-name.name-index c.name-item.result c.loop-name.set c.union-set.result
     c.loop-name-test.true c.name-item.is c.loop-name.invariant
     (c.union-set.ensures ∙ ap (set.union c.loop-name.set) c.word_beyond.ensures)
+
+pub loop-name-init : goal.loop-name-init
+loop-name-init c = of_none c.empty-set.result c.empty-set.ensures
 
 pub returns : goal.returns
 returns c =

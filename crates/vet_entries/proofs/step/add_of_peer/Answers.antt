@@ -1,9 +1,10 @@
-use Rattle.std.proofs.Common.{◌≡◌, ◌<◌, ◌++◌, Some, length, get_or, refl, sym, ap, ◌∙◌, arith}
+use Rattle.std.proofs.Common.{◌≡◌, ◌++◌, Some, length, get_or, refl, sym, ap, ◌∙◌}
 use Rattle.std.proofs.lemmas.List.{get_or_default, take_all}
 use Rattle.std.proofs.lemmas.Option.{slice_get_read}
 use Rattle.vet_entries.specs.Source.{sourced_at}
 use Rattle.vet_entries.specs.Step.{taken_from}
 use Rattle.vet_entries.specs.Taken.{HasPeer, all_sourced}
+use Rattle.vet_entries.proofs.NumberAmong.{within_same}
 use Rattle.vet_entries.proofs.Sourcing.{All-push, one_more_sourced}
 use Rattle.vet_entries.proofs.step.add_of_peer.Goals as goal
 
@@ -15,12 +16,8 @@ loop-place-preserved c =
     let entries = c.entries-entries.result.now in
     let places = c.places_taken-place-items.result.now in
     let i = c.loop-place.place-index in
-    let within : get_or places i 0 < length entries =
-    omega (
-      arith,
-      c.places_taken-place-items.ensures.within i 0 c.loop-place-test.true,
-      ap length c.entries-entries.ensures.value,
-    ) in
+    let within = within_same (get_or places i 0) entries _
+    (c.places_taken-place-items.ensures.within i 0 c.loop-place-test.true) c.entries-entries.ensures.value in
     record {
       entries = λ d. one_more_sourced peers (Some (get_or peers at d)) entries places i c.index-entries-place.result
           (all_sourced peers c.args.taken.now.items) c.loop-place.taken.items c.push.new.self.items _

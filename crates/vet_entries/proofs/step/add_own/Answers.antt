@@ -1,5 +1,6 @@
-use Rattle.std.proofs.Common.{◌<◌, None, length, get_or, refl, ap, arith}
+use Rattle.std.proofs.Common.{None, get_or, refl}
 use Rattle.vet_entries.specs.Taken.{HasPeer, all_sourced}
+use Rattle.vet_entries.proofs.NumberAmong.{within_same}
 use Rattle.vet_entries.proofs.Sourcing.{All-push, one_more_sourced}
 use Rattle.vet_entries.proofs.step.add_own.Goals as goal
 
@@ -10,12 +11,8 @@ loop-place-preserved c =
     let places = c.places_of-place-items.result.now in
     let i = c.loop-place.place-index in
     let x = c.index-entries-place.result in
-    let within : get_or places i 0 < length entries =
-    omega (
-      arith,
-      c.places_of-place-items.ensures.within i 0 c.loop-place-test.true,
-      ap length c.entries-entries.ensures.value,
-    ) in
+    let within = within_same (get_or places i 0) entries _
+    (c.places_of-place-items.ensures.within i 0 c.loop-place-test.true) c.entries-entries.ensures.value in
     record {
       entries = one_more_sourced content.peers None entries places i x
           (all_sourced content.peers c.args.taken.now.items) c.loop-place.taken.items c.push.new.self.items _

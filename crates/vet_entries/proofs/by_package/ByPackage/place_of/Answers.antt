@@ -17,9 +17,8 @@ returns-in-Ok c =
 
 pub returns-in-Err : goal.returns-in-Err
 returns-in-Err c =
-    let n = c.args.number in
     let held = c.deref.ensures.value in
-    let at = c.in-Err.ensures.position (λ (h : HeldEntry). nat_cmp h.number n)
+    let at = c.in-Err.ensures.position (λ (h : HeldEntry). nat_cmp h.number c.args.number)
     (always_returns_same _ _ _ (λ a r f k. search rules)) in
-    sym (ap (λ es. place_of es n) (sym (held ∙ ap (λ b. b.entries) c.self.view_is))
-    ∙ no_place c.deref.result.now n c.in-Err.field-0 (rw held c.self.invariant.1) at)
+    sym (ap (λ es. place_of es c.args.number) (sym (held ∙ ap (λ b. b.entries) c.self.view_is))
+    ∙ no_place c.deref.result.now c.args.number c.in-Err.field-0 (rw held c.self.invariant.1) at)

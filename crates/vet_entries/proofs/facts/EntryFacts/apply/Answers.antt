@@ -3,9 +3,9 @@ use Rattle.std.specs.List.{insert, remove}
 use Rattle.std.proofs.lemmas.List.Edits.{length-remove}
 use Rattle.vet_entries.specs.HeldPeer.{holding_or_none, peer_of}
 use Rattle.vet_entries.proofs.PeerLaws.{found_own}
-use Rattle.vet_entries.specs.Facts.{Facts}
 use Rattle.vet_base.proofs.ListLemmas.{remove-insert}
 use Rattle.vet_entries.proofs.Edits.{insert-remove}
+use Rattle.vet_entries.proofs.EntriesBack.{entries_back}
 use Rattle.vet_entries.proofs.facts.EntryFacts.apply.Goals as goal
 
 pub returns-in-Insert-clause-back : goal.returns-in-Insert-clause-back
@@ -14,31 +14,9 @@ returns-in-Insert-clause-back c =
     let items = c.self.inside.entries.entries in
     let fits = rw c.in-Insert.is at c.requires in
     let held : items ≡ c.args.self.now.content.entries = ap (λ f. f.content.entries) c.self.view_is in
-    let undone = ap (λ es. remove es place) c.insert.ensures.entries ∙ remove-insert items place c.in-Insert.held
-    (omega (arith, fits.0, ap length held)) in
-    let back : ◌≡◌ {A = Facts}
-    (record {
-      criteria = c.self.inside.criteria;
-      entries = remove c.insert.new.self.entries place;
-      peers =
-          c.self.inside.peers.items;
-      publishers = c.self.inside.publishers.items;
-    })
-    (record {
-      criteria = c.self.inside.criteria;
-      entries = items;
-      peers = c.self.inside.peers.items;
-      publishers =
-          c.self.inside.publishers.items;
-    }) =
-    λ i. record {
-      criteria = c.self.inside.criteria;
-      entries = undone i;
-      peers = c.self.inside.peers.items;
-      publishers =
-          c.self.inside.publishers.items;
-    } in
-    back ∙ ap (λ f. f.content) c.self.view_is
+    entries_back _ _ (remove c.insert.new.self.entries place) c.self.view_is
+    (ap (λ es. remove es place) c.insert.ensures.entries ∙ remove-insert items place c.in-Insert.held
+    (omega (arith, fits.0, ap length held)))
 
 pub returns-in-Remove-clause-back : goal.returns-in-Remove-clause-back
 returns-in-Remove-clause-back c =
@@ -46,30 +24,9 @@ returns-in-Remove-clause-back c =
     let items = c.self.inside.entries.entries in
     let fits : place < length c.args.self.now.content.entries = rw c.in-Remove.is at c.requires in
     let held : items ≡ c.args.self.now.content.entries = ap (λ f. f.content.entries) c.self.view_is in
-    let undone = ap (λ es. insert es place c.remove.result) c.remove.ensures.entries
-    ∙ insert-remove items place c.remove.result (omega (arith, fits, ap length held)) c.remove.ensures.value in
-    let back : ◌≡◌ {A = Facts}
-    (record {
-      criteria = c.self.inside.criteria;
-      entries = insert c.remove.new.self.entries place c.remove.result;
-      peers = c.self.inside.peers.items;
-      publishers = c.self.inside.publishers.items;
-    })
-    (record {
-      criteria = c.self.inside.criteria;
-      entries = items;
-      peers = c.self.inside.peers.items;
-      publishers =
-          c.self.inside.publishers.items;
-    }) =
-    λ i. record {
-      criteria = c.self.inside.criteria;
-      entries = undone i;
-      peers = c.self.inside.peers.items;
-      publishers =
-          c.self.inside.publishers.items;
-    } in
-    back ∙ ap (λ f. f.content) c.self.view_is
+    entries_back _ _ (insert c.remove.new.self.entries place c.remove.result) c.self.view_is
+    (ap (λ es. insert es place c.remove.result) c.remove.ensures.entries
+    ∙ insert-remove items place c.remove.result (omega (arith, fits, ap length held)) c.remove.ensures.value)
 
 pub returns-in-Remove-clause-fits : goal.returns-in-Remove-clause-fits
 returns-in-Remove-clause-fits c =
