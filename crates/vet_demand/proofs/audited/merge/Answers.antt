@@ -60,14 +60,14 @@ returns-clause-ok c =
     let second_past : length (audited_list s) ≤ c.nodes.at.second =
     omega (
       arith,
-      c.nodes-test.false,
-      c.nodes.invariant.within_first,
-      c.len.ensures,
-      c.len-2.ensures,
-      long,
-      other,
       f.nodes.ok,
       s.nodes.ok,
+      long,
+      other,
+      c.nodes.invariant.within_first,
+      c.nodes-test.false,
+      c.len.ensures,
+      c.len-2.ensures,
     ) in
     merging_all (audited_list f) (audited_list s) c.nodes.at.first c.nodes.at.second (audited_list c.nodes.all)
     first_past second_past c.nodes.invariant.merging

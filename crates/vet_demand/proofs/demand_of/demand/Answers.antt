@@ -32,14 +32,6 @@ returns-clause-least c =
 
 pub returns-clause-value : goal.returns-clause-value
 returns-clause-value c =
-    let projects = c.args.projects.now in
-    let policies = c.args.policies.now.items in
-    let criteria = c.args.criteria.now in
     let terms = c.in_ok-terms.ensures in
-    let least = least_demand projects policies criteria c.in_ok-terms.terms.names.now
-    (audited_list c.in_ok-audited.audited) c.in_ok-pairs.pairs.items
-    (terms.terms.names ∙ ap map.keys terms.criteria)
-    (rw (terms.policies, terms.criteria) at c.in_ok-audited.ensures.ok)
-    c.in_ok-pairs.ensures.in_order c.in_ok-pairs.ensures.same in
-    c.in_order.ensures ∙ least_is_demand projects policies criteria c.in_ok-pairs.pairs.items
-    (subst IsTable terms.criteria terms.terms.table) c.requires.known least
+    least_is_demand c.args.projects.now c.args.policies.now.items c.args.criteria.now c.in_order.result
+    (subst IsTable terms.criteria terms.terms.table) c.requires.known (returns-clause-least c)

@@ -29,11 +29,10 @@ returns-in-Err c =
     let key : PolicyKey = record { «package» = c.args.«package».now; version = option_copied c.args.version } in
     let items = c.args.policies.now.items in
     let value = c.items-held.ensures.value in
-    let e = c.in-Err.ensures in
-    let at = e.position (λ (p : KeyedPolicy). policy_key_cmp p.key key)
+    let at = c.in-Err.ensures.position (λ (p : KeyedPolicy). policy_key_cmp p.key key)
     (always_returns_same _ _ _ (λ a r f k. search rules)) in
     let place = place_found policy_key_cmp policy_key_total policy_key_cmp-IsAntisymmetric key_of items key
-    (Err c.in-Err.field-0) c.items-held.ensures.by_key (rw value at e.bound) (rw value at at) in
+    (Err c.in-Err.field-0) c.items-held.ensures.by_key (rw value at c.in-Err.ensures.bound) (rw value at at) in
     sym (ap (option_map (λ (p : KeyedPolicy). p.policy))
     (no_item policy_key_cmp policy_key_total policy_key_cmp-IsAntisymmetric key_of items key
     c.in-Err.field-0 place))
