@@ -9,6 +9,7 @@ use Rattle.std.proofs.lemmas.List.{get_or-map, length-map}
 use Rattle.std.proofs.lemmas.List.Elements.{All-head, All-tail}
 use Rattle.std.proofs.lemmas.List.Sorted.{searchable_from_sorted}
 use Rattle.std.proofs.lemmas.Bool.{cases_lt}
+use Rattle.vet_base.specs.Version.{VersionValue}
 use Rattle.vet_demand.specs.declared.pair.Pair.{Pair}
 use Rattle.vet_demand.specs.Pair.{pair_cmp, pair_eq}
 use Rattle.vet_demand.specs.PairLaws.{pair_cmp-IsAntisymmetric, pair_total}
@@ -46,6 +47,10 @@ rises standing h k d _ m =
     let at_high = get_or-map (λ (s : Stand). s.pair) standing (k + 1) d d.pair m in
     not_below (get_or standing k d).pair (get_or standing (k + 1) d).pair
     (rw (at_low, at_high) at (h k (k + 1) d.pair (omega arith) (rw length-map m)))
+
+-- the pair that is asked for
+abbrev pub pair_asked : List ℕ → VersionValue → List ℕ → Pair
+pair_asked name version criterion = record { «package» = name; version = version; criterion = criterion }
 
 -- the class that a search tells
 pub searched : (standing : List Stand) (p : Pair) (r : Result ℕ ℕ) → IsStanding standing

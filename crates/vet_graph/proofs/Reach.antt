@@ -21,6 +21,7 @@ use Rattle.vet_base.specs.VersionOrderLaws.{version_eq-Decides}
 use Rattle.vet_graph.specs.declared.guarded.GuardedStep.{GuardedStep}
 use Rattle.vet_graph.specs.declared.search.Terms.{Terms}
 use Rattle.vet_graph.specs.Chain.{Leads}
+use Rattle.vet_demand.proofs.Lists.{Contains-kept}
 use Rattle.vet_graph.specs.ListLaws.{Contains-map}
 use Rattle.vet_base.proofs.ItemLemmas.{pairs_head, pairs_tail}
 use Rattle.vet_base.proofs.ListLemmas.{Contains-cons_cases, Contains-here, Contains-later}
@@ -209,17 +210,6 @@ pub versions-kept : (steps : List GuardedStep) (old new : List ℕ) → take (le
     → take (length (versions_at steps old)) (versions_at steps new) ≡ versions_at steps old
 versions-kept steps old new kept = rw length-map
     (take-map (version_at steps) (length old) new ∙ ap (versions_at steps) kept)
-
--- what was reached stays reached
-pub Contains-kept : {X : Type 0} (old new : List X) (v : X) → take (length old) new ≡ old → Contains old v
-    → Contains new v
-Contains-kept old new v kept h =
-    let long : length old ≤ length new = omega (arith, length-take (length old) new, ap length kept) in (
-      h.0,
-      omega (arith, h.1, long),
-      sym (get_or-take (length old) new h.0 v h.1) ∙ ap (λ xs. get_or xs h.0 v) kept
-          ∙ h.2,
-    )
 
 pub LeadsFrom-kept : (open_step : GuardedStep → Bool) (old new : List VersionValue) (at : Option VersionValue)
     (s : GuardedStep) → take (length old) new ≡ old → LeadsFrom open_step old at s → LeadsFrom open_step new at s
