@@ -1,5 +1,6 @@
 -- The criteria of a table beside the built-in ones: in what order they stand, and that they define it again.
-use Rattle.std.proofs.Common.{◌≡◌, ℕ, ◌<◌, ◌≤◌, ◌⊎◌, Err, Bool, true, false, cond, not, ◌||◌, List, [], ◌∷◌, get_or, length, map as mapped}
+use Rattle.std.proofs.Common.{◌≡◌, ℕ, ◌<◌, ◌≤◌, ◌⊎◌, Err, Bool, true, false, cond, not, ◌||◌, List, [], ◌∷◌, get_or}
+use Rattle.std.proofs.Common.{length, map as mapped}
 use Rattle.std.proofs.Common.{Option, Some, None, Less, refl, sym, ap, subst, ◌∙◌, arith, inl, inr}
 use Rattle.std.specs.Cmp.{tied_itself}
 use Rattle.std.specs.Cmp.Lexicographic.{bytes_decides, pointwise}
@@ -183,15 +184,16 @@ module _ (table : Criteria) (is : IsTable table) where
   known_each c i =
       least_none table c.implies
       (λ n held. is.known c.name n
-      (ap (λ o. set.contains (option_map_or (λ (d : Criterion). d.implies) o set.empty) n) (in_further table is.named c i)
+      (ap (λ o. set.contains (option_map_or (λ (d : Criterion). d.implies) o set.empty) n)
+      (in_further table is.named c i)
       ∙ held))
 
   least : (cs : List Criterion) → ((c : Criterion) → IsIn c cs → least_implied (map.contains_key table) c ≡ None)
       → least_undefined (map.contains_key table) cs ≡ None
   least [] h = refl
   least (c ∷ cs) h =
-      ap (λ o. fold (λ (found : Option Name) (d : Criterion). lesser found (least_implied (map.contains_key table) d)) o cs)
-      (h c (inl refl))
+      ap (λ o. fold (λ (found : Option Name) (d : Criterion). lesser found (least_implied (map.contains_key table) d))
+      o cs) (h c (inl refl))
       ∙ least cs (λ d i. h d (inr i))
 
   abbrev told_with : Criteria → List Criterion → Told Criteria

@@ -1,11 +1,13 @@
 -- Items that are set one after another, in whatever order, are those in the order of their keys.
-use Rattle.std.proofs.Common.{◌≡◌, ◌⊎◌, List, [], ◌∷◌, ◌++◌, refl, sym, ap, ◌∙◌, inl, inr, Ordering, Less, Equal, Greater}
+use Rattle.std.proofs.Common.{◌≡◌, ◌⊎◌, List, [], ◌∷◌, ◌++◌, refl, sym, ap, ◌∙◌, inl, inr, Ordering, Less}
+use Rattle.std.proofs.Common.{Equal, Greater}
 use Rattle.std.specs.Cmp.{IsTotalOrder, tied_itself}
 use Rattle.std.specs.List.{filter}
 use Rattle.std.specs.Ordering.{is_gt, is_lt, ordering_reverse}
 use Rattle.vet_base.specs.Items.{IsIn, SameItems}
 use Rattle.vet_base.specs.Keyed.{IsByKey, all_set, is_before, is_behind, with_item}
-use Rattle.vet_base.proofs.ItemLemmas.{filter_in, in_all, in_append, in_back, in_filter, in_front, pairs_head, pairs_none}
+use Rattle.vet_base.proofs.ItemLemmas.{filter_in, in_all, in_append, in_back, in_filter, in_front}
+use Rattle.vet_base.proofs.ItemLemmas.{pairs_head, pairs_none}
 use Rattle.vet_base.proofs.ItemLemmas.{pairs_tail}
 use Rattle.vet_base.proofs.KeyedLemmas.{IsByKey-all_set}
 

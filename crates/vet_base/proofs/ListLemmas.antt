@@ -56,7 +56,8 @@ partition_sides F G xs i within parts = (
       rw (get_or-drop i xs k d) (parts.1 (i + k) d (omega arith) inside)),
 )
 
-filter_sides : {X : Type 0} (p : X → Bool) (xs : List X) (i : ℕ) → filter p xs ≡ filter p (take i xs) ++ filter p (drop i xs)
+filter_sides : {X : Type 0} (p : X → Bool) (xs : List X) (i : ℕ)
+    → filter p xs ≡ filter p (take i xs) ++ filter p (drop i xs)
 filter_sides p xs i = ap (filter p) (sym (take-append-drop i xs)) ∙ filter-append p (take i xs) (drop i xs)
 
 pub kept_front : {X : Type 0} (p : X → Bool) (xs : List X) (i : ℕ) → i ≤ length xs

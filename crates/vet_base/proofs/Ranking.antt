@@ -1,5 +1,6 @@
 -- Values in an order in which different ones may tie.
-use Rattle.std.proofs.Common.{◌≡◌, ℕ, zero, suc, ◌+◌, ◌-◌, ◌<◌, ◌≤◌, List, [], ◌∷◌, true, false, get_or, length, refl, sym}
+use Rattle.std.proofs.Common.{◌≡◌, ℕ, zero, suc, ◌+◌, ◌-◌, ◌<◌, ◌≤◌, List, [], ◌∷◌, true, false, get_or, length}
+use Rattle.std.proofs.Common.{refl, sym}
 use Rattle.std.proofs.Common.{ap, subst, ◌∙◌, inl, inr, Ordering, Less, Equal, Greater, arith}
 use Rattle.std.specs.Cmp.{Equal-is, IsTotalOrder, eq_by_cmp_equiv, tied_itself}
 use Rattle.std.specs.List.{AllAdjacentBelow, Contains, dedup}
@@ -68,10 +69,13 @@ module _ {E : Type 0} (cmp : E → E → Ordering) (total : IsTotalOrder cmp) wh
   one_of_ties [] up x y none there tie = absurd none
   one_of_ties (z ∷ zs) up x y (inl here) (inl there) tie = here ∙ sym there
   one_of_ties (z ∷ zs) up x y (inl here) (inr later) tie =
-      absurd (no_tie x y tie (subst (λ a. cmp a y ≡ Less) (sym here) (in_all (Rises z) zs (pairs_head Rises z zs up) y later)))
+      absurd (no_tie x y tie (subst (λ a. cmp a y ≡ Less) (sym here)
+      (in_all (Rises z) zs (pairs_head Rises z zs up) y later)))
   one_of_ties (z ∷ zs) up x y (inr later) (inl there) tie =
-      absurd (no_tie_back x y tie (subst (λ a. cmp a x ≡ Less) (sym there) (in_all (Rises z) zs (pairs_head Rises z zs up) x later)))
-  one_of_ties (z ∷ zs) up x y (inr first) (inr second) tie = one_of_ties zs (pairs_tail Rises z zs up) x y first second tie
+      absurd (no_tie_back x y tie (subst (λ a. cmp a x ≡ Less) (sym there)
+      (in_all (Rises z) zs (pairs_head Rises z zs up) x later)))
+  one_of_ties (z ∷ zs) up x y (inr first) (inr second) tie =
+      one_of_ties zs (pairs_tail Rises z zs up) x y first second tie
 
   -- ---- values that are sorted, one of those that tie
 
@@ -93,7 +97,8 @@ module _ {E : Type 0} (cmp : E → E → Ordering) (total : IsTotalOrder cmp) wh
 
       back : (x : E) → Contains list x → Contains (dedup (eq_by_cmp cmp) sorted) x
       back x held =
-          let among = Contains-permutation values sorted x moved (in_place values x (same.1 x (place_in list x held))) in
+          let among = Contains-permutation values sorted x moved
+          (in_place values x (same.1 x (place_in list x held))) in
           let kept = Any-dedup (eq_by_cmp_equiv total) sorted x among in
           let same_one = one_of_ties list ranked x kept.1 (place_in list x held)
           (place_in list kept.1 (there kept.1 (kept.0, kept.2, kept.3))) ((Equal-is (cmp x kept.1)).0 kept.4) in
@@ -114,7 +119,8 @@ module _ {E : Type 0} (cmp : E → E → Ordering) (total : IsTotalOrder cmp) wh
   pub one_more : (xs : List E) (place : ℕ) (x y : E) → AllAdjacentBelow Rises xs place → 1 ≤ place → place < length xs
       → x ≡ get_or xs (place - 1) x → y ≡ get_or xs place y → cmp x y ≡ Less → AllAdjacentBelow Rises xs (place + 1)
   one_more xs place x y so_far some within is_x is_y up = all_adjacent_more xs Rises place (omega (arith, some)) so_far
-      (λ d. subst (λ z. cmp z (get_or xs place d) ≡ Less) (get_or_read xs (place - 1) x (omega (arith, some, within)) is_x d)
+      (λ d. subst (λ z. cmp z (get_or xs place d) ≡ Less)
+      (get_or_read xs (place - 1) x (omega (arith, some, within)) is_x d)
       (subst (λ z. cmp x z ≡ Less) (get_or_read xs place y within is_y d) up))
 
   pub not_ranked : (xs : List E) (place : ℕ) (x y : E) → 1 ≤ place → place < length xs → x ≡ get_or xs (place - 1) x

@@ -1,6 +1,7 @@
 -- A version's text is read as that version.
 use Rattle.std.proofs.Common.{◌≡◌, ◌⊎◌, ℕ, suc, ◌+◌, ◌<◌, ◌≤◌, ◌==◌, ◌&&◌, nat_lt, true, false, List, [], ◌∷◌, ◌++◌}
-use Rattle.std.proofs.Common.{length, map, drop, get_or, Some, None, Result, Ok, Err, option_map, nat_eq, refl, sym, ap, ◌∙◌}
+use Rattle.std.proofs.Common.{length, map, drop, get_or, Some, None, Result, Ok, Err, option_map, nat_eq, refl, sym}
+use Rattle.std.proofs.Common.{ap, ◌∙◌}
 use Rattle.std.proofs.Common.{arith, inl, inr}
 use Rattle.std.proofs.lemmas.Bool.{cases_Bool, and_parts, eqb-true}
 use Rattle.std.proofs.lemmas.Bool.Decides.{nat_tests}

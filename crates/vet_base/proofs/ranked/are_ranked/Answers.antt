@@ -14,7 +14,8 @@ returns-then-is_ge g c =
       λ never. absurd (false≢true never),
       λ ranked. absurd (not_ranked cmp g.T.Ranked.rank_total c.args.values.now c.pairs.place x y c.pairs.auto.place
           c.pairs-test.true c.index-values-place.is c.index-values-place-in-pairs.is
-          (λ up. at_least cmp g.T.Ranked.rank_total c.cmp_rank.result (sym c.is_ge.ensures ∙ c.if-is_ge.true) (c.cmp_rank.ensures ∙ up)) ranked),
+          (λ up. at_least cmp g.T.Ranked.rank_total c.cmp_rank.result (sym c.is_ge.ensures ∙ c.if-is_ge.true)
+          (c.cmp_rank.ensures ∙ up)) ranked),
     )
 
 pub pairs-preserved : goal.pairs-preserved
@@ -24,7 +25,8 @@ pairs-preserved g c =
     let y = c.index-values-place-in-pairs.result in
     one_more cmp g.T.Ranked.rank_total c.args.values.now c.pairs.place x y c.pairs.invariant c.pairs.auto.place
     c.pairs-test.true c.index-values-place.is c.index-values-place-in-pairs.is
-    (sym c.cmp_rank.ensures ∙ below cmp g.T.Ranked.rank_total c.cmp_rank.result (sym c.is_ge.ensures ∙ c.if-is_ge.false))
+    (sym c.cmp_rank.ensures
+    ∙ below cmp g.T.Ranked.rank_total c.cmp_rank.result (sym c.is_ge.ensures ∙ c.if-is_ge.false))
 
 pub returns : goal.returns
 returns g c = (

@@ -40,8 +40,8 @@ loop-name-preserved c =
     ] in
     let here : map.contains_key (map.insert table own.name own) (get_or (members own.implies) i []) ≡ true =
     ap (map.contains_key (map.insert table own.name own)) at.1 ∙ key-insert table own x ∙ held in
-    below_more (λ k. map.contains_key (map.insert table own.name own) (get_or (members own.implies) k []) ≡ true) i c.loop-name.invariant
-    here
+    below_more (λ k. map.contains_key (map.insert table own.name own) (get_or (members own.implies) k []) ≡ true) i
+    c.loop-name.invariant here
 
 pub returns : goal.returns
 returns c =

@@ -7,7 +7,8 @@ use Rattle.vet_base.proofs.day.Day.of_number.Goals as goal
 
 pub from_date-requires : goal.from_date-requires
 from_date-requires c =
-    year_from_0 c.in-Ok.date (omega (arith, signed_arith, c.in-Ok.ensures.value, c.if-number-from.false, c.from.ensures))
+    year_from_0 c.in-Ok.date
+    (omega (arith, signed_arith, c.in-Ok.ensures.value, c.if-number-from.false, c.from.ensures))
 
 pub returns-then-number-from-clause-only : goal.returns-then-number-from-clause-only
 returns-then-number-from-clause-only c d is e =
