@@ -6,7 +6,8 @@ ghost use Rattle.std.specs.Ordering.{as_partial_cmp};
 ghost use Rattle.vet_demand.specs.Project.{AreInEdgeOrder, AreInNodeOrder, IsProject, IsWithin, edge_cmp};
 ghost use Rattle.vet_demand.specs.Project.{edge_eq, kind_eq, kind_place, node_cmp, node_eq};
 ghost use Rattle.vet_demand.specs.Project.{party_eq, party_place, project_eq};
-ghost use Rattle.vet_demand.specs.ProjectLaws.{edge_total, kind_eq-Decides, node_eq-Decides, node_total, party_eq-Decides};
+ghost use Rattle.vet_demand.specs.ProjectLaws.{edge_total, kind_eq-Decides, node_eq-Decides};
+ghost use Rattle.vet_demand.specs.ProjectLaws.{node_total, party_eq-Decides};
 ghost use Rattle.vet_demand.specs.ProjectLaws.{project_eq-Decides};
 
 use std::alloc::AllocError;
