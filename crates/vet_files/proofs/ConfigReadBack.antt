@@ -139,7 +139,8 @@ peers_found content found = table_found content (codes "imports") (peers_table c
 policies_found : (content : ConfigContent) (found : List KeyedPolicy)
     → each_member next_policy (all_of []) (policies_table content.policies) ≡ Ok (all_of found)
     → policies_told (config_table content) ≡ Ok (all_of found)
-policies_found content found = table_found content (codes "policy") (policies_table content.policies) _ (all_of found) refl
+policies_found content found =
+    table_found content (codes "policy") (policies_table content.policies) _ (all_of found) refl
 
 -- a file is told as its parts are
 file_told : (ms : Members) (version : Option (List ℕ)) (default : Option NameSet) (peers : List PeerSettings)

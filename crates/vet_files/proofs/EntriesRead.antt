@@ -47,7 +47,8 @@ pub record ValuesRead (e : Entry) : Type 0 where
 
 -- they are where its table's values are read as those that it has
 pub values_read : (e : Entry) (notes : Option (List ℕ)) → is_package_name e.«package» ≡ true
-    → IsReadAs names (set_data e.criteria) e.criteria → notes ≡ e.notes → IfSome notes (λ t. IsReadAs a_text (string t) t)
+    → IsReadAs names (set_data e.criteria) e.criteria → notes ≡ e.notes
+    → IfSome notes (λ t. IsReadAs a_text (string t) t)
     → ValuesRead e
 values_read e notes named criteria same read = record {
   named = named;

@@ -167,7 +167,8 @@ three-tables audits wildcards trusted a w t =
     (apart-kinds listing.Audits listing.WildcardAudits (λ k. (in_one k).0) audits.content wildcards.content a.1 w.1) in
     let across = All-append (λ x. All (IsOther x) trusted.content) audits.content wildcards.content
     (apart-kinds listing.Audits listing.Trusted (λ k. (in_one k).1) audits.content trusted.content a.1 t.1)
-    (apart-kinds listing.WildcardAudits listing.Trusted (λ k. (in_one k).2) wildcards.content trusted.content w.1 t.1) in (
+    (apart-kinds listing.WildcardAudits listing.Trusted (λ k. (in_one k).2) wildcards.content trusted.content w.1
+    t.1) in (
       apart-append IsOther (audits.content ++ wildcards.content) trusted.content both_apart t.0 across,
       All-append IsGiven (audits.content ++ wildcards.content) trusted.content
           (All-append IsGiven audits.content wildcards.content

@@ -4,7 +4,8 @@ use Rattle.vet_files.proofs.write.entry_tables.violation_table.Goals as goal
 
 pub returns-clause-read : goal.returns-clause-read
 returns-clause-read c =
-    violation_read c.args.entry.now c.args.req.now c.args.audit.now (values_read c.args.entry.now _ c.in_ok-table.ensures.named
-    c.in_ok-table.ensures.read c.as_ref-2.ensures.value c.in_ok-put_some-2.ensures.read)
+    violation_read c.args.entry.now c.args.req.now c.args.audit.now
+    (values_read c.args.entry.now _ c.in_ok-table.ensures.named c.in_ok-table.ensures.read
+    c.as_ref-2.ensures.value c.in_ok-put_some-2.ensures.read)
     (subst FlagRead c.as_ref.ensures.value c.in_ok-put_some.ensures.read) c.in_ok-put_texts.ensures.read
     c.in_ok-put.ensures.read
