@@ -17,6 +17,7 @@ pub mod Notices
 pub mod OfKind
 pub mod Publishers
 pub mod ReadAgain
+pub mod ReadEntry
 pub mod SameContent
 pub mod SameFiles
 pub mod Tables

@@ -3,10 +3,12 @@ use Rattle.std.specs.Prelude.{ℕ, ◌-◌, List, [], ◌++◌, codes, Option, S
 use Rattle.std.specs.Fmt.{decimal}
 use Rattle.std.specs.Option.{option_to_list}
 use Rattle.toml.specs.Data.{Data, Members, no_members, as_array, as_table, get_member}
+use Rattle.toml.specs.View.{table_view}
 use Rattle.vet_base.specs.Gives.{Told, found_or, ◌>>=◌}
 use Rattle.vet_base.specs.Name.{is_package_name}
 use Rattle.vet_base.specs.Words.{Key, Name, Path}
 use Rattle.vet_files.specs.declared.found.Found.{Found}
+use Rattle.vet_files.specs.declared.read.package_tables.PackageTable.{PackageTable}
 use Rattle.vet_files.specs.Field.{fault}
 use Rattle.vet_files.specs.Notices.{no_notices, one_skipped, only_doubles, only_keys, sum_of_notices}
 use Rattle.vet_files.specs.Walk.{KeysRise, each_item}
@@ -60,6 +62,10 @@ path_in_list path name place = path ++ (codes "." ++ (name ++ (codes "[" ++ (dec
 -- how a table of a list is read, by the package's name and the table's path
 abbrev pub Reading : Type 0 → Type 0
 Reading A = Name → Path → Members → Told (Found (Option A))
+
+-- what is told of one table of a package's list
+abbrev pub table_told : {A : Type 0} → Reading A → PackageTable → Told (Found (Option A))
+table_told read at = read at.«package».now at.path.now (table_view at.table.now)
 
 -- one more table of a package's list
 abbrev pub next_table : {A : Type 0} → Reading A → Path → Name → Found (List A) → ℕ → Data → Told (Found (List A))

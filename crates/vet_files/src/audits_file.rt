@@ -20,11 +20,9 @@ use crate::keys::{AUDITS, CRITERIA, TOP, TRUSTED, TableKind, WILDCARD_AUDITS, un
 use crate::listed::Listed;
 use crate::read::criteria::ReadCriteria;
 use crate::read::document::{joined, read_document, table_at};
-use crate::read::entries::ReadAudits;
-use crate::read::package_entries::read_entries;
+use crate::read::package_entries::{ReadEntry, read_entries};
 use crate::read::walk::{ReadMember, each_member};
 use crate::read::whose::Whose;
-use crate::read::windows::{ReadTrusted, ReadWildcards};
 use crate::write::audits_table::audits_file_table;
 use crate::write::print::print;
 use std::alloc::Global;
@@ -87,7 +85,7 @@ pub(crate) fn read_audits_file(
     ensures stands { IfOk result (λ f. CanStand whose f.content.criteria f.content.entries) }
 {
     let criteria = read_criteria(alloc, whose, path, prefix, file)?;
-    let audits = read_entries(alloc, &ReadAudits { whose }, path, prefix, AUDITS, file)?;
+    let audits = read_entries(alloc, ReadEntry::Audits(whose), path, prefix, AUDITS, file)?;
     read_further_entries(alloc, whose, path, prefix, file, criteria, audits)
 }
 
@@ -108,7 +106,7 @@ fn read_further_entries(
 {
     let wildcards = read_entries(
         alloc,
-        &ReadWildcards {},
+        ReadEntry::Wildcards,
         path,
         prefix,
         WILDCARD_AUDITS,
@@ -133,7 +131,14 @@ fn read_trusted_entries(
     ensures rises { IfOk result (λ _. RisesAt path.now (codes "trusted") (table_view file.now)) }
 {
     let keys = unknown_keys(TableKind::AuditsFile, file)?;
-    let trusted = read_entries(alloc, &ReadTrusted { whose }, path, prefix, TRUSTED, file)?;
+    let trusted = read_entries(
+        alloc,
+        ReadEntry::Trusted(whose),
+        path,
+        prefix,
+        TRUSTED,
+        file,
+    )?;
     let entries = entries.followed_by(trusted)?;
     let notices = criteria.notices.and_both(entries.notices, keys)?;
     Ok(Found {

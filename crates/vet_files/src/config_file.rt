@@ -3,38 +3,30 @@ ghost use Rattle.std.specs.Prelude.{◌≡◌, IfErr, IfOk, Some, string_bytes};
 ghost use Rattle.toml.specs.Parse.{parse_document};
 ghost use Rattle.toml.specs.View.{table_view};
 ghost use Rattle.vet_base.specs.Gives.{Gives};
-ghost use Rattle.vet_files.specs.Config.{config_file_told, config_lists_told, config_told, exemption_told};
-ghost use Rattle.vet_files.specs.Config.{vet_version_told};
+ghost use Rattle.vet_files.specs.Config.{config_file_told, config_lists_told, config_told, vet_version_told};
 ghost use Rattle.vet_files.specs.ConfigTable.{config_table};
 ghost use Rattle.vet_files.specs.Notices.{sum_of_notices};
 ghost use Rattle.vet_files.specs.ReadAgain.{GivesBack};
 ghost use Rattle.vet_files.specs.SameContent.{IsConfig, SameConfig};
 
-use crate::field::{optional, required};
+use crate::field::optional;
 use crate::found::Found;
-use crate::keys::{
-    CARGO_VET, CRITERIA, DEFAULT_CRITERIA, EXEMPTIONS, NOTES, SUGGEST, TOP, TableKind, VERSION,
-    unknown_keys,
-};
+use crate::keys::{CARGO_VET, DEFAULT_CRITERIA, EXEMPTIONS, TOP, TableKind, VERSION, unknown_keys};
 use crate::listed::Listed;
 use crate::notices::Notices;
 use crate::read::document::{read_document, table_at};
-use crate::read::entries::own_entry;
-use crate::read::package_entries::read_entries;
-use crate::read::package_tables::ReadTable;
+use crate::read::package_entries::{ReadEntry, read_entries};
 use crate::read::peers::read_peers;
 use crate::read::policies::read_policies;
 use crate::write::config_table::config_table;
 use crate::write::print::print;
 use std::alloc::Global;
 use toml::Table;
-use vet_base::name::PackageName;
 use vet_base::names::Names;
 use vet_base::refusal::Refusal;
 use vet_base::text::Text;
 use vet_demand::policies::Policies;
 use vet_entries::entry::Entry;
-use vet_entries::kind::Kind;
 use vet_entries::peer_settings::PeerSettings;
 
 /// What a config file holds: peers in the order of their names' bytes, policies in the order of their keys,
@@ -124,7 +116,7 @@ fn fill_lists(
     content.peers = peers.content;
     let policies = read_policies(alloc, file)?;
     content.policies = policies.content;
-    let exemptions = read_entries(alloc, &ReadExemptions {}, TOP, "", EXEMPTIONS, file)?;
+    let exemptions = read_entries(alloc, ReadEntry::Exemptions, TOP, "", EXEMPTIONS, file)?;
     content.exemptions = exemptions.content;
     let settings = settings.and(peers.notices)?;
     with_rules(settings, policies.notices, exemptions.notices, keys)
@@ -158,34 +150,4 @@ fn read_vet_version(alloc: Global, file: &Table) -> Result<Found<Option<Text>>, 
     let notices = unknown_keys(TableKind::CargoVet, table)?;
     let content = optional(alloc, CARGO_VET, table, VERSION)?;
     Ok(Found { content, notices })
-}
-
-/// Reads the exemptions of a file.
-#[derive(Drop)]
-struct ReadExemptions {}
-
-impl ReadTable for ReadExemptions {
-    type Item = Entry;
-
-    ghost told = { λ r. exemption_told };
-
-    fn read(
-        &self,
-        alloc: Global,
-        package: &PackageName,
-        path: &str,
-        table: &Table,
-    ) -> Result<Found<Option<Entry>>, Refusal> {
-        let notices = unknown_keys(TableKind::Exemption, table)?;
-        let version = required(alloc, path, table, VERSION)?;
-        let criteria = required(alloc, path, table, CRITERIA)?;
-        let suggest = optional(alloc, path, table, SUGGEST)?;
-        let notes = optional(alloc, path, table, NOTES)?;
-        let kind = Kind::Exemption { version, suggest };
-        let entry = own_entry(package, kind, criteria, notes)?;
-        Ok(Found {
-            content: Some(entry),
-            notices,
-        })
-    }
 }

@@ -3,6 +3,7 @@
 pub(crate) mod criteria;
 pub(crate) mod document;
 pub(crate) mod entries;
+pub(crate) mod exemptions;
 pub(crate) mod gathered_policies;
 pub(crate) mod package_entries;
 pub(crate) mod package_tables;

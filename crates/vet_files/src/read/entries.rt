@@ -1,10 +1,11 @@
 //! The entries of the table `audits`.
-ghost use Rattle.std.specs.Prelude.{◌≡◌, IfOk, Some, option_map};
+ghost use Rattle.std.specs.Prelude.{◌≡◌, Ok, Some, option_map};
 ghost use Rattle.toml.specs.View.{table_view, view};
 ghost use Rattle.vet_base.specs.Gives.{Gives};
-ghost use Rattle.vet_files.specs.Lists.{skipped};
 ghost use Rattle.vet_files.specs.Audits.{absent, audit_of, audit_of_subject, audit_told, first_key, has, is_no};
 ghost use Rattle.vet_files.specs.Audits.{is_withheld, own_entry, subject_told};
+ghost use Rattle.vet_files.specs.Keys.{unknown_keys};
+ghost use Rattle.vet_files.specs.Lists.{found_one, skipped, table_told};
 
 use crate::field::{fault, optional, required, value_at};
 use crate::found::Found;
@@ -12,12 +13,11 @@ use crate::keys::{
     CRITERIA, DELTA, IMPORTABLE, NOTES, TableKind, VERSION, VIOLATION, WHO, unknown_keys,
 };
 use crate::notices::Notices;
-use crate::read::package_tables::ReadTable;
+use crate::read::package_tables::PackageTable;
 use crate::read::subject::{Subject, SubjectKey};
 use crate::read::whose::Whose;
-use std::alloc::{AllocError, Global};
+use std::alloc::Global;
 use toml::{Table, Value};
-use vet_base::name::PackageName;
 use vet_base::names::Names;
 use vet_base::refusal::Refusal;
 use vet_base::text::Text;
@@ -25,31 +25,20 @@ use vet_base::texts::Texts;
 use vet_entries::entry::{Entry, Source};
 use vet_entries::kind::{Audit, Kind};
 
-/// Reads the audits of a file.
-#[derive(Drop)]
-pub(crate) struct ReadAudits {
-    pub(crate) whose: Whose,
-}
-
-impl ReadTable for ReadAudits {
-    type Item = Entry;
-
-    ghost told = { λ r. audit_told r.whose };
-
-    fn read(
-        &self,
-        alloc: Global,
-        package: &PackageName,
-        path: &str,
-        table: &Table,
-    ) -> Result<Found<Option<Entry>>, Refusal> {
-        if is_withheld(self.whose, table) {
-            return Ok(skipped());
-        }
-        match first_key(table) {
-            Some(key) => read_audit(alloc, package, path, table, key),
-            None => Ok(skipped()),
-        }
+/// The audit of a table, where it has one that isn't withheld.
+pub(crate) fn read_audit(
+    alloc: Global,
+    whose: Whose,
+    at: &PackageTable<'_>,
+) -> Result<Found<Option<Entry>>, Refusal>
+    ensures { Gives (λ f. f) (table_told (audit_told whose) at.now) result }
+{
+    if is_withheld(whose, at.table) {
+        return Ok(skipped());
+    }
+    match first_key(at.table) {
+        Some(key) => read_audit_by(alloc, at, key),
+        None => Ok(skipped()),
     }
 }
 
@@ -144,61 +133,67 @@ fn read_subject(
     }
 }
 
-/// The audit of a table.
-fn read_audit(
+/// The audit of a table whose subject stands at this key.
+fn read_audit_by(
     alloc: Global,
-    package: &PackageName,
-    path: &str,
-    table: &Table,
+    at: &PackageTable<'_>,
     key: SubjectKey,
 ) -> Result<Found<Option<Entry>>, Refusal>
-    ensures { Gives (λ f. f) (audit_of «package».now path.now (table_view table.now) (Some key)) result }
+    ensures { Gives (λ f. f)
+        (audit_of at.now.«package».now at.now.path.now (table_view at.now.table.now) (Some key)) result }
 {
-    let criteria = required(alloc, path, table, CRITERIA)?;
-    let subject = read_subject(alloc, path, table, key)?;
-    read_audit_of(alloc, package, path, table, criteria, subject)
+    let criteria = required(alloc, at.path, at.table, CRITERIA)?;
+    let subject = read_subject(alloc, at.path, at.table, key)?;
+    read_audit_of(alloc, at, criteria, subject)
 }
 
 /// The audit of a table, where its criteria and its subject were read.
 fn read_audit_of(
     alloc: Global,
-    package: &PackageName,
-    path: &str,
-    table: &Table,
+    at: &PackageTable<'_>,
     criteria: Names,
     subject: Subject,
 ) -> Result<Found<Option<Entry>>, Refusal>
-    ensures { Gives (λ f. f) (audit_of_subject «package».now path.now (table_view table.now) criteria subject) result }
+    ensures { Gives (λ f. f) (audit_of_subject at.now.«package».now at.now.path.now (table_view at.now.table.now)
+        criteria subject) result }
 {
-    let who: Option<Texts> = optional(alloc, path, table, WHO)?;
-    let notes = optional(alloc, path, table, NOTES)?;
-    let importable = optional(alloc, path, table, IMPORTABLE)?;
+    let who: Option<Texts> = optional(alloc, at.path, at.table, WHO)?;
+    let notes = optional(alloc, at.path, at.table, NOTES)?;
+    let importable = optional(alloc, at.path, at.table, IMPORTABLE)?;
     let audit = Audit {
         who: who.unwrap_or(Texts::new(alloc)),
         importable,
     };
-    let entry = own_entry(package, subject.with_audit(audit), criteria, notes)?;
-    let notices = unknown_keys(TableKind::Audit, table)?;
-    Ok(Found {
-        content: Some(entry),
-        notices,
-    })
+    found_entry(
+        at,
+        TableKind::Audit,
+        subject.with_audit(audit),
+        criteria,
+        notes,
+    )
 }
 
-/// An entry of the organisation's own.
-pub(crate) fn own_entry(
-    package: &PackageName,
+/// What a table of some kind is found to hold: an entry of the organisation's own, and keys that have no meaning.
+pub(crate) fn found_entry(
+    at: &PackageTable<'_>,
+    which: TableKind,
     kind: Kind,
     criteria: Names,
     notes: Option<Text>,
-) -> Result<Entry, AllocError>
-    ensures { IfOk result (λ e. e ≡ own_entry «package».now kind criteria notes) }
+) -> Result<Found<Option<Entry>>, Refusal>
+    ensures { Gives (λ f. f) (Ok (found_one (own_entry at.now.«package».now kind criteria notes)
+        (unknown_keys which (table_view at.now.table.now)))) result }
 {
-    Ok(Entry {
+    let notices = unknown_keys(which, at.table)?;
+    let entry = Entry {
         source: Source::Own,
-        package: package.clone()?,
+        package: at.package.clone()?,
         kind,
         criteria,
         notes,
+    };
+    Ok(Found {
+        content: Some(entry),
+        notices,
     })
 }

@@ -4,7 +4,7 @@ ghost use Rattle.toml.specs.Data.{Members};
 ghost use Rattle.toml.specs.View.{table_view, view};
 ghost use Rattle.vet_base.specs.Gives.{Gives, Told};
 ghost use Rattle.vet_files.specs.declared.found.Found.{Found};
-ghost use Rattle.vet_files.specs.Lists.{Reading, next_table, path_below, path_in_list, table_at, tables_of_package};
+ghost use Rattle.vet_files.specs.Lists.{Reading, next_table, path_below, path_in_list, table_told, tables_of_package};
 
 use crate::field::{fault, value_at};
 use crate::found::Found;
@@ -15,23 +15,29 @@ use toml::{Table, Value};
 use vet_base::name::PackageName;
 use vet_base::refusal::Refusal;
 
+/// One table of a package's list.
+#[derive(Drop)]
+pub(crate) struct PackageTable<'a> {
+    pub(crate) package: &'a PackageName,
+    pub(crate) path: &'a str,
+    pub(crate) table: &'a Table,
+}
+
 /// Reads one table of a list.
-pub(crate) trait ReadTable: Drop {
+pub(crate) trait ReadTable {
     /// What such a table says.
     type Item: Drop;
 
     /// What is told of a table: what it says, or nothing where it is skipped.
     ghost told: { Self → Reading Self.Item };
 
-    /// Reads the table of a package, whose path is handed in.
+    /// Reads the table.
     fn read(
         &self,
         alloc: Global,
-        package: &PackageName,
-        path: &str,
-        table: &Table,
+        at: &PackageTable<'_>,
     ) -> Result<Found<Option<Self::Item>>, Refusal>
-        ensures { Gives (λ f. f) (told self.now «package».now path.now (table_view table.now)) result };
+        ensures { Gives (λ f. f) (table_told (told self.now) at.now) result };
 }
 
 /// Reads the tables of one package's list, one after the other.
@@ -59,7 +65,12 @@ impl<R: ReadTable> ReadItem for NextTable<'_, R> {
             return Err(fault(alloc, self.path, name));
         };
         let path = path_in_list(alloc, self.path, name, place)?;
-        let more = self.reader.read(alloc, self.package, path.as_str(), table)?;
+        let at = PackageTable {
+            package: self.package,
+            path: path.as_str(),
+            table,
+        };
+        let more = self.reader.read(alloc, &at)?;
         Ok(found.with(more)?)
     }
 }

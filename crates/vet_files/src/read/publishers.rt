@@ -15,7 +15,7 @@ use crate::listed::Listed;
 use crate::notices::Notices;
 use crate::read::document::table_at;
 use crate::read::entries::{has, skipped};
-use crate::read::package_tables::{ReadTable, tables_of_package};
+use crate::read::package_tables::{PackageTable, ReadTable, tables_of_package};
 use crate::read::walk::{ReadMember, each_member};
 use std::alloc::Global;
 use toml::{Table, Value};
@@ -113,14 +113,12 @@ impl ReadTable for ReadPublisher {
     fn read(
         &self,
         alloc: Global,
-        _package: &PackageName,
-        path: &str,
-        table: &Table,
+        at: &PackageTable<'_>,
     ) -> Result<Found<Option<Publisher>>, Refusal> {
-        if !has(table, USER_ID) {
+        if !has(at.table, USER_ID) {
             return Ok(skipped());
         }
-        read_publisher(alloc, path, table)
+        read_publisher(alloc, at.path, at.table)
     }
 }
 
