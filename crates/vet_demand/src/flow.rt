@@ -5,7 +5,7 @@
 //! Along an edge a node passes either a list, which its policy or a default names, or all that it needs. What is
 //! passed as a list begins at the node where the edge ends, just as what that node needs by itself: so each edge
 //! is looked at once, and its list is closed once. The other edges alone are left to go along, whatever comes.
-ghost use Rattle.std.specs.Prelude.{◌≡◌, ◌<◌, ◌++◌, ◌∷◌, [], IfOk, IfErr, get_or, length, map, replicate, set};
+ghost use Rattle.std.specs.Prelude.{◌≡◌, ◌<◌, IfOk, IfErr, get_or, length, map, set};
 ghost use Rattle.std.specs.FinSet as places;
 ghost use Rattle.std.specs.List.{All};
 ghost use Rattle.vet_demand.specs.Flow.{AreNeeds, ArePoliciesOf, Follows, IsFlow, own_places};
@@ -14,6 +14,7 @@ ghost use Rattle.vet_demand.specs.Spread.{lists_in};
 ghost use Rattle.vet_demand.specs.Terms.{AreTerms};
 
 use crate::passed::{own_set, passed, policy_for, takes};
+use crate::place_lists::{empty_lists, push_at};
 use crate::policies::KeyedPolicy;
 use crate::policy::Policy;
 use crate::project::{Edge, Node, Project};
@@ -117,17 +118,6 @@ fn own_needs(
     Ok(needs)
 }
 
-fn empty_lists(alloc: Global, count: usize) -> Result<Vec<Vec<usize>>, Refusal>
-    ensures ok { IfOk result (λ lists. lists_in lists.items ≡ replicate count []) }
-    ensures memory { IfErr result (λ e. e ≡ Refusal.NoMemory) }
-{
-    let mut lists = Vec::new(alloc);
-    'lists: for _place in 0..count {
-        lists.push(Vec::new(alloc))?;
-    }
-    Ok(lists)
-}
-
 // Adds what one edge passes.
 fn follow(
     terms: &Terms<'_>,
@@ -168,16 +158,4 @@ fn add_at(sets: &mut Vec<CriteriaSet>, at: usize, more: &CriteriaSet)
     ensures { sets.new.items ≡ set sets.old.items at (places.union (get_or sets.old.items at places.empty) more.now) }
 {
     sets[at] = sets[at].union(more);
-}
-
-// Puts a place behind one of some lists.
-fn push_at(lists: &mut Vec<Vec<usize>>, at: usize, place: usize) -> Result<(), Refusal>
-    requires { at < length lists.old.items }
-    ensures ok { IfOk result (λ _. lists_in lists.new.items
-        ≡ set (lists_in lists.old.items) at (get_or (lists_in lists.old.items) at [] ++ place ∷ [])) }
-    ensures memory { IfErr result (λ e. e ≡ Refusal.NoMemory) }
-{
-    let list = &mut lists[at];
-    list.push(place)?;
-    Ok(())
 }

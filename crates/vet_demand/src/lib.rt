@@ -17,6 +17,7 @@ mod flow;
 pub mod laws;
 pub mod pair;
 mod passed;
+pub mod place_lists;
 mod placing;
 pub mod policies;
 pub mod policy;

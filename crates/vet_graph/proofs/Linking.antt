@@ -1,9 +1,9 @@
 -- How the index of a package's steps grows.
 use Rattle.std.proofs.Common.{◌≡◌, ◌≢◌, ℕ, ◌+◌, ◌<◌, cond, List, [], ◌∷◌, ◌++◌, Option, Some, None, length, get_or, set}
-use Rattle.std.proofs.Common.{replicate, refl, sym, ◌∙◌, ap, inl, inr, arith, unwrap_or, Vec, Global}
+use Rattle.std.proofs.Common.{replicate, refl, sym, ◌∙◌, ap, inl, inr, arith, unwrap_or}
 use Rattle.std.proofs.lemmas.Bool.{cases_Bool, cases_lt, false≢true}
-use Rattle.std.proofs.lemmas.List.{get_or_append_left, get_or_push, get_or-map, get_or-replicate, get_or-set_same}
-use Rattle.std.proofs.lemmas.List.{get_or-set_other, get_or_default, map-set, length-set, length-replicate, length_push}
+use Rattle.std.proofs.lemmas.List.{get_or_append_left, get_or_push, get_or-replicate, get_or-set_same}
+use Rattle.std.proofs.lemmas.List.{get_or-set_other, get_or_default, length-set, length-replicate, length_push}
 use Rattle.std.proofs.lemmas.List.Elements.{All-nil, All-push, All-weaker, Contains-append_left, Contains-push}
 use Rattle.vet_base.specs.Version.{VersionValue}
 use Rattle.vet_base.specs.VersionOrder.{version_eq}
@@ -193,16 +193,6 @@ IsLinked-from guarded numbers links a f = record {
       (a.known p l) ∙ ap numbers e ∙ a.known q m in cc found);
   filed = f;
 }
-
--- a place is put behind a list
-pub lists-put : (lists : List (Vec ℕ Global)) (at place : ℕ) (old new : Vec ℕ Global) → at < length lists
-    → old ≡ get_or lists at old → new.items ≡ old.items ++ place ∷ []
-    → lists_in (set lists at new) ≡ set (lists_in lists) at (get_or (lists_in lists) at [] ++ place ∷ [])
-lists-put lists at place old new l is e =
-    let same : get_or (lists_in lists) at [] ≡ old.items = get_or-map (λ (x : Vec ℕ Global). x.items) lists at old [] l
-    ∙ ap (λ (x : Vec ℕ Global). x.items) (sym is) in
-    map-set (λ (x : Vec ℕ Global). x.items) lists at new ∙ ap (set (lists_in lists) at)
-    (e ∙ ap (λ k. k ++ place ∷ []) (sym same))
 
 -- the step at a place
 pub at_place : (guarded : List GuardedStep) (place : ℕ) (s : GuardedStep) → place < length guarded

@@ -1,6 +1,5 @@
 //! The steps of one package, with an index by where they start.
-ghost use Rattle.std.specs.Prelude.{◌≡◌, ◌<◌, ◌++◌, ◌∷◌, ◌+◌, [], IfOk, IfErr, get_or, length};
-ghost use Rattle.std.specs.Prelude.{replicate, set, unwrap_or};
+ghost use Rattle.std.specs.Prelude.{◌≡◌, ◌<◌, ◌+◌, IfOk, IfErr, length, unwrap_or};
 ghost use Rattle.std.specs.BTreeMap.{get};
 ghost use Rattle.vet_base.specs.VersionOrder.{version_cmp};
 ghost use Rattle.vet_graph.specs.Links.{AreFiled, AreHeads, IsLinked, Knows, lists_in, origin_at};
@@ -12,6 +11,7 @@ use std::collections::BTreeMap;
 use std::marker::Model;
 use vet_base::refusal::Refusal;
 use vet_base::version::VetVersion;
+use vet_demand::place_lists::{empty_lists, push_at};
 
 // Where each version is first led to, and which steps start there: all by the places of steps.
 pub(crate) struct Links {
@@ -185,27 +185,4 @@ fn file(
         return Ok(());
     };
     push_at(&mut filed.after, head, place)
-}
-
-// Puts a place behind one of some lists.
-fn push_at(lists: &mut Vec<Vec<usize>>, at: usize, place: usize) -> Result<(), Refusal>
-    requires { at < length lists.old.items }
-    ensures ok { IfOk result (λ _. lists_in lists.new.items
-        ≡ set (lists_in lists.old.items) at (get_or (lists_in lists.old.items) at [] ++ place ∷ [])) }
-    ensures memory { IfErr result (λ e. e ≡ Refusal.NoMemory) }
-{
-    let list = &mut lists[at];
-    list.push(place)?;
-    Ok(())
-}
-
-fn empty_lists(alloc: Global, count: usize) -> Result<Vec<Vec<usize>>, Refusal>
-    ensures ok { IfOk result (λ lists. lists_in lists.items ≡ replicate count []) }
-    ensures memory { IfErr result (λ e. e ≡ Refusal.NoMemory) }
-{
-    let mut lists = Vec::new(alloc);
-    'lists: for _place in 0..count {
-        lists.push(Vec::new(alloc))?;
-    }
-    Ok(lists)
 }

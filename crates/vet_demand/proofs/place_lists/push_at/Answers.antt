@@ -1,7 +1,7 @@
 use Rattle.std.proofs.Common.{◌≡◌, ℕ, ◌<◌, List, [], ◌∷◌, ◌++◌, Vec, Global, length, get_or, set, ap, sym, ◌∙◌}
 use Rattle.std.proofs.lemmas.List.{get_or-map, map-set}
 use Rattle.vet_demand.specs.Spread.{lists_in}
-use Rattle.vet_demand.proofs.flow.push_at.Goals as goal
+use Rattle.vet_demand.proofs.place_lists.push_at.Goals as goal
 
 lists_put : (lists : List (Vec ℕ Global)) (at place : ℕ) (old new : Vec ℕ Global) → at < length lists
     → old ≡ get_or lists at old → new.items ≡ old.items ++ place ∷ []
