@@ -161,7 +161,8 @@ meta_becomes old new = record {
   come_in = λ r i. i;
   new_from = λ r i. inl i;
   old_to = λ r i. elim i [
-    | inl e ↦ inr (inr (meta_row new, (inl refl, subst (λ (x : MetaRow). same_meta (meta_row new) x ≡ true) (sym e) refl)))
+    | inl e ↦
+        inr (inr (meta_row new, (inl refl, subst (λ (x : MetaRow). same_meta (meta_row new) x ≡ true) (sym e) refl)))
     | inr none ↦ absurd none
   ];
   keyed = λ r x i j e. only r x i j;
@@ -175,8 +176,8 @@ meta_becomes old new = record {
 -- ---- all tables
 
 module _ {K U : Type 0} (differences : MovesAreDifferences) (least : DemandIsLeast) (keeping : Keeping K U)
-    (r : RegisterView K) (c : Command) (change : Change K U) (is : IsPrepared keeping r c change) (sound : IsSound r.state)
-    (read : AreRead r.state change) where
+    (r : RegisterView K) (c : Command) (change : Change K U) (is : IsPrepared keeping r c change)
+    (sound : IsSound r.state) (read : AreRead r.state change) where
   abbrev s : State
   s = r.state
 

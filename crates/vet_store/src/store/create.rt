@@ -32,8 +32,8 @@ use vet_rows::rows_of::rows_of;
 impl<S: Alter + Drop, K: Keeper> Store<S, K> {
     /// Makes the tables of a register that holds nothing, in a database where none of their names is taken, whatever
     /// else it has. Asks for a connection outside a transaction, and a limit of 1 to 1,000,000 moves. A refusal gives
-    /// the connection back, and the database is as it was. Refused: `NoMemory`, `StoreRefused`, or `NotARegister` where a
-    /// table, an index or a view has the name of a table of a register.
+    /// the connection back, and the database is as it was. Refused: `NoMemory`, `StoreRefused`, or `NotARegister`
+    /// where a table, an index or a view has the name of a table of a register.
     pub fn create(
         alloc: Global,
         conn: Connection<S>,
