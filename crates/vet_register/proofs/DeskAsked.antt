@@ -15,7 +15,8 @@ not_at_desk {K} was now command b same is none =
 -- where the desk alone changes, and loses no room, none is lost
 pub desk_room_stays : {K : Type 0} (was now : RegisterView K) (desk : DeskView) → was ≡ now
     → KeepsDeskChanges (desk_room was) desk
-    → HoldsRoomOf now.room.held was.room.held × ((now.room.moves ≤ was.room.moves) × KeepsDeskChanges (desk_room now) desk)
+    → HoldsRoomOf now.room.held was.room.held
+    × ((now.room.moves ≤ was.room.moves) × KeepsDeskChanges (desk_room now) desk)
 desk_room_stays {K} was now desk same keeps =
     subst (λ (r : RegisterView K). HoldsRoomOf r.room.held was.room.held
     × ((r.room.moves ≤ was.room.moves) × KeepsDeskChanges (desk_room r) desk)) same (

@@ -23,7 +23,8 @@ effect_of {r = r} s c {x = x} {e = e} is asks =
     (subst (Asks s r c.day c.action (judged s c.day c.action)) (ap Ok is) asks)
 
 -- no room is lost by three things, one after another, that each lose none
-pub rooms_onward : {K : Type 0} (a b c d : RegisterView K) → KeepsRoom a b → KeepsRoom b c → KeepsRoom c d → KeepsRoom a d
+pub rooms_onward : {K : Type 0} (a b c d : RegisterView K) → KeepsRoom a b → KeepsRoom b c → KeepsRoom c d
+    → KeepsRoom a d
 rooms_onward a b c d h k l = room_onward a c d (room_onward a b c h k) l
 
 module _ (law : HeldEditsFit) {K U : Type 0} (keeping : Keeping K U) (old first : RegisterView K)

@@ -5,7 +5,8 @@ use Rattle.vet_register.proofs.AskingEdits.{accepts, passed_on, plain_asks, proj
 use Rattle.vet_register.proofs.register.Register.load_project.Goals as goal
 
 pub returns-in_err-number-clause-asked : goal.returns-in_err-number-clause-asked
-returns-in_err-number-clause-asked g c day = passed_on _ _ _ _ _ _ c.from_residual.ensures.1 (c.in_err-number.ensures day)
+returns-in_err-number-clause-asked g c day = passed_on _ _ _ _ _ _ c.from_residual.ensures.1
+    (c.in_err-number.ensures day)
 
 pub returns-clause-asked : goal.returns-clause-asked
 returns-clause-asked g c day =

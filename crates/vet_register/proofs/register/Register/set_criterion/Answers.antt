@@ -8,7 +8,8 @@ use Rattle.vet_register.proofs.AskingEdits.{accepts, facts_asks_still, none_give
 use Rattle.vet_register.proofs.register.Register.set_criterion.Goals as goal
 
 pub returns-in_err-number-clause-asked : goal.returns-in_err-number-clause-asked
-returns-in_err-number-clause-asked g c day = passed_on _ _ _ _ _ _ c.from_residual.ensures.1 (c.in_err-number.ensures day)
+returns-in_err-number-clause-asked g c day = passed_on _ _ _ _ _ _ c.from_residual.ensures.1
+    (c.in_err-number.ensures day)
 
 pub with_criterion-requires : goal.with_criterion-requires
 with_criterion-requires g c =

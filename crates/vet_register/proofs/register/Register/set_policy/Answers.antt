@@ -12,4 +12,5 @@ returns-clause-asked g c day =
     _ _ _ c.in_ok-edit_of_policy.ensures.content c.in_ok-edit_of_policy.ensures.fits
 
 pub returns-in_err-number-clause-asked : goal.returns-in_err-number-clause-asked
-returns-in_err-number-clause-asked g c day = passed_on _ _ _ _ _ _ c.from_residual.ensures.1 (c.in_err-number.ensures day)
+returns-in_err-number-clause-asked g c day = passed_on _ _ _ _ _ _ c.from_residual.ensures.1
+    (c.in_err-number.ensures day)
