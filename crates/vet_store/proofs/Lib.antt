@@ -1,6 +1,7 @@
 pub mod Among
 pub mod Answered
 pub mod Contents
+pub mod Crashes
 pub mod Creates
 pub mod Edits
 pub mod Effects

@@ -72,7 +72,7 @@ pub tied_opened : (old new : sqlite.State) (rows : RowsValue) → new.in_transac
     → IsTied new false rows
 tied_opened old new rows autocommit settled same holds leaves = record {
   autocommit = autocommit;
-  stands = λ clean _ _. stand clean;
+  stands = λ clean _. stand clean;
   leaves = λ clean _. (let now = stand clean in
       leaves_standing new rows (λ trees may. leaves trees now.rests.is_open may) now);
 }

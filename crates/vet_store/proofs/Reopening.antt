@@ -17,5 +17,5 @@ pub still_stored : (old new : sqlite.State) (shut : Bool) (s : State) → IsTied
 still_stored old new shut s tied unshut sound held survives clean serves = record {
   sound = sound;
   held = held;
-  holds = (tied.stands (still_clean old new (λ _. ⊥) survives clean) unshut serves).holds;
+  holds = (tied.stands (still_clean old new (λ _. ⊥) survives clean) serves).holds;
 }

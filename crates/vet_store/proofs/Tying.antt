@@ -1,5 +1,6 @@
 -- The tables stay tied to the register.
-use Rattle.std.proofs.Common.{◌≡◌, ◌⊎◌, Bool, false, IsTrue, List, map, sym, ap, subst, ◌∙◌, inl, inr, arith}
+use Rattle.std.proofs.Common.{◌≡◌, ◌⊎◌, ◌+◌, Bool, false, IsTrue, List, [], ◌∷◌, map, pos, sym, ap, subst, ◌∙◌, inl}
+use Rattle.std.proofs.Common.{inr, arith, refl}
 use Rattle.sqlite_trees.specs.Tree.{Trees}
 use Rattle.sqlite.specs.Effect.{Database}
 use Rattle.sqlite.specs.State.{HasCleanDisk, Survives}
@@ -7,8 +8,15 @@ use Rattle.sqlite.specs.State as sqlite
 use Rattle.sqlite.proofs.StateLemmas.{survives_weaker}
 use Rattle.vet_base.specs.Items.{IsIn, SameItems}
 use Rattle.vet_base.proofs.ItemLemmas.{in_map, map_in}
+use Rattle.vet_register.specs.declared.command.Command.{Command}
+use Rattle.vet_register.specs.Machine.{next}
+use Rattle.vet_register.specs.State.{State}
+use Rattle.vet_rows.specs.RowChanges.{all_changed}
 use Rattle.vet_rows.specs.Rows.{RowsValue}
+use Rattle.vet_rows.specs.RowsOf.{meta_row, rows_of}
 use Rattle.vet_rows.specs.SameRows.{SameRows}
+use Rattle.vet_rows.specs.declared.row.MetaRow.{MetaRow}
+use Rattle.vet_rows.specs.declared.row_change.RowChange.{RowChange}
 use Rattle.vet_store.specs.Cells.{cells_in}
 use Rattle.vet_store.specs.Committed.{AreTreesOf, IsAfter}
 use Rattle.vet_store.specs.Stands.{Holds, Stands}
@@ -83,27 +91,49 @@ pub written_next : (c : sqlite.State) (change : RowsValue → RowsValue) (rows n
 written_next c change rows next same trees h =
     (h.0, h.1, λ stands. holds_also h.0 (change rows) next same (h.2 rows stands))
 
+-- changes that make the next rows are not none, since the step is another
+pub changes_next : (s : State) (c : Command) (changes : List RowChange)
+    → SameRows (all_changed changes (rows_of s)) (rows_of (next s c)) → changes ≡ [] → ⊥
+changes_next s c changes same none =
+    let rows = subst (λ cs. SameRows (all_changed cs (rows_of s)) (rows_of (next s c))) none same in
+    by (rows.meta.0 (meta_row s) (inl refl))
+  where
+    by : IsIn (meta_row s) (meta_row (next s c) ∷ []) → ⊥
+    by (inl e) =
+        let steps : pos s.step ≡ pos (s.step + 1) = ap (λ (r : MetaRow). r.step) e in
+        let step : s.step ≡ s.step + 1 = cc in
+        omega (arith, step)
+    by (inr none) = none
+
+-- where there are changes, a commit that fails was reached on a connection that was open
+pub reaches_commit : (changes : List RowChange) (Before P : Type 0) → (Before → ⊥) → (changes ≡ [] → ⊥)
+    → Before ⊎ ((changes ≡ []) ⊎ P) → P
+reaches_commit changes Before P not some (inl before) = absurd (not before)
+reaches_commit changes Before P not some (inr (inl none)) = absurd (some none)
+reaches_commit changes Before P not some (inr (inr serves)) = serves
+
 -- a crash leaves what it could before, or the rows that were written, where those before them stood
 pub survives_written : (old new : sqlite.State) (shut : Bool) (rows next : RowsValue)
     → IsTied old shut rows → shut ≡ false → IsTrue old.is_open
     → Survives old new (IsWritten old rows next) → Survives old new (AreTreesOf next)
 survives_written old new shut rows next tied unshut serves s =
     survives_weaker old new (IsWritten old rows next) (AreTreesOf next)
-    (λ clean trees h. (h.0, h.1, h.2 (tied.stands (still_clean old new _ s clean) unshut serves))) s
+    (λ clean trees h. (h.0, h.1, h.2 (tied.stands (still_clean old new _ s clean) serves))) s
 
 -- ---- the store stays tied
 
 -- where changes were refused, the tables have the rows as before
-pub tied_refused : (old new : sqlite.State) (was shut : Bool) (rows : RowsValue) → IsTied old was rows → was ≡ false
+pub tied_refused : (old new : sqlite.State) (was shut : Bool) (rows : RowsValue) (P : Trees → Type 0)
+    → IsTied old was rows → was ≡ false
     → new.in_transaction ≡ false
     → (HasCleanDisk new → IsTrue new.is_open → Stands old rows → Stands new rows)
     → (HasCleanDisk new → IsTrue new.is_open → IsTrue old.is_open)
+    → Survives old new P
     → (shut ≡ false → Survives old new (λ _. ⊥))
     → IsTied new shut rows
-tied_refused old new was shut rows tied unshut autocommit kept was_open before = record {
+tied_refused old new was shut rows P tied unshut autocommit kept was_open s before = record {
   autocommit = autocommit;
-  stands = λ clean open_still serves. (let s = before open_still in kept clean serves
-      (tied.stands (still_clean old new _ s clean) unshut (was_open clean serves)));
+  stands = λ clean serves. kept clean serves (tied.stands (still_clean old new P s clean) (was_open clean serves));
   leaves = λ clean open_still. (let s = before open_still in leaves_still old new rows s clean
       (tied.leaves (still_clean old new _ s clean) unshut));
 }
@@ -119,10 +149,10 @@ pub tied_written : (old new : sqlite.State) (was shut : Bool) (rows next : RowsV
     → IsTied new shut next
 tied_written old new was shut rows next P tied unshut autocommit written was_open s settled = record {
   autocommit = autocommit;
-  stands = λ clean _ _. stand clean;
+  stands = λ clean _. stand clean;
   leaves = λ clean _. (let now = stand clean in
       leaves_standing new next (λ trees leaves. settled trees now.rests.is_open leaves) now);
 }
   where
     stand : HasCleanDisk new → Stands new next
-    stand clean = written clean (tied.stands (still_clean old new P s clean) unshut (was_open clean))
+    stand clean = written clean (tied.stands (still_clean old new P s clean) (was_open clean))

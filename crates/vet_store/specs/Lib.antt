@@ -2,6 +2,7 @@ pub mod Cells
 pub mod Changes
 pub mod Classes
 pub mod Committed
+pub mod Crash
 pub mod Form
 pub mod Forms
 pub mod Has

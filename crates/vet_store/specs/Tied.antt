@@ -12,11 +12,11 @@ use Rattle.vet_store.specs.Stands.{Holds, Stands}
 abbrev pub Leaves : sqlite.State → RowsValue → Type 0
 Leaves c rows = (trees : Trees) → c.may_leave trees → AreTreesOf rows trees
 
--- No transaction is open. If the disk returned what was written, then while the store is not shut, the tables have
--- these rows as long as the connection serves, and a crash leaves them.
+-- No transaction is open. If the disk returned what was written, then the tables have these rows as long as the
+-- connection serves, and a crash leaves them while the store is not shut.
 pub record IsTied (c : sqlite.State) (shut : Bool) (rows : RowsValue) : Type 0 where
   pub autocommit : c.in_transaction ≡ false
-  pub stands : HasCleanDisk c → shut ≡ false → IsTrue c.is_open → Stands c rows
+  pub stands : HasCleanDisk c → IsTrue c.is_open → Stands c rows
   pub leaves : HasCleanDisk c → shut ≡ false → Leaves c rows
 
 -- what a commit of some rows in place of others may leave, if those stood

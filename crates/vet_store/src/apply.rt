@@ -1,5 +1,5 @@
 //! Changes of rows inside a transaction.
-ghost use Rattle.std.specs.Prelude.{◌≡◌, IsTrue, OnOk};
+ghost use Rattle.std.specs.Prelude.{◌≡◌, ◌⊎◌, [], IsTrue, OnOk};
 ghost use Rattle.sqlite.specs.Held.{state};
 ghost use Rattle.sqlite.specs.State.{HasCleanDisk, KeepsCommit, Survives};
 ghost use Rattle.vet_rows.specs.RowChanges.{all_changed, changed, dropped, put as with};
@@ -84,6 +84,8 @@ pub fn apply_all<S: Alter>(tx: &mut Transaction<'_, S>, changes: &[RowChange]) -
         → IsTrue tx.old.conn.now.in_transaction
         → OnOk result (Changes (state S.Store tx.old.conn.now) (state S.Store tx.new.conn.now)
         (all_changed changes.now)) }
+    ensures opens { HasCleanDisk (state S.Store tx.new.conn.now) → IsTrue tx.old.conn.now.in_transaction
+        → OnOk result ((changes.now ≡ []) ⊎ IsTrue (state S.Store tx.old.conn.now).is_open) }
     ensures kept { HasCleanDisk (state S.Store tx.new.conn.now)
         → KeepsCommit (state S.Store tx.old.conn.now) (state S.Store tx.new.conn.now) }
     ensures survives { Survives (state S.Store tx.old.conn.now) (state S.Store tx.new.conn.now) (λ _. ⊥) }
@@ -100,6 +102,8 @@ pub fn create_all<S: Alter>(tx: &mut Transaction<'_, S>) -> Result<(), Error>
     ensures makes { HasCleanDisk (state S.Store tx.new.conn.now) → IsTrue (state S.Store tx.old.conn.now).is_open
         → IsTrue tx.old.conn.now.in_transaction
         → OnOk result (MakesTables (state S.Store tx.old.conn.now) (state S.Store tx.new.conn.now) 12) }
+    ensures opens { HasCleanDisk (state S.Store tx.new.conn.now) → IsTrue tx.old.conn.now.in_transaction
+        → OnOk result (IsTrue (state S.Store tx.old.conn.now).is_open) }
     ensures kept { HasCleanDisk (state S.Store tx.new.conn.now)
         → KeepsCommit (state S.Store tx.old.conn.now) (state S.Store tx.new.conn.now) }
     ensures survives { Survives (state S.Store tx.old.conn.now) (state S.Store tx.new.conn.now) (λ _. ⊥) }
@@ -117,6 +121,8 @@ pub fn fill<S: Alter>(tx: &mut Transaction<'_, S>, changes: &[RowChange]) -> Res
         → IsTrue tx.old.conn.now.in_transaction
         → OnOk result (FillsTables (state S.Store tx.old.conn.now) (state S.Store tx.new.conn.now)
         (all_changed changes.now no_rows)) }
+    ensures opens { HasCleanDisk (state S.Store tx.new.conn.now) → IsTrue tx.old.conn.now.in_transaction
+        → OnOk result (IsTrue (state S.Store tx.old.conn.now).is_open) }
     ensures kept { HasCleanDisk (state S.Store tx.new.conn.now)
         → KeepsCommit (state S.Store tx.old.conn.now) (state S.Store tx.new.conn.now) }
     ensures survives { Survives (state S.Store tx.old.conn.now) (state S.Store tx.new.conn.now) (λ _. ⊥) }

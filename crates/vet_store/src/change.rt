@@ -1,5 +1,5 @@
 //! Changes of the tables, all in one transaction.
-ghost use Rattle.std.specs.Prelude.{◌≡◌, false, IfErr, IsTrue, OnErr, OnOk};
+ghost use Rattle.std.specs.Prelude.{◌≡◌, ◌⊎◌, [], false, IfErr, IsTrue, OnErr, OnOk};
 ghost use Rattle.sqlite.specs.Held.{state};
 ghost use Rattle.sqlite.specs.State.{HasCleanDisk, Survives};
 ghost use Rattle.vet_rows.specs.RowChanges.{all_changed};
@@ -30,6 +30,8 @@ pub fn commit_changes<S: Alter>(conn: &mut Connection<S>, changes: &[RowChange])
     ensures opens { HasCleanDisk (state S.Store conn.new) → OnOk result (IsTrue (state S.Store conn.old).is_open) }
     ensures was_open { HasCleanDisk (state S.Store conn.new) → IsTrue (state S.Store conn.new).is_open
         → IsTrue (state S.Store conn.old).is_open }
+    ensures reaches { HasCleanDisk (state S.Store conn.new) → IfErr result (λ e. IsBefore e
+        ⊎ ((changes.now ≡ []) ⊎ IsTrue (state S.Store conn.old).is_open)) }
     ensures before { IfErr result (λ e. IsBefore e
         → Survives (state S.Store conn.old) (state S.Store conn.new) (λ _. ⊥)) }
     ensures crash { Survives (state S.Store conn.old) (state S.Store conn.new)
@@ -61,6 +63,8 @@ pub fn make_tables<S: Alter>(conn: &mut Connection<S>, changes: &[RowChange]) ->
         × ((state S.Store conn.new).now ≡ (state S.Store conn.old).now)) }
     ensures was_open { HasCleanDisk (state S.Store conn.new) → IsTrue (state S.Store conn.new).is_open
         → IsTrue (state S.Store conn.old).is_open }
+    ensures reaches { HasCleanDisk (state S.Store conn.new) → IfErr result (λ e. IsBefore e
+        ⊎ IsTrue (state S.Store conn.old).is_open) }
     ensures before { IfErr result (λ e. IsBefore e
         → Survives (state S.Store conn.old) (state S.Store conn.new) (λ _. ⊥)) }
     ensures crash { Survives (state S.Store conn.old) (state S.Store conn.new)

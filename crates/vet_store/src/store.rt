@@ -89,7 +89,7 @@ impl<S: Alter, K: Keeper> Store<S, K> {
         self.shut
     }
 
-    /// The tables have the register's rows, unless the store is shut. Does nothing.
+    /// The tables have the register's rows, and a crash leaves them unless the store is shut. Does nothing.
     pub fn tables_are_of_register(&self)
         ensures { IsTied (state S.Store self.now.conn) self.now.shut (rows_of self.now.register.state) }
     {

@@ -1,9 +1,17 @@
 //! A store is made, and the first commands are run on it.
 //!
-//! **They leave what the machine makes of them from its beginning.**
-ghost use Rattle.std.specs.Prelude.{◌≡◌, ◌<◌, ◌≤◌, IfOk, false};
+//! **They leave what the machine makes of them from its beginning**, and the headline over commands holds of them.
+ghost use Rattle.std.specs.Prelude.{◌≡◌, ◌<◌, ◌≤◌, IfErr, IfOk, IsErrAnd, false, length};
+ghost use Rattle.sqlite.specs.Held.{state};
+ghost use Rattle.vet_register.specs.Sound.{IsBalanced};
 ghost use Rattle.vet_register.specs.State.{start};
-ghost use Rattle.vet_store.specs.Runs.{IsOfDone, Ran};
+ghost use Rattle.vet_rows.specs.RowsOf.{rows_of};
+ghost use Rattle.vet_store.specs.Classes.{AddsUp, HasClassesOfChains};
+ghost use Rattle.vet_store.specs.Crash.{LeavesRun};
+ghost use Rattle.vet_store.specs.Made.{AreFree};
+ghost use Rattle.vet_store.specs.Repeats.{IsTurnWithRepeats};
+ghost use Rattle.vet_store.specs.Runs.{Each, IsOfDone, IsOfStore, Ran};
+ghost use Rattle.vet_store.specs.Tied.{IsTied};
 
 use super::Store;
 use crate::refused::Refused;
@@ -44,6 +52,20 @@ impl<S: Alter + Drop, K: Keeper> Store<S, K> {
             Ran (start moves_limit) commands.now r.answers.items r.store.register.state) }
         ensures kept { IfOk result (λ r.
             IsOfDone (start moves_limit) commands.now r.answers.items r.store.register.state) }
+        ensures answered { IfOk result (λ r. length r.answers.items ≡ length commands.now) }
+        ensures classes { IfOk result (λ r. HasClassesOfChains r.store.register.state) }
+        ensures adds_up { IfOk result (λ r. AddsUp r.store.register.state) }
+        ensures balance { IfOk result (λ r. IsBalanced r.store.register.state) }
+        ensures repeats { IfOk result (λ r. Each IsTurnWithRepeats (start moves_limit) commands.now r.answers.items
+            r.store.register.state) }
+        ensures tables { IfOk result (λ r.
+            IsTied (state S.Store r.store.conn) r.store.shut (rows_of r.store.register.state)) }
+        ensures leaves { IfOk result (λ r. LeavesRun (state S.Store r.store.conn) r.store.shut (start moves_limit)
+            commands.now r.answers.items r.store.register.state) }
+        ensures taken { (AreFree (state S.Store conn).now.schema → ⊥)
+            → IsErrAnd result (λ e. (e.refusal ≡ Refusal.NotARegister) × (e.conn ≡ conn)) }
+        ensures refused { AreFree (state S.Store conn).now.schema → IfErr result (λ e. IsOfStore e.refusal) }
+        ensures autocommit { IfErr result (λ e. e.conn.in_transaction ≡ false) }
     {
         let mut store = match Store::create(alloc, conn, moves_limit) {
             Ok(store) => store,

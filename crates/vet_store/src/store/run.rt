@@ -1,7 +1,7 @@
 //! A command is run: it is judged, its rows are written in one transaction, and then it is installed.
 //!
-//! **The register is installed only once the rows are committed. A commit that fails shuts the store: then nobody can
-//! tell whether the rows of the last command stand.**
+//! **The register is installed only once the rows are committed. A crash leaves the rows before the command or those
+//! after it. A commit that fails shuts the store: then nobody can tell which of them.**
 ghost use Rattle.std.specs.Prelude.{◌≡◌, ◌⊎◌, true, false, OnErr, IsTrue};
 ghost use Rattle.sqlite.specs.Held.{state};
 ghost use Rattle.sqlite.specs.State.{HasCleanDisk, Survives};
@@ -10,6 +10,7 @@ ghost use Rattle.vet_rows.specs.RowsOf.{rows_of};
 ghost use Rattle.vet_store.specs.Repeats.{IsReadable, RepeatsStay};
 ghost use Rattle.vet_store.specs.Runs.{Fails, IsTurn};
 ghost use Rattle.vet_store.specs.Committed.{AreTreesOf};
+ghost use Rattle.vet_store.specs.Crash.{LeavesEither};
 ghost use Rattle.vet_store.specs.Tied.{IsTied};
 
 use super::Store;
@@ -36,6 +37,8 @@ impl<S: Alter, K: Keeper> Store<S, K> {
         ensures crash { IsTrue (state S.Store self.old.conn).is_open
             → Survives (state S.Store self.old.conn) (state S.Store self.new.conn)
             (AreTreesOf (rows_of (next self.old.register.state command.now))) }
+        ensures leaves { self.old.shut ≡ false → HasCleanDisk (state S.Store self.new.conn)
+            → LeavesEither (state S.Store self.new.conn) self.old.register.state command.now }
     {
         command_is_readable(command);
         let _sound = self.register().facts();
@@ -53,6 +56,8 @@ impl<S: Alter, K: Keeper> Store<S, K> {
         ensures crash { IsTrue (state S.Store self.old.conn).is_open
             → Survives (state S.Store self.old.conn) (state S.Store self.new.conn)
             (AreTreesOf (rows_of (next self.old.register.state command.now))) }
+        ensures leaves { self.old.shut ≡ false → HasCleanDisk (state S.Store self.new.conn)
+            → LeavesEither (state S.Store self.new.conn) self.old.register.state command.now }
     {
         if self.shut {
             return Err(Refusal::StoreRefused);

@@ -5,13 +5,15 @@
 //! classes add up to the demand, and each has what it had at first, with what came and without what went. An import or
 //! files whose content is held in their turn change nothing. The tables have the register's rows.**
 //!
-//! The tables alone rest on a premise: the disk returned what was written, and the connection serves. They are told of
-//! while the store is not shut.
-ghost use Rattle.std.specs.Prelude.{◌≡◌, IfOk, IfErr, OnErr, length};
+//! The tables alone rest on a premise: the disk returned what was written, and the connection serves. On the same disk
+//! **a crash leaves the rows of the last state. If the commit of a command failed, which shuts the store, it leaves
+//! these, or those of the state after that command.**
+ghost use Rattle.std.specs.Prelude.{◌≡◌, false, IfOk, IfErr, IsTrue, OnErr, length};
 ghost use Rattle.sqlite.specs.Held.{state};
 ghost use Rattle.vet_register.specs.Sound.{IsBalanced};
 ghost use Rattle.vet_rows.specs.RowsOf.{rows_of};
 ghost use Rattle.vet_store.specs.Classes.{AddsUp, HasClassesOfChains};
+ghost use Rattle.vet_store.specs.Crash.{LeavesRun};
 ghost use Rattle.vet_store.specs.Repeats.{IsTurnWithRepeats};
 ghost use Rattle.vet_store.specs.Runs.{Each, IsOfDone, Ran};
 ghost use Rattle.vet_store.specs.Tied.{IsTied};
@@ -48,6 +50,10 @@ impl<S: Alter, K: Keeper> Store<S, K> {
         ensures tables { IsTied (state S.Store self.new.conn) self.new.shut (rows_of self.new.register.state) }
         ensures memory { IfErr result (λ e. e ≡ Refusal.NoMemory) }
         ensures err { OnErr result (self.new ≡ self.old) }
+        ensures closed { IsTrue self.old.shut → self.new ≡ self.old }
+        ensures leaves { IfOk result (λ answers. self.old.shut ≡ false
+            → LeavesRun (state S.Store self.new.conn) self.new.shut self.old.register.state commands.now answers.items
+            self.new.register.state) }
     {
         let answers = self.run_each(alloc, commands);
         self.tables_are_of_register();
@@ -65,7 +71,12 @@ impl<S: Alter, K: Keeper> Store<S, K> {
             Each IsTurnWithRepeats self.old.register.state commands.now answers.items self.new.register.state) }
         ensures memory { IfErr result (λ e. e ≡ Refusal.NoMemory) }
         ensures err { OnErr result (self.new ≡ self.old) }
+        ensures closed { IsTrue self.old.shut → self.new ≡ self.old }
+        ensures leaves { IfOk result (λ answers. self.old.shut ≡ false
+            → LeavesRun (state S.Store self.new.conn) self.new.shut self.old.register.state commands.now answers.items
+            self.new.register.state) }
     {
+        self.tables_are_of_register();
         let mut answers = Vec::new(alloc);
         answers.reserve(commands.len())?;
         for command in commands {

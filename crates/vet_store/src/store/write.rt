@@ -42,6 +42,8 @@ pub(crate) fn write_change<S: Alter, K: Keeper>(
     ensures opens { HasCleanDisk (state S.Store conn.new) → OnOk result (IsTrue (state S.Store conn.old).is_open) }
     ensures was_open { HasCleanDisk (state S.Store conn.new) → IsTrue (state S.Store conn.new).is_open
         → IsTrue (state S.Store conn.old).is_open }
+    ensures reaches { HasCleanDisk (state S.Store conn.new) → IsTrue shut.new
+        → IsTrue (state S.Store conn.old).is_open }
     ensures refused { IfErr result IsOfStore }
     ensures before { OnErr result (shut.new ≡ false
         → Survives (state S.Store conn.old) (state S.Store conn.new) (λ _. ⊥)) }

@@ -1,4 +1,4 @@
-use Rattle.std.proofs.Common.{◌≡◌, IsTrue, take}
+use Rattle.std.proofs.Common.{◌≡◌, ◌⊎◌, IsTrue, take}
 use Rattle.sqlite.specs.Held.{state}
 use Rattle.sqlite.specs.State.{HasCleanDisk, KeepsCommit, Survives}
 use Rattle.vet_rows.specs.RowChanges.{all_changed}
@@ -15,4 +15,6 @@ invariant-loop-change g l = record {
       → IsTrue l.fn.tx.conn.now.in_transaction
       → Changes (state g.S.Store l.fn.tx.conn.now) (state g.S.Store l.tx.conn.now)
       (all_changed (take l.change-index l.changes));
+  opens : HasCleanDisk (state g.S.Store l.tx.conn.now) → IsTrue l.fn.tx.conn.now.in_transaction
+      → ((l.change-index ≡ 0) × (l.tx.conn.now ≡ l.fn.tx.conn.now)) ⊎ IsTrue (state g.S.Store l.fn.tx.conn.now).is_open;
 }

@@ -1,7 +1,8 @@
-use Rattle.std.proofs.Common.{◌≡◌, rules, arith, refl}
+use Rattle.std.proofs.Common.{◌≡◌, IsTrue, arith, inl, inr, refl, rules, subst}
 use Rattle.sqlite.proofs.StateLemmas.{survives_then}
 use Rattle.sqlite.specs.Held.{state}
 use Rattle.sqlite.specs.State.{HasCleanDisk}
+use Rattle.vet_store.specs.Made.{MakesTable}
 use Rattle.vet_store.proofs.Making.{makes_more, makes_none}
 use Rattle.vet_store.proofs.Steps.{keeps_same, keeps_then, survives_same}
 use Rattle.vet_store.proofs.apply.create_all.Goals as goal
@@ -22,6 +23,13 @@ tables-preserved g c =
           let was = c.tables.invariant.makes early serves inside in
           makes_more a b d c.tables.at c.table_at.result c.table_at.ensures was
           (c.in_ok-create.ensures.makes clean was.inside);
+      opens = λ clean inside.
+          let early : HasCleanDisk b = omega (arith, c.create.ensures.survives.clean) in
+          inr (elim (c.tables.invariant.opens early inside) [
+            | inl first ↦ (subst (λ h. IsTrue h.in_transaction → MakesTable (state g.S.Store h) d c.table_at.result)
+                first.1 (c.in_ok-create.ensures.makes clean) inside).was_open
+            | inr serves ↦ serves
+          ]);
     }
 
 pub tables-init : goal.tables-init
@@ -32,9 +40,18 @@ tables-init g c =
       kept = λ clean. keeps_same a;
       survives = survives_same a _;
       makes = λ clean serves inside. makes_none a serves inside;
+      opens = λ clean inside. inl (refl, refl);
     }
 
 pub returns-clause-makes : goal.returns-clause-makes
 returns-clause-makes g c =
     let all : c.tables.at ≡ 12 = omega (arith, c.tables.auto.at-end, c.tables-test.false) in
     rw all at c.tables.invariant.makes
+
+pub returns-clause-opens : goal.returns-clause-opens
+returns-clause-opens g c clean inside =
+    let all : c.tables.at ≡ 12 = omega (arith, c.tables.auto.at-end, c.tables-test.false) in
+    elim (c.tables.invariant.opens clean inside) [
+      | inl first ↦ absurd (omega (arith, all, first.0))
+      | inr serves ↦ serves
+    ]

@@ -1,4 +1,4 @@
-use Rattle.std.proofs.Common.{◌≡◌, IsTrue}
+use Rattle.std.proofs.Common.{◌≡◌, ◌⊎◌, IsTrue}
 use Rattle.sqlite.specs.Held.{state}
 use Rattle.sqlite.specs.State.{HasCleanDisk, KeepsCommit, Survives}
 use Rattle.vet_store.proofs.apply.create_all.Given as goal
@@ -13,4 +13,6 @@ invariant-tables g l = record {
   makes : HasCleanDisk (state g.S.Store l.tx.conn.now) → IsTrue (state g.S.Store l.fn.tx.conn.now).is_open
       → IsTrue l.fn.tx.conn.now.in_transaction
       → MakesTables (state g.S.Store l.fn.tx.conn.now) (state g.S.Store l.tx.conn.now) l.at;
+  opens : HasCleanDisk (state g.S.Store l.tx.conn.now) → IsTrue l.fn.tx.conn.now.in_transaction
+      → ((l.at ≡ 0) × (l.tx.conn.now ≡ l.fn.tx.conn.now)) ⊎ IsTrue (state g.S.Store l.fn.tx.conn.now).is_open;
 }

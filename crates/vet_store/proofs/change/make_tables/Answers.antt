@@ -1,4 +1,4 @@
-use Rattle.std.proofs.Common.{◌≡◌, IsTrue, arith, refl, rules, subst}
+use Rattle.std.proofs.Common.{◌≡◌, ◌⊎◌, IsTrue, arith, inr, refl, rules, subst}
 use Rattle.sqlite.specs.Held.{state}
 use Rattle.sqlite.specs.State.{HasCleanDisk, IsLive, Survives}
 use Rattle.vet_rows.specs.RowChanges.{all_changed}
@@ -90,3 +90,14 @@ returns-in-Ok-clause-opens g c =
     let early : HasCleanDisk (state g.S.Store mid) = omega (arith, c.commit.ensures.survives.clean) in
     let kept = rw begun at (c.fill.ensures.kept early) in
     kept.was_open (c.in-Ok.ensures.ok clean).1.was_open)
+
+pub returns-in-Err-commit-clause-reaches : goal.returns-in-Err-commit-clause-reaches
+returns-in-Err-commit-clause-reaches g c =
+    let old = state g.S.Store c.args.conn.now in
+    let end = c.commit.new.self.0 in
+    let begun = c.transaction-tx.ensures.begun in
+    let same : end ≡ c.conn-2-1.given.0 = search rules in
+    subst (λ h. HasCleanDisk (state g.S.Store h) → ⊥ ⊎ IsTrue old.is_open) same (λ clean.
+    let early : HasCleanDisk (state g.S.Store c.fill.new.tx.conn.now) =
+    omega (arith, c.commit.ensures.survives.clean) in
+    inr (rw begun at (c.in_default.ensures.opens early (rw begun refl))))

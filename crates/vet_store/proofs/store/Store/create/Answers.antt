@@ -32,7 +32,7 @@ invariant_of-result g c =
     let now = state g.S.Store c.write_start.new.conn in
     record {
       autocommit = c.write_start.ensures.autocommit;
-      stands = λ clean unshut serves. (c.in-Ok-write_start.ensures.done clean).0;
+      stands = λ clean serves. (c.in-Ok-write_start.ensures.done clean).0;
       leaves = λ clean unshut. (let stands = (c.in-Ok-write_start.ensures.done clean).0 in
           leaves_standing now (rows_of c.in-Ok.register.state)
           (λ trees leaves. g.met.S.Store.settled c.write_start.new.conn.store trees stands.rests.is_open leaves)

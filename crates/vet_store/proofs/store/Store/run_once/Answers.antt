@@ -1,6 +1,6 @@
 use Rattle.std.proofs.Common.{◌≡◌, ◌∙◌, IsTrue, Ok, Err, sym, ap, subst}
 use Rattle.sqlite.specs.Held.{state}
-use Rattle.sqlite.specs.State.{Survives}
+use Rattle.sqlite.specs.State.{HasCleanDisk, Survives}
 use Rattle.vet_register.specs.Machine.{next}
 use Rattle.vet_register.specs.RegisterView.{IsAnswer, IsPrepared, answer_of}
 use Rattle.vet_register.specs.declared.change.Prepared.{Prepared}
@@ -9,9 +9,11 @@ use Rattle.vet_register.proofs.Turns.{turn_already, turn_done, turn_refused}
 use Rattle.vet_register.specs.declared.command.Outcome.TheVariants.{Already}
 use Rattle.vet_rows.specs.RowsOf.{rows_of}
 use Rattle.vet_store.specs.Committed.{AreTreesOf}
+use Rattle.vet_store.specs.Crash.{LeavesEither}
 use Rattle.vet_store.specs.Runs.{IsTurn}
 use Rattle.vet_store.specs.StoreView.{StoreView}
 use Rattle.vet_store.specs.Tied.{IsTied}
+use Rattle.vet_store.proofs.Crashes.{after_accepted, left_after, left_before, left_refused}
 use Rattle.vet_store.proofs.Running.{turn_of}
 use Rattle.vet_store.proofs.Tying.{survives_written, tied_refused, tied_written}
 use Rattle.vet_store.proofs.store.Store.run_once.Goals as goal
@@ -43,8 +45,13 @@ invariant_of-self-in-Err-write_change g c =
     let tied = subst (λ (s : State). IsTied old c.self.inside.shut (rows_of s)) (sym c.prepare.ensures.state)
     c.self.invariant in
     let h = c.in-Err-write_change.ensures in
+    let command = c.args.command.now in
+    let prepared : IsPrepared g.K.Keeper.keeping c.prepare.new.self command c.in-Ok-Change.change =
+    subst (λ (p : Prepared _ _). IsAnswer g.K.Keeper.keeping c.prepare.new.self command p) c.in-Ok-Change.field-0-is
+    c.in-Ok-Change.ensures.prepared in
     tied_refused old (state g.S.Store c.write_change.new.conn) c.self.inside.shut c.write_change.new.shut
-    (rows_of c.prepare.new.self.state) tied c.if-self.false h.autocommit h.kept h.was_open h.before
+    (rows_of c.prepare.new.self.state) _ tied c.if-self.false h.autocommit h.kept h.was_open
+    (c.write_change.ensures.crash command prepared) h.before
 
 pub returns-in-Err-write_change-clause-tables : goal.returns-in-Err-write_change-clause-tables
 returns-in-Err-write_change-clause-tables g c =
@@ -52,8 +59,13 @@ returns-in-Err-write_change-clause-tables g c =
     let tied = subst (λ (s : State). IsTied old c.self.inside.shut (rows_of s)) (sym c.prepare.ensures.state)
     c.self.invariant in
     let h = c.in-Err-write_change.ensures in
+    let command = c.args.command.now in
+    let prepared : IsPrepared g.K.Keeper.keeping c.prepare.new.self command c.in-Ok-Change.change =
+    subst (λ (p : Prepared _ _). IsAnswer g.K.Keeper.keeping c.prepare.new.self command p) c.in-Ok-Change.field-0-is
+    c.in-Ok-Change.ensures.prepared in
     tied_refused old (state g.S.Store c.write_change.new.conn) c.self.inside.shut c.write_change.new.shut
-    (rows_of c.prepare.new.self.state) tied c.if-self.false h.autocommit h.kept h.was_open h.before
+    (rows_of c.prepare.new.self.state) _ tied c.if-self.false h.autocommit h.kept h.was_open
+    (c.write_change.ensures.crash command prepared) h.before
 
 pub returns-in-Ok-clause-turn : goal.returns-in-Ok-clause-turn
 returns-in-Ok-clause-turn g c =
@@ -124,3 +136,56 @@ returns-in-Ok-clause-crash g c =
     subst (λ h. IsTrue (state g.S.Store h).is_open → Survives (state g.S.Store h) new
     (AreTreesOf (rows_of (next c.args.self.now.register.state command)))) conn
     (subst (λ (t : State). IsTrue old.is_open → Survives old new (AreTreesOf (rows_of (next t command)))) same crash)
+
+-- ---- what a crash leaves
+
+pub returns-in-Err-clause-leaves : goal.returns-in-Err-clause-leaves
+returns-in-Err-clause-leaves g c unshut =
+    let conn = state g.S.Store c.self.inside.conn in
+    subst (λ (v : StoreView _ _). HasCleanDisk conn → LeavesEither conn v.register.state c.args.command.now)
+    c.self.view_is
+    (λ clean. left_before conn c.self.inside.register.state c.args.command.now
+    (c.self.invariant.leaves clean c.if-self.false))
+
+pub returns-in-Ok-Already-clause-leaves : goal.returns-in-Ok-Already-clause-leaves
+returns-in-Ok-Already-clause-leaves g c unshut =
+    let conn = state g.S.Store c.self.inside.conn in
+    subst (λ (v : StoreView _ _). HasCleanDisk conn → LeavesEither conn v.register.state c.args.command.now)
+    c.self.view_is
+    (λ clean. left_before conn c.self.inside.register.state c.args.command.now
+    (c.self.invariant.leaves clean c.if-self.false))
+
+pub returns-in-Err-write_change-clause-leaves : goal.returns-in-Err-write_change-clause-leaves
+returns-in-Err-write_change-clause-leaves g c unshut =
+    let command = c.args.command.now in
+    let old = state g.S.Store c.self.inside.conn in
+    let new = state g.S.Store c.write_change.new.conn in
+    let s = c.prepare.new.self.state in
+    let h = c.in-Err-write_change.ensures in
+    let tied = subst (λ (t : State). IsTied old c.self.inside.shut (rows_of t)) (sym c.prepare.ensures.state)
+    c.self.invariant in
+    let prepared : IsPrepared g.K.Keeper.keeping c.prepare.new.self command c.in-Ok-Change.change =
+    subst (λ (p : Prepared _ _). IsAnswer g.K.Keeper.keeping c.prepare.new.self command p) c.in-Ok-Change.field-0-is
+    c.in-Ok-Change.ensures.prepared in
+    let left = left_refused old new c.self.inside.shut c.write_change.new.shut s command tied c.if-self.false
+    (after_accepted s command prepared.step.accepts) c.write_change.ensures.reaches
+    (c.write_change.ensures.crash command prepared) h.before in
+    let same : s ≡ c.args.self.now.register.state =
+    c.prepare.ensures.state ∙ ap (λ (v : StoreView _ _). v.register.state) c.self.view_is in
+    subst (λ (t : State). HasCleanDisk new → LeavesEither new t command) same left
+
+pub returns-in-Ok-clause-leaves : goal.returns-in-Ok-clause-leaves
+returns-in-Ok-clause-leaves g c unshut =
+    let command = c.args.command.now in
+    let new = state g.S.Store c.write_change.new.conn in
+    let s = c.prepare.new.self.state in
+    let prepared : IsPrepared g.K.Keeper.keeping c.prepare.new.self command c.in-Ok-Change.change =
+    subst (λ (p : Prepared _ _). IsAnswer g.K.Keeper.keeping c.prepare.new.self command p) c.in-Ok-Change.field-0-is
+    c.in-Ok-Change.ensures.prepared in
+    let after = invariant_of-self-in-Ok g c in
+    let left = λ (clean : HasCleanDisk new). left_after new s c.install.new.self.state command
+    (c.install.ensures command prepared ∙ after_accepted s command prepared.step.accepts)
+    (after.leaves clean c.in-Ok.ensures.done) in
+    let same : s ≡ c.args.self.now.register.state =
+    c.prepare.ensures.state ∙ ap (λ (v : StoreView _ _). v.register.state) c.self.view_is in
+    subst (λ (t : State). HasCleanDisk new → LeavesEither new t command) same left

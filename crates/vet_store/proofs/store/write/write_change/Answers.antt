@@ -1,13 +1,13 @@
-use Rattle.std.proofs.Common.{sym, subst}
+use Rattle.std.proofs.Common.{IsTrue, sym, subst}
 use Rattle.sqlite.specs.Held.{state}
 use Rattle.sqlite.proofs.StateLemmas.{survives_weaker}
 use Rattle.vet_register.specs.Machine.{next}
 use Rattle.vet_rows.specs.RowChanges.{all_changed}
 use Rattle.vet_rows.specs.RowsOf.{rows_of}
 use Rattle.vet_rows.specs.SameRows.{SameRows}
-use Rattle.vet_store.specs.Committed.{IsAfter}
+use Rattle.vet_store.specs.Committed.{IsAfter, IsBefore}
 use Rattle.vet_store.specs.Tied.{IsWritten}
-use Rattle.vet_store.proofs.Tying.{stands_also, written_next}
+use Rattle.vet_store.proofs.Tying.{changes_next, reaches_commit, stands_also, written_next}
 use Rattle.vet_store.proofs.store.write.write_change.Goals as goal
 
 pub returns-in-Ok-clause-written : goal.returns-in-Ok-clause-written
@@ -51,3 +51,14 @@ returns-clause-crash g c command prepared =
     (IsWritten old (rows_of s) (rows_of (next s command)))
     (λ clean trees h. written_next old change (rows_of s) (rows_of (next s command)) same trees h)
     c.commit_changes.ensures.crash
+
+pub returns-clause-reaches : goal.returns-clause-reaches
+returns-clause-reaches g c clean is =
+    let s = c.args.register.now.state in
+    let changes = c.as_slice.result.now in
+    let command = c.requires.prepared.0 in
+    let same = subst (λ items. SameRows (all_changed items (rows_of s)) (rows_of (next s command)))
+    (sym c.as_slice.ensures.value) (c.in_ok-changes.ensures.ok command c.requires.prepared.1) in
+    reaches_commit changes (IsBefore c.in-Err-Commit.field-0) (IsTrue (state g.S.Store c.args.conn.now).is_open)
+    (λ before. subst IsBefore c.in-Err-Commit.field-0-is before) (changes_next s command changes same)
+    (c.in-Err-Commit.ensures.reaches clean)
