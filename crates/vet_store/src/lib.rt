@@ -18,6 +18,7 @@ pub mod find;
 mod has_form;
 pub mod laws;
 mod lent;
+pub mod memory;
 pub mod read;
 mod read_row;
 mod read_table;

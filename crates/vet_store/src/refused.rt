@@ -28,6 +28,15 @@ impl<S: Alter + Drop> Refused<S> {
         let Refused { refusal: _, conn } = self;
         conn
     }
+
+    /// Why no store was made, and the connection.
+    pub fn into_parts(self) -> (Refusal, Connection<S>)
+        ensures refusal { result.0 ≡ self.refusal }
+        ensures conn { result.1 ≡ self.conn }
+    {
+        let Refused { refusal, conn } = self;
+        (refusal, conn)
+    }
 }
 
 /// What an error of the database is told as: `NoMemory` where memory was wanting, else `StoreRefused`.
