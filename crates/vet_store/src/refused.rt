@@ -29,7 +29,7 @@ impl<S: Alter + Drop> Refused<S> {
         conn
     }
 
-    /// Why no store was made, and the connection.
+    /// Why no store was made, and the connection. Takes no memory.
     pub fn into_parts(self) -> (Refusal, Connection<S>)
         ensures refusal { result.0 ≡ self.refusal }
         ensures conn { result.1 ≡ self.conn }
@@ -40,7 +40,7 @@ impl<S: Alter + Drop> Refused<S> {
 }
 
 /// What an error of the database is told as: `NoMemory` where memory was wanting, else `StoreRefused`.
-pub(crate) fn refusal_of(error: Error) -> Refusal
+pub fn refusal_of(error: Error) -> Refusal
     ensures { IsOfStore result }
 {
     match error {
