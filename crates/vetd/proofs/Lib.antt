@@ -1,3 +1,4 @@
 mod WordsLemmas
 mod AnswerLemmas
 mod RunLemmas
+mod MakingLemmas

@@ -3,12 +3,14 @@ use Rattle.std.specs.Prelude.{◌≡◌, Bool, List, [], ◌∷◌, Option, Some
 use Rattle.std.specs.Prelude.{option_and_then, option_map}
 use Rattle.std.specs.Str.{bytes_eq}
 use Rattle.clap.specs.Walk.{Row, Rule, Text, first_of}
-use Rattle.clap.specs.Simple.{App, app_of, new_app, new_rule, with_rule, with_subcommand, subcommand_of}
+use Rattle.clap.specs.Simple as simple
+use Rattle.clap.specs.Simple.{App, app_of, new_rule, with_rule, with_subcommand, subcommand_of}
 use Rattle.clap.specs.Walk.{rule_of}
 use Rattle.clap.specs.Faults.{fault_of}
 use Rattle.clap.specs.Kinds.{Kinds}
 use Rattle.vetd.specs.FileKind.{file_kind}
 use Rattle.vetd.specs.declared.file_kind.FileKind.{FileKind}
+use Rattle.vetd.specs.NewWords.{new_app}
 use Rattle.vetd.specs.declared.words.ClassWords.{ClassWords}
 use Rattle.clap.specs.declared.builder.arg.Arg.{Arg}
 use Rattle.clap.specs.declared.builder.command.Command.{Command}
@@ -30,17 +32,17 @@ pub record IsApp (app : App) (command : Command) : Type 0 where
 
 -- `class PACKAGE VERSION CRITERION`
 abbrev pub class_app : App
-class_app = with_rule (with_rule (with_rule (new_app (codes "class")) (word_rule (codes "PACKAGE")))
+class_app = with_rule (with_rule (with_rule (simple.new_app (codes "class")) (word_rule (codes "PACKAGE")))
     (word_rule (codes "VERSION"))) (word_rule (codes "CRITERION"))
 
 -- `read KIND`
 abbrev pub read_app : App
-read_app = with_rule (new_app (codes "read")) (word_rule (codes "KIND"))
+read_app = with_rule (simple.new_app (codes "read")) (word_rule (codes "KIND"))
 
 -- the program, whose words come without its own name, before its subcommands
 abbrev pub bare_app : App
-bare_app = record (new_app (codes "vetd")) {
-  top = record ((new_app (codes "vetd")).top) {
+bare_app = record (simple.new_app (codes "vetd")) {
+  top = record ((simple.new_app (codes "vetd")).top) {
     subcommand_required = true;
     no_binary_name = true;
     has_version = true;
@@ -51,9 +53,13 @@ bare_app = record (new_app (codes "vetd")) {
 abbrev pub class_alone_app : App
 class_alone_app = with_subcommand bare_app class_app.top
 
+-- with its first two
+abbrev pub file_app : App
+file_app = with_subcommand class_alone_app read_app.top
+
 -- the program's command line
 abbrev pub top_app : App
-top_app = with_subcommand class_alone_app read_app.top
+top_app = with_subcommand file_app new_app.top
 
 -- the matches of a subcommand, where it is the one of this name
 abbrev pub rows_if_named : Text → Option (Text × List Row) → Option (List Row)
@@ -90,12 +96,12 @@ words_from rows = option_and_then (λ p. option_and_then (λ v.
 abbrev pub class_given : List Text → Option AskedWords
 class_given words = option_and_then words_from (given (codes "class") words)
 
--- ---- `read`
+-- whether words begin with one
+abbrev pub begins_with : Text → List Text → Bool
+begins_with name [] = false
+begins_with name (word ∷ rest) = bytes_eq word name
 
--- whether words begin with it
-abbrev pub begins_read : List Text → Bool
-begins_read [] = false
-begins_read (word ∷ rest) = bytes_eq word (codes "read")
+-- ---- `read`
 
 -- the kind that the word names, where it was given and names one
 abbrev pub kind_from : List Row → Option FileKind

@@ -61,6 +61,8 @@ pub fn report<W: Write, E: Write>(
         → Keeps (W.contents writer.old) (W.contents writer.new)
         × Keeps (E.contents errors.old) (E.contents errors.new)) }
     ensures faults { IfErr result (λ fault. fault ≢ IoFault.Endless) }
+    ensures unread { IfErr result (λ fault. fault ≢ IoFault.Input) }
+    ensures printed { IfOk told.now (λ _. IfErr result (λ fault. fault ≡ IoFault.Output)) }
 {
     match told {
         Ok(text) => {

@@ -5,7 +5,8 @@ pub const VERSION: &str = "0.1.0 (rattle-kit-13f)";
 
 /// What stands below the help of the program.
 pub const PROGRAM_HELP: &str = "\
-Read: one file on standard input. Not read: any other file. None is written.
+Read by class and read: one file on standard input. Not read: any other file. None is written.
+Made by new: the tables of a register in a database file. Nothing is read from standard input.
 
 Classes, the first that holds:
   conflicting  the version is condemned, and yet some chain of steps leads to it
@@ -15,9 +16,9 @@ Classes, the first that holds:
   unvetted     none of these
 
 Statuses:
-  0  the answer was printed: a class, whichever it is, or counts
+  0  the answer was printed: a class, whichever it is, counts, or that a register was made
   1  the words or the file were refused, or a read or a write failed
-  2  the words are no command, or ask for help or the version: nothing is read
+  2  the words are no command, or ask for help or the version: nothing is read or made
 
 Example:
   vetd class serde 1.0.0 safe-to-deploy < supply-chain/audits.toml";
@@ -37,3 +38,13 @@ Then what was passed over: unknown keys, skipped entries, doubles.
 
 Example:
   vetd read audits < supply-chain/audits.toml";
+
+/// What stands below the help of `new`.
+pub const NEW_HELP: &str = "\
+Makes the tables of a register that holds nothing, and prints created. Makes the file where none stands.
+What another program has in the database stays. A file PATH-wal may stand beside it. A refused file keeps its bytes.
+Refused 31: a table, an index or a view has a name of the register's tables, as where a register stands already.
+Refused 30: the file is no database, is in use, or can't be made.
+
+Example:
+  vetd new --db register.db";

@@ -1,16 +1,17 @@
-//! `vetd`: what one file on standard input says, by the words of a command.
+//! `vetd`: what one file on standard input says, by the words of a command, and registers in database files.
 //!
 //! `vetd class PACKAGE VERSION CRITERION` prints the word of the class that an audits file gives a version of
 //! a package. `vetd read KIND`, KIND `audits`, `config` or `imports`, prints how many things a file holds, and
-//! how many were passed over. Both end with status 0. A refusal goes to standard error as one line, with
-//! status 1. Where the words are no command, or ask for help, clap's text goes to standard error, with
-//! status 2, and nothing is read.
+//! how many were passed over. `vetd new --db PATH` makes a register in a database file, and prints `created`. Each
+//! ends with status 0. A refusal goes to standard error as one line, with status 1. Where the words are no
+//! command, or ask for help, clap's text goes to standard error, with status 2, and nothing is read or made.
 //!
-//! **The words and the input alone decide what is written and the status. A run that ends with a fault
-//! wrote nothing, or, where a write failed, the front of that answer.**
+//! **The words and the input alone decide what is written and the status, and for `new` the words, the file and what
+//! the database answers. A run that ends with a fault wrote nothing, or, where a write failed, the front of that
+//! answer.**
 //!
-//! Scope of this crate: words, reads and writes. What a class is and what files hold stands in the crates
-//! below.
+//! Scope of this crate: words, reads and writes, and where databases are. What a class is, what files hold and what
+//! stands in tables is told in the crates below.
 #![tactic(auto)]
 
 ghost use Rattle.std.specs.Prelude.{◌≡◌, IfOk};
@@ -19,10 +20,13 @@ mod answer;
 mod asked;
 mod class_line;
 mod counts;
+mod databases;
 mod file_kind;
 mod help;
 mod input;
 mod io_fault;
+mod making;
+mod new_words;
 mod output;
 mod read_line;
 mod refusal_text;
@@ -31,10 +35,12 @@ mod words;
 
 use crate::answer::{EXPLAINED, explain};
 use crate::asked::CommandKind;
+use crate::databases::{FileDatabases, WaryFile};
 use crate::input::CountedReader;
 use crate::io_fault::IoFault;
+use crate::making::new_run;
 use crate::run::command_run;
-use crate::words::{begins_read, not_text};
+use crate::words::{begin_with, not_text};
 use std::alloc::Global;
 use std::convert::AsStr;
 use std::io::Write;
@@ -54,7 +60,7 @@ fn words_after_name<R: Env + AllocGlobal>(rt: &R) -> io::Result<Vec<String>> {
 
 /// The command as which words are taken, by the first of them.
 fn command_of<S: AsStr>(words: &[S]) -> CommandKind {
-    if begins_read(words) {
+    if begin_with(words, "read") {
         CommandKind::Read
     } else {
         CommandKind::Class
@@ -84,17 +90,41 @@ fn fault_status<R: Eprint>(rt: &R, fault: IoFault) -> u8
     FAULTED
 }
 
+/// Answers the words of a command that reads a file.
+fn run_on_input(rt: &HostRuntime, words: &[String]) -> Result<u8, IoFault> {
+    command_run(
+        rt.alloc(),
+        command_of(words),
+        words,
+        &mut CountedReader::new(rt.reader()),
+        &mut io::writer(rt),
+        &mut rt.stderr(),
+    )
+}
+
+/// Answers the words of a command that makes a register. The connection is let go, and its file stays locked so long.
+fn run_new(rt: &HostRuntime, words: &[String]) -> Result<u8, IoFault> {
+    let run = new_run::<String, WaryFile, FileDatabases<'_>, _, _>(
+        rt.alloc(),
+        words,
+        &mut FileDatabases::new(rt),
+        &mut io::writer(rt),
+        &mut rt.stderr(),
+    );
+    run.status
+}
+
+fn run_words(rt: &HostRuntime, words: &[String]) -> Result<u8, IoFault> {
+    if begin_with(words, "new") {
+        run_new(rt, words)
+    } else {
+        run_on_input(rt, words)
+    }
+}
+
 fn main(rt: HostRuntime) -> ExitCode {
-    let mut reader = CountedReader::new(rt.reader());
     let run = match words_after_name(&rt) {
-        Ok(words) => command_run(
-            rt.alloc(),
-            command_of(words.as_slice()),
-            words.as_slice(),
-            &mut reader,
-            &mut io::writer(&rt),
-            &mut rt.stderr(),
-        ),
+        Ok(words) => run_words(&rt, words.as_slice()),
         Err(error) => explain_no_words(rt.alloc(), error.kind(), &mut rt.stderr()),
     };
     match run {

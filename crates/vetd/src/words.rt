@@ -1,13 +1,16 @@
 //! The command line.
-ghost use Rattle.std.specs.Prelude.{◌≡◌, ◌≢◌, List, IfOk, IfErr, codes, map, option_and_then, option_map};
+ghost use Rattle.std.specs.Prelude.{◌≡◌, ◌≢◌, List, IfOk, IfErr, codes, map, option_and_then, option_map, true};
 ghost use Rattle.clap.specs.Words.{App, Rule, first_of, found_of, kind_of, rows_of, with_rule};
 ghost use Rattle.clap.specs.Words.{subcommand_rows_of, Text};
-ghost use Rattle.vetd.specs.Words.{IsApp, IsRule, asked_of, bare_app, begins_read, class_alone_app, class_app};
-ghost use Rattle.vetd.specs.Words.{class_given, given, kind_from, read_app, read_given, rows_if_named, top_app};
+ghost use Rattle.vetd.specs.NewWords.{limit_rule, new_app, option_rule};
+ghost use Rattle.vetd.specs.Words.{IsApp, IsRule, asked_of, bare_app, begins_with, class_alone_app, class_app};
+ghost use Rattle.vetd.specs.Words.{class_given, file_app, given, kind_from, read_app, read_given, rows_if_named};
+ghost use Rattle.vetd.specs.Words.{top_app};
 ghost use Rattle.vetd.specs.Words.{word_rule, words_from};
 
 use crate::file_kind::FileKind;
-use crate::help::{CLASS_HELP, PROGRAM_HELP, READ_HELP, VERSION};
+use crate::help::{CLASS_HELP, NEW_HELP, PROGRAM_HELP, READ_HELP, VERSION};
+use clap::builder::ValueParser;
 use clap::error::ErrorKind;
 use clap::{Arg, ArgMatches, Command, Error};
 use std::alloc::{AllocError, Global};
@@ -79,12 +82,12 @@ fn kind_word<'a>(matches: &ArgMatches<'a>) -> Option<&'a str> {
     value(matches_if_named(matches, "read")?, "KIND")
 }
 
-/// Whether the words begin with `read`.
-pub fn begins_read<S: AsStr>(words: &[S]) -> bool
-    ensures { result ≡ begins_read (map S.text words.now) }
+/// Whether the words begin with the name of a command.
+pub fn begin_with<S: AsStr>(words: &[S], name: &str) -> bool
+    ensures { result ≡ begins_with name.now (map S.text words.now) }
 {
     match words.first() {
-        Some(word) => word.as_str() == "read",
+        Some(word) => word.as_str() == name,
         None => false,
     }
 }
@@ -101,14 +104,21 @@ pub fn not_text(alloc: Global) -> Result<Error, AllocError>
 }
 
 /// An error of the program's command line, in the form of clap's own.
-fn words_error(alloc: Global, kind: ErrorKind, message: &str) -> Result<Error, AllocError>
+pub(crate) fn words_error(
+    alloc: Global,
+    kind: ErrorKind,
+    message: &str,
+) -> Result<Error, AllocError>
     ensures { IfOk result (λ error. kind_of error ≡ kind) }
 {
     top_command(alloc)?.error(kind, message)
 }
 
 /// What clap gives of the words; where a word is too many, its error tells how a file is given.
-fn matches_of<'a, S: AsStr>(alloc: Global, words: &'a [S]) -> Result<ArgMatches<'a>, Error>
+pub(crate) fn matches_of<'a, S: AsStr>(
+    alloc: Global,
+    words: &'a [S],
+) -> Result<ArgMatches<'a>, Error>
     ensures found { IfOk result (λ matches. (name : Text) → given name (map S.text words.entry.now)
         ≡ rows_if_named name (subcommand_rows_of matches)) }
     ensures refused { IfErr result (λ error. kind_of error ≢ ErrorKind.OutOfMemory
@@ -166,6 +176,14 @@ fn surplus_word<S: AsStr>(words: &[S]) -> Option<&str> {
 /// The program's command line.
 fn top_command<'a>(alloc: Global) -> Result<Command<'a>, AllocError>
     ensures { IfOk result (IsApp top_app) }
+{
+    let new = new_command(alloc)?;
+    file_commands(alloc)?.subcommand(new)
+}
+
+/// The command line with the subcommands that read a file.
+fn file_commands<'a>(alloc: Global) -> Result<Command<'a>, AllocError>
+    ensures { IfOk result (IsApp file_app) }
 {
     let read = read_command(alloc)?;
     class_alone(alloc)?.subcommand(read)
@@ -225,6 +243,39 @@ fn read_command<'a>(alloc: Global) -> Result<Command<'a>, AllocError>
     )
 }
 
+fn new_command<'a>(alloc: Global) -> Result<Command<'a>, AllocError>
+    ensures { IfOk result (IsApp new_app) }
+{
+    let command = Command::new(alloc, "new")
+        .about("Makes a register in a database file")
+        .after_help(NEW_HELP);
+    let command = add(command, path_option(alloc))?;
+    add(command, limit_option(alloc))
+}
+
+/// `--db PATH`, which is required.
+fn path_option<'a>(alloc: Global) -> Arg<'a>
+    ensures { IsRule (option_rule true (codes "db")) result }
+{
+    Arg::new(alloc, "db")
+        .long("db")
+        .value_name("PATH")
+        .required(true)
+        .help("Where the database file stands, or is to stand")
+}
+
+/// `--moves-limit N`.
+fn limit_option<'a>(alloc: Global) -> Arg<'a>
+    ensures { IsRule limit_rule result }
+{
+    Arg::new(alloc, "moves-limit")
+        .long("moves-limit")
+        .value_name("N")
+        .value_parser(ValueParser::Unsigned(1, 1_000_000))
+        .default_value("1000000")
+        .help("How many moves a period may record")
+}
+
 /// A required word.
 fn word<'a>(alloc: Global, id: &'a str, help: &'a str) -> Arg<'a>
     ensures { IsRule (word_rule id.entry.now) result }
@@ -257,7 +308,10 @@ fn kind_asked(matches: &ArgMatches<'_>) -> Option<FileKind>
 }
 
 /// The matches of the subcommand, where it is the one of this name.
-fn matches_if_named<'m, 'a>(matches: &'m ArgMatches<'a>, name: &str) -> Option<&'m ArgMatches<'a>>
+pub(crate) fn matches_if_named<'m, 'a>(
+    matches: &'m ArgMatches<'a>,
+    name: &str,
+) -> Option<&'m ArgMatches<'a>>
     ensures { option_map (λ m. rows_of (found_of m.now)) result
         ≡ rows_if_named name.now (subcommand_rows_of matches.now) }
 {
@@ -287,7 +341,7 @@ fn kind_of_file(subcommand: &ArgMatches<'_>) -> Option<FileKind>
 }
 
 /// The value of an argument.
-fn value<'a>(subcommand: &ArgMatches<'a>, id: &str) -> Option<&'a str>
+pub(crate) fn value<'a>(subcommand: &ArgMatches<'a>, id: &str) -> Option<&'a str>
     ensures { option_map (λ s. s.now) result ≡ first_of id.now (rows_of (found_of subcommand.now)) }
 {
     subcommand.get_str(id)

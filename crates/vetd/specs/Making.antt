@@ -1,0 +1,64 @@
+-- What a new command makes, and answers (ours).
+use Rattle.std.specs.Prelude.{◌≡◌, ◌⊎◌, IsTrue, List, MatchResult, Option, Some, None, Result, Ok, Err, codes, false}
+use Rattle.std.specs.Prelude.{ℕ, ⊤}
+use Rattle.clap.specs.Walk.{Text}
+use Rattle.sqlite.specs.Held.{Held, state}
+use Rattle.sqlite.specs.State.{HasCleanDisk, Survives}
+use Rattle.sqlite_trees.specs.declared.store.Store.{Ghosts}
+use Rattle.vet_base.specs.declared.refusal.Refusal.{Refusal}
+use Rattle.vet_base.specs.declared.refusal.Refusal.TheVariants.{NoMemory, NotARegister}
+use Rattle.vet_register.specs.State.{start}
+use Rattle.vet_rows.specs.RowsOf.{rows_of}
+use Rattle.vet_store.specs.Made.{AreFree, IsMade, SparesOthers}
+use Rattle.vet_store.specs.Runs.{IsOfStore}
+use Rattle.vet_store.specs.Stands.{Rests}
+use Rattle.vet_store.specs.Tied.{IsTied}
+use Rattle.vetd.specs.Answer.{Answer, Explains, Prints, Refuses}
+use Rattle.vetd.specs.NewAsked.{AsksNew, NewAsked}
+
+-- what is told of a register that was made
+abbrev pub created_line : Text
+created_line = codes "created\n"
+
+module _ {S : Type 0} (g : Ghosts S) (limit : ℕ) (before : Held S) where
+  -- A register was made in a database: its tables have the rows of the first state, and all else stands as it did.
+  -- A crash leaves just that, as the first clause says, and in the midst of it may have left what stood before.
+  pub record IsNewRegister (after : Held S) : Type 0 where
+    pub tables : IsTied (state g after) false (rows_of (start limit))
+    pub others : HasCleanDisk (state g after) → SparesOthers (state g before).now (state g after).now
+    pub crash : Survives (state g before) (state g after) (IsMade (state g before) (rows_of (start limit)))
+
+  -- None was made: where a table, an index or a view has a name of the tables, that is told and nothing was done, and
+  -- else memory was wanting or the database refused. It is as it was.
+  pub record IsNoRegister (refusal : Refusal) (after : Held S) : Type 0 where
+    pub taken : (AreFree (state g before).now.schema → ⊥) → (refusal ≡ NotARegister) × (after ≡ before)
+    pub free : AreFree (state g before).now.schema → IsOfStore refusal
+    pub as_before : HasCleanDisk (state g after) → IsTrue (state g after).is_open
+        → Rests (state g after) × ((state g after).now ≡ (state g before).now)
+    pub crash : Survives (state g before) (state g after) (IsMade (state g before) (rows_of (start limit)))
+
+-- what may come of a path: a connection, or why there is none
+abbrev pub Giving : Type 0 → Type 1
+Giving S = Text → Result (Held S) Refusal → Type 0
+
+module _ {S : Type 0} (g : Ghosts S) (Gives : Giving S) where
+  -- The answer to what is asked, and the connection that is left. A register was made; or there is no connection, for
+  -- want of memory or as the path gave none; or there is one, and no register was made.
+  abbrev pub IsAnswerFor : NewAsked → Answer → Option (Held S) → Type 0
+  IsAnswerFor asked (Prints text) left = (text ≡ created_line) × ((before : Held S) × (Gives asked.path (Ok before)
+      × ((after : Held S) × ((left ≡ Some after) × IsNewRegister g asked.moves_limit before after))))
+  IsAnswerFor asked (Refuses refusal) None = (refusal ≡ NoMemory) ⊎ Gives asked.path (Err refusal)
+  IsAnswerFor asked (Refuses refusal) (Some after) = (before : Held S) × (Gives asked.path (Ok before)
+      × IsNoRegister g asked.moves_limit before refusal after)
+  IsAnswerFor asked Explains left = ⊥
+
+  -- the same of words: they are explained where they are no new command
+  abbrev pub IsAnswerToNew : List Text → Answer → Option (Held S) → Type 0
+  IsAnswerToNew words Explains left = ((asked : NewAsked) → AsksNew words asked → ⊥) × (left ≡ None)
+  IsAnswerToNew words answer left = (asked : NewAsked) × (AsksNew words asked × IsAnswerFor asked answer left)
+
+  -- a run that told nothing made no register
+  abbrev pub IsUnmade : List Text → Option (Held S) → Type 0
+  IsUnmade words None = ⊤
+  IsUnmade words (Some after) = (asked : NewAsked) × (AsksNew words asked
+      × ((refusal : Refusal) × IsAnswerFor asked (Refuses refusal) (Some after)))

@@ -1,0 +1,136 @@
+//! A register is made in a database, by the words of a new command.
+ghost use Rattle.std.specs.Prelude.{◌≡◌, ◌≢◌, ◌<◌, ◌≤◌, IfErr, IfOk, OnOk, false, map, string_bytes};
+ghost use Rattle.std.specs.Io.KnownBytes.{Keeps};
+ghost use Rattle.vetd.specs.Answer.{Answer, Says, Stops, answer_for};
+ghost use Rattle.vetd.specs.Making.{IsAnswerFor, IsAnswerToNew, IsNewRegister, IsNoRegister, IsUnmade};
+ghost use Rattle.vetd.specs.Making.{created_line};
+ghost use Rattle.vetd.specs.NewAsked.{new_asked};
+
+use crate::answer::{explain, report};
+use crate::databases::Databases;
+use crate::io_fault::IoFault;
+use crate::new_words::{NewWords, new_words};
+use sqlite::{Alter, Connection};
+use std::alloc::{AllocError, Global};
+use std::convert::AsStr;
+use std::io::Write;
+use vet_base::limits::MOST_MOVES;
+use vet_base::refusal::Refusal;
+use vet_graph::keeper::Keeper;
+use vet_graph::plain::PlainKeeper;
+use vet_store::store::Store;
+
+/// What came of a run: its status or fault, and the connection to the database, where one was opened.
+pub struct NewRun<S: Alter> {
+    pub status: Result<u8, IoFault>,
+    pub conn: Option<Connection<S>>,
+}
+
+impl<S: Alter + Drop> Drop for NewRun<S> {
+    fn drop(self) {
+        let NewRun { status: _, conn: _ } = self;
+    }
+}
+
+/// Answers the words of a new command, which come without the program's own name: makes a register in the database at
+/// their path. `created` goes to `writer`, and a refusal or clap's text to `errors`.
+///
+/// **`created` is told of a register that stands in the tables, and outlasts a crash. After a refusal or a fault for
+/// want of memory the database holds what it held.** Refused, as told to its user: `StoreRefused` where no database
+/// can be opened or written there, and `NotARegister` where a table, an index or a view has a name of the register's
+/// tables. Faults: `NoMemory`, where nothing was written, and `Output`, where the front of the answer was.
+pub fn new_run<T: AsStr, S: Alter + Drop, D: Databases<S>, W: Write, E: Write>(
+    alloc: Global,
+    words: &[T],
+    databases: &mut D,
+    writer: &mut W,
+    errors: &mut E,
+) -> NewRun<S>
+    ensures says { IfOk result.status (λ status. (answer : Answer)
+        × (IsAnswerToNew S.Store (D.may_give databases.old) (map T.text words.now) answer result.conn
+        × Says answer status (W.contents writer.old) (W.contents writer.new)
+        (E.contents errors.old) (E.contents errors.new))) }
+    ensures part { IfErr result.status (λ fault. fault ≡ IoFault.Output → (answer : Answer)
+        × (IsAnswerToNew S.Store (D.may_give databases.old) (map T.text words.now) answer result.conn
+        × Stops answer (W.contents writer.old) (W.contents writer.new)
+        (E.contents errors.old) (E.contents errors.new))) }
+    ensures silent { IfErr result.status (λ fault. fault ≢ IoFault.Output
+        → Keeps (W.contents writer.old) (W.contents writer.new)
+        × Keeps (E.contents errors.old) (E.contents errors.new)) }
+    ensures unmade { IfErr result.status (λ fault. fault ≢ IoFault.Output
+        → IsUnmade S.Store (D.may_give databases.old) (map T.text words.now) result.conn) }
+    ensures faults { IfErr result.status (λ fault. (fault ≢ IoFault.Input) × (fault ≢ IoFault.Endless)) }
+{
+    match new_words(alloc, words) {
+        Ok(asked) => {
+            let (told, conn) = make_at::<S, D>(alloc, databases, asked);
+            let status = report(alloc, &told, writer, errors);
+            NewRun { status, conn }
+        }
+        Err(error) => NewRun {
+            status: explain(alloc, &error, errors),
+            conn: None,
+        },
+    }
+}
+
+/// Makes a register at a path, and tells it.
+fn make_at<S: Alter + Drop, D: Databases<S>>(
+    alloc: Global,
+    databases: &mut D,
+    asked: NewWords<'_>,
+) -> (Result<String, Refusal>, Option<Connection<S>>)
+    requires { (0 < asked.moves_limit) × (asked.moves_limit ≤ MOST_MOVES) }
+    ensures { IsAnswerFor S.Store (D.may_give databases.old) (new_asked asked.entry)
+        (answer_for string_bytes result.0) result.1 }
+{
+    let text = match created(alloc) {
+        Ok(text) => text,
+        Err(_) => return (Err(Refusal::NoMemory), None),
+    };
+    match databases.connect(asked.path) {
+        Ok(conn) => {
+            let (made, conn) = make::<S, PlainKeeper>(alloc, conn, asked.moves_limit);
+            (told(made, text), Some(conn))
+        }
+        Err(refusal) => (Err(refusal), None),
+    }
+}
+
+/// The line that is told of a register that was made.
+fn created(alloc: Global) -> Result<String, AllocError>
+    ensures { IfOk result (λ text. string_bytes text ≡ created_line) }
+{
+    String::from_str(alloc, "created\n")
+}
+
+/// The text, unless there is a refusal.
+fn told(made: Result<(), Refusal>, text: String) -> Result<String, Refusal>
+    ensures made { OnOk made (result ≡ Ok text) }
+    ensures refused { IfErr made (λ refusal. result ≡ Err refusal) }
+{
+    match made {
+        Ok(()) => Ok(text),
+        Err(refusal) => Err(refusal),
+    }
+}
+
+/// Makes a register in the database of a connection, which is given back.
+fn make<S: Alter + Drop, K: Keeper>(
+    alloc: Global,
+    conn: Connection<S>,
+    moves_limit: usize,
+) -> (Result<(), Refusal>, Connection<S>)
+    requires limit { (0 < moves_limit) × (moves_limit ≤ MOST_MOVES) }
+    requires outside { conn.in_transaction ≡ false }
+    ensures made { OnOk result.0 (IsNewRegister S.Store moves_limit conn result.1) }
+    ensures refused { IfErr result.0 (λ refusal. IsNoRegister S.Store moves_limit conn refusal result.1) }
+{
+    match Store::<S, K>::create(alloc, conn, moves_limit) {
+        Ok(store) => (Ok(()), store.close()),
+        Err(refused) => {
+            let (refusal, conn) = refused.into_parts();
+            (Err(refusal), conn)
+        }
+    }
+}
