@@ -1,5 +1,6 @@
 use Rattle.std.proofs.Common.{◌≡◌, ◌∙◌, ◌+◌, ◌++◌, ◌∷◌, [], ap, arith, inl, refl, subst, suc, sym, take}
 use Rattle.std.proofs.Math.Seq.{take-suc}
+use Rattle.std.proofs.lemmas.List.{take_all}
 use Rattle.sqlite.specs.Held.{state}
 use Rattle.vet_store.specs.Crash.{LeavesRun}
 use Rattle.vet_store.specs.Repeats.{IsTurnWithRepeats}
@@ -69,3 +70,12 @@ loop-command-preserved g c =
           (sym commands) left);
       closed = λ is. (ran.closed (rw (inv.closed is) is)).1 ∙ inv.closed is;
     }
+
+pub returns-clause-leaves : goal.returns-clause-leaves
+returns-clause-leaves g c unshut =
+    let last = c.loop-command.self in
+    let xs = c.args.commands.now in
+    let all : take c.loop-command.command-index xs ≡ xs = take_all c.loop-command.command-index xs
+    (omega (arith, c.loop-command-test.false)) in
+    subst (λ cs. LeavesRun (state g.S.Store last.conn) last.shut c.args.self.now.register.state cs
+    c.loop-command.answers.items last.register.state) all (c.loop-command.invariant.leaves unshut)
