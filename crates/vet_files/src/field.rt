@@ -14,8 +14,8 @@ ghost use Rattle.vet_files.specs.Field.{a_user, a_version, day_of, day_of_date, 
 ghost use Rattle.vet_files.specs.Field.{user_of};
 ghost use Rattle.vet_files.specs.ReadAgain.{IsReadAs};
 
-pub(crate) mod maps;
-pub(crate) mod sets;
+pub mod maps;
+pub mod sets;
 
 use std::alloc::{AllocError, Global};
 use toml::value::Datetime;
@@ -31,7 +31,7 @@ use vet_base::version::{VetVersion, version_text_reads_back};
 use vet_entries::user::User;
 
 /// The refusal of what stands in a table at a key, or want of memory.
-pub(crate) fn fault(alloc: Global, path: &str, key: &str) -> Refusal
+pub fn fault(alloc: Global, path: &str, key: &str) -> Refusal
     ensures { (result ≡ Refusal.NoMemory) ⊎ (result ≡ fault path.now key.now) }
 {
     match (KeyText::told(alloc, path), KeyText::told(alloc, key)) {
@@ -41,7 +41,7 @@ pub(crate) fn fault(alloc: Global, path: &str, key: &str) -> Refusal
 }
 
 /// A type of what can stand at a key.
-pub(crate) trait Field: Drop {
+pub trait Field: Drop {
     /// What is told of a value that stands in the table of a path at a key.
     ghost told: { List ℕ → List ℕ → Data → Told Self };
 
@@ -59,14 +59,14 @@ pub(crate) trait Field: Drop {
 }
 
 /// The value at a key.
-pub(crate) fn value_at<'a>(table: &'a Table, key: &str) -> Option<&'a Value>
+pub fn value_at<'a>(table: &'a Table, key: &str) -> Option<&'a Value>
     ensures { option_map (λ v. view v.now) result ≡ get_member key.now (table_view table.now) }
 {
     table.get(key)
 }
 
 /// What stands at a key, where something does.
-pub(crate) fn optional<V: Field>(
+pub fn optional<V: Field>(
     alloc: Global,
     path: &str,
     table: &Table,
@@ -81,12 +81,7 @@ pub(crate) fn optional<V: Field>(
 }
 
 /// What stands at a key, where something must.
-pub(crate) fn required<V: Field>(
-    alloc: Global,
-    path: &str,
-    table: &Table,
-    key: &str,
-) -> Result<V, Refusal>
+pub fn required<V: Field>(alloc: Global, path: &str, table: &Table, key: &str) -> Result<V, Refusal>
     ensures { Gives (λ v. v) (required V.told path.now key.now (table_view table.now)) result }
 {
     match value_at(table, key) {
@@ -130,7 +125,7 @@ impl Field for Text {
 }
 
 /// A type whose values are written as texts.
-pub(crate) trait FromText: Drop {
+pub trait FromText: Drop {
     /// The value that a text is, if it is one.
     ghost reads: { List ℕ → Option Self };
 
@@ -148,7 +143,12 @@ pub(crate) trait FromText: Drop {
 }
 
 /// Reads a text that is a value of such a type, or refuses it.
-fn reading<V: FromText>(alloc: Global, path: &str, key: &str, value: &Value) -> Result<V, Refusal>
+pub fn reading<V: FromText>(
+    alloc: Global,
+    path: &str,
+    key: &str,
+    value: &Value,
+) -> Result<V, Refusal>
     ensures { Gives (λ v. v) (a_reading V.reads path.now key.now (view value.now)) result }
 {
     let Some(text) = value.as_str() else {
@@ -329,7 +329,7 @@ impl Field for Day {
 }
 
 /// The day that a value is: a text, or a local date.
-fn day_of(value: &Value) -> Option<Day>
+pub fn day_of(value: &Value) -> Option<Day>
     ensures { result ≡ day_of (view value.now) }
 {
     match value {
@@ -368,7 +368,7 @@ impl Field for User {
 }
 
 /// The user whose number a value is.
-fn user_of(value: &Value) -> Option<User>
+pub fn user_of(value: &Value) -> Option<User>
     ensures { result ≡ option_and_then user_of (as_integer (view value.now)) }
 {
     let number = value.as_integer()?;

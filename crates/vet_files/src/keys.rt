@@ -9,78 +9,78 @@ use std::alloc::AllocError;
 use toml::Table;
 
 // The keys, as the files spell them.
-pub(crate) const AUDIT_AS_CRATES_IO: &str = "audit-as-crates-io";
+pub const AUDIT_AS_CRATES_IO: &str = "audit-as-crates-io";
 
-pub(crate) const AUDITS: &str = "audits";
+pub const AUDITS: &str = "audits";
 
-pub(crate) const CARGO_VET: &str = "cargo-vet";
+pub const CARGO_VET: &str = "cargo-vet";
 
-pub(crate) const CRITERIA: &str = "criteria";
+pub const CRITERIA: &str = "criteria";
 
-pub(crate) const CRITERIA_MAP: &str = "criteria-map";
+pub const CRITERIA_MAP: &str = "criteria-map";
 
-pub(crate) const DEFAULT_CRITERIA: &str = "default-criteria";
+pub const DEFAULT_CRITERIA: &str = "default-criteria";
 
-pub(crate) const DELTA: &str = "delta";
+pub const DELTA: &str = "delta";
 
-pub(crate) const DEPENDENCY_CRITERIA: &str = "dependency-criteria";
+pub const DEPENDENCY_CRITERIA: &str = "dependency-criteria";
 
-pub(crate) const DESCRIPTION: &str = "description";
+pub const DESCRIPTION: &str = "description";
 
-pub(crate) const DESCRIPTION_URL: &str = "description-url";
+pub const DESCRIPTION_URL: &str = "description-url";
 
-pub(crate) const DEV_CRITERIA: &str = "dev-criteria";
+pub const DEV_CRITERIA: &str = "dev-criteria";
 
-pub(crate) const END: &str = "end";
+pub const END: &str = "end";
 
-pub(crate) const EXCLUDE: &str = "exclude";
+pub const EXCLUDE: &str = "exclude";
 
-pub(crate) const EXEMPTIONS: &str = "exemptions";
+pub const EXEMPTIONS: &str = "exemptions";
 
-pub(crate) const IMPLIES: &str = "implies";
+pub const IMPLIES: &str = "implies";
 
-pub(crate) const IMPORTABLE: &str = "importable";
+pub const IMPORTABLE: &str = "importable";
 
-pub(crate) const IMPORTS: &str = "imports";
+pub const IMPORTS: &str = "imports";
 
-pub(crate) const NOTES: &str = "notes";
+pub const NOTES: &str = "notes";
 
-pub(crate) const POLICY: &str = "policy";
+pub const POLICY: &str = "policy";
 
-pub(crate) const PUBLISHER: &str = "publisher";
+pub const PUBLISHER: &str = "publisher";
 
-pub(crate) const RENEW: &str = "renew";
+pub const RENEW: &str = "renew";
 
-pub(crate) const START: &str = "start";
+pub const START: &str = "start";
 
-pub(crate) const SUGGEST: &str = "suggest";
+pub const SUGGEST: &str = "suggest";
 
-pub(crate) const TRUSTED: &str = "trusted";
+pub const TRUSTED: &str = "trusted";
 
-pub(crate) const URL: &str = "url";
+pub const URL: &str = "url";
 
-pub(crate) const USER_ID: &str = "user-id";
+pub const USER_ID: &str = "user-id";
 
-pub(crate) const USER_LOGIN: &str = "user-login";
+pub const USER_LOGIN: &str = "user-login";
 
-pub(crate) const USER_NAME: &str = "user-name";
+pub const USER_NAME: &str = "user-name";
 
-pub(crate) const VERSION: &str = "version";
+pub const VERSION: &str = "version";
 
-pub(crate) const VIOLATION: &str = "violation";
+pub const VIOLATION: &str = "violation";
 
-pub(crate) const WHEN: &str = "when";
+pub const WHEN: &str = "when";
 
-pub(crate) const WHO: &str = "who";
+pub const WHO: &str = "who";
 
-pub(crate) const WILDCARD_AUDITS: &str = "wildcard-audits";
+pub const WILDCARD_AUDITS: &str = "wildcard-audits";
 
 /// The path of the table that a file is.
-pub(crate) const TOP: &str = "top";
+pub const TOP: &str = "top";
 
 /// The tables of the three files.
 #[derive(Clone, Copy)]
-pub(crate) enum TableKind {
+pub enum TableKind {
     AuditsFile,
     Criterion,
     Audit,
@@ -97,7 +97,7 @@ pub(crate) enum TableKind {
 
 impl TableKind {
     /// Whether a table of this kind has a meaning for a key.
-    fn has_key(self, key: &str) -> bool
+    pub fn has_key(self, key: &str) -> bool
         ensures { result ≡ is_key self key.now }
     {
         match self {

@@ -11,12 +11,12 @@
 
 pub mod audits_file;
 pub mod config_file;
-mod field;
+pub mod field;
 pub mod files_content;
 pub mod found;
 pub mod imports_file;
-mod keys;
+pub mod keys;
 pub mod listed;
 pub mod notices;
-mod read;
+pub mod read;
 mod write;

@@ -1,16 +1,16 @@
 //! From the tables of a file to what it says: each reader gives what its definition tells of a table.
 
 pub(crate) mod criteria;
-pub(crate) mod document;
+pub mod document;
 pub(crate) mod entries;
 pub(crate) mod exemptions;
 pub(crate) mod gathered_policies;
 pub(crate) mod package_entries;
-pub(crate) mod package_tables;
+pub mod package_tables;
 pub(crate) mod peers;
 pub(crate) mod policies;
 pub(crate) mod publishers;
 pub(crate) mod subject;
-pub(crate) mod walk;
+pub mod walk;
 pub(crate) mod whose;
 pub(crate) mod windows;

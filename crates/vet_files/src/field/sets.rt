@@ -16,7 +16,7 @@ use vet_base::refusal::Refusal;
 use vet_base::texts::Texts;
 
 /// Reads each item of a list that stands in the table of a path at a key, in its order.
-fn read_items<V: Field>(
+pub fn read_items<V: Field>(
     alloc: Global,
     path: &str,
     key: &str,
@@ -32,7 +32,7 @@ fn read_items<V: Field>(
 }
 
 /// Reads a text alone, or each item of a list.
-fn read_one_or_list<V: Field>(
+pub fn read_one_or_list<V: Field>(
     alloc: Global,
     path: &str,
     key: &str,

@@ -13,7 +13,7 @@ use toml::Table;
 use vet_base::refusal::Refusal;
 
 /// The table of a file.
-pub(crate) fn read_document(alloc: Global, bytes: &[u8]) -> Result<Table, Refusal>
+pub fn read_document(alloc: Global, bytes: &[u8]) -> Result<Table, Refusal>
     ensures { Gives (λ table. table_view table) (document_told bytes.now) result }
 {
     match toml::table_from_slice(alloc, bytes) {
@@ -29,7 +29,7 @@ pub(crate) fn read_document(alloc: Global, bytes: &[u8]) -> Result<Table, Refusa
 }
 
 /// The table at a key, where there is one.
-pub(crate) fn table_at<'a>(
+pub fn table_at<'a>(
     alloc: Global,
     path: &str,
     file: &'a Table,
@@ -48,7 +48,7 @@ pub(crate) fn table_at<'a>(
 }
 
 /// The path of a table: what its file's paths begin with, and its key.
-pub(crate) fn joined(alloc: Global, prefix: &str, key: &str) -> Result<String, AllocError>
+pub fn joined(alloc: Global, prefix: &str, key: &str) -> Result<String, AllocError>
     ensures { IfOk result (λ s. string_bytes s ≡ prefix.now ++ key.now) }
 {
     format!(in alloc; "{prefix}{key}")

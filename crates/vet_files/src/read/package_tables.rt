@@ -76,7 +76,7 @@ impl<R: ReadTable> ReadItem for NextTable<'_, R> {
 }
 
 /// The path of what stands in a table at a key.
-pub(crate) fn path_below(alloc: Global, path: &str, key: &str) -> Result<String, AllocError>
+pub fn path_below(alloc: Global, path: &str, key: &str) -> Result<String, AllocError>
     ensures { IfOk result (λ s. string_bytes s ≡ path_below path.now key.now) }
 {
     format!(in alloc; "{path}.{key}")

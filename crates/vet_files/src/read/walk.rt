@@ -32,7 +32,7 @@ use toml::{Table, Value};
 use vet_base::refusal::Refusal;
 
 /// Reads what stands at one key of a table.
-pub(crate) trait ReadMember {
+pub trait ReadMember {
     /// What was found so far.
     type Found: Drop;
 
@@ -51,7 +51,7 @@ pub(crate) trait ReadMember {
 }
 
 /// Reads each key of a table, in the order of their bytes, and goes on from a start. No key comes twice.
-pub(crate) fn each_member<R: ReadMember>(
+pub fn each_member<R: ReadMember>(
     alloc: Global,
     reader: &R,
     start: R::Found,
@@ -68,7 +68,7 @@ pub(crate) fn each_member<R: ReadMember>(
 }
 
 /// Reads one item of a list.
-pub(crate) trait ReadItem {
+pub trait ReadItem {
     /// What was found so far.
     type Found: Drop;
 
@@ -87,7 +87,7 @@ pub(crate) trait ReadItem {
 }
 
 /// Reads each item of a list, in its order, and goes on from a start.
-pub(crate) fn each_item<R: ReadItem>(
+pub fn each_item<R: ReadItem>(
     alloc: Global,
     reader: &R,
     start: R::Found,
