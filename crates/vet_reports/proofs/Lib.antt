@@ -1,0 +1,4 @@
+pub mod ColumnLemmas
+pub mod CsvLemmas
+pub mod ReviewLemmas
+pub mod StandingLemmas

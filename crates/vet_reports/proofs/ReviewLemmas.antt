@@ -1,0 +1,16 @@
+-- The line of a review, written part by part.
+use Rattle.std.proofs.Common.{◌≡◌, [], ◌∷◌, ◌++◌, append_assoc}
+use Rattle.vet_base.specs.Words.{Text}
+
+-- a number and a day, the columns of a version, those of a state, the criteria, and the end of the line
+pub written : (old one two three four five number day name version state member entry criteria : Text)
+    → one ≡ old ++ number
+    → two ≡ one ++ (32 ∷ (day ++ 32 ∷ []))
+    → three ≡ two ++ (name ++ (32 ∷ (version ++ 32 ∷ [])))
+    → four ≡ three ++ (state ++ (32 ∷ (member ++ (32 ∷ (entry ++ 32 ∷ [])))))
+    → five ≡ four ++ criteria
+    → five ++ 10 ∷ [] ≡ old ++ (number ++ (32 ∷ (day ++ (32 ∷ (name ++ (32 ∷ (version ++ (32 ∷ (state
+    ++ (32 ∷ (member ++ (32 ∷ (entry ++ (32 ∷ (criteria ++ 10 ∷ [])))))))))))))))
+written old one two three four five number day name version state member entry criteria first second third fourth
+    fifth =
+    rw (fifth, fourth, third, second, first) (simp append_assoc)

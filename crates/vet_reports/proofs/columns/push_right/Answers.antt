@@ -1,0 +1,8 @@
+use Rattle.std.proofs.Common.{◌<◌, ◌^◌, arith, length}
+use Rattle.vet_reports.proofs.ColumnLemmas.{laid_right}
+use Rattle.vet_reports.proofs.columns.push_right.Goals as goal
+
+pub returns : goal.returns
+returns c =
+    let short : length c.args.column.now < 2 ^ 64 = omega arith in
+    rw (c.laid_out.ensures, laid_right c.args.width c.args.column.now short) at c.write.ensures.bytes

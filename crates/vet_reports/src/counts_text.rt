@@ -1,0 +1,180 @@
+//! The report of counts.
+ghost use Rattle.std.specs.Prelude.{◌≡◌, ◌++◌, IfErr, IfOk, OnOk, Some, string_bytes};
+ghost use Rattle.std.specs.Fmt.{decimal};
+ghost use Rattle.std.specs.Option.{option_eq};
+ghost use Rattle.vet_graph.specs.Moves.{arrivals_of, departures_of};
+ghost use Rattle.vet_graph.specs.Standing.{same_class, total_of};
+ghost use Rattle.vet_register.specs.State.{changes_of};
+ghost use Rattle.vet_reports.specs.ByExample as example;
+ghost use Rattle.vet_reports.specs.Columns.{right_in};
+ghost use Rattle.vet_reports.specs.CountsText.{arrivals, class_row, counts_table, counts_text, departures};
+ghost use Rattle.vet_reports.specs.CountsText.{header_row, sums_row, table_text};
+
+use crate::columns::{push_left, push_number, push_right};
+use std::alloc::{AllocError, Global};
+use vet_base::refusal::Refusal;
+use vet_graph::class::Class;
+use vet_graph::keeper::Keeper;
+use vet_graph::standing::Counts;
+use vet_register::moves::RecordedMove;
+use vet_register::register::Register;
+
+/// How many pairs stood in each class at first, came to it and went from it since, and stand in it now.
+#[derive(Clone, Copy)]
+pub struct CountsTable {
+    pub first: Counts,
+    pub arrived: Counts,
+    pub departed: Counts,
+    pub present: Counts,
+}
+
+/// The report of counts: a header, a line for each class in their order, and a line of sums. Names stand left in 12
+/// characters, numbers right in 10. Costs ten looks at each recorded move. Refused: `NoMemory`.
+pub fn counts_text<K: Keeper>(alloc: Global, register: &Register<K>) -> Result<String, Refusal>
+    ensures text { IfOk result (λ text. string_bytes text ≡ counts_text register.now.state) }
+    ensures memory { IfErr result (λ e. e ≡ Refusal.NoMemory) }
+{
+    let table = counts_table(register);
+    let mut text = String::new(alloc);
+    push_table(&mut text, &table)?;
+    Ok(text)
+}
+
+// The counts of a register.
+fn counts_table<K: Keeper>(register: &Register<K>) -> CountsTable
+    ensures { result ≡ counts_table register.now.state }
+{
+    CountsTable {
+        first: register.first_counts(),
+        arrived: arrivals(register.moves()),
+        departed: departures(register.moves()),
+        present: register.counts(),
+    }
+}
+
+// How many moves arrive at each class.
+fn arrivals(moves: &[RecordedMove]) -> Counts
+    ensures { result ≡ arrivals (changes_of moves.now) }
+{
+    Counts {
+        conflicting: arrivals_at(Class::Conflicting, moves),
+        full: arrivals_at(Class::Full, moves),
+        partial: arrivals_at(Class::Partial, moves),
+        exempted: arrivals_at(Class::Exempted, moves),
+        unvetted: arrivals_at(Class::Unvetted, moves),
+    }
+}
+
+// How many moves depart from each class.
+fn departures(moves: &[RecordedMove]) -> Counts
+    ensures { result ≡ departures (changes_of moves.now) }
+{
+    Counts {
+        conflicting: departures_from(Class::Conflicting, moves),
+        full: departures_from(Class::Full, moves),
+        partial: departures_from(Class::Partial, moves),
+        exempted: departures_from(Class::Exempted, moves),
+        unvetted: departures_from(Class::Unvetted, moves),
+    }
+}
+
+// How many moves arrive at a class.
+fn arrivals_at(class: Class, moves: &[RecordedMove]) -> u64
+    ensures { result ≡ arrivals_of class (changes_of moves.now) }
+{
+    let arriving = moves
+        .iter()
+        .filter(|recorded| is_in(recorded.change.after, class));
+    arriving.count() as u64
+}
+
+// How many moves depart from a class.
+fn departures_from(class: Class, moves: &[RecordedMove]) -> u64
+    ensures { result ≡ departures_of class (changes_of moves.now) }
+{
+    let departing = moves
+        .iter()
+        .filter(|recorded| is_in(recorded.change.before, class));
+    departing.count() as u64
+}
+
+// Whether this is a class.
+fn is_in(found: Option<Class>, class: Class) -> bool
+    ensures { result ≡ option_eq same_class found (Some class) }
+{
+    match found {
+        Some(other) => other == class,
+        None => false,
+    }
+}
+
+// Adds the header, the classes and the sums.
+fn push_table(text: &mut String, table: &CountsTable) -> Result<(), AllocError>
+    ensures { OnOk result (string_bytes text.new ≡ string_bytes text.old ++ table_text table.now) }
+{
+    push_header(text)?;
+    push_class(text, Class::Conflicting, table)?;
+    push_class(text, Class::Full, table)?;
+    push_class(text, Class::Partial, table)?;
+    push_class(text, Class::Exempted, table)?;
+    push_class(text, Class::Unvetted, table)?;
+    push_sums(text, table)
+}
+
+fn push_header(text: &mut String) -> Result<(), AllocError>
+    ensures { OnOk result (string_bytes text.new ≡ string_bytes text.old ++ header_row) }
+{
+    push_left(text, 12, "class")?;
+    push_right(text, 10, "first")?;
+    push_right(text, 10, "arrived")?;
+    push_right(text, 10, "departed")?;
+    push_right(text, 10, "now")?;
+    text.push('\n')
+}
+
+// Adds the line of a class.
+fn push_class(text: &mut String, class: Class, table: &CountsTable) -> Result<(), AllocError>
+    ensures { OnOk result (string_bytes text.new ≡ string_bytes text.old ++ class_row class table.now) }
+{
+    push_left(text, 12, class.word())?;
+    push_number(text, 10, table.first.of(class))?;
+    push_number(text, 10, table.arrived.of(class))?;
+    push_number(text, 10, table.departed.of(class))?;
+    push_number(text, 10, table.present.of(class))?;
+    text.push('\n')
+}
+
+// Adds the line of all classes together.
+fn push_sums(text: &mut String, table: &CountsTable) -> Result<(), AllocError>
+    ensures { OnOk result (string_bytes text.new ≡ string_bytes text.old ++ sums_row table.now) }
+{
+    push_left(text, 12, "demand")?;
+    push_sum(text, total(table.first))?;
+    push_sum(text, total(table.arrived))?;
+    push_sum(text, total(table.departed))?;
+    push_sum(text, total(table.present))?;
+    text.push('\n')
+}
+
+// All five counts together.
+fn total(counts: Counts) -> u128
+    ensures { result ≡ total_of counts }
+{
+    u128::from(counts.conflicting)
+        + u128::from(counts.full)
+        + u128::from(counts.partial)
+        + u128::from(counts.exempted)
+        + u128::from(counts.unvetted)
+}
+
+// Adds a sum, right in 10 characters.
+fn push_sum(text: &mut String, sum: u128) -> Result<(), AllocError>
+    ensures { OnOk result (string_bytes text.new ≡ string_bytes text.old ++ right_in 10 (decimal sum)) }
+{
+    write!(text, "{sum:>10}")
+}
+
+/// A report of counts by example. Does nothing.
+pub fn counts_by_example()
+    ensures { table_text example.counts ≡ example.counts_report }
+{}

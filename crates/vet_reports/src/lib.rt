@@ -1,0 +1,16 @@
+//! What is printed of a register.
+//!
+//! **Each report is a function of the register's state, byte for byte, and the line of an outcome a function of the
+//! outcome.**
+//!
+//! Scope of this crate: the texts alone. Where they go, and how they are asked for, is told above. Definitions stand in
+//! `specs/`, built of columns: `left_in` and `right_in` lay one out, and `line` joins them.
+#![tactic(auto)]
+
+mod columns;
+pub mod counts_text;
+pub mod desk_text;
+pub mod moves_text;
+pub mod outcome_text;
+pub mod standing_csv;
+pub mod standing_text;
