@@ -4,5 +4,6 @@ pub mod CountsText
 pub mod DeskText
 pub mod MovesText
 pub mod OutcomeText
+pub mod RefusalText
 pub mod StandingCsv
 pub mod StandingText

@@ -12,5 +12,6 @@ pub mod counts_text;
 pub mod desk_text;
 pub mod moves_text;
 pub mod outcome_text;
+pub mod refusal_text;
 pub mod standing_csv;
 pub mod standing_text;
