@@ -1,4 +1,4 @@
--- What a text is laid out as, by a width.
+-- What a format writes of a text or a number by a width: what stands left or right in it.
 use Rattle.std.proofs.Common.{◌≡◌, ◌<◌, ◌≤◌, ◌^◌, ◌-◌, ℕ, zero, suc, Bool, true, false, [], ◌∷◌, ◌++◌}
 use Rattle.std.proofs.Common.{length, refl, ap, sym, arith, append-nil}
 use Rattle.std.specs.Prelude.{replicate, cond, ◌==◌, ◌&&◌}
@@ -11,6 +11,8 @@ use Rattle.std.proofs.lemmas.Fmt.{IsAscii-decimal_wide}
 use Rattle.std.specs.Str.{IsAscii}
 use Rattle.vet_base.specs.Words.{Text}
 use Rattle.vet_reports.specs.Columns.{left_in, right_in}
+
+-- ---- how it fills, and what it shows
 
 spaces : (n : ℕ) → repeat n (encode_utf8 32) ≡ replicate n 32
 unfolding encode_utf8
@@ -33,6 +35,8 @@ whole n (b ∷ text) short =
     (rw (not_zero n (omega arith)) (ap (λ l. b ∷ l) (whole (n - 1) text (omega arith))))
     (ap (λ l. b ∷ l) (whole n text (omega arith)))
 
+-- ---- a width
+
 padded_left : (n : ℕ) (text : Text) → length text < 2 ^ 64
     → padded (format_spec 32 1 0 n 18446744073709551615) text ≡ left_in n text
 unfolding padded left_in
@@ -48,6 +52,8 @@ padded_right n text short =
     rw (whole 18446744073709551615 text (omega arith), none, spaces (n - char_count text))
     (ap (λ l. replicate (n - char_count text) 32 ++ l) (append-nil text))
 
+-- ---- no width
+
 left_none : (n : ℕ) (text : Text) → n ≡ 0 → text ≡ left_in n text
 unfolding left_in
 left_none n text e =
@@ -60,7 +66,6 @@ right_none n text e =
     let none : n - char_count text ≡ 0 = omega arith in
     rw none refl
 
--- without a width, a text stands as it is
 no_width : (n : ℕ) → (n == 0) && true ≡ true → n ≡ 0
 no_width n h = grind (arith, nat_tests)
 
@@ -71,7 +76,8 @@ choice : {A : Type 0} (t : Bool) (x y z : A) → (t ≡ true → x ≡ z) → y 
 choice true x y z p q = p refl
 choice false x y z p q = q
 
--- what a width lays out at the left, and at the right
+-- ---- what is laid out
+
 pub laid_left : (n : ℕ) (text : Text) → length text < 2 ^ 64
     → styled_text (format_spec 32 1 0 n 18446744073709551615) text ≡ left_in n text
 laid_left n text short =
