@@ -7,10 +7,12 @@
 //! `trials`, with a keeper that hands all on to the plain one, and `trials --together` gives the commands as
 //! lists. What lines there are stands in `line`, `setting`, `commands`, `demands`, `peers`, `replaced`, `reviews`,
 //! `values`, `steps`, `versions`, `days`, `files`, `projects`, `written`, `held_texts`, `lists` and `tables`.
+//! `trials --db PATH` gives the commands to a register that it makes in a database file, `trials --db-together PATH`
+//! does so by lists, and `trials --db-open PATH` gives them to the register that stands in such a file.
 //! `trials --demand` has no register, asks what projects demand, and has the lines of `workspace`, with the words of
 //! `policies` and `projects`. Where memory is wanting, the run ends with that refusal and what the register holds then,
-//! and with status 1. At other words, an input that can't be read, or a line that isn't understood, a message goes to
-//! standard error, with status 2.
+//! and with status 1. So it does where no register is made or opened. At other words, an input that can't be read, or a
+//! line that isn't understood, a message goes to standard error, with status 2.
 #![tactic(auto)]
 
 mod commands;
@@ -37,8 +39,10 @@ mod relay;
 mod replaced;
 mod reviews;
 mod run;
+mod runs;
 mod setting;
 mod steps;
+mod stored;
 mod tables;
 mod together;
 mod values;
@@ -53,6 +57,7 @@ use relay::RelayKeeper;
 use run::{Contents, Ending, refused, run};
 use std::io;
 use std::process::ExitCode;
+use stored::{Way, run_stored};
 use together::run_together;
 use vet_base::refusal::Refusal;
 use vet_graph::keeper::Keeper;
@@ -63,6 +68,10 @@ use workspace::run_workspace;
 /// The status of a run of something that isn't understood.
 const NOT_UNDERSTOOD: u8 = 2;
 
+/// What is told where the words are not understood.
+const TAKEN_WORDS: &str =
+    "trials takes no words but --contents, --relay, --together, --demand, or --db, --db-together, --db-open PATH";
+
 fn main(rt: HostRuntime) -> io::Result<ExitCode> {
     match run_whole(&rt)? {
         Ending::Whole => Ok(ExitCode::SUCCESS),
@@ -72,7 +81,7 @@ fn main(rt: HostRuntime) -> io::Result<ExitCode> {
             Ok(ExitCode::from(NOT_UNDERSTOOD))
         }
         Ending::Words => {
-            eprintln!(rt; "trials takes no words but --contents, --relay, --together or --demand")?;
+            eprintln!(rt; "{TAKEN_WORDS}")?;
             Ok(ExitCode::from(NOT_UNDERSTOOD))
         }
         Ending::Input => {
@@ -88,6 +97,7 @@ fn run_whole(rt: &HostRuntime) -> io::Result<Ending> {
         Words::Relay => run_input::<RelayKeeper>(rt, Contents::AtEnd),
         Words::Together => run_input_together(rt),
         Words::Demand => run_input_workspace(rt),
+        Words::Stored(way, path) => run_input_stored(rt, path.as_str(), way),
         Words::Other => Ok(Ending::Words),
         Words::NoMemory => ended_for_memory(rt),
     }
@@ -104,6 +114,14 @@ fn run_input_together(rt: &HostRuntime) -> io::Result<Ending> {
 fn run_input_workspace(rt: &HostRuntime) -> io::Result<Ending> {
     match read_input(rt.alloc(), &mut rt.reader()) {
         Input::Text(text) => run_workspace(rt, rt.alloc(), text.as_str()),
+        Input::Other => Ok(Ending::Input),
+        Input::NoMemory => ended_for_memory(rt),
+    }
+}
+
+fn run_input_stored(rt: &HostRuntime, path: &str, way: Way) -> io::Result<Ending> {
+    match read_input(rt.alloc(), &mut rt.reader()) {
+        Input::Text(text) => run_stored(rt, path, text.as_str(), way),
         Input::Other => Ok(Ending::Input),
         Input::NoMemory => ended_for_memory(rt),
     }

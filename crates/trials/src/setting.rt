@@ -19,7 +19,8 @@ pub fn register_of<K: Keeper>(alloc: Global, text: &str) -> Result<Register<K>, 
     Ok(Register::new(alloc, limit_of(text))?)
 }
 
-fn limit_of(text: &str) -> usize
+/// How many moves the register of an example may record.
+pub fn limit_of(text: &str) -> usize
     ensures { (0 < result) × (result ≤ MOST_MOVES) }
 {
     for line in text.lines() {

@@ -5,6 +5,7 @@ use crate::fault::Fault;
 use crate::line::is_command;
 use crate::print::{print_contents, print_outcome, print_refusal};
 use crate::run::{Ending, Told, refused, tell_fault};
+use crate::runs::Runs;
 use crate::setting::register_of;
 use std::alloc::Global;
 use std::io;
@@ -17,47 +18,47 @@ use vet_register::register::Register;
 /// answers and, in the end, what the register holds. Lines that give no command are passed over.
 pub fn run_together<K: Keeper>(rt: &impl Print, alloc: Global, text: &str) -> io::Result<Ending> {
     match register_of::<K>(alloc, text) {
-        Ok(mut register) => run_on(rt, alloc, &mut register, text),
+        Ok(mut register) => give_together::<K, Register<K>>(rt, alloc, &mut register, text),
         Err(fault) => refused(rt, &fault),
     }
 }
 
-// A run of an example on its register.
-fn run_on<K: Keeper>(
+/// The same, to what runs commands.
+pub fn give_together<K: Keeper, R: Runs<K>>(
     rt: &impl Print,
     alloc: Global,
-    register: &mut Register<K>,
+    runs: &mut R,
     text: &str,
 ) -> io::Result<Ending> {
     let mut commands = Vec::new(alloc);
-    let ending = give_commands(rt, alloc, register, &mut commands, text)?;
-    print_contents(rt, register)?;
+    let ending = give_commands::<K, R>(rt, alloc, runs, &mut commands, text)?;
+    print_contents(rt, runs.shown())?;
     Ok(ending)
 }
 
-fn give_commands<K: Keeper>(
+fn give_commands<K: Keeper, R: Runs<K>>(
     rt: &impl Print,
     alloc: Global,
-    register: &mut Register<K>,
+    runs: &mut R,
     commands: &mut Vec<Command>,
     text: &str,
 ) -> io::Result<Ending> {
-    let ending = give_lists(rt, alloc, register, commands, text)?;
-    give_list(rt, alloc, register, commands.as_slice())?;
+    let ending = give_lists::<K, R>(rt, alloc, runs, commands, text)?;
+    give_list::<K, R>(rt, alloc, runs, commands.as_slice())?;
     Ok(ending)
 }
 
 // Gives all lists but the last, which is left.
-fn give_lists<K: Keeper>(
+fn give_lists<K: Keeper, R: Runs<K>>(
     rt: &impl Print,
     alloc: Global,
-    register: &mut Register<K>,
+    runs: &mut R,
     commands: &mut Vec<Command>,
     text: &str,
 ) -> io::Result<Ending> {
     for line in text.lines() {
         if is_command(line) {
-            match give_line(rt, alloc, register, commands, line)? {
+            match give_line::<K, R>(rt, alloc, runs, commands, line)? {
                 Told::Answer => {}
                 _ => return Ok(Ending::Refused),
             }
@@ -67,28 +68,28 @@ fn give_lists<K: Keeper>(
 }
 
 // Puts a line's command behind the list; where it is refused, gives the list first.
-fn give_line<K: Keeper>(
+fn give_line<K: Keeper, R: Runs<K>>(
     rt: &impl Print,
     alloc: Global,
-    register: &mut Register<K>,
+    runs: &mut R,
     commands: &mut Vec<Command>,
     line: &str,
 ) -> io::Result<Told> {
     match command(alloc, line) {
         Ok(command) => Ok(held(commands, command)),
-        Err(fault) => give_before(rt, alloc, register, commands, &fault),
+        Err(fault) => give_before::<K, R>(rt, alloc, runs, commands, &fault),
     }
 }
 
 // Gives the list, and then tells the fault of the line behind it.
-fn give_before<K: Keeper>(
+fn give_before<K: Keeper, R: Runs<K>>(
     rt: &impl Print,
     alloc: Global,
-    register: &mut Register<K>,
+    runs: &mut R,
     commands: &mut Vec<Command>,
     fault: &Fault,
 ) -> io::Result<Told> {
-    give_list(rt, alloc, register, commands.as_slice())?;
+    give_list::<K, R>(rt, alloc, runs, commands.as_slice())?;
     commands.clear();
     tell_fault(rt, fault)
 }
@@ -100,13 +101,13 @@ fn held(commands: &mut Vec<Command>, command: Command) -> Told {
     }
 }
 
-fn give_list<K: Keeper>(
+fn give_list<K: Keeper, R: Runs<K>>(
     rt: &impl Print,
     alloc: Global,
-    register: &mut Register<K>,
+    runs: &mut R,
     commands: &[Command],
 ) -> io::Result<()> {
-    match answers_of(alloc, register, commands) {
+    match answers_of::<K, R>(alloc, runs, commands) {
         Ok(answers) => print_answers(rt, answers.as_slice()),
         Err(fault) => {
             tell_fault(rt, &fault)?;
@@ -116,12 +117,12 @@ fn give_list<K: Keeper>(
 }
 
 // What a list is told. Refused: `NoMemory`.
-fn answers_of<K: Keeper>(
+fn answers_of<K: Keeper, R: Runs<K>>(
     alloc: Global,
-    register: &mut Register<K>,
+    runs: &mut R,
     commands: &[Command],
 ) -> Result<Vec<Result<Outcome, Refusal>>, Fault> {
-    Ok(register.run_all(alloc, commands)?)
+    Ok(runs.run_commands(alloc, commands)?)
 }
 
 fn print_answers(rt: &impl Print, answers: &[Result<Outcome, Refusal>]) -> io::Result<()> {

@@ -1,6 +1,7 @@
 //! The words of the command line.
 
 use crate::run::Contents;
+use crate::stored::Way;
 use std::env;
 use std::env::{Args, Env};
 use std::io::ErrorKind;
@@ -15,6 +16,8 @@ pub enum Words {
     Together,
     /// A run that asks what projects demand.
     Demand,
+    /// A run on a register in the database file of this path, come by in this way.
+    Stored(Way, String),
     /// Anything else.
     Other,
     /// There was no memory to read them.
@@ -37,9 +40,10 @@ pub fn read_words(rt: &(impl Env + AllocGlobal)) -> Words {
 // What the words ask for, of which the first is the program's name.
 fn meaning(words: Args) -> Words {
     let mut words = words.skip(1);
-    match (words.next(), words.next()) {
-        (None, _) => Words::Contents(Contents::AtEnd),
-        (Some(flag), None) => meaning_of(flag.as_str()),
+    match (words.next(), words.next(), words.next()) {
+        (None, _, _) => Words::Contents(Contents::AtEnd),
+        (Some(flag), None, _) => meaning_of(flag.as_str()),
+        (Some(flag), Some(path), None) => meaning_of_path(flag.as_str(), path),
         _ => Words::Other,
     }
 }
@@ -50,6 +54,15 @@ fn meaning_of(flag: &str) -> Words {
         "--relay" => Words::Relay,
         "--together" => Words::Together,
         "--demand" => Words::Demand,
+        _ => Words::Other,
+    }
+}
+
+fn meaning_of_path(flag: &str, path: String) -> Words {
+    match flag {
+        "--db" => Words::Stored(Way::Made, path),
+        "--db-together" => Words::Stored(Way::MadeTogether, path),
+        "--db-open" => Words::Stored(Way::Opened, path),
         _ => Words::Other,
     }
 }
