@@ -1,0 +1,214 @@
+"""A register with rows in each of its tables, and changes to its file: some leave a register there, and others leave
+none. That was worked out by hand."""
+
+from models.rows import names, optional, packed
+
+# a register with rows in each of the twelve tables
+COMMANDS = """2024-05-01 set-criterion reviewed safe-to-run
+2024-05-01 set-policy app criteria=safe-to-deploy
+2024-05-01 load-project app what,n,p,q,r%0anode,0,app,0.1.0,root%0anode,1,serde,1.0.1,third%0anode,2,log,0.4.0,third%0a\
+edge,0,1,normal,%0aedge,0,2,normal,%0a
+2024-05-01 set-peer p one - reviewed=safe-to-deploy
+2024-05-01 import-peer p [criteria.reviewed]%0a[[audits.serde]]%0acriteria="reviewed"%0aversion="1.0.1"%0a
+2024-05-01 set-publishers log 0.4.0,5,2023-02-03
+2024-05-01 add-entry wildcard log 5 2023-01-01 2023-12-31 reviewed
+2024-05-01 add-member ann
+2024-05-01 add-member bob
+2024-05-01 open-review log 0.4.0 safe-to-deploy
+2024-05-01 assign-review 1 ann
+"""
+HELD = """step 11
+criterion reviewed safe-to-run
+criterion safe-to-deploy safe-to-run
+criterion safe-to-run
+entry 2 log wildcard 5 2023-01-01 2023-12-31 reviewed
+peer p url=one
+mapped reviewed safe-to-deploy
+defined reviewed
+entry 1 serde full 1.0.1 reviewed source=p
+publisher log 0.4.0 5 2023-02-03
+policy app criteria=safe-to-deploy
+project app
+node app 0.1.0 root
+node log 0.4.0 third
+node serde 1.0.1 third
+edge app 0.1.0 log 0.4.0 normal
+edge app 0.1.0 serde 1.0.1 normal
+member ann
+member bob
+review 1 2024-05-01 log 0.4.0 assigned=ann safe-to-deploy
+pair log 0.4.0 safe-to-deploy unvetted
+pair log 0.4.0 safe-to-run full
+pair serde 1.0.1 safe-to-deploy full
+pair serde 1.0.1 safe-to-run full
+counts conflicting 0 full 3 partial 0 exempted 0 unvetted 1
+first conflicting 0 full 0 partial 0 exempted 0 unvetted 0
+move 3 2024-05-01 log 0.4.0 safe-to-deploy undemanded unvetted
+move 3 2024-05-01 log 0.4.0 safe-to-run undemanded unvetted
+move 3 2024-05-01 serde 1.0.1 safe-to-deploy undemanded unvetted
+move 3 2024-05-01 serde 1.0.1 safe-to-run undemanded unvetted
+move 5 2024-05-01 serde 1.0.1 safe-to-deploy unvetted full
+move 5 2024-05-01 serde 1.0.1 safe-to-run unvetted full
+move 7 2024-05-01 log 0.4.0 safe-to-run unvetted full
+"""
+MORE = ("2024-05-02 add-entry full log 0.4.0 safe-to-deploy\n", "done 12 number 3 moves 1")
+
+# changes after the first two commands of an example, with a pair that is full and one that is unvetted
+ALTERED_STANDING = [
+    "UPDATE standing SET class = 1 WHERE class = 4",
+    "DELETE FROM standing WHERE class = 4",
+    "UPDATE meta SET first4 = first4 + 1",
+]
+
+# what no cell of a type holds: a number below all, a word that is no name, a version or requirement, no packed list
+BAD_CELLS = {"INTEGER": "-2", "TEXT": "' '", "BLOB": "x'31'"}
+# a day after the last one
+BAD_DAY = "2932897"
+DAYS = ("day", "day1", "day2")
+
+UNKNOWN = names(["z"])
+# rows of the right form, and changes of one row of them after which no register has them all
+BAD_ROWS = [
+    "UPDATE meta SET version = 2",
+    # recorded moves lie above the step, numbers above the next ones, more moves than there may be
+    "UPDATE meta SET step = 6",
+    "UPDATE meta SET next_entry = 2",
+    "UPDATE meta SET next_review = 1",
+    "UPDATE meta SET moves_limit = 6",
+    # the counts and the moves don't add up
+    "UPDATE meta SET first1 = 1",
+    "UPDATE meta SET first4 = 1",
+    "DELETE FROM meta",
+    "INSERT INTO meta SELECT 2, version, step, next_entry, next_review, moves_limit, first0, first1, first2, first3, "
+    "first4, vet_version, default_criteria FROM meta",
+    # a criterion that nobody defines is implied, or named by an entry
+    ("UPDATE criteria SET implies = ? WHERE peer = ''", UNKNOWN),
+    "DELETE FROM criteria WHERE peer = ''",
+    "UPDATE criteria SET name = 'checked' WHERE peer = ''",
+    # a peer that is not held
+    "UPDATE criteria SET peer = 'q' WHERE peer = 'p'",
+    "UPDATE entries SET peer = 'q' WHERE peer = 'p'",
+    # a built-in criterion has no row
+    "INSERT INTO criteria VALUES ('', 'safe-to-run', x'', x'', x'')",
+    # the entry is another, and so are the classes
+    "DELETE FROM entries WHERE number = 2",
+    "UPDATE entries SET day2 = day1 WHERE number = 2",
+    "UPDATE entries SET a = '1.0.2' WHERE number = 1",
+    # an entry of its kind has no such values
+    "UPDATE entries SET user = 5 WHERE number = 1",
+    "UPDATE entries SET b = '1.0.1' WHERE number = 1",
+    "UPDATE entries SET a = '0.4.0' WHERE number = 2",
+    "UPDATE entries SET importable = 1 WHERE number = 2",
+    ("UPDATE entries SET criteria = ? WHERE number = 2", UNKNOWN),
+    "UPDATE publishers SET user = 6",
+    "UPDATE publishers SET version = '0.4.1'",
+    "DELETE FROM publishers",
+    ("UPDATE policies SET criteria = ?", optional(UNKNOWN)),
+    ("UPDATE policies SET criteria = ?", optional(names(["safe-to-run"]))),
+    ("UPDATE policies SET dependency = ?", packed([b"log", b""])),
+    ("UPDATE peers SET map = ?", packed([b"reviewed", UNKNOWN])),
+    "UPDATE peers SET map = x''",
+    ("UPDATE peers SET exclude = ?", names(["serde"])),
+    "DELETE FROM peers",
+    "UPDATE nodes SET party = 1 WHERE name = 'serde'",
+    "DELETE FROM nodes WHERE name = 'serde'",
+    "UPDATE nodes SET party = 3 WHERE name = 'serde'",
+    "UPDATE edges SET kind = 2 WHERE to_name = 'serde'",
+    "UPDATE edges SET to_version = '1.0.2' WHERE to_name = 'serde'",
+    "DELETE FROM edges WHERE to_name = 'log'",
+    "UPDATE standing SET class = 1 WHERE class = 4",
+    "UPDATE standing SET class = 5 WHERE class = 4",
+    "DELETE FROM standing WHERE class = 4",
+    "INSERT INTO standing VALUES ('log', '0.4.0', 'reviewed', 1)",
+    "DELETE FROM moves WHERE step = 7",
+    "UPDATE moves SET after = 2 WHERE step = 7",
+    "UPDATE moves SET step = 12 WHERE step = 7",
+    "UPDATE moves SET before = 1 WHERE step = 7",
+    # nobody who is no member has a review
+    "DELETE FROM members WHERE name = 'ann'",
+    "UPDATE members SET name = 'zed' WHERE name = 'ann'",
+    "UPDATE reviews SET member = 'zed'",
+    "UPDATE reviews SET member = ''",
+    "UPDATE reviews SET state = 0",
+    "UPDATE reviews SET state = 4",
+    "UPDATE reviews SET entry = 1",
+    "UPDATE reviews SET number = 2",
+    ("UPDATE reviews SET criteria = ?", UNKNOWN),
+]
+
+# changes that leave a register, with what stands then in place of a line
+GOOD_ROWS = [
+    ("UPDATE members SET name = 'zed' WHERE name = 'bob'", "member bob", "member zed"),
+    ("UPDATE moves SET day = day + 1 WHERE step = 7", "move 7 2024-05-01", "move 7 2024-05-02"),
+    ("UPDATE peers SET url = x'333a74776f'", "url=one", "url=two"),
+    ("UPDATE reviews SET day = day + 1", "review 1 2024-05-01", "review 1 2024-05-02"),
+    ("UPDATE reviews SET state = 3, member = ''", "assigned=ann", "withdrawn"),
+    ("UPDATE meta SET step = 7", "step 11", "step 7"),
+]
+
+# for each table what makes it none of a register's, by its name and the columns of its key
+BAD_FORMS = [
+    "DROP TABLE {name}",
+    "ALTER TABLE {name} RENAME TO others",
+    "DROP TABLE {name}; CREATE VIEW {name} AS SELECT 1 AS one",
+    "ALTER TABLE {name} ADD COLUMN more TEXT",
+    "CREATE INDEX more ON {name} ({key})",
+    "CREATE UNIQUE INDEX more ON {name} ({key})",
+    "CREATE TRIGGER more AFTER INSERT ON {name} BEGIN DELETE FROM {name}; END",
+    "CREATE TABLE more ({key}, FOREIGN KEY ({key}) REFERENCES {name} ({key}))",
+]
+
+# a column of a table
+CLASS = "class INTEGER NOT NULL"
+# changes in the statement that makes a table: the table, and texts with what stands in their places
+OTHER_STATEMENTS = [
+    ("standing", CLASS, "class INTEGER"),
+    ("standing", CLASS, "class ANY NOT NULL"),
+    ("standing", CLASS, f"{CLASS} DEFAULT 4"),
+    ("standing", CLASS, f"{CLASS} CHECK (class < 5)"),
+    ("standing", CLASS, f"{CLASS} REFERENCES others (x)"),
+    ("standing", CLASS, f"{CLASS}, UNIQUE (package, version, criterion, class)"),
+    ("standing", CLASS, f"{CLASS}, more TEXT AS (package)"),
+    ("standing", CLASS, "klass INTEGER NOT NULL"),
+    ("standing", f", {CLASS}", "", "(package TEXT", f"({CLASS}, package TEXT"),
+    ("standing", "package TEXT NOT NULL", "package TEXT NOT NULL COLLATE NOCASE"),
+    ("standing", " STRICT", ""),
+    ("nodes", "PRIMARY KEY (project, name, version)", "PRIMARY KEY (project, version, name)"),
+    ("nodes", "PRIMARY KEY (project, name, version)", "PRIMARY KEY (project, name, version DESC)"),
+    ("members", ", PRIMARY KEY (name)", ""),
+    ("entries", "PRIMARY KEY (number)", "PRIMARY KEY (number AUTOINCREMENT)"),
+    # a column fewer, in tables of which each column is one of the key
+    ("publishers", ", name BLOB NOT NULL", "", ", login, name)", ", login)"),
+    ("edges", ", kind INTEGER NOT NULL", "", ", to_version, kind)", ", to_version)"),
+]
+# the last column of each other table, but of the one that has a single column
+LAST_COLUMNS = {
+    "meta": "default_criteria",
+    "criteria": "implies",
+    "entries": "importable",
+    "policies": "notes",
+    "peers": "map",
+    "nodes": "party",
+    "standing": "class",
+    "moves": "after",
+    "reviews": "entry",
+}
+
+# what another program may have in the file beside the register
+BESIDE = [
+    "CREATE TABLE notes (at INTEGER PRIMARY KEY, said TEXT); INSERT INTO notes VALUES (7, 'kept')",
+    "CREATE TABLE metadata (entries TEXT, reviews INTEGER); CREATE INDEX more ON metadata (entries)",
+    "CREATE VIEW more AS SELECT * FROM entries",
+    "CREATE TABLE notes (said TEXT); CREATE TABLE others (said TEXT); "
+    "CREATE TRIGGER more AFTER INSERT ON notes BEGIN INSERT INTO others VALUES (new.said); END",
+]
+
+# what makes the file no database that the kit opens
+UNSOUND = {
+    "a row without its parent": "CREATE TABLE others (x INTEGER PRIMARY KEY); "
+    "CREATE TABLE more (x REFERENCES others (x)); INSERT INTO more VALUES (7)",
+    "a virtual table": "PRAGMA writable_schema = ON; INSERT INTO sqlite_schema VALUES "
+    "('table', 'more', 'more', 0, 'CREATE VIRTUAL TABLE more USING nothing')",
+}
+# settings of a database that the kit doesn't open
+OTHER_SETTINGS = ["PRAGMA encoding = 'UTF-16le'", "PRAGMA auto_vacuum = FULL"]
