@@ -12,17 +12,28 @@ use vet_rows::packed_names::{pack_names, pack_packages, unpack_names, unpack_pac
 
 /// The packed list of some texts, or of a set of names. Refused: `BadName`, and `NoMemory`.
 pub fn packed(alloc: Global, word: &str, texts: &[String]) -> Result<String, Fault> {
-    let bytes = match word {
-        "packed-names" => pack_names(alloc, &names(alloc, texts)?)?,
-        "packed-packages" => {
-            pack_packages(alloc, &PackageNames::of(alloc, packages(alloc, texts)?)?)?
-        }
-        _ => packed_texts(alloc, texts)?,
-    };
-    match String::from_utf8(bytes) {
+    match String::from_utf8(bytes_packed(alloc, word, texts)?) {
         Ok(text) => Ok(text),
         Err(_) => Err(Fault::NotUnderstood),
     }
+}
+
+fn bytes_packed(alloc: Global, word: &str, texts: &[String]) -> Result<Vec<u8>, Fault> {
+    match word {
+        "packed-names" => packed_names(alloc, texts),
+        "packed-packages" => packed_packages(alloc, texts),
+        _ => packed_texts(alloc, texts),
+    }
+}
+
+fn packed_names(alloc: Global, texts: &[String]) -> Result<Vec<u8>, Fault> {
+    let names = names(alloc, texts)?;
+    Ok(pack_names(alloc, &names)?)
+}
+
+fn packed_packages(alloc: Global, texts: &[String]) -> Result<Vec<u8>, Fault> {
+    let packages = PackageNames::of(alloc, packages(alloc, texts)?)?;
+    Ok(pack_packages(alloc, &packages)?)
 }
 
 fn packed_texts(alloc: Global, texts: &[String]) -> Result<Vec<u8>, Fault> {
