@@ -28,6 +28,7 @@ pub mod SameKeys
 pub mod SemverErrors
 pub mod SetsByKey
 pub mod SetsGrown
+pub mod SortedOnce
 pub mod Tables
 pub mod Telling
 pub mod VersionBytes

@@ -2,49 +2,28 @@
 use Rattle.std.proofs.Common.{◌≡◌, ℕ, ◌<◌, ◌+◌, false, List, [], length, get_or, is_ok, Less, Equal, Greater, Result}
 use Rattle.std.proofs.Common.{Ok, Err, refl, sym, ap, ◌∙◌, arith, ◌++◌, take, drop, inl, inr}
 use Rattle.std.specs.Bool.{Decides}
-use Rattle.std.specs.List.{Contains, dedup}
+use Rattle.std.specs.List.{Contains}
 use Rattle.std.specs.List.Retain.{DiffersFromLast, IsFiltered}
 use Rattle.std.specs.List.Sorted.{IsBinarySearchResult, IsPartitionPoint, IsPermutation, IsSearchInRange, IsSorted}
 use Rattle.std.specs.Ordering.{is_lt, ordering_reverse}
-use Rattle.std.specs.Cmp.{eq_by_cmp_equiv, tied_itself}
-use Rattle.std.proofs.Math.Seq.{take-append_seam}
+use Rattle.std.specs.Cmp.{tied_itself}
 use Rattle.std.proofs.lemmas.Bool.{cases_lt}
-use Rattle.std.proofs.lemmas.List.Filters.{dedup_is}
-use Rattle.std.proofs.lemmas.List.Kept.{Contains-dedup, Contains-from_dedup, IsStrictlySortedBy-dedup}
-use Rattle.std.proofs.lemmas.List.Sorted.{Contains-permutation, IsPermutation-sym, searchable_from_sorted}
-use Rattle.std.proofs.lemmas.Map.Keys.{Less-from_sorted}
+use Rattle.std.proofs.lemmas.List.Sorted.{searchable_from_sorted}
+use Rattle.vet_base.proofs.SortedOnce.{are_once_lent}
 use Rattle.vet_demand.specs.declared.pair.Pair.{Pair}
 use Rattle.vet_demand.specs.Demand.{AreThePairs}
 use Rattle.vet_demand.specs.Pair.{IsInOrder, pair_cmp, pair_eq}
 use Rattle.vet_demand.specs.PairLaws.{pair_cmp-IsAntisymmetric, pair_eq-Decides, pair_total}
 
--- what a sort and the removal of doubles leave
-are_the_pairs : (source sorted pairs : List Pair) → IsPermutation source sorted → IsSorted pair_cmp sorted
-    → IsFiltered (DiffersFromLast pair_eq) [] sorted pairs → AreThePairs source pairs
-are_the_pairs source sorted pairs moved up left =
-    let rising = IsStrictlySortedBy-dedup pair_total {E = pair_eq} (λ p q. refl) sorted up in
-    let of_dedup : AreThePairs source (dedup pair_eq sorted) = record {
-      in_order = λ i j d l m. Less-from_sorted pair_cmp (dedup pair_eq sorted) i j d rising l m;
-      same = λ p. (
-        λ h. Contains-permutation sorted source p (IsPermutation-sym source sorted moved)
-            (Contains-from_dedup pair_eq sorted p h),
-        λ h. Contains-dedup (eq_by_cmp_equiv pair_total) (λ q r. (pair_eq-Decides q r).0) sorted p
-            (Contains-permutation source sorted p moved h),
-      );
-    } in
-    rw (dedup_is pair_eq sorted pairs left) of_dedup
-
--- the same, where the sort was of all n pairs lent by the list, and is written back to it
-pub are_the_pairs_lent : (n : ℕ) (source lent sorted pairs : List Pair) → lent ≡ source → length sorted ≡ n
-    → IsPermutation lent sorted
-    → IsSorted pair_cmp sorted
+-- what a sort of all n pairs lent by a list, and the removal of doubles, leave
+pub are_the_pairs : (n : ℕ) (source lent sorted pairs : List Pair) → lent ≡ source → length sorted ≡ n
+    → IsPermutation lent sorted → IsSorted pair_cmp sorted
     → IsFiltered (DiffersFromLast pair_eq) [] (take n (sorted ++ drop (length sorted) source)) pairs
     → AreThePairs source pairs
-are_the_pairs_lent n source lent sorted pairs all long moved up left =
-    let rest = drop (length sorted) source in
-    let back : take n (sorted ++ rest) ≡ sorted = ap (λ m. take m (sorted ++ rest)) (sym long)
-    ∙ take-append_seam sorted rest in
-    are_the_pairs source sorted pairs (rw all at moved) up (rw back at left)
+are_the_pairs n source lent sorted pairs all long moved up left =
+    let those = are_once_lent pair_cmp pair_total (λ p q. (pair_eq-Decides p q).0) n source lent sorted pairs all long
+    moved up left in
+    record { in_order = those.in_order; same = those.same }
 
 not_less : (p q : Pair) → pair_cmp p q ≡ Less → is_lt (pair_cmp q p) ≡ false
 not_less p q h = ap is_lt (pair_total.antisymm q p ∙ ap ordering_reverse h)
