@@ -35,30 +35,36 @@ use Rattle.vet_demand.proofs.KeysInOrder.{insert_last, inserted_in_order, none_f
 use Rattle.vet_demand.proofs.WrittenRecords.{edge_read, edges_plain, header_plain, node_read, nodes_plain}
 use Rattle.vet_demand.proofs.WrittenText.{ArePlain, ArePlain-append, lines_read}
 
+-- ---- items counted on from a number
+
+abbrev pub counted_from : {A B : Type 0} → (ℕ → A → B) → ℕ → List A → List B
+counted_from count number [] = []
+counted_from count number (x ∷ rest) = count number x ∷ counted_from count (number + 1) rest
+
+length-counted : {A B : Type 0} (count : ℕ → A → B) (number : ℕ) (items : List A)
+    → length (counted_from count number items) ≡ length items
+length-counted count number [] = refl
+length-counted count number (x ∷ rest) = ap suc (length-counted count (number + 1) rest)
+
+counted_last : {A B : Type 0} (count : ℕ → A → B) (number : ℕ) (front : List A) (x : A)
+    → counted_from count number (front ++ x ∷ [])
+    ≡ counted_from count number front ++ count (number + length front) x ∷ []
+counted_last count number [] x =
+    (let same : number ≡ number + 0 = omega arith in ap (λ (k : ℕ). count k x ∷ []) same)
+counted_last {A} {B} count number (y ∷ front) x =
+    let same : number + 1 + length front ≡ number + length (y ∷ front) = omega arith in
+    ap (λ (others : List B). count number y ∷ others)
+    (counted_last count (number + 1) front x
+    ∙ ap (λ (k : ℕ). counted_from count (number + 1) front ++ count k x ∷ []) same)
+
 -- ---- nodes
+
+abbrev numbered : ℕ → Node → NumberedNode
+numbered number n = record { number = number; node = n }
 
 -- nodes with their numbers, on from that of the first
 abbrev pub numbered_from : ℕ → List Node → List NumberedNode
-numbered_from number [] = []
-numbered_from number (n ∷ rest) = record { number = number; node = n } ∷ numbered_from (number + 1) rest
-
-pub length-numbered : (number : ℕ) (nodes : List Node) → length (numbered_from number nodes) ≡ length nodes
-length-numbered number [] = refl
-length-numbered number (n ∷ rest) = ap suc (length-numbered (number + 1) rest)
-
-numbered_last : (number : ℕ) (front : List Node) (n : Node)
-    → numbered_from number (front ++ n ∷ []) ≡ numbered_from number front ++ record {
-      number =
-          number + length front;
-      node = n;
-    } ∷ []
-numbered_last number [] n =
-    (let same : number ≡ number + 0 = omega arith in ap (λ (k : ℕ). record { number = k; node = n } ∷ []) same)
-numbered_last number (m ∷ front) n =
-    let same : number + 1 + length front ≡ number + length (m ∷ front) = omega arith in
-    ap (λ (ns : List NumberedNode). record { number = number; node = m } ∷ ns)
-    (numbered_last (number + 1) front n
-    ∙ ap (λ (k : ℕ). numbered_from (number + 1) front ++ record { number = k; node = n } ∷ []) same)
+numbered_from = counted_from numbered
 
 numbered_before : (k : ℕ) (n : Node) (number : ℕ) (front : List Node) → All (λ m. node_cmp m n ≡ Less) front
     → All (λ m. numbered_cmp m (record { number = k; node = n }) ≡ Less) (numbered_from number front)
@@ -103,12 +109,12 @@ next_node number front n rest order named few =
     let m : NumberedNode = record { number = length front; node = n } in
     let behind = numbered_before (length front) n 0 front
     (pairs_before (λ a b. node_cmp a b ≡ Less) front n rest order) in
-    let many = length-numbered 0 front in
+    let many = length-counted numbered 0 front in
     let place : 0 + length front ≡ length front = omega arith in
     let put : insert_key numbered_cmp (numbered_from 0 front) m ≡ numbered_from 0 (front ++ n ∷ []) =
     insert_last numbered_cmp numbered_total (numbered_from 0 front) m behind
     ∙ ap (λ (k : ℕ). numbered_from 0 front ++ record { number = k; node = n } ∷ []) (sym place)
-    ∙ sym (numbered_last 0 front n) in
+    ∙ sym (counted_last numbered 0 front n) in
     no_fault number (stated (numbered_from 0 front) []) (stated (numbered_from 0 (front ++ n ∷ [])) [])
     (node_fields (length front) n) (NodeRecord m)
     (node_read number (length front) n (omega (arith, few)) named)
@@ -142,28 +148,12 @@ nodes_stated number front (n ∷ rest) rows order named few =
 
 -- ---- edges
 
+abbrev stated_at : ℕ → Edge → StatedEdge
+stated_at number e = record { record_number = number; edge = e }
+
 -- edges with the numbers of their records, on from that of the first
 abbrev pub stated_from : ℕ → List Edge → List StatedEdge
-stated_from number [] = []
-stated_from number (e ∷ rest) = record { record_number = number; edge = e } ∷ stated_from (number + 1) rest
-
-length-stated : (number : ℕ) (edges : List Edge) → length (stated_from number edges) ≡ length edges
-length-stated number [] = refl
-length-stated number (e ∷ rest) = ap suc (length-stated (number + 1) rest)
-
-stated_last : (number : ℕ) (front : List Edge) (e : Edge)
-    → stated_from number (front ++ e ∷ []) ≡ stated_from number front ++ record {
-      record_number =
-          number + length front;
-      edge = e;
-    } ∷ []
-stated_last number [] e =
-    (let same : number ≡ number + 0 = omega arith in ap (λ (k : ℕ). record { record_number = k; edge = e } ∷ []) same)
-stated_last number (f ∷ front) e =
-    let same : number + 1 + length front ≡ number + length (f ∷ front) = omega arith in
-    ap (λ (es : List StatedEdge). record { record_number = number; edge = f } ∷ es)
-    (stated_last (number + 1) front e
-    ∙ ap (λ (k : ℕ). stated_from (number + 1) front ++ record { record_number = k; edge = e } ∷ []) same)
+stated_from = counted_from stated_at
 
 not_stated : (number : ℕ) (front : List Edge) (e : Edge) → All (λ f. edge_cmp f e ≡ Less) front
     → is_stated (stated_from number front) e ≡ false
@@ -183,11 +173,11 @@ next_edge start nodes front e rest order within few =
     let s : StatedEdge = record { record_number = number; edge = e } in
     let new : is_stated so_far e ≡ false =
     not_stated start front e (pairs_before (λ a b. edge_cmp a b ≡ Less) front e rest order) in
-    let many = length-stated start front in
+    let many = length-counted stated_at start front in
     let below : nat_le MOST_EDGES (length so_far) ≡ false = grind (arith, nat_tests, few, many) in
     let told : edge_told so_far s ≡ Ok (tt {0}) = rw (new, below) refl in
     let put : with_edge so_far s ≡ stated_from start (front ++ e ∷ []) =
-    ap (λ (b : Bool). cond b so_far (so_far ++ s ∷ [])) new ∙ sym (stated_last start front e) in
+    ap (λ (b : Bool). cond b so_far (so_far ++ s ∷ [])) new ∙ sym (counted_last stated_at start front e) in
     let (from, to) = within in
     no_fault number (stated nodes so_far) (stated nodes (stated_from start (front ++ e ∷ [])))
     (edge_fields e) (EdgeRecord s)
@@ -272,7 +262,7 @@ told nodes edges = Ok (record { nodes = nodes; edges = edges })
 
 project_stated : (p : ProjectValue) → IsProject p → stated_told (stated_of p) ≡ Ok p
 project_stated p is =
-    let many = length-numbered 0 p.nodes in
+    let many = length-counted numbered 0 p.nodes in
     let some : (length (numbered_from 0 p.nodes) == 0) ≡ false =
     (let full = is.some_nodes in grind (arith, nat_tests, many, full)) in
     let between = all_placed (place_of (numbered_from 0 p.nodes)) (2 + length p.nodes) p.edges
