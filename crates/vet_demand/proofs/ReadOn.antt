@@ -30,8 +30,8 @@ use Rattle.vet_demand.specs.declared.dependency_record.NumberedNode.{NumberedNod
 use Rattle.vet_demand.specs.declared.dependency_record.StatedEdge.{StatedEdge}
 use Rattle.vet_demand.specs.declared.project.Edge.{Edge}
 use Rattle.vet_base.proofs.ListLemmas.{Contains-here, Contains-later}
-use Rattle.vet_demand.proofs.ReadParts.{edge_absent, edges_append, edges_of, from_with, recounted, restated}
-use Rattle.vet_base.proofs.SameKeys.{from_put}
+use Rattle.vet_demand.proofs.ReadParts.{edge_absent, edges_append, edges_of, from_put_or, from_with, recounted}
+use Rattle.vet_demand.proofs.ReadParts.{restated}
 use Rattle.vet_demand.proofs.TableLemmas.{length_put}
 use Rattle.vet_demand.proofs.WrittenTable.{node_told_ok}
 
@@ -98,21 +98,13 @@ Awaits-node s n nodes edges known fits =
     record {
       counted = λ i d l. (let number = fits.counted (suc i) d (omega (arith, l)) in omega (arith, number, long));
       lower = λ k d l. (let below = all k d l in omega (arith, below, long));
-      apart = λ m o h held tie. fits.apart m o (among m h) (Contains-later n o nodes held) tie;
+      apart = λ m o h held tie. fits.apart m o (from_put_or s.nodes n nodes m h) (Contains-later n o nodes held) tie;
       few = omega (arith, few, long);
       once = fits.once;
       stated_known = fits.stated_known;
       all_known = fits.all_known;
       few_known = fits.few_known;
     }
-  where
-    among : (m : NumberedNode) → Contains (insert_key numbered_cmp s.nodes n) m ⊎ Contains nodes m
-        → Contains s.nodes m ⊎ Contains (n ∷ nodes) m
-    among m (inr held) = inr (Contains-later n m nodes held)
-    among m (inl held) = elim (from_put numbered_cmp numbered_total s.nodes n m held) [
-      | inl here ↦ inr (0, omega arith, here)
-      | inr before ↦ inl before
-    ]
 
 -- ---- an edge
 

@@ -193,6 +193,15 @@ Adds-none s = record {
   few_edges = λ few. few;
 }
 
+-- where one more is held, each was held or is one of it and the rest
+pub from_put_or : (held : List NumberedNode) (n : NumberedNode) (nodes : List NumberedNode) (m : NumberedNode)
+    → Contains (insert_key numbered_cmp held n) m ⊎ Contains nodes m → Contains held m ⊎ Contains (n ∷ nodes) m
+from_put_or held n nodes m (inr there) = inr (Contains-later n m nodes there)
+from_put_or held n nodes m (inl there) = elim (from_put numbered_cmp numbered_total held n m there) [
+  | inl here ↦ inr (0, omega arith, here)
+  | inr before ↦ inl before
+]
+
 Adds-node : (k : ℕ) (s : StatedValue) (n : NumberedNode) (nodes : List NumberedNode) (edges : List Edge)
     (t : StatedValue) → node_told k s.nodes n ≡ Ok (tt {0})
     → Adds (record { nodes = insert_key numbered_cmp s.nodes n; edges = s.edges }) nodes edges t
@@ -201,7 +210,7 @@ Adds-node k s n nodes edges t told more =
     let (own, new, few) = without_fault k s.nodes n told in
     let long = length_put n s.nodes new in
     record {
-      nodes_from = λ m held. from m (more.nodes_from m held);
+      nodes_from = λ m held. from_put_or s.nodes n nodes m (more.nodes_from m held);
       nodes_to = λ m h. more.nodes_to m (to new m h);
       edges_from = more.edges_from;
       edges_to = more.edges_to;
@@ -211,14 +220,6 @@ Adds-node k s n nodes edges t told more =
       few_edges = more.few_edges;
     }
   where
-    from : (m : NumberedNode) → Contains (insert_key numbered_cmp s.nodes n) m ⊎ Contains nodes m
-        → Contains s.nodes m ⊎ Contains (n ∷ nodes) m
-    from m (inr held) = inr (Contains-later n m nodes held)
-    from m (inl held) = elim (from_put numbered_cmp numbered_total s.nodes n m held) [
-      | inl here ↦ inr (0, omega arith, here)
-      | inr before ↦ inl before
-    ]
-
     put : find (λ m. is_eq (numbered_cmp n m)) s.nodes ≡ None → (m : NumberedNode) → (n ≡ m) ⊎ Contains s.nodes m
         → Contains (insert_key numbered_cmp s.nodes n) m
     put new = to_put numbered_cmp numbered_total s.nodes n (λ y held tie. absurd (none_ties s.nodes n new y held tie))
