@@ -51,13 +51,20 @@ range_is_places entries name order low high b r =
 
 -- ---- where a place belongs
 
+-- the first places or the others, up to one of the range
+at_range : {B : Type 0} (part : ℕ → List ℕ → B) (order : List ℕ) (low high j : ℕ) → low ≤ high → high ≤ length order
+    → part (low + j) order
+    ≡ part (length (take low order) + j) (take low order ++ (between low high order ++ drop high order))
+at_range part order low high j le l =
+    let front : length (take low order) ≡ low = length-take-le low order (omega (arith, le, l)) in
+    ap (part (low + j)) (split_between order low high le)
+    ∙ ap (λ n. part (n + j) (take low order ++ (between low high order ++ drop high order))) (sym front)
+
 cut_front : (order : List ℕ) (low high j : ℕ) → low ≤ high → high ≤ length order → j ≤ length (between low high order)
     → take (low + j) order ≡ take low order ++ take j (between low high order)
 cut_front order low high j le l m =
     let here = between low high order in
-    let front : length (take low order) ≡ low = length-take-le low order (omega (arith, le, l)) in
-    ap (take (low + j)) (split_between order low high le)
-    ∙ ap (λ n. take (n + j) (take low order ++ (here ++ drop high order))) (sym front)
+    at_range take order low high j le l
     ∙ take-append-add (take low order) (here ++ drop high order) j
     ∙ ap (λ zs. take low order ++ zs) (take-append-le j here (drop high order) m)
 
@@ -65,9 +72,7 @@ cut_back : (order : List ℕ) (low high j : ℕ) → low ≤ high → high ≤ l
     → drop (low + j) order ≡ drop j (between low high order) ++ drop high order
 cut_back order low high j le l m =
     let here = between low high order in
-    let front : length (take low order) ≡ low = length-take-le low order (omega (arith, le, l)) in
-    ap (drop (low + j)) (split_between order low high le)
-    ∙ ap (λ n. drop (n + j) (take low order ++ (here ++ drop high order))) (sym front)
+    at_range drop order low high j le l
     ∙ drop-append-add (take low order) (here ++ drop high order) j
     ∙ drop-append-le j here (drop high order) m
 
