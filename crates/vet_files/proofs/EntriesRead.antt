@@ -1,6 +1,6 @@
 -- An entry's table is read again as the entry.
 use Rattle.std.proofs.Common.{◌≡◌, ℕ, pos, Bool, true, false, List, codes, Option, Some, None, Ok, is_some}
-use Rattle.std.proofs.Common.{if◌then◌else◌, refl, sym, ap, subst, ◌∙◌}
+use Rattle.std.proofs.Common.{if◌then◌else◌, refl, sym, ap, subst, ◌∙◌, take, drop}
 use Rattle.std.proofs.lemmas.Bool.{false≢true}
 use Rattle.std.specs.Option.{IfSome}
 use Rattle.toml.specs.Data.{string, integer, boolean, Members, get_member}
@@ -21,11 +21,11 @@ use Rattle.vet_entries.specs.declared.kind.Kind.TheVariants.{Full, Delta, Violat
 use Rattle.vet_entries.specs.declared.kind.Window.{Window}
 use Rattle.vet_files.specs.Audits.{audit_kind, audit_of, audit_told, first_key, is_no, is_withheld, own_entry}
 use Rattle.vet_files.specs.Audits.{subject_told, trusted_of, wildcard_of, window_told}
-use Rattle.vet_files.specs.EntryTables.{entry_fields, some_flag, some_text}
+use Rattle.vet_files.specs.EntryTables.{audit_fields, audit_table, entry_fields, entry_table, some_flag, some_text}
 use Rattle.vet_files.specs.Field.{a_day, a_delta, a_flag, a_requirement, a_text, a_user, a_version, names, texts}
 use Rattle.vet_files.specs.Lists.{found_one, skipped}
 use Rattle.vet_files.specs.OfKind.{of_kind}
-use Rattle.vet_files.specs.ReadAgain.{IsReadAs, ReadsEntry, is_taken, reading_of}
+use Rattle.vet_files.specs.ReadAgain.{IsReadAs, ReadsAudit, ReadsEntry, is_taken, reading_of}
 use Rattle.vet_files.specs.Tables.{fields, set_data, some_set}
 use Rattle.vet_files.specs.declared.keys.TableKind.TheVariants as kind
 use Rattle.vet_files.specs.declared.read.subject.Subject.{Subject}
@@ -34,26 +34,28 @@ use Rattle.vet_files.specs.declared.read.subject.Subject.TheVariants as subject
 use Rattle.vet_files.specs.declared.read.subject.SubjectKey.TheVariants as key
 use Rattle.vet_files.specs.declared.read.whose.Whose.{Whose}
 use Rattle.vet_files.specs.declared.read.whose.Whose.TheVariants.{Ours, Peers}
-use Rattle.vet_files.proofs.Fields.{Fields, all_known, field_at, get_field, none_unknown}
+use Rattle.vet_files.proofs.Fields.{Fields, all_known, field_at, get_field, none_unknown, put_between}
 use Rattle.vet_files.proofs.KeysRead.{optional_read, optional_set_read, required_read}
 
 -- ---- that the values are read again
+
+abbrev pub NotesRead : Option (List ℕ) → Type 0
+NotesRead notes = IfSome notes (λ t. IsReadAs a_text (string t) t)
 
 -- of each entry
 pub record ValuesRead (e : Entry) : Type 0 where
   pub named : is_package_name e.«package» ≡ true
   pub criteria : IsReadAs names (set_data e.criteria) e.criteria
-  pub notes : IfSome e.notes (λ t. IsReadAs a_text (string t) t)
+  pub notes : NotesRead e.notes
 
 -- they are where its table's values are read as those that it has
 pub values_read : (e : Entry) (notes : Option (List ℕ)) → is_package_name e.«package» ≡ true
     → IsReadAs names (set_data e.criteria) e.criteria → notes ≡ e.notes
-    → IfSome notes (λ t. IsReadAs a_text (string t) t)
-    → ValuesRead e
+    → NotesRead notes → ValuesRead e
 values_read e notes named criteria same read = record {
   named = named;
   criteria = criteria;
-  notes = subst (λ o. IfSome o (λ t. IsReadAs a_text (string t) t)) same read;
+  notes = subst NotesRead same read;
 }
 
 abbrev pub FlagRead : Option Bool → Type 0
@@ -121,14 +123,14 @@ audit_read : (e : Entry) (a : Audit) (whose : Whose) (path : List ℕ) (fs : Fie
     → AuditAt e a fs
     → first_key (fields fs) ≡ Some first → subject_told path (fields fs) first ≡ Ok what
     → is_peer_kind (audit_kind what a) ≡ may_import a.importable
-    → is_taken whose (audit_kind what a) ≡ true → ValuesRead e → FlagRead a.importable → WhoRead a.who
+    → is_taken whose (audit_kind what a) ≡ true → ReadsAudit e a
     → audit_told whose e.«package» path (fields fs)
     ≡ Ok (found_one (own_entry e.«package» (audit_kind what a) e.criteria e.notes) 0)
-audit_read e a whose path fs first what at is_first told same taken values importable who =
+audit_read e a whose path fs first what at is_first told same taken values =
     let ms = fields fs in
     let importable_at = get_field (codes "importable") fs ∙ at.importable in
     let (o, (who_told, is)) = optional_set_read texts set_data path (codes "who") ms a.who
-    (get_field (codes "who") fs ∙ at.who) who in
+    (get_field (codes "who") fs ∙ at.who) values.who in
     ap (λ b. if b then Ok skipped else audit_of e.«package» path ms (first_key ms))
     (not_withheld whose (audit_kind what a) a.importable ms same taken importable_at)
     ∙ ap (audit_of e.«package» path ms) is_first
@@ -139,48 +141,67 @@ audit_read e a whose path fs first what at is_first told same taken values impor
       who_told,
       optional_read a_text string path (codes "notes") ms e.notes (get_field (codes "notes") fs ∙ at.notes)
           values.notes,
-      optional_read a_flag boolean path (codes "importable") ms a.importable importable_at importable,
+      optional_read a_flag boolean path (codes "importable") ms a.importable importable_at values.importable,
       is,
       none_unknown kind.Audit fs at.known,
     )
     refl
 
-pub full_read : (e : Entry) (v : VersionValue) (a : Audit) → ValuesRead e → FlagRead a.importable → WhoRead a.who
+-- what an audit is of stands in its place among the other keys
+pub full_written : (e : Entry) (v : VersionValue) (a : Audit) → e.kind ≡ Full v a
+    → audit_table e a (codes "version") (string (version_text v)) ≡ entry_table e
+full_written e v a is =
+    put_between (take 3 (audit_fields e a)) (drop 3 (audit_fields e a)) (codes "version") (string (version_text v)) refl
+    refl
+    ∙ ap (λ what. fields (fields_of e what)) (sym is)
+
+pub delta_written : (e : Entry) (d : Change) (a : Audit) → e.kind ≡ Delta d a
+    → audit_table e a (codes "delta") (string (delta_text d)) ≡ entry_table e
+delta_written e d a is =
+    put_between (take 1 (audit_fields e a)) (drop 1 (audit_fields e a)) (codes "delta") (string (delta_text d)) refl
+    refl
+    ∙ ap (λ what. fields (fields_of e what)) (sym is)
+
+pub violation_written : (e : Entry) (req : List ℕ) (a : Audit) → e.kind ≡ Violation req a
+    → audit_table e a (codes "violation") (string req) ≡ entry_table e
+violation_written e req a is =
+    put_between (take 3 (audit_fields e a)) (drop 3 (audit_fields e a)) (codes "violation") (string req) refl refl
+    ∙ ap (λ what. fields (fields_of e what)) (sym is)
+
+pub full_read : (e : Entry) (v : VersionValue) (a : Audit) → ReadsAudit e a
     → IsReadAs a_version (string (version_text v)) v
     → ReadsEntry (of_kind e (Full v a))
-full_read e v a values importable who version = of_own e (Full v a) values.named (λ whose taken path. (
+full_read e v a values version = of_own e (Full v a) values.named (λ whose taken path. (
     let fs = fields_of e (Full v a) in
     let told = required_read a_version (λ x. string (version_text x)) path (codes "version") (fields fs) v
     (get_field (codes "version") fs) version in
     audit_read e a whose path fs key.Version (subject.Full v) record
     { criteria = refl; importable = refl; notes = refl; who = refl; known = refl }
     (rw (get_field (codes "version") fs) refl)
-    (rw (told, get_field (codes "delta") fs, get_field (codes "violation") fs) refl) refl taken values importable
-    who))
+    (rw (told, get_field (codes "delta") fs, get_field (codes "violation") fs) refl) refl taken values))
 
-pub delta_read : (e : Entry) (d : Change) (a : Audit) → ValuesRead e → FlagRead a.importable → WhoRead a.who
+pub delta_read : (e : Entry) (d : Change) (a : Audit) → ReadsAudit e a
     → IsReadAs a_delta (string (delta_text d)) d
     → ReadsEntry (of_kind e (Delta d a))
-delta_read e d a values importable who delta = of_own e (Delta d a) values.named (λ whose taken path. (
+delta_read e d a values delta = of_own e (Delta d a) values.named (λ whose taken path. (
     let fs = fields_of e (Delta d a) in
     let told = required_read a_delta (λ x. string (delta_text x)) path (codes "delta") (fields fs) d
     (get_field (codes "delta") fs) delta in
     audit_read e a whose path fs key.Delta (subject.Delta d) record
     { criteria = refl; importable = refl; notes = refl; who = refl; known = refl }
-    (rw (get_field (codes "version") fs) refl) (rw (told, get_field (codes "violation") fs) refl) refl taken values
-    importable who))
+    (rw (get_field (codes "version") fs) refl) (rw (told, get_field (codes "violation") fs) refl) refl taken values))
 
-pub violation_read : (e : Entry) (req : List ℕ) (a : Audit) → ValuesRead e → FlagRead a.importable → WhoRead a.who
+pub violation_read : (e : Entry) (req : List ℕ) (a : Audit) → ReadsAudit e a
     → IsReadAs a_requirement (string req) req
     → ReadsEntry (of_kind e (Violation req a))
-violation_read e req a values importable who violation = of_own e (Violation req a) values.named (λ whose taken path. (
+violation_read e req a values violation = of_own e (Violation req a) values.named (λ whose taken path. (
     let fs = fields_of e (Violation req a) in
     let told = required_read a_requirement string path (codes "violation") (fields fs) req
     (get_field (codes "violation") fs) violation in
     audit_read e a whose path fs key.Violation (subject.Violation req) record
     { criteria = refl; importable = refl; notes = refl; who = refl; known = refl }
     (rw (get_field (codes "version") fs, get_field (codes "delta") fs, get_field (codes "violation") fs) refl)
-    (rw told refl) refl taken values importable who))
+    (rw told refl) refl taken values))
 
 -- ---- windows
 

@@ -24,6 +24,10 @@ built ms (f ∷ rest) = built (with_key ms f.0 f.1) rest
 abbrev pub all_before : Fields → List ℕ → Bool
 all_before fs key = list_all (λ f. is_lt (slice_cmp nat_cmp f.0 key)) fs
 
+-- and each of these behind it
+abbrev pub all_after : Fields → List ℕ → Bool
+all_after fs key = list_all (λ f. is_lt (slice_cmp nat_cmp key f.0)) fs
+
 -- each key comes after those in front of it
 abbrev pub rises : Fields → Fields → Bool
 rises front [] = true
@@ -41,18 +45,28 @@ without_last : (front : Fields) (k : List ℕ) → fields (front ++ (k, None) �
 without_last [] k = refl
 without_last ((l, o) ∷ rest) k = ap (at_key l o) (without_last rest k)
 
-put_last : (front : Fields) (k : List ℕ) (d : Data) → all_before front k ≡ true
-    → put_member k d (fields front) ≡ fields (front ++ (k, Some d) ∷ [])
-put_last [] k d h = refl
-put_last ((l, None) ∷ rest) k d h = put_last rest k d (and_parts _ _ h).1
-put_last ((l, Some e) ∷ rest) k d h =
-    let (here, more) = and_parts (is_lt (slice_cmp nat_cmp l k)) (all_before rest k) h in
-    rw (after l k here) (ap (member l e) (put_last rest k d more))
+put_first : (rest : Fields) (k : List ℕ) (d : Data) → all_after rest k ≡ true
+    → put_member k d (fields rest) ≡ member k d (fields rest)
+put_first [] k d h = refl
+put_first ((l, None) ∷ rest) k d h = put_first rest k d (and_parts _ _ h).1
+put_first ((l, Some e) ∷ rest) k d h =
+    let (here, more) = and_parts (is_lt (slice_cmp nat_cmp k l)) (all_after rest k) h in
+    rw (is_less (slice_cmp nat_cmp k l) here) refl
+
+-- a key is put in its place among others
+pub put_between : (front rest : Fields) (k : List ℕ) (d : Data) → all_before front k ≡ true → all_after rest k ≡ true
+    → put_member k d (fields (front ++ rest)) ≡ fields (front ++ (k, Some d) ∷ rest)
+put_between [] rest k d before behind = put_first rest k d behind
+put_between ((l, None) ∷ front) rest k d before behind = put_between front rest k d (and_parts _ _ before).1 behind
+put_between ((l, Some e) ∷ front) rest k d before behind =
+    let (here, more) = and_parts (is_lt (slice_cmp nat_cmp l k)) (all_before front k) before in
+    rw (after l k here) (ap (member l e) (put_between front rest k d more behind))
 
 key_last : (front : Fields) (k : List ℕ) (o : Option Data) → all_before front k ≡ true
     → with_key (fields front) k o ≡ fields (front ++ (k, o) ∷ [])
 key_last front k None h = sym (without_last front k)
-key_last front k (Some d) h = put_last front k d h
+key_last front k (Some d) h = ap (λ fs. put_member k d (fields fs)) (sym (append-nil front))
+    ∙ put_between front [] k d h refl
 
 built_from : (front rest : Fields) → rises front rest ≡ true → built (fields front) rest ≡ fields (front ++ rest)
 built_from front [] h = ap fields (sym (append-nil front))

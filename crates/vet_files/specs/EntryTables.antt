@@ -10,13 +10,14 @@ use Rattle.vet_base.specs.Names.{NameSet}
 use Rattle.vet_base.specs.Version.{version_text}
 use Rattle.vet_base.specs.Words.{Key, Name, Text}
 use Rattle.vet_entries.specs.declared.entry.Entry.{Entry}
+use Rattle.vet_entries.specs.declared.kind.Audit.{Audit}
 use Rattle.vet_entries.specs.declared.kind.Kind.{Kind}
 use Rattle.vet_entries.specs.declared.kind.Kind.TheVariants.{Full, Delta, Violation, Wildcard, Trusted, Exemption}
 use Rattle.vet_files.specs.KeyNames.{CRITERIA, DELTA, END, IMPORTABLE, NOTES, RENEW, START, SUGGEST, USER_ID, VERSION}
 use Rattle.vet_files.specs.KeyNames.{VIOLATION, WHO}
 use Rattle.vet_files.specs.declared.write.sections.Listing.{Listing}
 use Rattle.vet_files.specs.declared.write.sections.Listing.TheVariants as listing
-use Rattle.vet_files.specs.Tables.{by_name, fields, set_data, some_set}
+use Rattle.vet_files.specs.Tables.{by_name, fields, set_data, some_set, with_key}
 
 -- ---- one entry
 
@@ -49,6 +50,16 @@ entry_fields criteria notes (Trusted window) =
 entry_fields criteria notes (Exemption version suggest) =
     (CRITERIA, Some criteria) ∷ (NOTES, notes) ∷ (SUGGEST, some_flag suggest)
     ∷ (VERSION, Some (string (version_text version))) ∷ []
+
+-- what the tables of all audits have, by key
+abbrev pub audit_fields : Entry → Audit → List (Key × Option Data)
+audit_fields e audit =
+    (CRITERIA, Some (set_data e.criteria)) ∷ (IMPORTABLE, some_flag audit.importable) ∷ (NOTES, some_text e.notes)
+    ∷ (WHO, some_set audit.who) ∷ []
+
+-- the table of an audit, which has what it is of at a key
+abbrev pub audit_table : Entry → Audit → Key → Data → Members
+audit_table e audit key subject = with_key (fields (audit_fields e audit)) key (Some subject)
 
 abbrev pub entry_table : Entry → Members
 entry_table e = fields (entry_fields (set_data e.criteria) (some_text e.notes) e.kind)

@@ -3,7 +3,7 @@ use Rattle.std.specs.Prelude.{◌≡◌, Bool, true, List, Some, Ok}
 use Rattle.std.specs.FinSet as set
 use Rattle.std.specs.List.{All}
 use Rattle.std.specs.Option.{IfSome}
-use Rattle.toml.specs.Data.{Data, string}
+use Rattle.toml.specs.Data.{Data, boolean, string}
 use Rattle.vet_base.specs.Gives.{Told}
 use Rattle.vet_base.specs.Name.{is_name, is_package_name}
 use Rattle.vet_base.specs.Names.{NameSet}
@@ -13,6 +13,7 @@ use Rattle.vet_demand.specs.PolicyKey.{key_text, read_key}
 use Rattle.vet_demand.specs.declared.policies.KeyedPolicy.{KeyedPolicy}
 use Rattle.vet_entries.specs.PeerContent.{is_own, is_peer_kind}
 use Rattle.vet_entries.specs.declared.entry.Entry.{Entry}
+use Rattle.vet_entries.specs.declared.kind.Audit.{Audit}
 use Rattle.vet_entries.specs.declared.kind.Kind.{Kind}
 use Rattle.vet_entries.specs.declared.kind.Kind.TheVariants.{Full, Delta, Violation, Wildcard, Trusted, Exemption}
 use Rattle.vet_entries.specs.declared.peer_settings.PeerSettings.{PeerSettings}
@@ -30,7 +31,7 @@ use Rattle.vet_files.specs.AuditsTable.{criterion_table}
 use Rattle.vet_files.specs.Config.{exemption_told, peer_told, policy_told}
 use Rattle.vet_files.specs.ConfigTable.{peer_table, policy_table}
 use Rattle.vet_files.specs.EntryTables.{entry_table, listed_entries}
-use Rattle.vet_files.specs.Field.{a_text, names}
+use Rattle.vet_files.specs.Field.{a_flag, a_text, names, texts}
 use Rattle.vet_files.specs.Imports.{publisher_told}
 use Rattle.vet_files.specs.ImportsTable.{excluded_of, publisher_table}
 use Rattle.vet_files.specs.Lists.{Reading, found_one}
@@ -65,6 +66,14 @@ pub record ReadsEntry (e : Entry) : Type 0 where
   pub named : is_package_name e.«package» ≡ true
   pub read : (whose : Whose) → is_own e.source ≡ true → is_taken whose e.kind ≡ true
       → (path : Path) → reading_of whose e.kind e.«package» path (entry_table e) ≡ Ok (found_one e 0)
+
+-- all that audits have beside what they are of is read again
+pub record ReadsAudit (e : Entry) (audit : Audit) : Type 0 where
+  pub named : is_package_name e.«package» ≡ true
+  pub criteria : IsReadAs names (set_data e.criteria) e.criteria
+  pub notes : IfSome e.notes (λ t. IsReadAs a_text (string t) t)
+  pub importable : IfSome audit.importable (λ b. IsReadAs a_flag (boolean b) b)
+  pub who : IsReadAs texts (set_data audit.who) audit.who
 
 pub record ReadsCriterion (c : Criterion) : Type 0 where
   pub named : is_name c.name ≡ true

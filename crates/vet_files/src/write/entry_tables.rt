@@ -3,12 +3,13 @@ ghost use Rattle.std.specs.Prelude.{◌≡◌, true, codes, IfOk, Some};
 ghost use Rattle.toml.specs.Data.{no_members};
 ghost use Rattle.toml.specs.View.{table_view};
 ghost use Rattle.vet_base.specs.Name.{is_package_name};
-ghost use Rattle.vet_files.specs.EntryTables.{entry_table};
+ghost use Rattle.vet_files.specs.EntryTables.{audit_table, entry_table};
 ghost use Rattle.vet_files.specs.Field.{names};
 ghost use Rattle.vet_files.specs.OfKind.{of_kind};
-ghost use Rattle.vet_files.specs.ReadAgain.{IsReadAs, ReadsEntry};
+ghost use Rattle.vet_files.specs.ReadAgain.{IsReadAs, ReadsAudit, ReadsEntry};
 ghost use Rattle.vet_files.specs.Tables.{set_data, with_key};
 
+use crate::field::Field;
 use crate::keys::{
     CRITERIA, DELTA, END, IMPORTABLE, NOTES, RENEW, START, SUGGEST, USER_ID, VERSION, VIOLATION,
     WHO,
@@ -17,8 +18,6 @@ use crate::write::put::{put, put_some};
 use crate::write::put_sets::put_texts;
 use std::alloc::{AllocError, Global};
 use toml::Table;
-use vet_base::delta::Delta;
-use vet_base::req::Req;
 use vet_base::version::VetVersion;
 use vet_entries::entry::Entry;
 use vet_entries::kind::{Audit, Grant, Kind, Window};
@@ -29,9 +28,9 @@ pub(crate) fn entry_table(alloc: Global, entry: &Entry) -> Result<Table, AllocEr
     ensures read { IfOk result (λ t. ReadsEntry entry.now) }
 {
     match &entry.kind {
-        Kind::Full(version, audit) => full_table(alloc, entry, version, audit),
-        Kind::Delta(delta, audit) => delta_table(alloc, entry, delta, audit),
-        Kind::Violation(req, audit) => violation_table(alloc, entry, req, audit),
+        Kind::Full(version, audit) => audit_table(alloc, entry, audit, VERSION, version),
+        Kind::Delta(delta, audit) => audit_table(alloc, entry, audit, DELTA, delta),
+        Kind::Violation(req, audit) => audit_table(alloc, entry, audit, VIOLATION, req),
         Kind::Wildcard(window, grant) => wildcard_table(alloc, entry, window, grant),
         Kind::Trusted(window) => trusted_table(alloc, entry, window),
         Kind::Exemption { version, suggest } => exemption_table(alloc, entry, version, *suggest),
@@ -52,59 +51,24 @@ fn with_criteria(alloc: Global, entry: &Entry) -> Result<Table, AllocError>
     Ok(table)
 }
 
-/// The table of an audit in full.
-fn full_table(
+/// The table of an audit, which has what it is of at a key of its kind.
+fn audit_table<V: Field>(
     alloc: Global,
     entry: &Entry,
-    version: &VetVersion,
     audit: &Audit,
+    key: &str,
+    subject: &V,
 ) -> Result<Table, AllocError>
     ensures table { IfOk result (λ t. table_view t
-        ≡ entry_table (of_kind entry.now (Kind.Full version.now audit.now))) }
-    ensures read { IfOk result (λ t. ReadsEntry (of_kind entry.now (Kind.Full version.now audit.now))) }
+        ≡ audit_table entry.now audit.now key.now (V.written subject.now)) }
+    ensures read { IfOk result (λ t.
+        ReadsAudit entry.now audit.now × IsReadAs V.told (V.written subject.now) subject.now) }
 {
     let mut table = with_criteria(alloc, entry)?;
     put_some(alloc, &mut table, IMPORTABLE, audit.importable.as_ref())?;
     put_some(alloc, &mut table, NOTES, entry.notes.as_ref())?;
-    put(alloc, &mut table, VERSION, version)?;
     put_texts(alloc, &mut table, WHO, &audit.who)?;
-    Ok(table)
-}
-
-/// The table of an audit of a change.
-fn delta_table(
-    alloc: Global,
-    entry: &Entry,
-    delta: &Delta,
-    audit: &Audit,
-) -> Result<Table, AllocError>
-    ensures table { IfOk result (λ t. table_view t ≡ entry_table (of_kind entry.now (Kind.Delta delta.now audit.now))) }
-    ensures read { IfOk result (λ t. ReadsEntry (of_kind entry.now (Kind.Delta delta.now audit.now))) }
-{
-    let mut table = with_criteria(alloc, entry)?;
-    put(alloc, &mut table, DELTA, delta)?;
-    put_some(alloc, &mut table, IMPORTABLE, audit.importable.as_ref())?;
-    put_some(alloc, &mut table, NOTES, entry.notes.as_ref())?;
-    put_texts(alloc, &mut table, WHO, &audit.who)?;
-    Ok(table)
-}
-
-/// The table of a violation.
-fn violation_table(
-    alloc: Global,
-    entry: &Entry,
-    req: &Req,
-    audit: &Audit,
-) -> Result<Table, AllocError>
-    ensures table { IfOk result (λ t. table_view t
-        ≡ entry_table (of_kind entry.now (Kind.Violation req.now audit.now))) }
-    ensures read { IfOk result (λ t. ReadsEntry (of_kind entry.now (Kind.Violation req.now audit.now))) }
-{
-    let mut table = with_criteria(alloc, entry)?;
-    put_some(alloc, &mut table, IMPORTABLE, audit.importable.as_ref())?;
-    put_some(alloc, &mut table, NOTES, entry.notes.as_ref())?;
-    put(alloc, &mut table, VIOLATION, req)?;
-    put_texts(alloc, &mut table, WHO, &audit.who)?;
+    put(alloc, &mut table, key, subject)?;
     Ok(table)
 }
 
