@@ -65,7 +65,7 @@ module _ {K E : Type 0} (cmp : K → K → Ordering) (total : IsTotalOrder cmp)
 
   -- ---- items set one after another
 
-  of_with_item : (held : List E) (e x : E) → IsIn x (with_item cmp key held e) → (x ≡ e) ⊎ IsIn x held
+  pub of_with_item : (held : List E) (e x : E) → IsIn x (with_item cmp key held e) → (x ≡ e) ⊎ IsIn x held
   of_with_item held e x among =
       elim (in_append (filter (is_before cmp key (key e)) held) (e ∷ filter (is_behind cmp key (key e)) held) x among) [
         | inl front ↦ inr (in_filter (is_before cmp key (key e)) held x front).0
