@@ -19,19 +19,20 @@ use Rattle.vet_entries.specs.declared.kind.Kind.{Kind}
 use Rattle.vet_entries.specs.declared.kind.Kind.TheVariants.{Full, Delta, Violation, Wildcard, Trusted, Exemption}
 use Rattle.vet_entries.specs.declared.peer_settings.PeerSettings.{PeerSettings}
 use Rattle.vet_entries.specs.PeerContent.{is_own}
+use Rattle.vet_files.specs.declared.found.Found.{Found}
 use Rattle.vet_files.specs.declared.config_file.ConfigContent.{ConfigContent}
 use Rattle.vet_files.specs.declared.keys.TableKind.TheVariants as kind
 use Rattle.vet_files.specs.declared.write.sections.Listing.TheVariants.{Exemptions}
 use Rattle.vet_files.specs.declared.read.whose.Whose.TheVariants.{Ours}
 use Rattle.vet_files.specs.Audits.{entries_of, next_package}
-use Rattle.vet_files.specs.Config.{config_file_told, exemption_told, next_peer, next_policy, peers_told, policies_told}
-use Rattle.vet_files.specs.Config.{vet_version_told}
+use Rattle.vet_files.specs.Config.{config_file_told, exemption_told, next_policy, peers_told, policies_told}
+use Rattle.vet_files.specs.Config.{peer_told, vet_version_told}
 use Rattle.vet_files.specs.ConfigTable.{cargo_vet_table, config_fields, config_table, exemptions_table, optional_set}
 use Rattle.vet_files.specs.ConfigTable.{peer_table, peers_table, policies_table}
 use Rattle.vet_files.specs.EntryTables.{entry_table, is_listed, listed_entries}
 use Rattle.vet_files.specs.Field.{a_text, names, optional}
 use Rattle.vet_files.specs.Keys.{unknown_keys}
-use Rattle.vet_files.specs.Lists.{nothing, found_one, table_at}
+use Rattle.vet_files.specs.Lists.{nothing, found_one, next_named, table_at}
 use Rattle.vet_files.specs.Notices.{no_notices}
 use Rattle.vet_files.specs.ReadAgain.{IsReadAs, ReadsConfig, ReadsEntry, ReadsPeer, ReadsPolicy, reading_of}
 use Rattle.vet_files.specs.SameContent.{IsConfig, SameConfig, is_own_exemption}
@@ -68,6 +69,9 @@ name_of_peer p = p.name
 
 abbrev table_of_peer : PeerSettings → Data
 table_of_peer p = table (peer_table p)
+
+abbrev next_peer : Found (List PeerSettings) → List ℕ → Data → Told (Found (List PeerSettings))
+next_peer = next_named peer_told (codes "imports")
 
 peer_next : (p : PeerSettings) → ReadsPeer p → IsNext (λ a b. a ≡ b) next_peer name_of_peer table_of_peer p
 peer_next p reads = (p, (refl, λ found. rw (reads.named, reads.read _) refl))

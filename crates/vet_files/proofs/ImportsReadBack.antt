@@ -3,23 +3,25 @@ use Rattle.std.proofs.Common.{◌≡◌, ◌-◌, ℕ, true, List, [], ◌∷◌
 use Rattle.std.specs.Prelude.{Ok}
 use Rattle.std.specs.List.{All}
 use Rattle.toml.specs.Data.{Data, Members, array, table}
+use Rattle.vet_base.specs.Gives.{Told}
 use Rattle.vet_base.specs.Name.{is_name, is_package_name}
 use Rattle.vet_entries.specs.PublisherRecords.{with_any}
 use Rattle.vet_entries.specs.declared.peer_settings.PeerSettings.{PeerSettings}
 use Rattle.vet_entries.specs.declared.publisher.Publisher.{Publisher}
 use Rattle.vet_entries.specs.declared.publisher_records.PackagePublishers.{PackagePublishers}
+use Rattle.vet_files.specs.declared.found.Found.{Found}
 use Rattle.vet_files.specs.declared.imports_file.ImportedPeer.{ImportedPeer}
 use Rattle.vet_files.specs.declared.imports_file.ImportsContent.{ImportsContent}
 use Rattle.vet_files.specs.declared.keys.TableKind.TheVariants as kind
 use Rattle.vet_files.specs.declared.write.sections.Listing.TheVariants.{Audits, Trusted, WildcardAudits}
 use Rattle.vet_files.specs.declared.read.whose.Whose.TheVariants.{Peers}
 use Rattle.vet_files.specs.EntryTables.{listed_entries}
-use Rattle.vet_files.specs.Imports.{imported_told, imports_file_told, next_imported, next_publishers, peer_value}
+use Rattle.vet_files.specs.Imports.{imported_table, imported_told, imports_file_told, next_publishers, peer_value}
 use Rattle.vet_files.specs.Imports.{publisher_told, published, publishers_told}
 use Rattle.vet_files.specs.ImportsTable.{excluded_of, imported_peer_table, imports_fields, imports_table}
 use Rattle.vet_files.specs.ImportsTable.{publisher_items, publisher_table, publishers_table}
 use Rattle.vet_files.specs.Keys.{unknown_keys}
-use Rattle.vet_files.specs.Lists.{each_once, nothing, found_with, path_below}
+use Rattle.vet_files.specs.Lists.{each_once, nothing, found_with, next_named, path_below}
 use Rattle.vet_files.specs.Notices.{no_notices}
 use Rattle.vet_files.specs.Publishers.{in_order}
 use Rattle.vet_files.specs.ReadAgain.{ReadsCriterion, ReadsEntry, ReadsImports, ReadsPublisher}
@@ -93,6 +95,9 @@ name_of_peer p = p.name
 
 abbrev table_of_peer : List PeerSettings → ImportedPeer → Data
 table_of_peer settings p = table (imported_peer_table settings p)
+
+abbrev next_imported : Found (List ImportedPeer) → List ℕ → Data → Told (Found (List ImportedPeer))
+next_imported = next_named imported_table (codes "audits")
 
 peer_next : (settings : List PeerSettings) (p : ImportedPeer) → CanStandPeer p → IsImportedAgain settings p
     → IsNext (SamePeer settings) next_imported name_of_peer (table_of_peer settings) p

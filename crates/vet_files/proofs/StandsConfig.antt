@@ -6,7 +6,7 @@ use Rattle.std.specs.Option.{option_to_list}
 use Rattle.std.proofs.lemmas.Bool.{cond_both}
 use Rattle.std.proofs.lemmas.List.Elements.{All-cons, All-nil, All-weaker}
 use Rattle.toml.specs.Data.{Data, Members, as_table}
-use Rattle.vet_base.specs.Gives.{found_or, ◌>>=◌}
+use Rattle.vet_base.specs.Gives.{Told, found_or, ◌>>=◌}
 use Rattle.vet_base.specs.Name.{is_name}
 use Rattle.vet_demand.specs.Policies.{IsInKeyOrder, key_of}
 use Rattle.vet_demand.specs.PolicyKey.{policy_key_cmp, read_key}
@@ -20,11 +20,11 @@ use Rattle.vet_files.specs.declared.config_file.ConfigContent.{ConfigContent}
 use Rattle.vet_files.specs.declared.found.Found.{Found}
 use Rattle.vet_files.specs.declared.write.sections.Listing.TheVariants as listing
 use Rattle.vet_files.specs.Audits.{entries_of, or_none}
-use Rattle.vet_files.specs.Config.{config_file_told, exemption_told, new_key, next_peer, next_policy, peer_told}
-use Rattle.vet_files.specs.Config.{peers_told, policies_told, policy_told, settings_told, vet_version_told}
+use Rattle.vet_files.specs.Config.{config_file_told, exemption_told, new_key, next_policy, peer_told}
+use Rattle.vet_files.specs.Config.{peers_told, policies_told, policy_told, vet_version_told}
 use Rattle.vet_files.specs.EntryTables.{is_listed}
 use Rattle.vet_files.specs.Field.{fault, names, optional, package_names, required, texts}
-use Rattle.vet_files.specs.Lists.{listed, found_with, path_below, table_at}
+use Rattle.vet_files.specs.Lists.{listed, found_with, named_table, next_named, path_below, table_at}
 use Rattle.vet_files.specs.Maps.{criteria_map, or_no_map}
 use Rattle.vet_files.specs.Notices.{no_notices}
 use Rattle.vet_files.specs.SameContent.{IsConfig, is_own_exemption}
@@ -62,12 +62,18 @@ peer-named name path ms =
       (All-nil (HasOther peer_name peer), tt),
     ))))
 
+abbrev peer_at : List ℕ → Data → Told (Found (Option PeerSettings))
+peer_at = named_table peer_told (codes "imports")
+
+abbrev next_peer : Found (List PeerSettings) → List ℕ → Data → Told (Found (List PeerSettings))
+next_peer = next_named peer_told (codes "imports")
+
 next_peer-appends : (found : Found (List PeerSettings)) (name : List ℕ) (d : Data)
     → IfOk (next_peer found name d) (AppendsPeers found name)
 next_peer-appends found name d =
-    cond_both (is_name name) (settings_told name d >>= (λ more. Ok (found_with found (listed more))))
+    cond_both (is_name name) (peer_at name d >>= (λ more. Ok (found_with found (listed more))))
     (Err (fault (codes "imports") name)) (λ r. IfOk r (AppendsPeers found name))
-    (λ _. bind-keeps (OneNamed name) (AppendsPeers found name) (settings_told name d) _
+    (λ _. bind-keeps (OneNamed name) (AppendsPeers found name) (peer_at name d) _
     (bind-gives (OneNamed name) (found_or (fault (codes "imports") name) (as_table d))
     (peer_told name (path_below (codes "imports") name))
     (λ ms. peer-named name (path_below (codes "imports") name) ms))

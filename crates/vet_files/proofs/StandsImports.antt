@@ -6,7 +6,7 @@ use Rattle.std.specs.Option.{option_to_list}
 use Rattle.std.proofs.lemmas.Bool.{cond_both}
 use Rattle.std.proofs.lemmas.List.Elements.{All-cons, All-nil}
 use Rattle.toml.specs.Data.{Data, Members, as_table}
-use Rattle.vet_base.specs.Gives.{found_or, ◌>>=◌}
+use Rattle.vet_base.specs.Gives.{Told, found_or, ◌>>=◌}
 use Rattle.vet_base.specs.Name.{is_name}
 use Rattle.vet_entries.specs.PublisherRecords.{with_any}
 use Rattle.vet_entries.specs.declared.publisher.Publisher.{Publisher}
@@ -16,9 +16,9 @@ use Rattle.vet_files.specs.declared.imports_file.ImportedPeer.{ImportedPeer}
 use Rattle.vet_files.specs.declared.imports_file.ImportsContent.{ImportsContent}
 use Rattle.vet_files.specs.declared.read.whose.Whose.TheVariants.{Peers}
 use Rattle.vet_files.specs.Field.{fault}
-use Rattle.vet_files.specs.Imports.{imported_at, imported_from, imported_table, imported_told, imports_file_told}
-use Rattle.vet_files.specs.Imports.{next_imported, next_publishers, peer_file_told, publisher_told, publishers_told}
-use Rattle.vet_files.specs.Lists.{listed, found_with, path_below, tables_of_package}
+use Rattle.vet_files.specs.Imports.{imported_from, imported_table, imported_told, imports_file_told}
+use Rattle.vet_files.specs.Imports.{next_publishers, peer_file_told, publisher_told, publishers_told}
+use Rattle.vet_files.specs.Lists.{listed, found_with, named_table, next_named, path_below, tables_of_package}
 use Rattle.vet_files.specs.Publishers.{in_order}
 use Rattle.vet_files.specs.SameContent.{CanStand, HasRecords, IsImports}
 use Rattle.vet_files.proofs.Apart.{Appends, AreApart, HasOther, Holds, apart-pairs, other-name, table-apart}
@@ -95,9 +95,16 @@ imported_from-stands name path prefix ms rise =
       ((All-nil (HasOther peer_name peer), tt), All-cons IsStanding peer [] stands (All-nil IsStanding)),
     ))
 
+abbrev imported_at : List ℕ → Data → Told (Found (Option ImportedPeer))
+imported_at = named_table imported_table (codes "audits")
+
+abbrev next_imported : Found (List ImportedPeer) → List ℕ → Data → Told (Found (List ImportedPeer))
+next_imported = next_named imported_table (codes "audits")
+
 imported_at-stands : (name : List ℕ) (d : Data) → Rises d → IfOk (imported_at name d) (OneStands name)
 imported_at-stands name d rise =
-    bind-keeps Rising (OneStands name) (found_or (fault (codes "audits") name) (as_table d)) (imported_table name)
+    bind-keeps Rising (OneStands name) (found_or (fault (codes "audits") name) (as_table d))
+    (imported_table name (path_below (codes "audits") name))
     (as_table-rises (fault (codes "audits") name) d rise)
     (λ ms inner. imported_from-stands name (path_below (codes "audits") name)
     (path_below (codes "audits") name ++ codes ".") ms inner)

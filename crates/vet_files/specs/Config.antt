@@ -2,7 +2,6 @@
 use Rattle.std.specs.Prelude.{Bool, List, [], Option, Ok, Err, if◌then◌else◌}
 use Rattle.toml.specs.Data.{Data, Members, as_table}
 use Rattle.vet_base.specs.Gives.{Told, found_or, ◌>>=◌}
-use Rattle.vet_base.specs.Name.{is_name}
 use Rattle.vet_base.specs.Names.{NameSet}
 use Rattle.vet_base.specs.Words.{Bytes, Name, Path, Text}
 use Rattle.vet_demand.specs.Policies.{has_policy, with_policy}
@@ -23,7 +22,7 @@ use Rattle.vet_files.specs.declared.keys.TableKind.TheVariants as kind
 use Rattle.vet_files.specs.declared.notices.Notices.{Notices}
 use Rattle.vet_files.specs.Field.{a_flag, a_text, a_version, fault, names, optional, package_names, required, texts}
 use Rattle.vet_files.specs.Keys.{unknown_keys}
-use Rattle.vet_files.specs.Lists.{Reading, listed, nothing, found_one, found_with, path_below, table_at}
+use Rattle.vet_files.specs.Lists.{Reading, found_one, named_tables, path_below, table_at}
 use Rattle.vet_files.specs.Maps.{criteria_map, dependency_criteria, or_no_dependencies, or_no_map}
 use Rattle.vet_files.specs.Notices.{no_notices, only_keys, sum_of_notices}
 use Rattle.vet_files.specs.Walk.{each_member}
@@ -47,18 +46,9 @@ peer_told name path ms =
     Ok (found_one (record { name = name; url = url; exclude = or_none exclude; map = or_no_map mapped })
     (unknown_keys kind.Peer ms))
 
-abbrev pub settings_told : Name → Data → Told (Found (Option PeerSettings))
-settings_told name d = found_or (fault IMPORTS name) (as_table d) >>= peer_told name
-    (path_below IMPORTS name)
-
--- one more peer
-abbrev pub next_peer : Found (List PeerSettings) → Name → Data → Told (Found (List PeerSettings))
-next_peer found name d = if is_name name then settings_told name d >>= (λ more. Ok (found_with found (listed more)))
-    else Err
-    (fault IMPORTS name)
-
+-- the peers, by their names
 abbrev pub peers_told : Members → Told (Found (List PeerSettings))
-peers_told ms = table_at TOP IMPORTS ms >>= each_member next_peer nothing
+peers_told = named_tables peer_told IMPORTS
 
 -- ---- `policy`
 

@@ -1,8 +1,7 @@
 -- The tables of an imports file (The Cargo Vet Book, imports.lock; what is skipped and counted is ours).
-use Rattle.std.specs.Prelude.{List, [], ◌++◌, codes, Option, Some, Ok, Err, if◌then◌else◌}
-use Rattle.toml.specs.Data.{Data, Members, as_table}
-use Rattle.vet_base.specs.Gives.{Told, found_or, ◌>>=◌}
-use Rattle.vet_base.specs.Name.{is_name}
+use Rattle.std.specs.Prelude.{List, [], ◌++◌, codes, Option, Some, Ok, if◌then◌else◌}
+use Rattle.toml.specs.Data.{Data, Members}
+use Rattle.vet_base.specs.Gives.{Told, ◌>>=◌}
 use Rattle.vet_base.specs.Words.{Bytes, Name, Path}
 use Rattle.vet_entries.specs.PublisherRecords.{with_any}
 use Rattle.vet_files.specs.KeyNames.{AUDITS, PUBLISHER, TOP, USER_ID, USER_LOGIN, USER_NAME, VERSION, WHEN}
@@ -17,9 +16,9 @@ use Rattle.vet_files.specs.declared.imports_file.ImportedPeer.{ImportedPeer}
 use Rattle.vet_files.specs.declared.imports_file.ImportsContent.{ImportsContent}
 use Rattle.vet_files.specs.declared.keys.TableKind.TheVariants as kind
 use Rattle.vet_files.specs.declared.read.whose.Whose.TheVariants.{Peers}
-use Rattle.vet_files.specs.Field.{a_day, a_text, a_user, a_version, fault, optional, required}
+use Rattle.vet_files.specs.Field.{a_day, a_text, a_user, a_version, optional, required}
 use Rattle.vet_files.specs.Keys.{unknown_keys}
-use Rattle.vet_files.specs.Lists.{Reading, each_once, listed, nothing, found_one, found_with, path_below, skipped}
+use Rattle.vet_files.specs.Lists.{Reading, each_once, found_one, found_with, named_tables, nothing, skipped}
 use Rattle.vet_files.specs.Lists.{table_at, tables_of_package}
 use Rattle.vet_files.specs.Notices.{only_keys, sum_of_notices}
 use Rattle.vet_files.specs.Walk.{each_member}
@@ -75,21 +74,12 @@ imported name found =
 abbrev pub imported_from : Name → Path → Path → Members → Told (Found (Option ImportedPeer))
 imported_from name path prefix ms = peer_file_told path prefix ms >>= λ more. Ok (imported name more)
 
-abbrev pub imported_table : Name → Members → Told (Found (Option ImportedPeer))
-imported_table name ms = imported_from name (path_below AUDITS name)
-    (path_below AUDITS name ++ codes ".") ms
+abbrev pub imported_table : Reading ImportedPeer
+imported_table name path ms = imported_from name path (path ++ codes ".") ms
 
-abbrev pub imported_at : Name → Data → Told (Found (Option ImportedPeer))
-imported_at name d = found_or (fault AUDITS name) (as_table d) >>= imported_table name
-
--- one more peer
-abbrev pub next_imported : Found (List ImportedPeer) → Name → Data → Told (Found (List ImportedPeer))
-next_imported found name d = if is_name name then imported_at name d >>= (λ more. Ok (found_with found (listed more)))
-    else
-    Err (fault AUDITS name)
-
+-- the peers, by their names
 abbrev pub imported_told : Members → Told (Found (List ImportedPeer))
-imported_told ms = table_at TOP AUDITS ms >>= each_member next_imported nothing
+imported_told = named_tables imported_table AUDITS
 
 -- ---- the files
 

@@ -1,17 +1,19 @@
--- Lists of tables by package, as `[[audits.serde]]` (The Cargo Vet Book, audits, config and imports files).
+-- Tables by name, as `[imports.mozilla]`, and lists of tables by package, as `[[audits.serde]]` (The Cargo Vet Book,
+-- audits, config and imports files).
 use Rattle.std.specs.Prelude.{ℕ, ◌-◌, List, [], ◌++◌, codes, Option, Some, None, Ok, Err, IfOk, if◌then◌else◌, length}
 use Rattle.std.specs.Fmt.{decimal}
 use Rattle.std.specs.Option.{option_to_list}
 use Rattle.toml.specs.Data.{Data, Members, no_members, as_array, as_table, get_member}
 use Rattle.toml.specs.View.{table_view}
 use Rattle.vet_base.specs.Gives.{Told, found_or, ◌>>=◌}
-use Rattle.vet_base.specs.Name.{is_package_name}
+use Rattle.vet_base.specs.Name.{is_name, is_package_name}
 use Rattle.vet_base.specs.Words.{Key, Name, Path}
 use Rattle.vet_files.specs.declared.found.Found.{Found}
 use Rattle.vet_files.specs.declared.read.package_tables.PackageTable.{PackageTable}
 use Rattle.vet_files.specs.Field.{fault}
 use Rattle.vet_files.specs.Notices.{no_notices, one_skipped, only_doubles, only_keys, sum_of_notices}
-use Rattle.vet_files.specs.Walk.{KeysRise, each_item}
+use Rattle.vet_files.specs.KeyNames.{TOP}
+use Rattle.vet_files.specs.Walk.{KeysRise, each_item, each_member}
 
 -- nothing was found
 abbrev pub nothing : {A : Type 0} → Found (List A)
@@ -59,9 +61,23 @@ path_below path key = path ++ (codes "." ++ key)
 abbrev pub path_in_list : Path → Name → ℕ → Path
 path_in_list path name place = path ++ (codes "." ++ (name ++ (codes "[" ++ (decimal place ++ codes "]"))))
 
--- how a table of a list is read, by the package's name and the table's path
+-- how a table is read, by the name of a package or its own, and by its path
 abbrev pub Reading : Type 0 → Type 0
 Reading A = Name → Path → Members → Told (Found (Option A))
+
+-- the table at a name
+abbrev pub named_table : {A : Type 0} → Reading A → Path → Name → Data → Told (Found (Option A))
+named_table read path name d = found_or (fault path name) (as_table d) >>= read name (path_below path name)
+
+-- one more of the tables by name
+abbrev pub next_named : {A : Type 0} → Reading A → Path → Found (List A) → Name → Data → Told (Found (List A))
+next_named read path found name d =
+    if is_name name then named_table read path name d >>= (λ more. Ok (found_with found (listed more)))
+    else Err (fault path name)
+
+-- the tables by name that stand in a file at a key
+abbrev pub named_tables : {A : Type 0} → Reading A → Key → Members → Told (Found (List A))
+named_tables read key ms = table_at TOP key ms >>= each_member (next_named read key) nothing
 
 -- what is told of one table of a package's list
 abbrev pub table_told : {A : Type 0} → Reading A → PackageTable → Told (Found (Option A))

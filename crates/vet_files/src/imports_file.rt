@@ -1,29 +1,27 @@
 //! Imports files, and the audits files of peers.
 ghost use Rattle.std.specs.Prelude.{◌≡◌, IfErr, IfOk, Some, string_bytes};
 ghost use Rattle.toml.specs.Parse.{parse_document};
-ghost use Rattle.toml.specs.View.{table_view, view};
+ghost use Rattle.toml.specs.View.{table_view};
 ghost use Rattle.vet_base.specs.Gives.{Gives};
-ghost use Rattle.vet_files.specs.Imports.{imported_at, imported_from, imported_table, imported_told, imports_file_told};
-ghost use Rattle.vet_files.specs.Imports.{imports_told, next_imported, peer_content_told, peer_file_told};
+ghost use Rattle.vet_files.specs.Imports.{imported_from, imported_table, imports_file_told, imports_told};
+ghost use Rattle.vet_files.specs.Imports.{peer_content_told, peer_file_told};
 ghost use Rattle.vet_files.specs.ImportsTable.{imports_table};
 ghost use Rattle.vet_files.specs.ReadAgain.{GivesBack};
 ghost use Rattle.vet_files.specs.SameContent.{CanStand, IsImports, SameImports};
 ghost use Rattle.vet_files.specs.declared.read.whose.Whose.TheVariants.{Peers};
 
 use crate::audits_file::{AuditsContent, read_audits_file};
-use crate::field::fault;
 use crate::found::Found;
 use crate::keys::{AUDITS, TOP, TableKind, unknown_keys};
 use crate::listed::Listed;
-use crate::read::document::{read_document, table_at};
-use crate::read::package_tables::path_below;
+use crate::read::document::read_document;
+use crate::read::named_tables::{ReadNamed, named_tables};
 use crate::read::publishers::read_publishers;
-use crate::read::walk::{ReadMember, each_member};
 use crate::read::whose::Whose;
 use crate::write::imports_table::imports_table;
 use crate::write::print::print;
 use std::alloc::Global;
-use toml::{Table, Value};
+use toml::Table;
 use vet_base::keyed::HasKey;
 use vet_base::name::Name;
 use vet_base::refusal::Refusal;
@@ -126,7 +124,7 @@ fn read_imports_file(alloc: Global, file: &Table) -> Result<Found<ImportsContent
 {
     let keys = unknown_keys(TableKind::ImportsFile, file)?;
     let publishers = read_publishers(alloc, file)?;
-    let peers = read_imported(alloc, file)?;
+    let peers = named_tables(alloc, &ReadImported {}, file, AUDITS)?;
     let notices = publishers.notices.and_both(peers.notices, keys)?;
     Ok(Found {
         content: ImportsContent {
@@ -137,65 +135,25 @@ fn read_imports_file(alloc: Global, file: &Table) -> Result<Found<ImportsContent
     })
 }
 
-/// What was imported from peers.
-fn read_imported(alloc: Global, file: &Table) -> Result<Found<Listed<ImportedPeer>>, Refusal>
-    ensures { Gives (λ f. f) (imported_told (table_view file.now)) result }
-{
-    let Some(table) = table_at(alloc, TOP, file, AUDITS)? else {
-        return Ok(Found::nothing(alloc));
-    };
-    each_member(alloc, &ReadImported {}, Found::nothing(alloc), table)
-}
-
-/// Reads what was imported, one peer after the other.
+/// Reads what was imported from a peer.
 #[derive(Drop)]
 struct ReadImported {}
 
-impl ReadMember for ReadImported {
-    type Found = Found<Listed<ImportedPeer>>;
+impl ReadNamed for ReadImported {
+    type Item = ImportedPeer;
 
-    ghost told = { λ r. next_imported };
+    ghost told = { λ r. imported_table };
 
     fn read(
         &self,
         alloc: Global,
-        found: Found<Listed<ImportedPeer>>,
-        key: &str,
-        value: &Value,
-    ) -> Result<Found<Listed<ImportedPeer>>, Refusal> {
-        let Some(name) = Name::read(alloc, key)? else {
-            return Err(fault(alloc, AUDITS, key));
-        };
-        let more = read_imported_at(alloc, name, value)?;
-        Ok(found.with(more)?)
+        name: Name,
+        path: &str,
+        table: &Table,
+    ) -> Result<Found<Option<ImportedPeer>>, Refusal> {
+        let prefix = format!(in alloc; "{path}.")?;
+        read_imported_from(alloc, name, path, prefix.as_str(), table)
     }
-}
-
-/// What was imported from the peer at whose name it stands.
-fn read_imported_at(
-    alloc: Global,
-    name: Name,
-    value: &Value,
-) -> Result<Found<Option<ImportedPeer>>, Refusal>
-    ensures { Gives (λ f. f) (imported_at name (view value.now)) result }
-{
-    match value.as_table() {
-        Some(table) => read_imported_table(alloc, name, table),
-        None => Err(fault(alloc, AUDITS, name.as_str())),
-    }
-}
-
-/// What was imported from a peer, by its table.
-fn read_imported_table(
-    alloc: Global,
-    name: Name,
-    table: &Table,
-) -> Result<Found<Option<ImportedPeer>>, Refusal>
-    ensures { Gives (λ f. f) (imported_table name (table_view table.now)) result }
-{
-    let path = path_below(alloc, AUDITS, name.as_str())?;
-    let prefix = format!(in alloc; "{path}.")?;
-    read_imported_from(alloc, name, path.as_str(), prefix.as_str(), table)
 }
 
 /// What was imported from a peer, whose tables stand in one of this path and whose tables' paths begin with this

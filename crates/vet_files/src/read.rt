@@ -5,6 +5,7 @@ pub mod document;
 pub(crate) mod entries;
 pub(crate) mod exemptions;
 pub(crate) mod gathered_policies;
+pub(crate) mod named_tables;
 pub(crate) mod package_entries;
 pub mod package_tables;
 pub(crate) mod peers;

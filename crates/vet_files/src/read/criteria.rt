@@ -1,18 +1,17 @@
 //! The criteria of an audits file.
-ghost use Rattle.std.specs.Prelude.{◌≡◌, IfOk, string_bytes};
+ghost use Rattle.std.specs.Prelude.{◌≡◌};
 ghost use Rattle.toml.specs.Data.{as_table};
 ghost use Rattle.toml.specs.View.{table_view, view};
 ghost use Rattle.vet_base.specs.Gives.{Gives};
-ghost use Rattle.vet_files.specs.Audits.{built_in_criterion, criterion_at, criterion_told, further_criterion};
-ghost use Rattle.vet_files.specs.Audits.{next_criterion, room_for_criterion};
-ghost use Rattle.vet_files.specs.Lists.{path_below};
+ghost use Rattle.vet_files.specs.Audits.{built_in_criterion, criterion_told, further_criterion, next_criterion};
+ghost use Rattle.vet_files.specs.Audits.{room_for_criterion};
 
 use crate::field::{fault, optional};
 use crate::found::Found;
 use crate::keys::{DESCRIPTION, DESCRIPTION_URL, IMPLIES, TableKind, unknown_keys};
 use crate::listed::Listed;
 use crate::notices::Notices;
-use crate::read::package_tables::path_below;
+use crate::read::named_tables::{ReadNamed, named_table};
 use crate::read::walk::ReadMember;
 use crate::read::whose::Whose;
 use std::alloc::Global;
@@ -86,7 +85,7 @@ impl ReadCriteria<'_> {
             (further_criterion self.now.whose self.now.path.now name found (as_table (view value.now))) result }
     {
         check_room(self.whose, found.content.len())?;
-        let more = read_criterion_at(alloc, self.path, name, value)?;
+        let more = named_table(alloc, &ReadCriterion {}, self.path, name, value)?;
         Ok(found.with(more)?)
     }
 }
@@ -106,42 +105,34 @@ fn check_room(whose: Whose, defined: usize) -> Result<(), Refusal>
     }
 }
 
-/// The criterion whose table stands at a name.
-fn read_criterion_at(
-    alloc: Global,
-    path: &str,
-    name: Name,
-    value: &Value,
-) -> Result<Found<Option<Criterion>>, Refusal>
-    ensures { Gives (λ f. f) (criterion_at path.now name (as_table (view value.now))) result }
-{
-    let Some(table) = value.as_table() else {
-        return Err(fault(alloc, path, name.as_str()));
-    };
-    let below = path_below(alloc, path, name.as_str())?;
-    read_criterion(alloc, name, below.as_str(), table)
-}
+/// Reads a criterion.
+#[derive(Drop)]
+struct ReadCriterion {}
 
-/// The criterion of a table.
-fn read_criterion(
-    alloc: Global,
-    name: Name,
-    path: &str,
-    table: &Table,
-) -> Result<Found<Option<Criterion>>, Refusal>
-    ensures { Gives (λ f. f) (criterion_told name path.now (table_view table.now)) result }
-{
-    let notices = unknown_keys(TableKind::Criterion, table)?;
-    let description = optional(alloc, path, table, DESCRIPTION)?;
-    let url = optional(alloc, path, table, DESCRIPTION_URL)?;
-    let implies: Option<Names> = optional(alloc, path, table, IMPLIES)?;
-    Ok(Found {
-        notices,
-        content: Some(Criterion {
-            name,
-            description,
-            url,
-            implies: implies.unwrap_or(Names::new(alloc)),
-        }),
-    })
+impl ReadNamed for ReadCriterion {
+    type Item = Criterion;
+
+    ghost told = { λ r. criterion_told };
+
+    fn read(
+        &self,
+        alloc: Global,
+        name: Name,
+        path: &str,
+        table: &Table,
+    ) -> Result<Found<Option<Criterion>>, Refusal> {
+        let notices = unknown_keys(TableKind::Criterion, table)?;
+        let description = optional(alloc, path, table, DESCRIPTION)?;
+        let url = optional(alloc, path, table, DESCRIPTION_URL)?;
+        let implies: Option<Names> = optional(alloc, path, table, IMPLIES)?;
+        Ok(Found {
+            notices,
+            content: Some(Criterion {
+                name,
+                description,
+                url,
+                implies: implies.unwrap_or(Names::new(alloc)),
+            }),
+        })
+    }
 }

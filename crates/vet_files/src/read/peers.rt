@@ -1,18 +1,15 @@
 //! The peers of a config file.
-ghost use Rattle.std.specs.Prelude.{◌≡◌};
-ghost use Rattle.toml.specs.View.{table_view, view};
+ghost use Rattle.toml.specs.View.{table_view};
 ghost use Rattle.vet_base.specs.Gives.{Gives};
-ghost use Rattle.vet_files.specs.Config.{next_peer, peer_told, peers_told, settings_told};
+ghost use Rattle.vet_files.specs.Config.{peer_told, peers_told};
 
-use crate::field::{fault, optional, required};
+use crate::field::{optional, required};
 use crate::found::Found;
-use crate::keys::{CRITERIA_MAP, EXCLUDE, IMPORTS, TOP, TableKind, URL, unknown_keys};
+use crate::keys::{CRITERIA_MAP, EXCLUDE, IMPORTS, TableKind, URL, unknown_keys};
 use crate::listed::Listed;
-use crate::read::document::table_at;
-use crate::read::package_tables::path_below;
-use crate::read::walk::{ReadMember, each_member};
+use crate::read::named_tables::{ReadNamed, named_tables};
 use std::alloc::Global;
-use toml::{Table, Value};
+use toml::Table;
 use vet_base::name::Name;
 use vet_base::package_names::PackageNames;
 use vet_base::refusal::Refusal;
@@ -26,71 +23,37 @@ pub(crate) fn read_peers(
 ) -> Result<Found<Listed<PeerSettings>>, Refusal>
     ensures { Gives (λ f. f) (peers_told (table_view file.now)) result }
 {
-    let Some(table) = table_at(alloc, TOP, file, IMPORTS)? else {
-        return Ok(Found::nothing(alloc));
-    };
-    each_member(alloc, &ReadPeers {}, Found::nothing(alloc), table)
+    named_tables(alloc, &ReadPeer {}, file, IMPORTS)
 }
 
-/// Reads the peers of a file, one after the other.
+/// Reads the settings of a peer.
 #[derive(Drop)]
-struct ReadPeers {}
+struct ReadPeer {}
 
-impl ReadMember for ReadPeers {
-    type Found = Found<Listed<PeerSettings>>;
+impl ReadNamed for ReadPeer {
+    type Item = PeerSettings;
 
-    ghost told = { λ r. next_peer };
+    ghost told = { λ r. peer_told };
 
     fn read(
         &self,
         alloc: Global,
-        found: Found<Listed<PeerSettings>>,
-        key: &str,
-        value: &Value,
-    ) -> Result<Found<Listed<PeerSettings>>, Refusal> {
-        let Some(name) = Name::read(alloc, key)? else {
-            return Err(fault(alloc, IMPORTS, key));
-        };
-        let more = read_settings(alloc, name, value)?;
-        Ok(found.with(more)?)
+        name: Name,
+        path: &str,
+        table: &Table,
+    ) -> Result<Found<Option<PeerSettings>>, Refusal> {
+        let notices = unknown_keys(TableKind::Peer, table)?;
+        let url = required(alloc, path, table, URL)?;
+        let exclude: Option<PackageNames> = optional(alloc, path, table, EXCLUDE)?;
+        let map: Option<CriteriaMap> = optional(alloc, path, table, CRITERIA_MAP)?;
+        Ok(Found {
+            notices,
+            content: Some(PeerSettings {
+                name,
+                url,
+                exclude: exclude.unwrap_or(PackageNames::new(alloc)),
+                map: map.unwrap_or(CriteriaMap::new(alloc)),
+            }),
+        })
     }
-}
-
-/// The settings that stand at a peer's name.
-fn read_settings(
-    alloc: Global,
-    name: Name,
-    value: &Value,
-) -> Result<Found<Option<PeerSettings>>, Refusal>
-    ensures { Gives (λ f. f) (settings_told name (view value.now)) result }
-{
-    let Some(table) = value.as_table() else {
-        return Err(fault(alloc, IMPORTS, name.as_str()));
-    };
-    let path = path_below(alloc, IMPORTS, name.as_str())?;
-    read_peer(alloc, name, path.as_str(), table)
-}
-
-/// The settings of a peer.
-fn read_peer(
-    alloc: Global,
-    name: Name,
-    path: &str,
-    table: &Table,
-) -> Result<Found<Option<PeerSettings>>, Refusal>
-    ensures { Gives (λ f. f) (peer_told name path.now (table_view table.now)) result }
-{
-    let notices = unknown_keys(TableKind::Peer, table)?;
-    let url = required(alloc, path, table, URL)?;
-    let exclude: Option<PackageNames> = optional(alloc, path, table, EXCLUDE)?;
-    let map: Option<CriteriaMap> = optional(alloc, path, table, CRITERIA_MAP)?;
-    Ok(Found {
-        notices,
-        content: Some(PeerSettings {
-            name,
-            url,
-            exclude: exclude.unwrap_or(PackageNames::new(alloc)),
-            map: map.unwrap_or(CriteriaMap::new(alloc)),
-        }),
-    })
 }
