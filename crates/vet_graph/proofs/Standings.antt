@@ -22,9 +22,9 @@ use Rattle.vet_demand.specs.Pair.{IsInOrder, pair_eq}
 use Rattle.vet_demand.specs.PairLaws.{pair_eq-Decides}
 use Rattle.vet_graph.specs.Standing.{IsStanding, class_in, pairs_of}
 use Rattle.vet_graph.specs.PackageSteps.{AreStepsOf}
+use Rattle.vet_graph.specs.declared.package_steps.PackageSteps.{PackageSteps}
 use Rattle.vet_graph.specs.StandingOf.{PairClassHolds, PairClassIsOnly, PairsStandAtTheirClass, class_of_pair}
 use Rattle.vet_graph.specs.StandingOf.{condemned_of, standing_of}
-use Rattle.vet_entries.specs.declared.condemned.Violation.{Violation}
 use Rattle.vet_entries.specs.Condemned.{ViolationsCondemn, condemned_by, violations_of}
 use Rattle.vet_graph.specs.declared.guarded.GuardedStep.{GuardedStep}
 use Rattle.vet_graph.specs.Search.{steps_in}
@@ -119,11 +119,11 @@ standing_push facts demand i p l at =
     ∙ map-append (λ q. record { pair = q; class = class_of_pair facts q }) (take i demand) (p ∷ [])
 
 -- the class of a pair whose criterion has a place
-pub class_by_place : ViolationsCondemn → (facts : Facts) (p : Pair) (guarded : List GuardedStep)
-    (violations : List Violation) (c : ℕ)
-    → AreStepsOf facts p.«package» guarded violations → Some c ≡ place_of facts.criteria p.criterion
-    → class_at (steps_in guarded) (condemned_by violations) c p.version ≡ class_of_pair facts p
-class_by_place law facts p guarded violations c h found =
+pub class_by_place : ViolationsCondemn → (facts : Facts) (p : Pair) (held : PackageSteps) (c : ℕ)
+    → AreStepsOf facts p.«package» held → Some c ≡ place_of facts.criteria p.criterion
+    → class_at (steps_in held.steps) (condemned_by held.violations.items) c p.version ≡ class_of_pair facts p
+class_by_place law facts p held c h found =
+    let violations = held.violations.items in
     let same : ◌≡◌ {A = Condemned} (condemned_by (violations_of facts p.«package»))
     (condemned_of facts p.«package») = λ i e v. law facts p.«package» e v i in
     ap (λ steps. class_at steps (condemned_by violations) c p.version) h.steps

@@ -1,16 +1,15 @@
 -- What is known of the steps of one package (ours).
-use Rattle.std.specs.Prelude.{◌≡◌, List}
+use Rattle.std.specs.Prelude.{◌≡◌}
 use Rattle.vet_base.specs.Words.{Name}
-use Rattle.vet_entries.specs.declared.condemned.Violation.{Violation}
 use Rattle.vet_entries.specs.Condemned.{condemned_by, violations_of}
 use Rattle.vet_entries.specs.Facts.{Facts}
 use Rattle.vet_entries.specs.Step.{steps_of}
-use Rattle.vet_graph.specs.declared.guarded.GuardedStep.{GuardedStep}
+use Rattle.vet_graph.specs.declared.package_steps.PackageSteps.{PackageSteps}
 use Rattle.vet_graph.specs.Search.{AreGuarded, steps_in}
 
--- these are the steps of a package, with what condemns their targets, and its violations
-pub record AreStepsOf (facts : Facts) (name : Name) (guarded : List GuardedStep)
-    (held : List Violation) : Type 0 where
-  pub steps : steps_in guarded ≡ steps_of facts name
-  pub guards : AreGuarded (condemned_by held) guarded
-  pub violations : held ≡ violations_of facts name
+-- what is held is of this package: its steps, with what condemns their targets, and its violations
+pub record AreStepsOf (facts : Facts) (name : Name) (held : PackageSteps) : Type 0 where
+  pub named : held.«package» ≡ name
+  pub steps : steps_in held.steps ≡ steps_of facts name
+  pub guards : AreGuarded (condemned_by held.violations.items) held.steps
+  pub violations : held.violations.items ≡ violations_of facts name

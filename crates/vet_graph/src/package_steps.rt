@@ -42,11 +42,7 @@ pub(crate) fn found_steps(
     local: &LocalCriteria,
 ) -> Result<PackageSteps, Refusal>
     requires { AreLocal facts.now.content local.now }
-    ensures package { IfOk result (λ h. h.«package» ≡ «package».now) }
-    ensures steps { IfOk result (λ h.
-        AreStepsOf facts.now.content «package».now h.steps h.violations.items) }
-    ensures held { IfOk result (λ h.
-        AreStepsOf facts.now.content h.«package» h.steps h.violations.items) }
+    ensures steps { IfOk result (AreStepsOf facts.now.content «package».now) }
     ensures memory { IfErr result (λ e. e ≡ Refusal.NoMemory) }
 {
     let steps = steps_by(alloc, package, facts, local)?;

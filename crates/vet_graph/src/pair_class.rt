@@ -5,12 +5,11 @@ ghost use Rattle.vet_graph.specs.PackageSteps.{AreStepsOf};
 ghost use Rattle.vet_graph.specs.StandingOf.{class_of_pair};
 
 use crate::class::{Class, class_of};
-use crate::links::LinkedSteps;
-use crate::package_steps::found_steps;
+use crate::package_steps::{PackageSteps, found_steps};
 use std::alloc::Global;
 use vet_base::refusal::Refusal;
 use vet_demand::pair::Pair;
-use vet_entries::condemned::{Violation, condemned_by, violations_condemn};
+use vet_entries::condemned::{condemned_by, violations_condemn};
 use vet_entries::facts::EntryFacts;
 use vet_entries::local_criteria::LocalCriteria;
 
@@ -23,19 +22,17 @@ pub fn class_of_pair(alloc: Global, facts: &EntryFacts, pair: &Pair) -> Result<C
 {
     let local = LocalCriteria::of(alloc, facts)?;
     let found = found_steps(alloc, &pair.package, facts, &local)?;
-    let violations = found.violations.as_slice();
-    class_by(alloc, facts, &found.steps, violations, pair)
+    class_by(alloc, facts, &found, pair)
 }
 
 // The class of a pair, where these are its package's steps and violations.
 pub(crate) fn class_by(
     alloc: Global,
     facts: &EntryFacts,
-    steps: &LinkedSteps,
-    violations: &[Violation],
+    found: &PackageSteps,
     pair: &Pair,
 ) -> Result<Class, Refusal>
-    requires { AreStepsOf facts.now.content pair.now.«package» steps.now violations.now }
+    requires { AreStepsOf facts.now.content pair.now.«package» found.now }
     ensures ok { IfOk result (λ class. class ≡ class_of_pair facts.now.content pair.now) }
     ensures memory { IfErr result (λ e. e ≡ Refusal.NoMemory) }
 {
@@ -43,6 +40,6 @@ pub(crate) fn class_by(
     let Some(place) = facts.criteria().place(&pair.criterion) else {
         return Ok(Class::Unvetted);
     };
-    let condemned = condemned_by(violations, &pair.version);
-    class_of(alloc, steps, &condemned, place, &pair.version)
+    let condemned = condemned_by(found.violations.as_slice(), &pair.version);
+    class_of(alloc, &found.steps, &condemned, place, &pair.version)
 }

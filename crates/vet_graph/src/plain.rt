@@ -8,7 +8,6 @@ ghost use Rattle.vet_graph.specs.Touched.{GiveNothing};
 
 use crate::class::Class;
 use crate::keeper::Keeper;
-use crate::links::LinkedSteps;
 use crate::moves::{Move, differences};
 use crate::package_steps::{PackageSteps, found_steps};
 use crate::pair_class::class_by;
@@ -21,7 +20,6 @@ use vet_base::refusal::Refusal;
 use vet_base::version::VetVersion;
 use vet_demand::demand::Demand;
 use vet_demand::pair::Pair;
-use vet_entries::condemned::Violation;
 use vet_entries::facts::EntryFacts;
 use vet_entries::local_criteria::LocalCriteria;
 
@@ -159,8 +157,7 @@ fn stands_of(alloc: Global, facts: &EntryFacts, demand: &[Pair]) -> Result<Vec<S
     let mut held: Option<PackageSteps> = None;
     'pairs: for pair in demand {
         let found = package_steps(alloc, held, &pair.package, facts, &local)?;
-        let violations = found.violations.as_slice();
-        standing.push(stand_of(alloc, facts, &found.steps, violations, pair)?)?;
+        standing.push(stand_of(alloc, facts, &found, pair)?)?;
         held = Some(found);
     }
     Ok(standing)
@@ -175,13 +172,8 @@ fn package_steps(
     local: &LocalCriteria,
 ) -> Result<PackageSteps, Refusal>
     requires local { AreLocal facts.now.content local.now }
-    requires held { IfSome held (λ h.
-        AreStepsOf facts.now.content h.«package» h.steps h.violations.items) }
-    ensures package { IfOk result (λ h. h.«package» ≡ «package».now) }
-    ensures steps { IfOk result (λ h.
-        AreStepsOf facts.now.content «package».now h.steps h.violations.items) }
-    ensures held { IfOk result (λ h.
-        AreStepsOf facts.now.content h.«package» h.steps h.violations.items) }
+    requires held { IfSome held (λ h. AreStepsOf facts.now.content h.«package» h) }
+    ensures steps { IfOk result (AreStepsOf facts.now.content «package».now) }
     ensures memory { IfErr result (λ e. e ≡ Refusal.NoMemory) }
 {
     if let Some(found) = held {
@@ -196,16 +188,15 @@ fn package_steps(
 fn stand_of(
     alloc: Global,
     facts: &EntryFacts,
-    steps: &LinkedSteps,
-    violations: &[Violation],
+    found: &PackageSteps,
     pair: &Pair,
 ) -> Result<Stand, Refusal>
-    requires { AreStepsOf facts.now.content pair.now.«package» steps.now violations.now }
+    requires { AreStepsOf facts.now.content pair.now.«package» found.now }
     ensures ok { IfOk result (λ s.
         s ≡ record { pair = pair.now; class = class_of_pair facts.now.content pair.now }) }
     ensures memory { IfErr result (λ e. e ≡ Refusal.NoMemory) }
 {
-    let class = class_by(alloc, facts, steps, violations, pair)?;
+    let class = class_by(alloc, facts, found, pair)?;
     Ok(Stand {
         pair: pair.clone()?,
         class,

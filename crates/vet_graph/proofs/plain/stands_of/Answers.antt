@@ -7,5 +7,5 @@ pairs-preserved c = (
   c.in_ok-push.ensures.items ∙ (λ i. c.pairs.invariant.0 i ++ c.in_ok-stand_of.ensures.ok i ∷ [])
       ∙ sym (standing_push c.args.facts.now.content c.args.demand.now c.pairs.pair-index c.pair-item.result
       c.pairs-test.true (sym c.pair-item.is)),
-  c.in_ok-found.ensures.held,
+  rw (← c.in_ok-found.ensures.steps.named) at c.in_ok-found.ensures.steps,
 )

@@ -7,4 +7,4 @@ use Rattle.vet_graph.proofs.plain.stands_of.Given as goal
 abbrev pub invariant-pairs : goal.invariant-pairs
 invariant-pairs l =
     (l.standing.items ≡ standing_of l.facts.content (take l.pair-index l.demand))
-    × IfSome l.held (λ h. AreStepsOf l.facts.content h.«package» h.steps h.violations.items)
+    × IfSome l.held (λ h. AreStepsOf l.facts.content h.«package» h)
