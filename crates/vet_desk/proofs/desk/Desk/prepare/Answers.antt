@@ -3,7 +3,8 @@ use Rattle.std.proofs.lemmas.Result.{err_from_is_err_and}
 use Rattle.vet_base.specs.Gives.{Answers}
 use Rattle.vet_desk.specs.declared.verdict.DeskAnswer.TheVariants.{Accepted}
 use Rattle.vet_desk.specs.DeskVerdict.{desk_verdict}
-use Rattle.vet_desk.proofs.Told.{answered, tells_change, tells_refusal}
+use Rattle.vet_base.proofs.Telling.{answered}
+use Rattle.vet_desk.proofs.Told.{tells_change, tells_refusal}
 use Rattle.vet_desk.proofs.desk.Desk.prepare.Goals as goal
 
 pub returns-in_err-judge-clause-told : goal.returns-in_err-judge-clause-told
