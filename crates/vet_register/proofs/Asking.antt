@@ -11,8 +11,8 @@ use Rattle.vet_base.specs.Criteria.{IsTable}
 use Rattle.vet_base.specs.CriteriaChanges.{remove_rules, remove_verdict, set_limits, set_references, set_rules}
 use Rattle.vet_base.specs.CriteriaChanges.{set_verdict}
 use Rattle.vet_base.specs.Day.{DayValue}
-use Rattle.vet_base.specs.Gives.{Answers, Refuses, Told, refuse_if, ◌>>=◌}
-use Rattle.vet_base.proofs.Telling.{not_refused, then_told}
+use Rattle.vet_base.specs.Gives.{Answers, Told, refuse_if, ◌>>=◌}
+use Rattle.vet_base.proofs.Telling.{answered, never_refuses, not_refused, refuses_too, then_told}
 use Rattle.vet_entries.specs.declared.publisher.Publisher.{Publisher}
 use Rattle.vet_entries.specs.declared.facts.Edit.{Edit}
 use Rattle.vet_entries.specs.Facts as facts
@@ -43,22 +43,6 @@ use Rattle.vet_register.proofs.HeldEffects.{sound_held}
 use Rattle.vet_register.proofs.Publishing.{are_publishers}
 
 -- ---- answers
-
-pub never_refuses : {A : Type 0} (e : Refusal) (x : A) → Refuses e (Ok x) → ⊥
-never_refuses (UnknownCriterion n) x (inl h) = cc h
-never_refuses (UnknownCriterion n) x (inr h) = cc h
-never_refuses e x h = cc h
-
--- what is answered without a refusal is what is told
-pub answered : {A : Type 0} (t : Told A) (x : A) → Answers t (Ok x) → t ≡ Ok x
-answered (Ok y) x h = sym h
-answered (Err e) x h = absurd (never_refuses e x h)
-
--- a refusal is the same for whatever would be answered
-pub refuses_too : (A B : Type 0) (e f : Refusal) → Refuses {A = A} e (Err f) → Refuses {A = B} e (Err f)
-refuses_too A B (UnknownCriterion n) f (inl h) = inl (ap Err (cc h))
-refuses_too A B (UnknownCriterion n) f (inr h) = inr (ap Err (cc h))
-refuses_too A B e f h = ap Err (cc h)
 
 -- of what is accepted nothing is asked before its moves are known
 pub accepted_exact : {K U : Type 0} (s : State) (a : Action) (t : Told Answer)

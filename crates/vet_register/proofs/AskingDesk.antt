@@ -6,7 +6,7 @@ use Rattle.vet_base.specs.declared.refusal.Refusal.TheVariants.{NoMemory, Unknow
 use Rattle.vet_base.specs.Criteria.{IsTable}
 use Rattle.vet_base.specs.Day.{DayValue}
 use Rattle.vet_base.specs.Gives.{Answers, Refuses, Told, ◌>>=◌}
-use Rattle.vet_base.proofs.Telling.{then_told}
+use Rattle.vet_base.proofs.Telling.{refuses_too, then_told}
 use Rattle.vet_desk.specs.declared.change.DeskChange.{DeskChange}
 use Rattle.vet_desk.specs.declared.command.DeskCommand.{DeskCommand}
 use Rattle.vet_desk.specs.declared.verdict.DeskAnswer.TheVariants as at_desk
@@ -26,7 +26,7 @@ use Rattle.vet_register.specs.Sound.{ArePublishers, IsSound}
 use Rattle.vet_register.specs.State.{State, demanded}
 use Rattle.vet_register.specs.Verdict.{asked_before, checked, entry_limits, held_or, judged, limits, limits_after_rules}
 use Rattle.vet_register.specs.Verdict.{references, step_before_rules}
-use Rattle.vet_register.proofs.Asking.{exactly, no_memory, refused, refuses_too}
+use Rattle.vet_register.proofs.Asking.{exactly, no_memory, refused}
 use Rattle.vet_register.proofs.Effects.{passes_desk}
 use Rattle.vet_register.proofs.HeldEffects.{same_criteria, same_publishers, sound_held}
 

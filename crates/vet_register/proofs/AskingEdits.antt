@@ -26,7 +26,8 @@ use Rattle.vet_register.specs.RegisterView.{AsksExactly, RegisterView, Rooms, he
 use Rattle.vet_register.specs.Sound.{ArePublishers, IsSound}
 use Rattle.vet_register.specs.State.{State}
 use Rattle.vet_register.specs.Verdict.{judged}
-use Rattle.vet_register.proofs.Asking.{answered, effective, held_effect, refused}
+use Rattle.vet_base.proofs.Telling.{answered}
+use Rattle.vet_register.proofs.Asking.{effective, held_effect, refused}
 use Rattle.vet_register.proofs.Effects.{IsGivenContent}
 use Rattle.vet_register.proofs.HeldEffects.{sound_held}
 

@@ -9,11 +9,10 @@ use Rattle.vet_entries.specs.Numbered.{Rise, has_number, place_of}
 use Rattle.vet_base.specs.Day.{DayValue}
 use Rattle.vet_base.specs.Gives.{Refuses, Told, ◌>>=◌}
 use Rattle.vet_base.specs.declared.refusal.Refusal.TheVariants.{UnknownEntry}
-use Rattle.vet_base.proofs.Telling.{not_refused, then_told}
+use Rattle.vet_base.proofs.Telling.{never_refuses, not_refused, then_told}
 use Rattle.vet_register.specs.declared.command.Action.TheVariants.{DropEntry}
 use Rattle.vet_register.specs.State.{State}
 use Rattle.vet_register.specs.Verdict.{checked, references, rules, step_limit}
-use Rattle.vet_register.proofs.Asking.{never_refuses}
 use Rattle.vet_register.proofs.Lists.{AllPairs-head, AllPairs-tail}
 
 module _ {X : Type 0} (p : X → Bool) where

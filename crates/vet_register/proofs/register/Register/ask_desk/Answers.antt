@@ -8,7 +8,8 @@ use Rattle.vet_register.specs.RegisterView.{RegisterView, desk_room}
 use Rattle.vet_register.specs.Sound.{IsSound}
 use Rattle.vet_register.specs.State.{State}
 use Rattle.vet_register.specs.Verdict.{asked_before, judged, limits_after_rules}
-use Rattle.vet_register.proofs.Asking.{answered, effective, exactly}
+use Rattle.vet_base.proofs.Telling.{answered}
+use Rattle.vet_register.proofs.Asking.{effective, exactly}
 use Rattle.vet_register.proofs.AskingDesk.{accepted_after, desk_effective, refused_before, refused_last, room_onward}
 use Rattle.vet_register.proofs.DeskAsked.{not_at_desk}
 use Rattle.vet_register.proofs.register.Register.ask_desk.Goals as goal

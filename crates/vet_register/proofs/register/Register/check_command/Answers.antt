@@ -3,7 +3,7 @@ use Rattle.vet_desk.specs.DeskVerdict.{desk_limits, desk_number, desk_references
 use Rattle.vet_register.specs.RegisterView.{RegisterView}
 use Rattle.vet_register.specs.State.{demanded}
 use Rattle.vet_register.specs.Verdict.{step_before_rules}
-use Rattle.vet_register.proofs.Asking.{answered}
+use Rattle.vet_base.proofs.Telling.{answered}
 use Rattle.vet_register.proofs.AskingDesk.{answers_itself, rules_left}
 use Rattle.vet_register.proofs.register.Register.check_command.Goals as goal
 

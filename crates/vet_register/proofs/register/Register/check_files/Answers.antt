@@ -7,7 +7,7 @@ use Rattle.vet_base.specs.Gives.{Gives, refuse_if, ◌>>=◌}
 use Rattle.vet_desk.specs.Review.{are_open_beyond}
 use Rattle.vet_register.specs.NamesOfFiles.{counted}
 use Rattle.vet_register.specs.Verdict.{files_limits, files_references}
-use Rattle.vet_register.proofs.Asking.{answered}
+use Rattle.vet_base.proofs.Telling.{answered}
 use Rattle.vet_register.proofs.FilesAccepted.{gives_itself, refuses_first, same_beyond}
 use Rattle.vet_register.proofs.register.Register.check_files.Goals as goal
 

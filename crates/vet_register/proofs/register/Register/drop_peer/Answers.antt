@@ -1,7 +1,8 @@
 use Rattle.std.proofs.Common.{ap, refl, None}
 use Rattle.vet_register.specs.declared.command.Action.TheVariants as action
 use Rattle.vet_register.specs.Verdict.{held_or}
-use Rattle.vet_register.proofs.Asking.{answered, some_day}
+use Rattle.vet_base.proofs.Telling.{answered}
+use Rattle.vet_register.proofs.Asking.{some_day}
 use Rattle.vet_register.proofs.AskingEdits.{facts_asks_still, none_given, state_before, told_before}
 use Rattle.vet_register.proofs.Imports.{drop_held}
 use Rattle.vet_register.proofs.register.Register.drop_peer.Goals as goal

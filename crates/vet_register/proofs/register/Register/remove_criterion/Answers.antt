@@ -5,7 +5,8 @@ use Rattle.vet_base.specs.CriteriaChanges.{remove_verdict}
 use Rattle.vet_register.specs.declared.command.Action.TheVariants as action
 use Rattle.vet_register.specs.declared.verdict.Answer.TheVariants.{Accepted}
 use Rattle.vet_register.specs.Verdict.{held_or}
-use Rattle.vet_register.proofs.Asking.{answered, remove_passed, some_day}
+use Rattle.vet_base.proofs.Telling.{answered}
+use Rattle.vet_register.proofs.Asking.{remove_passed, some_day}
 use Rattle.vet_register.proofs.AskingDesk.{refused_first}
 use Rattle.vet_register.proofs.AskingEdits.{facts_asks_still, none_given, passed_on, state_before, told_before}
 use Rattle.vet_register.proofs.register.Register.remove_criterion.Goals as goal
