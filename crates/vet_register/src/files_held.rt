@@ -5,17 +5,13 @@
 ghost use Rattle.std.specs.Cmp.Lexicographic.{slice_cmp};
 ghost use Rattle.std.specs.List.{All, sum_by};
 ghost use Rattle.std.specs.Ordering.{nat_cmp};
-ghost use Rattle.std.specs.Prelude.{◌≡◌, ◌<◌, ◌+◌, ◌^◌, IfErr, IfOk, Ok, map};
+ghost use Rattle.std.specs.Prelude.{◌≡◌, ◌<◌, ◌+◌, ◌^◌, IfErr, IfOk, map};
 ghost use Rattle.vet_base.specs.Criteria.{IsTable};
-ghost use Rattle.vet_base.specs.Defined.{defined, table_told};
 ghost use Rattle.vet_base.specs.Keyed.{IsByKey};
 ghost use Rattle.vet_entries.specs.HeldPeer.{holding_or_none, imported, peer_name, peer_of};
 ghost use Rattle.vet_entries.specs.Import.{compared};
-ghost use Rattle.vet_entries.specs.PublisherRecords.{records_total};
-ghost use Rattle.vet_entries.specs.declared.peer_settings.PeerSettings.{PeerSettings};
-ghost use Rattle.vet_register.specs.Replacing.{compared_peer, facts_of_files, held_of_peer, new_of_files, new_of_peer};
-ghost use Rattle.vet_register.specs.Replacing.{peers_after, tool_of_files};
-ghost use Rattle.vet_register.specs.ReplacingFound.{IsCompared};
+ghost use Rattle.vet_register.specs.Replacing.{compared_peer, facts_of_files, new_of_peer, peers_after, tool_of_files};
+ghost use Rattle.vet_register.specs.ReplacingFound.{MayReplace};
 
 use crate::class_of_file::defined_table;
 use crate::files_comparison::{FilesComparison, content_of, held_of, no_content};
@@ -44,12 +40,7 @@ pub(crate) fn files_held(
     files: &FilesContent,
     comparison: &FilesComparison,
 ) -> Result<FilesHeld, Refusal>
-    requires defined { table_told files.now.criteria ≡ Ok (defined files.now.criteria) }
-    requires compared { IsCompared facts.now.content files.now comparison.now }
-    requires own { All (λ h. h.number < next) facts.now.content.entries }
-    requires peers { (p : PeerSettings) → All (λ h. h.number < next) (held_of_peer facts.now.content.peers p).entries }
-    requires numbers { next + new_of_files facts.now.content files.now < 2 ^ 64 }
-    requires records { records_total files.now.publishers < 2 ^ 64 }
+    requires { MayReplace next facts.now.content files.now comparison.now }
     ensures facts { IfOk result (λ h. h.facts.content ≡ facts_of_files next files.now facts.now.content) }
     ensures table { IfOk result (λ h. IsTable h.facts.content.criteria) }
     ensures policies { IfOk result (λ h. h.policies.items ≡ files.now.policies) }
@@ -74,12 +65,7 @@ fn facts_after(
     files: &FilesContent,
     comparison: &FilesComparison,
 ) -> Result<EntryFacts, Refusal>
-    requires defined { table_told files.now.criteria ≡ Ok (defined files.now.criteria) }
-    requires compared { IsCompared facts.now.content files.now comparison.now }
-    requires own { All (λ h. h.number < next) facts.now.content.entries }
-    requires peers { (p : PeerSettings) → All (λ h. h.number < next) (held_of_peer facts.now.content.peers p).entries }
-    requires numbers { next + new_of_files facts.now.content files.now < 2 ^ 64 }
-    requires records { records_total files.now.publishers < 2 ^ 64 }
+    requires { MayReplace next facts.now.content files.now comparison.now }
     ensures facts { IfOk result (λ f. f.content ≡ facts_of_files next files.now facts.now.content) }
     ensures table { IfOk result (λ f. IsTable f.content.criteria) }
     ensures memory { IfErr result (λ e. e ≡ Refusal.NoMemory) }
@@ -107,9 +93,7 @@ fn peers_after(
     files: &FilesContent,
     comparison: &FilesComparison,
 ) -> Result<Vec<HeldPeer>, Refusal>
-    requires compared { IsCompared facts.now.content files.now comparison.now }
-    requires below { (p : PeerSettings) → All (λ h. h.number < next) (held_of_peer facts.now.content.peers p).entries }
-    requires numbers { next + new_of_files facts.now.content files.now < 2 ^ 64 }
+    requires { MayReplace next facts.now.content files.now comparison.now }
     ensures ok { IfOk result (λ v. v.items ≡ (facts_of_files next files.now facts.now.content).peers) }
     ensures by_name { IfOk result (λ v. IsByKey (slice_cmp nat_cmp) peer_name v.items) }
     ensures memory { IfErr result (λ e. e ≡ Refusal.NoMemory) }

@@ -43,7 +43,7 @@ peer_after-requires-clause-below c =
     let above : c.args.next ≤ c.peers.number = omega (arith, c.peers.invariant.0) in
     subst (λ h. All (λ e. e.number < c.peers.number) h.entries) held
     (All-weaker (λ e. e.number < c.args.next) (λ e. e.number < c.peers.number) (λ e low. omega (arith, low, above))
-    (held_of_peer peers p).entries (c.requires.below p))
+    (held_of_peer peers p).entries (c.requires.peers p))
 
 pub peer_after-requires-clause-numbers : goal.peer_after-requires-clause-numbers
 peer_after-requires-clause-numbers c =

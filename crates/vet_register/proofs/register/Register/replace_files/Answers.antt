@@ -41,45 +41,25 @@ overflow_add-next_entry g c =
       c.new_count.ensures,
     )
 
-pub files_held-requires-clause-defined : goal.files_held-requires-clause-defined
-files_held-requires-clause-defined g c =
-    let accepted = accepted_files c.args.self.now.state some_day c.args.files.now _ _ c.in-Some.is
-    (c.in_ok-comparison.ensures some_day) in
-    let p = passed c.args.self.now.state some_day (action.ReplaceFiles c.args.files.now) accepted.told in
-    files_table c.args.files.now c.is_of_files.ensures
-    (files_fit c.args.self.now.state c.args.files.now p.limits).criteria
-    (files_know c.args.files.now p.references)
-
-pub files_held-requires-clause-compared : goal.files_held-requires-clause-compared
-files_held-requires-clause-compared g c =
-    subst (λ (r : RegisterView _). IsCompared r.state.held.facts c.args.files.now c.in-Some.comparison)
-    (sym c.self.view_is)
-    (accepted_files c.args.self.now.state some_day c.args.files.now _ _ c.in-Some.is
-    (c.in_ok-comparison.ensures some_day)).compared
-
-pub files_held-requires-clause-own : goal.files_held-requires-clause-own
-files_held-requires-clause-own g c = c.self.invariant.1.held.facts.entries.numbers_given
-
-pub files_held-requires-clause-peers : goal.files_held-requires-clause-peers
-files_held-requires-clause-peers g c p =
-    (peer_before c.self.inside.held.facts.content.peers c.self.inside.next_entry c.self.invariant.1.held.facts.peers
-    p).1
-
-pub files_held-requires-clause-numbers : goal.files_held-requires-clause-numbers
-files_held-requires-clause-numbers g c =
+pub files_held-requires : goal.files_held-requires
+files_held-requires g c =
+    let state = c.args.self.now.state in
     let files = c.args.files.now in
-    let count = files_numbered c.args.self.now.state some_day files c.in-Some.comparison
-    (accepted_files c.args.self.now.state some_day files _ _ c.in-Some.is (c.in_ok-comparison.ensures some_day)) in
+    let accepted = accepted_files state some_day files _ _ c.in-Some.is (c.in_ok-comparison.ensures some_day) in
+    let p = passed state some_day (action.ReplaceFiles files) accepted.told in
+    let fits = files_fit state files p.limits in
+    let count = files_numbered state some_day files c.in-Some.comparison accepted in
     let held = ap (λ (r : RegisterView _). number_after r.state (action.ReplaceFiles files)) c.self.view_is in
-    omega (arith, held, count)
-
-pub files_held-requires-clause-records : goal.files_held-requires-clause-records
-files_held-requires-clause-records g c =
-    let asks = action.ReplaceFiles c.args.files.now in
-    let accepted = accepted_files c.args.self.now.state some_day c.args.files.now _ _ c.in-Some.is
-    (c.in_ok-comparison.ensures some_day) in
-    let p = passed c.args.self.now.state some_day asks accepted.told in
-    omega (arith, (files_fit c.args.self.now.state c.args.files.now p.limits).records)
+    record {
+      defined = files_table files c.is_of_files.ensures fits.criteria (files_know files p.references);
+      compared = subst (λ (r : RegisterView _). IsCompared r.state.held.facts files c.in-Some.comparison)
+          (sym c.self.view_is) accepted.compared;
+      own = c.self.invariant.1.held.facts.entries.numbers_given;
+      peers = λ q. (peer_before c.self.inside.held.facts.content.peers c.self.inside.next_entry
+          c.self.invariant.1.held.facts.peers q).1;
+      numbers = omega (arith, held, count);
+      records = omega (arith, fits.records);
+    }
 
 pub returns-clause-asked : goal.returns-clause-asked
 returns-clause-asked g c day =
