@@ -1,7 +1,7 @@
 //! The texts of help and the version.
 
-/// The version of the program, and the kit by which it is proved.
-pub const VERSION: &str = "0.1.0 (rattle-kit-13f)";
+/// The version of the program, and the logic of the kit by which it is proved.
+pub const VERSION: &str = "0.1.0 (rattle logic dac8208d650f15bf)";
 
 /// What stands below the help of the program.
 pub const PROGRAM_HELP: &str = "\
