@@ -1,7 +1,6 @@
 -- What values feed a hasher (ours).
 use Rattle.std.specs.Prelude.{[], ◌++◌, unwrap_or}
 use Rattle.std.specs.Hash as fed
-use Rattle.vet_base.specs.declared.delta.Delta.{Delta}
 use Rattle.vet_base.specs.Names.{NameSet, members}
 use Rattle.vet_base.specs.Version.{VersionValue}
 
@@ -14,7 +13,3 @@ abbrev pub version_fed : VersionValue → fed.HashWrites
 version_fed v =
     fed.u64 v.parts.0 ++ fed.u64 v.parts.1 ++ fed.u64 v.parts.2
     ++ fed.str v.parts.3 ++ fed.str v.parts.4 ++ fed.str (unwrap_or v.revision [])
-
--- the one end and the other
-abbrev pub delta_fed : Delta → fed.HashWrites
-delta_fed d = version_fed d.from ++ version_fed d.to

@@ -11,10 +11,11 @@ use crate::refusal::Refusal;
 use crate::version::{VetVersion, version_text_reads_back};
 use std::alloc::{AllocError, Global};
 use std::fmt;
-use std::hash::{Hash, Hasher};
+use std::hash::Hash;
 
 /// From one version to another; either may be the greater. Its text is `FROM -> TO`, with any number of
 /// spaces around each version (ours).
+#[derive(Hash)]
 pub struct Delta {
     /// The version that it starts at.
     pub from: VetVersion,
@@ -103,19 +104,12 @@ impl Eq for Delta {
     ghost laws = { delta_eq_equiv };
 }
 
+#[derived]
 impl Hash for Delta {
     ghost use Rattle.std.specs.Hash as fed;
     ghost use Rattle.vet_base.specs.DeltaLaws.{delta_eq-Decides};
-    ghost use Rattle.vet_base.specs.Fed.{delta_fed};
 
-    ghost hash_input = { delta_fed };
-
-    ghost respects_eq = { (fed.same_Alike delta_fed delta_eq-Decides).fed };
-
-    fn hash<H: Hasher>(&self, state: &mut H) {
-        self.from.hash(state);
-        self.to.hash(state);
-    }
+    ghost respects_eq = { (fed.same_Alike _ delta_eq-Decides).fed };
 }
 
 // What is told where there was no memory for the first version: that the second is none, if it is none.

@@ -12,12 +12,12 @@ use crate::refusal::Refusal;
 use crate::text::Text;
 use std::alloc::{AllocError, Global};
 use std::fmt;
-use std::hash::{Hash, Hasher};
+use std::hash::Hash;
 use std::marker::Model;
 
 /// What a package or a project is called: up to 64 ASCII letters and digits, `-` and `_` among them, and not
 /// none. Two names are the same only where their bytes are, and by these they are ordered.
-#[derive(Clone, Drop, PartialEq, Eq, PartialOrd, Ord)]
+#[derive(Clone, Drop, PartialEq, Eq, PartialOrd, Ord, Hash)]
 pub struct PackageName {
     text: Text,
 }
@@ -104,22 +104,9 @@ impl fmt::Display for PackageName {
     }
 }
 
-impl Hash for PackageName {
-    ghost use Rattle.std.specs.Cmp.Lexicographic.{bytes_decides};
-    ghost use Rattle.std.specs.Hash as fed;
-
-    ghost hash_input = { fed.str };
-
-    ghost respects_eq = { (fed.same_Alike fed.str bytes_decides).fed };
-
-    fn hash<H: Hasher>(&self, state: &mut H) {
-        self.text.as_str().hash(state);
-    }
-}
-
 /// The name of a criterion, a peer or a member: 1 to 64 ASCII characters from `!` to `~`, ordered by
 /// their bytes.
-#[derive(Clone, Drop, PartialEq, Eq, PartialOrd, Ord)]
+#[derive(Clone, Drop, PartialEq, Eq, PartialOrd, Ord, Hash)]
 pub struct Name {
     text: Text,
 }
@@ -203,19 +190,6 @@ impl fmt::Display for Name {
 
     fn fmt<W: fmt::Write>(&self, f: &mut fmt::Formatter<W>) -> fmt::Result {
         f.write_str(self.text.as_str())
-    }
-}
-
-impl Hash for Name {
-    ghost use Rattle.std.specs.Cmp.Lexicographic.{bytes_decides};
-    ghost use Rattle.std.specs.Hash as fed;
-
-    ghost hash_input = { fed.str };
-
-    ghost respects_eq = { (fed.same_Alike fed.str bytes_decides).fed };
-
-    fn hash<H: Hasher>(&self, state: &mut H) {
-        self.text.as_str().hash(state);
     }
 }
 

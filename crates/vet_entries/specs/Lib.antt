@@ -9,7 +9,6 @@ pub mod Entry
 pub mod EntryLaws
 pub mod Facts
 pub mod FactsEncodings
-pub mod Fed
 pub mod HeldPeer
 pub mod Holding
 pub mod Import

@@ -4,13 +4,13 @@ ghost use Rattle.vet_entries.specs.Entry.{entry_eq, of_source, own, says_same};
 
 use crate::kind::Kind;
 use std::alloc::AllocError;
-use std::hash::{Hash, Hasher};
+use std::hash::Hash;
 use vet_base::name::{Name, PackageName};
 use vet_base::names::Names;
 use vet_base::text::Text;
 
 /// Whose an entry is.
-#[derive(Clone)]
+#[derive(Clone, Hash)]
 pub enum Source {
     /// The organisation's own.
     Own,
@@ -53,27 +53,16 @@ impl Eq for Source {
     ghost laws = { decided source_eq source_eq-Decides };
 }
 
+#[derived]
 impl Hash for Source {
     ghost use Rattle.std.specs.Hash as fed;
     ghost use Rattle.vet_entries.specs.EntryLaws.{source_eq-Decides};
-    ghost use Rattle.vet_entries.specs.Fed.{source_fed};
 
-    ghost hash_input = { source_fed };
-
-    ghost respects_eq = { (fed.same_Alike source_fed source_eq-Decides).fed };
-
-    fn hash<H: Hasher>(&self, state: &mut H) {
-        match self {
-            Source::Own => state.write_u8(0),
-            Source::Peer(name) => {
-                state.write_u8(1);
-                name.hash(state);
-            }
-        }
-    }
+    ghost respects_eq = { (fed.same_Alike _ source_eq-Decides).fed };
 }
 
 /// An entry: a package, what is said of it, and for which criteria.
+#[derive(Hash)]
 pub struct Entry {
     pub source: Source,
     pub package: PackageName,
@@ -169,22 +158,12 @@ impl Eq for Entry {
     ghost laws = { decided entry_eq entry_eq-Decides };
 }
 
+#[derived]
 impl Hash for Entry {
     ghost use Rattle.std.specs.Hash as fed;
     ghost use Rattle.vet_entries.specs.EntryLaws.{entry_eq-Decides};
-    ghost use Rattle.vet_entries.specs.Fed.{entry_fed};
 
-    ghost hash_input = { entry_fed };
-
-    ghost respects_eq = { (fed.same_Alike entry_fed entry_eq-Decides).fed };
-
-    fn hash<H: Hasher>(&self, state: &mut H) {
-        self.source.hash(state);
-        self.package.hash(state);
-        self.kind.hash(state);
-        self.criteria.hash(state);
-        self.notes.hash(state);
-    }
+    ghost respects_eq = { (fed.same_Alike _ entry_eq-Decides).fed };
 }
 
 // A copy of some notes, if there are any.

@@ -4,7 +4,7 @@ ghost use Rattle.vet_entries.specs.Kind.{grants_same, no_audit};
 
 use crate::user::User;
 use std::alloc::{AllocError, Global};
-use std::hash::{Hash, Hasher};
+use std::hash::Hash;
 use vet_base::day::Day;
 use vet_base::delta::Delta;
 use vet_base::req::Req;
@@ -12,6 +12,7 @@ use vet_base::texts::Texts;
 use vet_base::version::VetVersion;
 
 /// Who made an audit, and whether others may import it (The Cargo Vet Book, audit entries).
+#[derive(Hash)]
 pub struct Audit {
     /// Who reviewed, in the order of their bytes, each once.
     pub who: Texts,
@@ -75,23 +76,17 @@ impl Eq for Audit {
     ghost laws = { decided audit_eq audit_eq-Decides };
 }
 
+#[derived]
 impl Hash for Audit {
     ghost use Rattle.std.specs.Hash as fed;
     ghost use Rattle.vet_entries.specs.KindLaws.{audit_eq-Decides};
-    ghost use Rattle.vet_entries.specs.Fed.{audit_fed};
 
-    ghost hash_input = { audit_fed };
-
-    ghost respects_eq = { (fed.same_Alike audit_fed audit_eq-Decides).fed };
-
-    fn hash<H: Hasher>(&self, state: &mut H) {
-        self.who.hash(state);
-        self.importable.hash(state);
-    }
+    ghost respects_eq = { (fed.same_Alike _ audit_eq-Decides).fed };
 }
 
 /// Who vouches for what a user publishes, and whether that is to be renewed (The Cargo Vet Book, wildcard
 /// audits).
+#[derive(Hash)]
 pub struct Grant {
     /// Who vouches, in the order of their bytes, each once.
     pub who: Texts,
@@ -140,24 +135,17 @@ impl Eq for Grant {
     ghost laws = { decided grant_eq grant_eq-Decides };
 }
 
+#[derived]
 impl Hash for Grant {
     ghost use Rattle.std.specs.Hash as fed;
     ghost use Rattle.vet_entries.specs.KindLaws.{grant_eq-Decides};
-    ghost use Rattle.vet_entries.specs.Fed.{grant_fed};
 
-    ghost hash_input = { grant_fed };
-
-    ghost respects_eq = { (fed.same_Alike grant_fed grant_eq-Decides).fed };
-
-    fn hash<H: Hasher>(&self, state: &mut H) {
-        self.who.hash(state);
-        self.renew.hash(state);
-    }
+    ghost respects_eq = { (fed.same_Alike _ grant_eq-Decides).fed };
 }
 
 /// What a user of crates.io published from a first day to a last, both included (The Cargo Vet Book, wildcard
 /// audits and trusted publishers). A window that ends before it begins has no day.
-#[derive(Clone, Copy)]
+#[derive(Clone, Copy, Hash)]
 pub struct Window {
     pub user: User,
     pub first: Day,
@@ -186,24 +174,17 @@ impl Eq for Window {
     ghost laws = { decided window_eq window_eq-Decides };
 }
 
+#[derived]
 impl Hash for Window {
     ghost use Rattle.std.specs.Hash as fed;
     ghost use Rattle.vet_entries.specs.KindLaws.{window_eq-Decides};
-    ghost use Rattle.vet_entries.specs.Fed.{window_fed};
 
-    ghost hash_input = { window_fed };
-
-    ghost respects_eq = { (fed.same_Alike window_fed window_eq-Decides).fed };
-
-    fn hash<H: Hasher>(&self, state: &mut H) {
-        self.user.hash(state);
-        self.first.hash(state);
-        self.last.hash(state);
-    }
+    ghost respects_eq = { (fed.same_Alike _ window_eq-Decides).fed };
 }
 
 /// What an entry says of its package. Each kind holds what goes with it and nothing else: who vouches, and
 /// what it tells tools.
+#[derive(Hash)]
 pub enum Kind {
     /// This version was reviewed in full (The Cargo Vet Book, audit entries: `version`).
     Full(VetVersion, Audit),
@@ -310,46 +291,10 @@ impl Eq for Kind {
     ghost laws = { decided kind_eq kind_eq-Decides };
 }
 
+#[derived]
 impl Hash for Kind {
     ghost use Rattle.std.specs.Hash as fed;
     ghost use Rattle.vet_entries.specs.KindLaws.{kind_eq-Decides};
-    ghost use Rattle.vet_entries.specs.Fed.{kind_fed};
 
-    ghost hash_input = { kind_fed };
-
-    ghost respects_eq = { (fed.same_Alike kind_fed kind_eq-Decides).fed };
-
-    fn hash<H: Hasher>(&self, state: &mut H) {
-        match self {
-            Kind::Full(version, audit) => {
-                state.write_u8(0);
-                version.hash(state);
-                audit.hash(state);
-            }
-            Kind::Delta(delta, audit) => {
-                state.write_u8(1);
-                delta.hash(state);
-                audit.hash(state);
-            }
-            Kind::Violation(req, audit) => {
-                state.write_u8(2);
-                req.hash(state);
-                audit.hash(state);
-            }
-            Kind::Wildcard(window, grant) => {
-                state.write_u8(3);
-                window.hash(state);
-                grant.hash(state);
-            }
-            Kind::Trusted(window) => {
-                state.write_u8(4);
-                window.hash(state);
-            }
-            Kind::Exemption { version, suggest } => {
-                state.write_u8(5);
-                version.hash(state);
-                suggest.hash(state);
-            }
-        }
-    }
+    ghost respects_eq = { (fed.same_Alike _ kind_eq-Decides).fed };
 }

@@ -58,11 +58,10 @@ impl<'a> Eq for Said<'a> {
 impl<'a> Hash for Said<'a> {
     ghost use Rattle.std.specs.Hash as fed;
     ghost use Rattle.vet_entries.specs.EntryLaws.{entry_eq-Decides};
-    ghost use Rattle.vet_entries.specs.Fed.{entry_fed};
 
-    ghost hash_input = { entry_fed };
+    ghost hash_input = { ⟦<Entry as Hash>⟧.hash_input };
 
-    ghost respects_eq = { (fed.same_Alike entry_fed entry_eq-Decides).fed };
+    ghost respects_eq = { (fed.same_Alike _ entry_eq-Decides).fed };
 
     fn hash<H: Hasher>(&self, state: &mut H) {
         Source::Own.hash(state);
