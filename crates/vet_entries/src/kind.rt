@@ -12,7 +12,7 @@ use vet_base::texts::Texts;
 use vet_base::version::VetVersion;
 
 /// Who made an audit, and whether others may import it (The Cargo Vet Book, audit entries).
-#[derive(Hash)]
+#[derive(PartialEq, Eq, Hash)]
 pub struct Audit {
     /// Who reviewed, in the order of their bytes, each once.
     pub who: Texts,
@@ -54,28 +54,6 @@ impl Clone for Audit {
     }
 }
 
-impl PartialEq for Audit {
-    ghost use Rattle.std.specs.Cmp.{decided, partial_equiv_from_equiv};
-    ghost use Rattle.vet_entries.specs.Kind.{audit_eq};
-    ghost use Rattle.vet_entries.specs.KindLaws.{audit_eq-Decides};
-
-    ghost eq = { audit_eq };
-
-    ghost laws = { partial_equiv_from_equiv (decided audit_eq audit_eq-Decides) };
-
-    fn eq(&self, other: &Audit) -> bool {
-        self.who == other.who && self.importable == other.importable
-    }
-}
-
-impl Eq for Audit {
-    ghost use Rattle.std.specs.Cmp.{decided};
-    ghost use Rattle.vet_entries.specs.Kind.{audit_eq};
-    ghost use Rattle.vet_entries.specs.KindLaws.{audit_eq-Decides};
-
-    ghost laws = { decided audit_eq audit_eq-Decides };
-}
-
 #[derived]
 impl Hash for Audit {
     ghost use Rattle.std.specs.Hash as fed;
@@ -86,7 +64,7 @@ impl Hash for Audit {
 
 /// Who vouches for what a user publishes, and whether that is to be renewed (The Cargo Vet Book, wildcard
 /// audits).
-#[derive(Hash)]
+#[derive(PartialEq, Eq, Hash)]
 pub struct Grant {
     /// Who vouches, in the order of their bytes, each once.
     pub who: Texts,
@@ -111,28 +89,6 @@ impl Clone for Grant {
             renew: self.renew,
         })
     }
-}
-
-impl PartialEq for Grant {
-    ghost use Rattle.std.specs.Cmp.{decided, partial_equiv_from_equiv};
-    ghost use Rattle.vet_entries.specs.Kind.{grant_eq};
-    ghost use Rattle.vet_entries.specs.KindLaws.{grant_eq-Decides};
-
-    ghost eq = { grant_eq };
-
-    ghost laws = { partial_equiv_from_equiv (decided grant_eq grant_eq-Decides) };
-
-    fn eq(&self, other: &Grant) -> bool {
-        self.who == other.who && self.renew == other.renew
-    }
-}
-
-impl Eq for Grant {
-    ghost use Rattle.std.specs.Cmp.{decided};
-    ghost use Rattle.vet_entries.specs.Kind.{grant_eq};
-    ghost use Rattle.vet_entries.specs.KindLaws.{grant_eq-Decides};
-
-    ghost laws = { decided grant_eq grant_eq-Decides };
 }
 
 #[derived]
