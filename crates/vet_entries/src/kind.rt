@@ -12,7 +12,7 @@ use vet_base::texts::Texts;
 use vet_base::version::VetVersion;
 
 /// Who made an audit, and whether others may import it (The Cargo Vet Book, audit entries).
-#[derive(PartialEq, Eq, Hash)]
+#[derive(Clone, PartialEq, Eq, Hash)]
 pub struct Audit {
     /// Who reviewed, in the order of their bytes, each once.
     pub who: Texts,
@@ -41,19 +41,6 @@ impl Audit {
     }
 }
 
-impl Clone for Audit {
-    ghost use Rattle.std.specs.Prelude.{◌≡◌};
-
-    ghost is_clone = { λ a b. b ≡ a };
-
-    fn clone(&self) -> Result<Audit, AllocError> {
-        Ok(Audit {
-            who: self.who.clone()?,
-            importable: self.importable,
-        })
-    }
-}
-
 #[derived]
 impl Hash for Audit {
     ghost use Rattle.std.specs.Hash as fed;
@@ -64,7 +51,7 @@ impl Hash for Audit {
 
 /// Who vouches for what a user publishes, and whether that is to be renewed (The Cargo Vet Book, wildcard
 /// audits).
-#[derive(PartialEq, Eq, Hash)]
+#[derive(Clone, PartialEq, Eq, Hash)]
 pub struct Grant {
     /// Who vouches, in the order of their bytes, each once.
     pub who: Texts,
@@ -75,19 +62,6 @@ pub struct Grant {
 impl Drop for Grant {
     fn drop(self) {
         let Grant { who: _, renew: _ } = self;
-    }
-}
-
-impl Clone for Grant {
-    ghost use Rattle.std.specs.Prelude.{◌≡◌};
-
-    ghost is_clone = { λ a b. b ≡ a };
-
-    fn clone(&self) -> Result<Grant, AllocError> {
-        Ok(Grant {
-            who: self.who.clone()?,
-            renew: self.renew,
-        })
     }
 }
 
