@@ -4,7 +4,7 @@ ghost use Rattle.std.specs.Cmp.{nat_cmp_total, nat_eq_equiv, partial_equiv_from_
 ghost use Rattle.std.specs.Ordering.{as_partial_cmp, nat_cmp};
 
 use std::cmp::Ordering;
-use std::hash::{Hash, Hasher};
+use std::hash::Hash;
 use std::marker::Model;
 
 /// The last number of a user.
@@ -12,7 +12,7 @@ pub const LAST_USER: u64 = 9_223_372_036_854_775_807;
 
 /// A user of crates.io (The Cargo Vet Book, wildcard audits): a number from 0 to 2^63 - 1. Users are equal,
 /// and ordered, by their numbers.
-#[derive(Clone, Copy)]
+#[derive(Clone, Copy, Hash)]
 pub struct User {
     number: u64,
 }
@@ -89,19 +89,5 @@ impl Ord for User {
 
     fn cmp(&self, other: &User) -> Ordering {
         self.number.cmp(&other.number)
-    }
-}
-
-impl Hash for User {
-    ghost use Rattle.std.proofs.Common.{rules};
-    ghost use Rattle.std.specs.Cmp.Rules.{hashing};
-    ghost use Rattle.std.specs.Hash as fed;
-
-    ghost hash_input = { fed.u64 };
-
-    ghost respects_eq = { Prim.search (hashing, rules) };
-
-    fn hash<H: Hasher>(&self, state: &mut H) {
-        state.write_u64(self.number);
     }
 }
