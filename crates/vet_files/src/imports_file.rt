@@ -15,7 +15,7 @@ use crate::found::Found;
 use crate::keys::{AUDITS, TOP, TableKind, unknown_keys};
 use crate::listed::Listed;
 use crate::read::document::read_document;
-use crate::read::named_tables::{ReadNamed, named_tables};
+use crate::read::named_tables::{NamedTable, ReadNamed, named_tables};
 use crate::read::publishers::read_publishers;
 use crate::read::whose::Whose;
 use crate::write::imports_table::imports_table;
@@ -147,12 +147,10 @@ impl ReadNamed for ReadImported {
     fn read(
         &self,
         alloc: Global,
-        name: Name,
-        path: &str,
-        table: &Table,
+        at: NamedTable<'_>,
     ) -> Result<Found<Option<ImportedPeer>>, Refusal> {
-        let prefix = format!(in alloc; "{path}.")?;
-        read_imported_from(alloc, name, path, prefix.as_str(), table)
+        let prefix = format!(in alloc; "{}.", at.path)?;
+        read_imported_from(alloc, at.name, at.path, prefix.as_str(), at.table)
     }
 }
 

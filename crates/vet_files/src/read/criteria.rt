@@ -11,7 +11,7 @@ use crate::found::Found;
 use crate::keys::{DESCRIPTION, DESCRIPTION_URL, IMPLIES, TableKind, unknown_keys};
 use crate::listed::Listed;
 use crate::notices::Notices;
-use crate::read::named_tables::{ReadNamed, named_table};
+use crate::read::named_tables::{NamedTable, ReadNamed, named_table};
 use crate::read::walk::ReadMember;
 use crate::read::whose::Whose;
 use std::alloc::Global;
@@ -114,21 +114,15 @@ impl ReadNamed for ReadCriterion {
 
     ghost told = { λ r. criterion_told };
 
-    fn read(
-        &self,
-        alloc: Global,
-        name: Name,
-        path: &str,
-        table: &Table,
-    ) -> Result<Found<Option<Criterion>>, Refusal> {
-        let notices = unknown_keys(TableKind::Criterion, table)?;
-        let description = optional(alloc, path, table, DESCRIPTION)?;
-        let url = optional(alloc, path, table, DESCRIPTION_URL)?;
-        let implies: Option<Names> = optional(alloc, path, table, IMPLIES)?;
+    fn read(&self, alloc: Global, at: NamedTable<'_>) -> Result<Found<Option<Criterion>>, Refusal> {
+        let notices = unknown_keys(TableKind::Criterion, at.table)?;
+        let description = optional(alloc, at.path, at.table, DESCRIPTION)?;
+        let url = optional(alloc, at.path, at.table, DESCRIPTION_URL)?;
+        let implies: Option<Names> = optional(alloc, at.path, at.table, IMPLIES)?;
         Ok(Found {
             notices,
             content: Some(Criterion {
-                name,
+                name: at.name,
                 description,
                 url,
                 implies: implies.unwrap_or(Names::new(alloc)),

@@ -15,6 +15,14 @@ use toml::{Table, Value};
 use vet_base::name::Name;
 use vet_base::refusal::Refusal;
 
+/// One table of those that stand by name.
+#[derive(Drop)]
+pub(crate) struct NamedTable<'a> {
+    pub(crate) name: Name,
+    pub(crate) path: &'a str,
+    pub(crate) table: &'a Table,
+}
+
 /// Reads one table of those that stand by name.
 pub(crate) trait ReadNamed {
     /// What such a table says.
@@ -23,15 +31,10 @@ pub(crate) trait ReadNamed {
     /// What is told of a table of a name and a path.
     ghost told: { Self → Reading Self.Item };
 
-    /// Reads the table of a name and a path.
-    fn read(
-        &self,
-        alloc: Global,
-        name: Name,
-        path: &str,
-        table: &Table,
-    ) -> Result<Found<Option<Self::Item>>, Refusal>
-        ensures { Gives (λ f. f) (told self.now name path.now (table_view table.now)) result };
+    /// Reads the table.
+    fn read(&self, alloc: Global, at: NamedTable<'_>) -> Result<Found<Option<Self::Item>>, Refusal>
+        ensures { Gives (λ f. f) (told self.now at.entry.name at.entry.path.now (table_view at.entry.table.now))
+            result };
 }
 
 /// Reads the tables of a table, one after the other.
@@ -75,7 +78,8 @@ pub(crate) fn named_table<R: ReadNamed>(
         return Err(fault(alloc, path, name.as_str()));
     };
     let below = path_below(alloc, path, name.as_str())?;
-    reader.read(alloc, name, below.as_str(), table)
+    let path = below.as_str();
+    reader.read(alloc, NamedTable { name, path, table })
 }
 
 /// Reads the tables at a key of a file, in the order of their names' bytes.

@@ -7,7 +7,7 @@ use crate::field::{optional, required};
 use crate::found::Found;
 use crate::keys::{CRITERIA_MAP, EXCLUDE, IMPORTS, TableKind, URL, unknown_keys};
 use crate::listed::Listed;
-use crate::read::named_tables::{ReadNamed, named_tables};
+use crate::read::named_tables::{NamedTable, ReadNamed, named_tables};
 use std::alloc::Global;
 use toml::Table;
 use vet_base::name::Name;
@@ -38,18 +38,16 @@ impl ReadNamed for ReadPeer {
     fn read(
         &self,
         alloc: Global,
-        name: Name,
-        path: &str,
-        table: &Table,
+        at: NamedTable<'_>,
     ) -> Result<Found<Option<PeerSettings>>, Refusal> {
-        let notices = unknown_keys(TableKind::Peer, table)?;
-        let url = required(alloc, path, table, URL)?;
-        let exclude: Option<PackageNames> = optional(alloc, path, table, EXCLUDE)?;
-        let map: Option<CriteriaMap> = optional(alloc, path, table, CRITERIA_MAP)?;
+        let notices = unknown_keys(TableKind::Peer, at.table)?;
+        let url = required(alloc, at.path, at.table, URL)?;
+        let exclude: Option<PackageNames> = optional(alloc, at.path, at.table, EXCLUDE)?;
+        let map: Option<CriteriaMap> = optional(alloc, at.path, at.table, CRITERIA_MAP)?;
         Ok(Found {
             notices,
             content: Some(PeerSettings {
-                name,
+                name: at.name,
                 url,
                 exclude: exclude.unwrap_or(PackageNames::new(alloc)),
                 map: map.unwrap_or(CriteriaMap::new(alloc)),
