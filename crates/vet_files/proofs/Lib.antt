@@ -13,6 +13,7 @@ pub mod FurtherCriteria
 pub mod Gathered
 pub mod Grouped
 pub mod ImportsReadBack
+pub mod KeyLists
 pub mod KeysRead
 pub mod MapsRead
 pub mod NamedOnce

@@ -1,5 +1,6 @@
 -- The keys that each table of the three files may have (The Cargo Vet Book, audits, config and imports files).
-use Rattle.std.specs.Prelude.{ℕ, suc, ◌||◌, Bool, if◌then◌else◌}
+use Rattle.std.specs.Prelude.{ℕ, suc, Bool, List, [], ◌∷◌, if◌then◌else◌}
+use Rattle.std.specs.List.{list_any}
 use Rattle.std.specs.Str.{bytes_eq}
 use Rattle.toml.specs.Data.{Members, no_members, member}
 use Rattle.vet_base.specs.Words.{Key}
@@ -11,40 +12,24 @@ use Rattle.vet_files.specs.KeyNames.{WHEN, WHO, WILDCARD_AUDITS}
 use Rattle.vet_files.specs.declared.keys.TableKind.{TableKind}
 use Rattle.vet_files.specs.declared.keys.TableKind.TheVariants as kind
 
+-- the keys for which a table of a kind has a meaning
+abbrev pub keys_of : TableKind → List Key
+keys_of kind.AuditsFile = CRITERIA ∷ AUDITS ∷ WILDCARD_AUDITS ∷ TRUSTED ∷ []
+keys_of kind.Criterion = DESCRIPTION ∷ DESCRIPTION_URL ∷ IMPLIES ∷ []
+keys_of kind.Audit = CRITERIA ∷ VERSION ∷ DELTA ∷ VIOLATION ∷ WHO ∷ NOTES ∷ IMPORTABLE ∷ []
+keys_of kind.Wildcard = CRITERIA ∷ USER_ID ∷ START ∷ END ∷ WHO ∷ RENEW ∷ NOTES ∷ []
+keys_of kind.Trusted = CRITERIA ∷ USER_ID ∷ START ∷ END ∷ NOTES ∷ []
+keys_of kind.ConfigFile = CARGO_VET ∷ DEFAULT_CRITERIA ∷ IMPORTS ∷ POLICY ∷ EXEMPTIONS ∷ []
+keys_of kind.CargoVet = VERSION ∷ []
+keys_of kind.Peer = URL ∷ EXCLUDE ∷ CRITERIA_MAP ∷ []
+keys_of kind.Policy = AUDIT_AS_CRATES_IO ∷ CRITERIA ∷ DEV_CRITERIA ∷ DEPENDENCY_CRITERIA ∷ NOTES ∷ []
+keys_of kind.Exemption = VERSION ∷ CRITERIA ∷ SUGGEST ∷ NOTES ∷ []
+keys_of kind.ImportsFile = PUBLISHER ∷ AUDITS ∷ []
+keys_of kind.Publisher = VERSION ∷ WHEN ∷ USER_ID ∷ USER_LOGIN ∷ USER_NAME ∷ []
+
 -- whether a table of a kind has a meaning for a key
 abbrev pub is_key : TableKind → Key → Bool
-is_key kind.AuditsFile k = bytes_eq k CRITERIA ||
-    (bytes_eq k AUDITS || (bytes_eq k WILDCARD_AUDITS || bytes_eq k TRUSTED))
-is_key kind.Criterion k = bytes_eq k DESCRIPTION ||
-    (bytes_eq k DESCRIPTION_URL || bytes_eq k IMPLIES)
-is_key kind.Audit k =
-    bytes_eq k CRITERIA ||
-    (bytes_eq k VERSION || (bytes_eq k DELTA || (bytes_eq k VIOLATION
-    || (bytes_eq k WHO || (bytes_eq k NOTES || bytes_eq k IMPORTABLE)))))
-is_key kind.Wildcard k =
-    bytes_eq k CRITERIA ||
-    (bytes_eq k USER_ID || (bytes_eq k START || (bytes_eq k END
-    || (bytes_eq k WHO || (bytes_eq k RENEW || bytes_eq k NOTES)))))
-is_key kind.Trusted k =
-    bytes_eq k CRITERIA ||
-    (bytes_eq k USER_ID ||
-    (bytes_eq k START || (bytes_eq k END || bytes_eq k NOTES)))
-is_key kind.ConfigFile k =
-    bytes_eq k CARGO_VET ||
-    (bytes_eq k DEFAULT_CRITERIA ||
-    (bytes_eq k IMPORTS || (bytes_eq k POLICY || bytes_eq k EXEMPTIONS)))
-is_key kind.CargoVet k = bytes_eq k VERSION
-is_key kind.Peer k = bytes_eq k URL || (bytes_eq k EXCLUDE || bytes_eq k CRITERIA_MAP)
-is_key kind.Policy k =
-    bytes_eq k AUDIT_AS_CRATES_IO || (bytes_eq k CRITERIA || (bytes_eq k DEV_CRITERIA
-    || (bytes_eq k DEPENDENCY_CRITERIA || bytes_eq k NOTES)))
-is_key kind.Exemption k = bytes_eq k VERSION ||
-    (bytes_eq k CRITERIA || (bytes_eq k SUGGEST || bytes_eq k NOTES))
-is_key kind.ImportsFile k = bytes_eq k PUBLISHER || bytes_eq k AUDITS
-is_key kind.Publisher k =
-    bytes_eq k VERSION ||
-    (bytes_eq k WHEN ||
-    (bytes_eq k USER_ID || (bytes_eq k USER_LOGIN || bytes_eq k USER_NAME)))
+is_key kind key = list_any (λ k. bytes_eq k key) (keys_of kind)
 
 -- how many keys of a table have no meaning: each counts once, with all that stands below it
 abbrev pub unknown_keys : TableKind → Members → ℕ

@@ -1,7 +1,7 @@
 //! The keys that have a meaning, table by table.
-ghost use Rattle.std.specs.Prelude.{◌≡◌, IfOk};
+ghost use Rattle.std.specs.Prelude.{◌≡◌, map, IfOk};
 ghost use Rattle.toml.specs.View.{table_view};
-ghost use Rattle.vet_files.specs.Keys.{is_key, unknown_keys};
+ghost use Rattle.vet_files.specs.Keys.{is_key, keys_of, unknown_keys};
 ghost use Rattle.vet_files.specs.Notices.{only_keys};
 
 use crate::notices::Notices;
@@ -96,129 +96,38 @@ pub enum TableKind {
 }
 
 impl TableKind {
+    /// The keys for which a table of this kind has a meaning.
+    fn keys(self) -> &'static [&'static str]
+        ensures { map (λ name. name.now) result.now ≡ keys_of self }
+    {
+        match self {
+            TableKind::AuditsFile => &[CRITERIA, AUDITS, WILDCARD_AUDITS, TRUSTED],
+            TableKind::Criterion => &[DESCRIPTION, DESCRIPTION_URL, IMPLIES],
+            TableKind::Audit => &[CRITERIA, VERSION, DELTA, VIOLATION, WHO, NOTES, IMPORTABLE],
+            TableKind::Wildcard => &[CRITERIA, USER_ID, START, END, WHO, RENEW, NOTES],
+            TableKind::Trusted => &[CRITERIA, USER_ID, START, END, NOTES],
+            TableKind::ConfigFile => &[CARGO_VET, DEFAULT_CRITERIA, IMPORTS, POLICY, EXEMPTIONS],
+            TableKind::CargoVet => &[VERSION],
+            TableKind::Peer => &[URL, EXCLUDE, CRITERIA_MAP],
+            TableKind::Policy => &[
+                AUDIT_AS_CRATES_IO,
+                CRITERIA,
+                DEV_CRITERIA,
+                DEPENDENCY_CRITERIA,
+                NOTES,
+            ],
+            TableKind::Exemption => &[VERSION, CRITERIA, SUGGEST, NOTES],
+            TableKind::ImportsFile => &[PUBLISHER, AUDITS],
+            TableKind::Publisher => &[VERSION, WHEN, USER_ID, USER_LOGIN, USER_NAME],
+        }
+    }
+
     /// Whether a table of this kind has a meaning for a key.
     pub fn has_key(self, key: &str) -> bool
         ensures { result ≡ is_key self key.now }
     {
-        match self {
-            TableKind::AuditsFile => is_audits_file_key(key),
-            TableKind::Criterion => is_criterion_key(key),
-            TableKind::Audit => is_audit_key(key),
-            TableKind::Wildcard => is_wildcard_key(key),
-            TableKind::Trusted => is_trusted_key(key),
-            TableKind::ConfigFile => is_config_file_key(key),
-            TableKind::CargoVet => is_cargo_vet_key(key),
-            TableKind::Peer => is_peer_key(key),
-            TableKind::Policy => is_policy_key(key),
-            TableKind::Exemption => is_exemption_key(key),
-            TableKind::ImportsFile => is_imports_file_key(key),
-            TableKind::Publisher => is_publisher_key(key),
-        }
+        self.keys().contains(&key)
     }
-}
-
-/// The keys of an audits file.
-fn is_audits_file_key(key: &str) -> bool
-    ensures { result ≡ is_key TableKind.AuditsFile key.now }
-{
-    key == CRITERIA || key == AUDITS || key == WILDCARD_AUDITS || key == TRUSTED
-}
-
-/// The keys of a criterion.
-fn is_criterion_key(key: &str) -> bool
-    ensures { result ≡ is_key TableKind.Criterion key.now }
-{
-    key == DESCRIPTION || key == DESCRIPTION_URL || key == IMPLIES
-}
-
-/// The keys of an audit.
-fn is_audit_key(key: &str) -> bool
-    ensures { result ≡ is_key TableKind.Audit key.now }
-{
-    key == CRITERIA
-        || key == VERSION
-        || key == DELTA
-        || key == VIOLATION
-        || key == WHO
-        || key == NOTES
-        || key == IMPORTABLE
-}
-
-/// The keys of a wildcard audit.
-fn is_wildcard_key(key: &str) -> bool
-    ensures { result ≡ is_key TableKind.Wildcard key.now }
-{
-    key == CRITERIA
-        || key == USER_ID
-        || key == START
-        || key == END
-        || key == WHO
-        || key == RENEW
-        || key == NOTES
-}
-
-/// The keys of a trusted publisher.
-fn is_trusted_key(key: &str) -> bool
-    ensures { result ≡ is_key TableKind.Trusted key.now }
-{
-    key == CRITERIA || key == USER_ID || key == START || key == END || key == NOTES
-}
-
-/// The keys of a config file.
-fn is_config_file_key(key: &str) -> bool
-    ensures { result ≡ is_key TableKind.ConfigFile key.now }
-{
-    key == CARGO_VET
-        || key == DEFAULT_CRITERIA
-        || key == IMPORTS
-        || key == POLICY
-        || key == EXEMPTIONS
-}
-
-/// The keys of `[cargo-vet]`.
-fn is_cargo_vet_key(key: &str) -> bool
-    ensures { result ≡ is_key TableKind.CargoVet key.now }
-{
-    key == VERSION
-}
-
-/// The keys of a peer.
-fn is_peer_key(key: &str) -> bool
-    ensures { result ≡ is_key TableKind.Peer key.now }
-{
-    key == URL || key == EXCLUDE || key == CRITERIA_MAP
-}
-
-/// The keys of a policy.
-fn is_policy_key(key: &str) -> bool
-    ensures { result ≡ is_key TableKind.Policy key.now }
-{
-    key == AUDIT_AS_CRATES_IO
-        || key == CRITERIA
-        || key == DEV_CRITERIA
-        || key == DEPENDENCY_CRITERIA
-        || key == NOTES
-}
-
-/// The keys of an exemption.
-fn is_exemption_key(key: &str) -> bool
-    ensures { result ≡ is_key TableKind.Exemption key.now }
-{
-    key == VERSION || key == CRITERIA || key == SUGGEST || key == NOTES
-}
-
-/// The keys of an imports file.
-fn is_imports_file_key(key: &str) -> bool
-    ensures { result ≡ is_key TableKind.ImportsFile key.now }
-{
-    key == PUBLISHER || key == AUDITS
-}
-
-/// The keys of a publisher record.
-fn is_publisher_key(key: &str) -> bool
-    ensures { result ≡ is_key TableKind.Publisher key.now }
-{
-    key == VERSION || key == WHEN || key == USER_ID || key == USER_LOGIN || key == USER_NAME
 }
 
 /// How many keys of a table have no meaning.

@@ -1,0 +1,9 @@
+-- What is asked of what items say is asked of the items.
+use Rattle.std.proofs.Common.{◌≡◌, refl, ap, Bool, List, [], ◌∷◌, map}
+use Rattle.std.specs.Prelude.{◌||◌}
+use Rattle.std.specs.List.{list_any}
+
+pub list_any-map : {X Y : Type 0} (p : Y → Bool) (f : X → Y) (xs : List X)
+    → list_any (λ x. p (f x)) xs ≡ list_any p (map f xs)
+list_any-map p f [] = refl
+list_any-map p f (x ∷ xs) = ap (λ more. p (f x) || more) (list_any-map p f xs)
