@@ -6,6 +6,9 @@ pub mod DocumentField
 pub mod DocumentKeys
 pub mod EntryDocument
 pub mod FilesDocument
+pub mod Input
+pub mod IoFault
+pub mod Output
 pub mod PeerDocument
 pub mod PolicyDocument
 pub mod ProjectDocument

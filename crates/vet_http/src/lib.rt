@@ -1,10 +1,10 @@
-//! The documents in which commands are sent.
+//! The documents in which commands are sent, and how bytes are read and written.
 //!
 //! **A document gives exactly the command that its definition tells of its bytes, or its first fault in the order of
 //! its keys.**
 //!
-//! Scope of this crate: command documents alone. What is asked of the register over HTTP, and what is replied, are to
-//! come here.
+//! Scope of this crate: command documents, counted reads and whole writes. What is asked of the register over HTTP, and
+//! what is replied, are to come here.
 #![tactic(auto)]
 
 pub mod command_document;
@@ -15,7 +15,10 @@ mod document_field;
 mod document_keys;
 mod entry_document;
 mod files_document;
+pub mod input;
+pub mod io_fault;
 mod names_at;
+pub mod output;
 mod peer_document;
 mod policy_document;
 mod project_document;

@@ -12,10 +12,10 @@ use Rattle.vet_base.specs.declared.refusal.Refusal.{Refusal}
 use Rattle.vet_base.specs.declared.refusal.Refusal.TheVariants.{NoMemory}
 use Rattle.vetd.specs.Answer.{Answer, Explains, Answers, IsInput, Says, Stops, Telling, answer_for, answer_of}
 use Rattle.vetd.specs.Answer.{input_read}
-use Rattle.vetd.specs.Output.{AppendsPart}
+use Rattle.vet_http.specs.Output.{AppendsPart}
 use Rattle.vetd.specs.declared.answer.TheConstants.{EXPLAINED}
-use Rattle.vetd.specs.declared.io_fault.IoFault.{IoFault}
-use Rattle.vetd.specs.declared.io_fault.IoFault.TheVariants.{Output}
+use Rattle.vet_http.specs.declared.io_fault.IoFault.{IoFault}
+use Rattle.vet_http.specs.declared.io_fault.IoFault.TheVariants.{Output}
 
 -- what was read is what a run reads of some input, the reader's where it tells it
 some_input : (known : Option (List ℕ)) (file : List ℕ) → IfSome known (λ input. file ≡ input_read input)

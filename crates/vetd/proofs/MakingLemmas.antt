@@ -19,10 +19,10 @@ use Rattle.vet_store.specs.Tied.{IsTied}
 use Rattle.vetd.specs.Answer.{Answer, Explains, Says, Stops, answer_for}
 use Rattle.vetd.specs.Making.{Giving, IsAnswerFor, IsAnswerToNew, IsNewRegister, IsNoRegister, IsUnmade, created_line}
 use Rattle.vetd.specs.NewAsked.{AsksNew, NewAsked}
-use Rattle.vetd.specs.Output.{AppendsPart}
+use Rattle.vet_http.specs.Output.{AppendsPart}
 use Rattle.vetd.specs.declared.answer.TheConstants.{EXPLAINED}
-use Rattle.vetd.specs.declared.io_fault.IoFault.{IoFault}
-use Rattle.vetd.specs.declared.io_fault.IoFault.TheVariants.{Output}
+use Rattle.vet_http.specs.declared.io_fault.IoFault.{IoFault}
+use Rattle.vet_http.specs.declared.io_fault.IoFault.TheVariants.{Output}
 
 module _ {S : Type 0} (g : Ghosts S) (limit : ℕ) (before : Held S) where
   -- what a store that was made ensures, of the connection that it gives back

@@ -7,8 +7,8 @@ use Rattle.clap.specs.declared.error.kind.ErrorKind.TheVariants.{OutOfMemory}
 use Rattle.vetd.specs.Answer.{Answers, Says, Stops, Telling}
 use Rattle.vetd.specs.Asked.{line_told, telling_of}
 use Rattle.vetd.specs.declared.asked.Asked.{Asked}
-use Rattle.vetd.specs.declared.io_fault.IoFault.{IoFault}
-use Rattle.vetd.specs.declared.io_fault.IoFault.TheVariants.{Input, Output, Endless, NoMemory}
+use Rattle.vet_http.specs.declared.io_fault.IoFault.{IoFault}
+use Rattle.vet_http.specs.declared.io_fault.IoFault.TheVariants.{Input, Output, Endless, NoMemory}
 
 module _ (meant : Option Telling) where
   -- what was asked is what is meant, but for want of memory

@@ -6,7 +6,7 @@ use Rattle.vet_base.specs.Words.{Bytes, Text}
 use Rattle.vet_base.specs.declared.limits.TheConstants.{MOST_INPUT_BYTES}
 use Rattle.vet_base.specs.declared.refusal.Refusal.{Refusal}
 use Rattle.vet_base.specs.declared.refusal.Refusal.TheVariants.{NoMemory}
-use Rattle.vetd.specs.Output.{AppendsPart}
+use Rattle.vet_http.specs.Output.{AppendsPart}
 use Rattle.vetd.specs.RefusalText.{refusal_line}
 use Rattle.vetd.specs.declared.answer.TheConstants.{PRINTED, REFUSED, EXPLAINED}
 

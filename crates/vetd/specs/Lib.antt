@@ -3,12 +3,9 @@ pub mod Asked
 pub mod ClassLine
 pub mod Counts
 pub mod FileKind
-pub mod Input
-pub mod IoFault
 pub mod Making
 pub mod NewAsked
 pub mod NewWords
-pub mod Output
 pub mod ReadLine
 pub mod RefusalText
 pub mod Words

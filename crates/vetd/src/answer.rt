@@ -3,16 +3,16 @@ ghost use Rattle.std.specs.Prelude.{◌≡◌, ◌≢◌, ℕ, List, IfOk, IfErr
 ghost use Rattle.std.specs.Io.KnownBytes.{Appends, Keeps};
 ghost use Rattle.clap.specs.Words.{kind_of};
 ghost use Rattle.vetd.specs.Answer.{Says, Stops, answer_for};
-ghost use Rattle.vetd.specs.Output.{AppendsPart};
+ghost use Rattle.vet_http.specs.Output.{AppendsPart};
 
-use crate::io_fault::IoFault;
-use crate::output::write_whole;
 use crate::refusal_text::refusal_text;
 use clap::Error;
 use clap::error::ErrorKind;
 use std::alloc::Global;
 use std::io::Write;
 use vet_base::refusal::Refusal;
+use vet_http::io_fault::IoFault;
+use vet_http::output::write_whole;
 
 /// The status of a run that printed its answer.
 pub const PRINTED: u8 = 0;

@@ -8,7 +8,6 @@ ghost use Rattle.vetd.specs.NewAsked.{new_asked};
 
 use crate::answer::{explain, report};
 use crate::databases::Databases;
-use crate::io_fault::IoFault;
 use crate::new_words::{NewWords, new_words};
 use sqlite::{Alter, Connection};
 use std::alloc::{AllocError, Global};
@@ -18,6 +17,7 @@ use vet_base::limits::MOST_MOVES;
 use vet_base::refusal::Refusal;
 use vet_graph::keeper::Keeper;
 use vet_graph::plain::PlainKeeper;
+use vet_http::io_fault::IoFault;
 use vet_store::store::Store;
 
 /// What came of a run: its status or fault, and the connection to the database, where one was opened.

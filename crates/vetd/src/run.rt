@@ -5,18 +5,18 @@ ghost use Rattle.clap.specs.Words.{kind_of};
 ghost use Rattle.vet_base.specs.declared.limits.TheConstants.{MOST_READS};
 ghost use Rattle.vetd.specs.Answer.{Answers, Says, Stops};
 ghost use Rattle.vetd.specs.Asked.{asked_by, telling_of};
-ghost use Rattle.vetd.specs.Input.{TakesAtMost};
+ghost use Rattle.vet_http.specs.Input.{TakesAtMost};
 
 use crate::answer::{explain, report};
 use crate::asked::{Asked, CommandKind};
-use crate::input::CountedReader;
-use crate::io_fault::IoFault;
 use clap::Error;
 use clap::error::ErrorKind;
 use std::alloc::Global;
 use std::convert::AsStr;
 use std::io::{Read, Write};
 use vet_base::limits::MOST_INPUT_BYTES;
+use vet_http::input::CountedReader;
+use vet_http::io_fault::IoFault;
 
 /// Answers the words of a command, which come without the program's own name, by the file that the reader
 /// gives: what is told of it goes to `writer`, and a refusal or clap's text to `errors`. What clap's text says

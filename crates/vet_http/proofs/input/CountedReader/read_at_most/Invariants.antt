@@ -2,7 +2,7 @@
 use Rattle.std.proofs.Common.{◌≡◌, ◌≤◌, ◌-◌, vec_len}
 use Rattle.std.specs.Io.KnownBytes.{Consumes}
 use Rattle.vet_base.specs.declared.limits.TheConstants.{MOST_READS}
-use Rattle.vetd.proofs.input.CountedReader.read_at_most.Given as goal
+use Rattle.vet_http.proofs.input.CountedReader.read_at_most.Given as goal
 
 abbrev pub invariant-loop-chunk : goal.invariant-loop-chunk
 invariant-loop-chunk g l = record {

@@ -1,7 +1,7 @@
 //! Writes, with what stands after each fault.
 ghost use Rattle.std.specs.Prelude.{◌≡◌, OnOk, OnErr, IfErr};
 ghost use Rattle.std.specs.Io.KnownBytes.{Appends};
-ghost use Rattle.vetd.specs.Output.{AppendsPart};
+ghost use Rattle.vet_http.specs.Output.{AppendsPart};
 
 use crate::io_fault::IoFault;
 use std::io::Write;

@@ -1,7 +1,7 @@
 -- What is printed of a fault (ours).
 use Rattle.std.specs.Prelude.{codes}
-use Rattle.vetd.specs.declared.io_fault.IoFault.{IoFault}
-use Rattle.vetd.specs.declared.io_fault.IoFault.TheVariants.{Input, Output, Endless, NoMemory}
+use Rattle.vet_http.specs.declared.io_fault.IoFault.{IoFault}
+use Rattle.vet_http.specs.declared.io_fault.IoFault.TheVariants.{Input, Output, Endless, NoMemory}
 use Rattle.vet_base.specs.Words.{Text}
 
 abbrev pub fault_text : IoFault → Text

@@ -1,7 +1,7 @@
 -- The bytes before `at` were written.
 use Rattle.std.proofs.Common.{length, ◌-◌, ◌≤◌, take}
 use Rattle.std.specs.Io.KnownBytes.{Appends}
-use Rattle.vetd.proofs.output.write_whole.Given as goal
+use Rattle.vet_http.proofs.output.write_whole.Given as goal
 
 abbrev pub invariant-loop-at : goal.invariant-loop-at
 invariant-loop-at g l = (l.at ≤ length l.bytes)

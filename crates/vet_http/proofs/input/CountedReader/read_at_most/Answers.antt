@@ -2,7 +2,7 @@
 use Rattle.std.proofs.Common.{◌≤◌, ◌++◌, List, ℕ, length, take, arith}
 use Rattle.std.proofs.lemmas.Grind.{common_steps}
 use Rattle.std.proofs.KnownBytes.{Consumes-trans}
-use Rattle.vetd.proofs.input.CountedReader.read_at_most.Goals as goal
+use Rattle.vet_http.proofs.input.CountedReader.read_at_most.Goals as goal
 
 pub returns-in_err-extend_from_slice-clause-bounded : goal.returns-in_err-extend_from_slice-clause-bounded
 returns-in_err-extend_from_slice-clause-bounded g c =

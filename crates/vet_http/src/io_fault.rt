@@ -18,7 +18,7 @@ pub enum IoFault {
 }
 
 impl From<AllocError> for IoFault {
-    ghost use Rattle.vetd.specs.declared.io_fault.IoFault.TheVariants.{NoMemory};
+    ghost use Rattle.vet_http.specs.declared.io_fault.IoFault.TheVariants.{NoMemory};
 
     ghost from_gives = { λ _ fault. fault ≡ NoMemory };
 
@@ -28,7 +28,7 @@ impl From<AllocError> for IoFault {
 }
 
 impl fmt::Display for IoFault {
-    ghost use Rattle.vetd.specs.IoFault.{fault_text};
+    ghost use Rattle.vet_http.specs.IoFault.{fault_text};
 
     ghost output = { λ fault. Some (fault_text fault) };
 

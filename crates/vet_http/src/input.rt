@@ -2,7 +2,7 @@
 ghost use Rattle.std.specs.Prelude.{◌≡◌, ◌≢◌, ◌+◌, ◌≤◌, ◌<◌, length, take};
 ghost use Rattle.std.specs.Prelude.{IfOk, IfErr, IfSome, OnErr};
 ghost use Rattle.std.specs.Io.KnownBytes.{Consumes, IsAtEnd, Keeps};
-ghost use Rattle.vetd.specs.Input.{Counted, TakesAtMost};
+ghost use Rattle.vet_http.specs.Input.{Counted, TakesAtMost};
 ghost use Rattle.vet_base.specs.declared.limits.TheConstants.{MOST_READS};
 
 use crate::io_fault::IoFault;

@@ -2,7 +2,7 @@
 use Rattle.std.proofs.Common.{◌-◌, ◌≡◌, ◌≤◌, length}
 use Rattle.std.specs.Io.KnownBytes.{Keeps}
 use Rattle.vet_base.specs.declared.limits.TheConstants.{MOST_READS}
-use Rattle.vetd.proofs.input.CountedReader.read_some.Given as goal
+use Rattle.vet_http.proofs.input.CountedReader.read_some.Given as goal
 
 abbrev pub invariant-loop-self : goal.invariant-loop-self
 invariant-loop-self g l = record {
