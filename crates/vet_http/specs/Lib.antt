@@ -13,3 +13,5 @@ pub mod PeerDocument
 pub mod PolicyDocument
 pub mod ProjectDocument
 pub mod PublishersDocument
+pub mod Request
+pub mod RequestFault

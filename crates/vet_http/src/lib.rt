@@ -23,3 +23,5 @@ mod peer_document;
 mod policy_document;
 mod project_document;
 mod publishers_document;
+pub mod request;
+pub mod request_fault;

@@ -1,0 +1,27 @@
+-- What is wrong with a request whose route isn't looked at (ours).
+use Rattle.std.specs.Prelude.{ℕ, [], codes, Result, Ok, Err}
+use Rattle.vet_base.specs.Words.{Text}
+use Rattle.vet_http.specs.declared.request_fault.RequestFault.{RequestFault}
+use Rattle.vet_http.specs.declared.request_fault.RequestFault.TheVariants.{BadRequest, TooLarge, NotImplemented}
+
+-- the status of its reply
+abbrev pub fault_status : RequestFault → ℕ
+fault_status BadRequest = 400
+fault_status TooLarge = 413
+fault_status NotImplemented = 501
+
+-- the body of its reply
+abbrev pub fault_body : RequestFault → Text
+fault_body BadRequest = codes "bad request\n"
+fault_body TooLarge = codes "too large\n"
+fault_body NotImplemented = []
+
+-- what is told of a part of a request, or its first fault
+abbrev pub ToldOf : Type 0 → Type 0
+ToldOf A = Result A RequestFault
+
+-- what is told of a value, or the fault that was told first
+infixl 10 ◌>>=◌
+abbrev pub ◌>>=◌ : {A B : Type 0} → ToldOf A → (A → ToldOf B) → ToldOf B
+Ok x >>= f = f x
+Err e >>= f = Err e
