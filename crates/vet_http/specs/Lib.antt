@@ -13,5 +13,7 @@ pub mod PeerDocument
 pub mod PolicyDocument
 pub mod ProjectDocument
 pub mod PublishersDocument
+pub mod Reply
 pub mod Request
 pub mod RequestFault
+pub mod Status

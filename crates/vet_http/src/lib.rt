@@ -9,6 +9,7 @@
 
 pub mod command_document;
 mod command_word;
+pub mod content_type;
 mod criterion_document;
 mod desk_document;
 mod document_field;
@@ -23,5 +24,7 @@ mod peer_document;
 mod policy_document;
 mod project_document;
 mod publishers_document;
+pub mod reply;
 pub mod request;
 pub mod request_fault;
+pub mod status;
