@@ -9,6 +9,7 @@ pub mod FilesDocument
 pub mod Input
 pub mod IoFault
 pub mod Output
+pub mod Parameter
 pub mod PeerDocument
 pub mod PolicyDocument
 pub mod ProjectDocument
@@ -16,4 +17,6 @@ pub mod PublishersDocument
 pub mod Reply
 pub mod Request
 pub mod RequestFault
+pub mod Route
+pub mod RouteTable
 pub mod Status
