@@ -15,6 +15,7 @@ pub mod PolicyDocument
 pub mod ProjectDocument
 pub mod PublishersDocument
 pub mod Reply
+pub mod ReplyByExample
 pub mod Request
 pub mod RequestFault
 pub mod Route

@@ -8,9 +8,12 @@
 ghost use Rattle.std.specs.Prelude.{◌≡◌, ◌+◌, ◌≤◌, ◌++◌, [], IfOk, codes, length, string_bytes};
 ghost use Rattle.std.specs.Prelude.{string_capacity, string_len};
 ghost use Rattle.vet_http.specs.Reply.{allow_line, field_line, fixed_body, not_allowed, plain_reply, reply_head};
-ghost use Rattle.vet_http.specs.Reply.{reply_with, status_line};
+ghost use Rattle.vet_http.specs.Reply.{reply_with, status_line, text_reply};
+ghost use Rattle.vet_http.specs.ReplyByExample as example;
+ghost use Rattle.vet_http.specs.Route.{asked_at, told_methods};
 
 use crate::content_type::ContentType;
+use crate::route::Route;
 use crate::status::Status;
 use itoa::Buffer;
 use std::alloc::{AllocError, Global};
@@ -220,3 +223,10 @@ fn push_word(text: &mut String, word: &str)
 {
     let _ = text.push_str(word);
 }
+
+/// Replies by example. Does nothing.
+pub fn replies_by_example()
+    ensures done { (text_reply Status.Ok (codes "done 1 moves 0\n")).bytes ≡ example.first_done }
+    ensures not_allowed { (not_allowed (told_methods (asked_at Route.Project))).bytes ≡ example.other_method }
+    ensures not_implemented { (plain_reply Status.NotImplemented).bytes ≡ example.head_alone }
+{}
