@@ -1,1 +1,4 @@
+mod FieldRoom
+mod FrontLemmas
+mod ReadLemmas
 mod RoutePaths

@@ -1,5 +1,5 @@
 -- What reads take, and how many are made (ours).
-use Rattle.std.specs.Prelude.{ℕ, ◌≤◌, Option, length}
+use Rattle.std.specs.Prelude.{ℕ, ◌≤◌, Option, IfSome, length}
 use Rattle.std.specs.Io.KnownBytes.{Consumes}
 use Rattle.vet_base.specs.Words.{Bytes}
 
@@ -11,3 +11,10 @@ TakesAtMost limit known known' = (bytes : Bytes) × ((length bytes ≤ limit) ×
 pub record Counted (R : Type 0) : Type 0 where
   pub source : R
   pub made : ℕ
+
+-- what was read, and what is told of it. It is told too of all the bytes that the reader tells.
+pub record IsReadFrom (known known' : Option Bytes) (Told : Bytes → Type 0) : Type 0 where
+  pub bytes : Bytes
+  pub front : Consumes known known' bytes
+  pub told : Told bytes
+  pub whole : IfSome known Told

@@ -6,6 +6,7 @@ pub mod DocumentField
 pub mod DocumentKeys
 pub mod EntryDocument
 pub mod FilesDocument
+pub mod Head
 pub mod Input
 pub mod IoFault
 pub mod Output

@@ -1,6 +1,6 @@
 //! Reads, counted.
-ghost use Rattle.std.specs.Prelude.{◌≡◌, ◌≢◌, ◌+◌, ◌≤◌, ◌<◌, length, take};
-ghost use Rattle.std.specs.Prelude.{IfOk, IfErr, IfSome, OnErr};
+ghost use Rattle.std.specs.Prelude.{◌≡◌, ◌≢◌, ℕ, ◌+◌, ◌≤◌, ◌<◌, List, Option, length, take, vec_len};
+ghost use Rattle.std.specs.Prelude.{IfOk, IfErr, IfSome, OnOk, OnErr};
 ghost use Rattle.std.specs.Io.KnownBytes.{Consumes, IsAtEnd, Keeps};
 ghost use Rattle.vet_http.specs.Input.{Counted, TakesAtMost};
 ghost use Rattle.vet_base.specs.declared.limits.TheConstants.{MOST_READS};
@@ -60,6 +60,27 @@ impl<R: Read> CountedReader<R> {
             bytes.extend_from_slice(&chunk[..n])?;
         }
         Ok(bytes)
+    }
+
+    /// One read of at most `most` bytes that was not interrupted: how many bytes went to the end of `bytes`. It is
+    /// none at the input's end. Refused: `Input`, `Endless` where no read is left, and `NoMemory`.
+    pub(crate) fn read_more(&mut self, bytes: &mut Vec<u8>, most: usize) -> Result<usize, IoFault>
+        requires { 0 < most }
+        // What was read before and now went from the front of the input.
+        ensures kept { (input : Option (List ℕ)) → Consumes input (R.remaining self.old.source) bytes.old.items
+            → OnOk result (Consumes input (R.remaining self.new.source) bytes.new.items) }
+        ensures bounded { TakesAtMost most (R.remaining self.old.source) (R.remaining self.new.source) }
+        ensures count { IfOk result (λ n. (n ≤ most) × (vec_len bytes.new ≡ vec_len bytes.old + n)) }
+        ensures end { IfOk result (λ n. n ≡ 0 → IsAtEnd (R.remaining self.new.source)) }
+        ensures same { IfOk result (λ n. n ≡ 0 → bytes.new.items ≡ bytes.old.items) }
+        ensures endless { result ≡ Err IoFault.Endless → self.new.made ≡ MOST_READS }
+        ensures faults { IfErr result (λ fault. fault ≢ IoFault.Output) }
+    {
+        let mut chunk = [0u8; 4096];
+        let room = most.min(chunk.len());
+        let n = self.read_some(&mut chunk[..room])?;
+        bytes.extend_from_slice(&chunk[..n])?;
+        Ok(n)
     }
 
     /// One read that was not interrupted: how many bytes went to the front of `buf`. Each read is counted,
