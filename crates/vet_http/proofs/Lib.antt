@@ -1,4 +1,5 @@
 mod FieldRoom
 mod FrontLemmas
+mod OccurrenceLemmas
 mod ReadLemmas
 mod RoutePaths

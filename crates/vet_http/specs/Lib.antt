@@ -1,3 +1,4 @@
+pub mod Body
 pub mod CommandDocument
 pub mod CommandWord
 pub mod CriterionDocument
@@ -5,6 +6,7 @@ pub mod DeskDocument
 pub mod DocumentField
 pub mod DocumentKeys
 pub mod EntryDocument
+pub mod Fields
 pub mod FilesDocument
 pub mod Head
 pub mod Input

@@ -1,5 +1,5 @@
 -- What is wrong with a request whose route isn't looked at (ours).
-use Rattle.std.specs.Prelude.{ℕ, [], codes, Result, Ok, Err}
+use Rattle.std.specs.Prelude.{◌≡◌, ℕ, [], codes, Result, Ok, Err, MatchResult}
 use Rattle.vet_base.specs.Words.{Text}
 use Rattle.vet_http.specs.declared.request_fault.RequestFault.{RequestFault}
 use Rattle.vet_http.specs.declared.request_fault.RequestFault.TheVariants.{BadRequest, TooLarge, NotImplemented}
@@ -25,3 +25,7 @@ infixl 10 ◌>>=◌
 abbrev pub ◌>>=◌ : {A B : Type 0} → ToldOf A → (A → ToldOf B) → ToldOf B
 Ok x >>= f = f x
 Err e >>= f = Err e
+
+-- the answer is what is told, as this view sees it
+abbrev pub Tells : {A T : Type 0} → (T → A) → ToldOf A → Result T RequestFault → Type 0
+Tells view told answer = MatchResult answer (λ v. told ≡ Ok (view v)) (λ e. told ≡ Err e)

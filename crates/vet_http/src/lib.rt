@@ -7,6 +7,7 @@
 //! what is replied, are to come here.
 #![tactic(auto)]
 
+mod body;
 pub mod command_document;
 mod command_word;
 pub mod content_type;
@@ -15,6 +16,7 @@ mod desk_document;
 mod document_field;
 mod document_keys;
 mod entry_document;
+mod fields;
 mod files_document;
 mod head;
 pub mod input;
