@@ -21,6 +21,7 @@ pub mod Reply
 pub mod ReplyByExample
 pub mod Request
 pub mod RequestFault
+pub mod RequestLaws
 pub mod Route
 pub mod RouteTable
 pub mod Status

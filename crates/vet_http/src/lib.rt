@@ -1,10 +1,9 @@
-//! The documents in which commands are sent, and how bytes are read and written.
+//! The documents in which commands are sent, requests over HTTP, and how bytes are read and written.
 //!
 //! **A document gives exactly the command that its definition tells of its bytes, or its first fault in the order of
-//! its keys.**
+//! its keys. A connection gives exactly the request that its bytes begin with, or its first fault.**
 //!
-//! Scope of this crate: command documents, counted reads and whole writes. What is asked of the register over HTTP, and
-//! what is replied, are to come here.
+//! Scope of this crate: command documents, requests, counted reads and whole writes. What is replied is to come here.
 #![tactic(auto)]
 
 mod body;
@@ -31,6 +30,7 @@ mod publishers_document;
 pub mod reply;
 pub mod request;
 pub mod request_fault;
+pub mod request_laws;
 pub mod request_limits;
 pub mod route;
 pub mod route_laws;
