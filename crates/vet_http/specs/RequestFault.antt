@@ -1,20 +1,15 @@
 -- What is wrong with a request whose route isn't looked at (ours).
-use Rattle.std.specs.Prelude.{◌≡◌, ℕ, [], codes, Result, Ok, Err, MatchResult}
-use Rattle.vet_base.specs.Words.{Text}
+use Rattle.std.specs.Prelude.{◌≡◌, Result, Ok, Err, MatchResult}
 use Rattle.vet_http.specs.declared.request_fault.RequestFault.{RequestFault}
 use Rattle.vet_http.specs.declared.request_fault.RequestFault.TheVariants.{BadRequest, TooLarge, NotImplemented}
+use Rattle.vet_http.specs.declared.status.Status.{Status}
+use Rattle.vet_http.specs.declared.status.Status.TheVariants as status
 
--- the status of its reply
-abbrev pub fault_status : RequestFault → ℕ
-fault_status BadRequest = 400
-fault_status TooLarge = 413
-fault_status NotImplemented = 501
-
--- the body of its reply
-abbrev pub fault_body : RequestFault → Text
-fault_body BadRequest = codes "bad request\n"
-fault_body TooLarge = codes "too large\n"
-fault_body NotImplemented = []
+-- the status of its reply, which has no more to tell
+abbrev pub fault_status : RequestFault → Status
+fault_status BadRequest = status.BadRequest
+fault_status TooLarge = status.ContentTooLarge
+fault_status NotImplemented = status.NotImplemented
 
 -- what is told of a part of a request, or its first fault
 abbrev pub ToldOf : Type 0 → Type 0

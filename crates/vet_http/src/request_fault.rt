@@ -1,6 +1,8 @@
 //! What is wrong with a request whose route isn't looked at.
 ghost use Rattle.std.specs.Prelude.{◌≡◌};
-ghost use Rattle.vet_http.specs.RequestFault.{fault_body, fault_status};
+ghost use Rattle.vet_http.specs.RequestFault.{fault_status};
+
+use crate::status::Status;
 
 /// What is wrong with a request whose route isn't looked at.
 #[derive(Clone, Copy)]
@@ -14,25 +16,14 @@ pub enum RequestFault {
 }
 
 impl RequestFault {
-    /// The status of the reply.
-    pub fn status(self) -> u16
+    /// The status of the reply, which has no more to tell.
+    pub fn status(self) -> Status
         ensures { result ≡ fault_status self }
     {
         match self {
-            RequestFault::BadRequest => 400,
-            RequestFault::TooLarge => 413,
-            RequestFault::NotImplemented => 501,
-        }
-    }
-
-    /// The body of the reply.
-    pub fn body(self) -> &'static str
-        ensures { result.now ≡ fault_body self }
-    {
-        match self {
-            RequestFault::BadRequest => "bad request\n",
-            RequestFault::TooLarge => "too large\n",
-            RequestFault::NotImplemented => "",
+            RequestFault::BadRequest => Status::BadRequest,
+            RequestFault::TooLarge => Status::ContentTooLarge,
+            RequestFault::NotImplemented => Status::NotImplemented,
         }
     }
 }
