@@ -90,14 +90,15 @@ fn read_length(bytes: &[u8], fields: &[HeaderSpan]) -> Result<usize, RequestFaul
         (values_of (codes "content-length") (map (header_bytes bytes.now) fields.now)) }
     ensures short { IfOk result (λ length. length ≤ MOST_INPUT_BYTES) }
 {
-    match find_field(bytes, fields, "content-length") {
-        Occurrence::Absent => Ok(0),
-        Occurrence::Again => Err(RequestFault::BadRequest),
-        Occurrence::Once(span) => match number(span.of(bytes)) {
-            None => Err(RequestFault::BadRequest),
-            Some(length) if length > MOST_INPUT_BYTES as u64 => Err(RequestFault::TooLarge),
-            Some(length) => Ok(length as usize),
-        },
+    let text = match find_field(bytes, fields, "content-length") {
+        Occurrence::Absent => return Ok(0),
+        Occurrence::Once(span) => span.of(bytes),
+        Occurrence::Again => return Err(RequestFault::BadRequest),
+    };
+    match number(text) {
+        None => Err(RequestFault::BadRequest),
+        Some(length) if length > MOST_INPUT_BYTES as u64 => Err(RequestFault::TooLarge),
+        Some(length) => Ok(length as usize),
     }
 }
 
