@@ -17,11 +17,14 @@ pub mod PeerDocument
 pub mod PolicyDocument
 pub mod ProjectDocument
 pub mod PublishersDocument
+pub mod RegisterFile
 pub mod Reply
 pub mod ReplyByExample
+pub mod ReplyRoom
 pub mod Request
 pub mod RequestFault
 pub mod RequestLaws
 pub mod Route
 pub mod RouteTable
 pub mod Status
+pub mod Told

@@ -1,7 +1,11 @@
 -- The parameters of a target: what stands between its slashes, as the bytes stand (ours).
 use Rattle.std.specs.Prelude.{ℕ, Bool, ◌==◌}
 use Rattle.std.specs.List.{after_first, before_first}
-use Rattle.vet_base.specs.Words.{Text}
+use Rattle.vet_base.specs.Gives.{Told, found_or}
+use Rattle.vet_base.specs.Name.{read_name, read_package_name}
+use Rattle.vet_base.specs.Version.{VersionValue, read_version}
+use Rattle.vet_base.specs.Words.{Name, Text}
+use Rattle.vet_base.specs.declared.refusal.Refusal.TheVariants.{BadName, BadVersion}
 
 abbrev pub is_slash : ℕ → Bool
 is_slash b = b == 47
@@ -25,3 +29,14 @@ second_parameter target = first_parameter (after_slash target)
 -- the third behind the fourth
 abbrev pub third_parameter : Text → Text
 third_parameter target = second_parameter (after_slash target)
+
+-- ---- a parameter as a value, or its refusal
+
+abbrev pub package_told : Text → Told Name
+package_told text = found_or BadName (read_package_name text)
+
+abbrev pub name_told : Text → Told Name
+name_told text = found_or BadName (read_name text)
+
+abbrev pub version_told : Text → Told VersionValue
+version_told text = found_or BadVersion (read_version text)

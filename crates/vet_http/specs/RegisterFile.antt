@@ -1,0 +1,30 @@
+-- The three files of a register, each by its name (The Cargo Vet Book, audits.toml, config.toml and imports.lock).
+use Rattle.std.specs.Prelude.{◌≡◌, Option, Some, None, codes, if◌then◌else◌}
+use Rattle.std.specs.Str.{bytes_eq}
+use Rattle.toml.specs.Data.{Members}
+use Rattle.toml.specs.Parse.{parse_document}
+use Rattle.vet_base.specs.Words.{Text}
+use Rattle.vet_files.specs.AuditsTable.{audits_table}
+use Rattle.vet_files.specs.ConfigTable.{config_table}
+use Rattle.vet_files.specs.ImportsTable.{imports_table}
+use Rattle.vet_http.specs.declared.register_file.RegisterFile.{RegisterFile}
+use Rattle.vet_http.specs.declared.register_file.RegisterFile.TheVariants.{Audits, Config, Imports}
+use Rattle.vet_register.specs.HeldFiles.{audits_of, config_of, imports_of, settings_of}
+use Rattle.vet_register.specs.State.{State}
+
+-- the file of a name
+abbrev pub file_named : Text → Option RegisterFile
+file_named name =
+    if bytes_eq name (codes "audits.toml") then Some Audits
+    else (if bytes_eq name (codes "config.toml") then Some Config
+    else (if bytes_eq name (codes "imports.lock") then Some Imports else None))
+
+-- what a file of a state says
+abbrev pub file_table : RegisterFile → State → Members
+file_table Audits s = audits_table (audits_of s.held.facts)
+file_table Config s = config_table (config_of s.held)
+file_table Imports s = imports_table (settings_of s.held.facts) (imports_of s.held.facts)
+
+-- a text is a file of a state: `toml` reads it as what the file says, however it is laid out
+abbrev pub IsFileOf : RegisterFile → State → Text → Type 0
+IsFileOf file s text = parse_document text ≡ Some (file_table file s)
