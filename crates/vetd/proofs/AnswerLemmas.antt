@@ -18,7 +18,7 @@ use Rattle.vet_http.specs.declared.io_fault.IoFault.{IoFault}
 use Rattle.vet_http.specs.declared.io_fault.IoFault.TheVariants.{Output}
 
 -- what was read is what a run reads of some input, the reader's where it tells it
-some_input : (known : Option (List ℕ)) (file : List ℕ) → IfSome known (λ input. file ≡ input_read input)
+pub some_input : (known : Option (List ℕ)) (file : List ℕ) → IfSome known (λ input. file ≡ input_read input)
     → length file ≤ MOST_INPUT_BYTES + 1
     → (input : List ℕ) × (IsInput known input × (file ≡ input_read input))
 some_input None file read bound = (file, (tt, sym (take_all (MOST_INPUT_BYTES + 1) file bound)))

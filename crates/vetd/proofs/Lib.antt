@@ -2,3 +2,8 @@ mod WordsLemmas
 mod AnswerLemmas
 mod RunLemmas
 mod MakingLemmas
+mod Answered
+mod Applied
+mod Opened
+mod Viewed
+mod Exports

@@ -1,10 +1,6 @@
 -- From what the steps of making a register ensure to the answer to the words of a new command.
 use Rattle.std.proofs.Common.{◌≡◌, ◌≢◌, Bool, false, ℕ, List, Option, Some, None, Result, Ok, Err, IfOk, IfErr, OnOk}
 use Rattle.std.proofs.Common.{IsTrue, refl, sym, subst}
-use Rattle.std.proofs.KnownBytes.{Keeps-refl}
-use Rattle.std.specs.Io.KnownBytes.{Appends}
-use Rattle.clap.specs.declared.error.kind.ErrorKind.{ErrorKind}
-use Rattle.clap.specs.declared.error.kind.ErrorKind.TheVariants.{OutOfMemory}
 use Rattle.sqlite.specs.Held.{Held, state}
 use Rattle.sqlite.specs.State.{HasCleanDisk, Survives}
 use Rattle.sqlite_trees.specs.declared.store.Store.{Ghosts}
@@ -16,11 +12,9 @@ use Rattle.vet_store.specs.Made.{AreFree, IsMade, SparesOthers}
 use Rattle.vet_store.specs.Runs.{IsOfStore}
 use Rattle.vet_store.specs.Stands.{Rests}
 use Rattle.vet_store.specs.Tied.{IsTied}
-use Rattle.vetd.specs.Answer.{Answer, Explains, Says, Stops, answer_for}
-use Rattle.vetd.specs.Making.{Giving, IsAnswerFor, IsAnswerToNew, IsNewRegister, IsNoRegister, IsUnmade, created_line}
+use Rattle.vetd.specs.Answer.{Answer, Explains, answer_for}
+use Rattle.vetd.specs.Making.{AnswersNew, Giving, IsAnswerFor, IsAnswerToNew, IsNewRegister, IsNoRegister, IsUnmade, created_line}
 use Rattle.vetd.specs.NewAsked.{AsksNew, NewAsked}
-use Rattle.vet_http.specs.Output.{AppendsPart}
-use Rattle.vetd.specs.declared.answer.TheConstants.{EXPLAINED}
 use Rattle.vet_http.specs.declared.io_fault.IoFault.{IoFault}
 use Rattle.vet_http.specs.declared.io_fault.IoFault.TheVariants.{Output}
 
@@ -73,25 +67,12 @@ module _ {S : Type 0} (g : Ghosts S) (Gives : Giving S) {T : Type 0} (text : T �
   of_words words asked (Ok line) left asks is = (asked, (asks, is))
   of_words words asked (Err refusal) left asks is = (asked, (asks, is))
 
-  pub told_says : (words : List (List ℕ)) (asked : NewAsked) (told : Result T Refusal) (left : Option (Held S))
-      (r : Result ℕ IoFault) (out out' errors errors' : Option (List ℕ))
+  pub made_of_words : (words : List (List ℕ)) (asked : NewAsked) (told : Result T Refusal) (left : Option (Held S))
       → AsksNew words asked → IsAnswerFor g Gives asked (answer_for text told) left
-      → IfOk r (λ status. Says (answer_for text told) status out out' errors errors')
-      → IfOk r (λ status. (answer : Answer) × (IsAnswerToNew g Gives words answer left
-      × Says answer status out out' errors errors'))
-  told_says words asked told left (Err fault) out out' errors errors' asks is says = tt
-  told_says words asked told left (Ok status) out out' errors errors' asks is says =
-      (answer_for text told, (of_words words asked told left asks is, says))
-
-  pub told_stops : (words : List (List ℕ)) (asked : NewAsked) (told : Result T Refusal) (left : Option (Held S))
-      (r : Result ℕ IoFault) (out out' errors errors' : Option (List ℕ))
-      → AsksNew words asked → IsAnswerFor g Gives asked (answer_for text told) left
-      → IfErr r (λ fault. fault ≡ Output → Stops (answer_for text told) out out' errors errors')
-      → IfErr r (λ fault. fault ≡ Output → (answer : Answer) × (IsAnswerToNew g Gives words answer left
-      × Stops answer out out' errors errors'))
-  told_stops words asked told left (Ok status) out out' errors errors' asks is stops = tt
-  told_stops words asked told left (Err fault) out out' errors errors' asks is stops = λ output.
-      (answer_for text told, (of_words words asked told left asks is, stops output))
+      → (Holds : Answer → Type 0) → Holds (answer_for text told)
+      → AnswersNew g Gives words left Holds
+  made_of_words words asked told left asks is = λ Holds holds.
+      (answer_for text told, (of_words words asked told left asks is, holds))
 
   -- a text that was told meets no fault but that of a write, so with another fault no register was made
   pub told_unmade : (words : List (List ℕ)) (asked : NewAsked) (told : Result T Refusal) (left : Option (Held S))
@@ -106,22 +87,7 @@ module _ {S : Type 0} (g : Ghosts S) (Gives : Giving S) {T : Type 0} (text : T �
 
 module _ {S : Type 0} (g : Ghosts S) (Gives : Giving S) where
   -- words that ask for no register are explained
-  pub words_say : (words : List (List ℕ)) (kind : ErrorKind) (r : Result ℕ IoFault)
-      (out errors errors' : Option (List ℕ))
-      → (kind ≢ OutOfMemory → (asked : NewAsked) → AsksNew words asked → ⊥)
-      → IfOk r (λ status. (status ≡ EXPLAINED) × (kind ≢ OutOfMemory) × ((t : List ℕ) × Appends errors errors' t))
-      → IfOk r (λ status. (answer : Answer) × (IsAnswerToNew g Gives words answer None
-      × Says answer status out out errors errors'))
-  words_say words kind (Err fault) out errors errors' none says = tt
-  words_say words kind (Ok status) out errors errors' none says =
-      (Explains, ((none says.1, refl), (says.0, Keeps-refl out, says.2)))
-
-  pub words_stop : (words : List (List ℕ)) (kind : ErrorKind) (r : Result ℕ IoFault)
-      (out errors errors' : Option (List ℕ))
-      → (kind ≢ OutOfMemory → (asked : NewAsked) → AsksNew words asked → ⊥)
-      → IfErr r (λ fault. fault ≡ Output → (kind ≢ OutOfMemory) × ((t : List ℕ) × AppendsPart errors errors' t))
-      → IfErr r (λ fault. fault ≡ Output → (answer : Answer) × (IsAnswerToNew g Gives words answer None
-      × Stops answer out out errors errors'))
-  words_stop words kind (Ok status) out errors errors' none stops = tt
-  words_stop words kind (Err fault) out errors errors' none stops = λ output.
-      (Explains, ((none (stops output).0, refl), (Keeps-refl out, (stops output).1)))
+  pub new_explained : (words : List (List ℕ)) → ((asked : NewAsked) → AsksNew words asked → ⊥)
+      → (Holds : Answer → Type 0) → Holds Explains
+      → AnswersNew g Gives words None Holds
+  new_explained words none Holds holds = (Explains, ((none, refl), holds))

@@ -3,12 +3,26 @@ use Rattle.std.proofs.Common.{◌≡◌, ◌≢◌, ◌⊎◌, inl, inr, ℕ, Li
 use Rattle.std.proofs.Common.{sym, subst, ◌∙◌}
 use Rattle.clap.specs.Words.{kind_of}
 use Rattle.clap.specs.declared.error.Error.{Error}
+use Rattle.clap.specs.declared.error.kind.ErrorKind.{ErrorKind}
 use Rattle.clap.specs.declared.error.kind.ErrorKind.TheVariants.{OutOfMemory}
 use Rattle.vetd.specs.Answer.{Answers, Says, Stops, Telling}
 use Rattle.vetd.specs.Asked.{line_told, telling_of}
 use Rattle.vetd.specs.declared.asked.Asked.{Asked}
 use Rattle.vet_http.specs.declared.io_fault.IoFault.{IoFault}
 use Rattle.vet_http.specs.declared.io_fault.IoFault.TheVariants.{Input, Output, Endless, NoMemory}
+
+-- where clap told an error of words that mean something, memory was wanting
+pub is_for_want : (Nothing : Type 0) (kind : ErrorKind) (r : Result ℕ IoFault) → (kind ≢ OutOfMemory → Nothing)
+    → (kind ≡ OutOfMemory → r ≡ Err NoMemory) → (Nothing → ⊥) → r ≡ Err NoMemory
+is_for_want Nothing kind (Ok status) none memory other =
+    absurd (other (none (λ want. let two : Ok status ≡ Err NoMemory = memory want in cc)))
+is_for_want Nothing kind (Err Input) none memory other =
+    absurd (other (none (λ want. let two : Err Input ≡ Err NoMemory = memory want in cc)))
+is_for_want Nothing kind (Err Output) none memory other =
+    absurd (other (none (λ want. let two : Err Output ≡ Err NoMemory = memory want in cc)))
+is_for_want Nothing kind (Err Endless) none memory other =
+    absurd (other (none (λ want. let two : Err Endless ≡ Err NoMemory = memory want in cc)))
+is_for_want Nothing kind (Err NoMemory) none memory other = refl
 
 module _ (meant : Option Telling) where
   -- what was asked is what is meant, but for want of memory
@@ -58,12 +72,4 @@ module _ (meant : Option Telling) where
       → meant ≢ None
       → (r ≡ Err Endless) ⊎ (r ≡ Err NoMemory)
   spent_meant (Ok a) r refused memory spent other = inl spent
-  spent_meant (Err error) (Ok status) refused memory spent other =
-      absurd (other (refused (λ want. let two = memory want in cc)))
-  spent_meant (Err error) (Err Input) refused memory spent other =
-      absurd (other (refused (λ want. let two = memory want in cc)))
-  spent_meant (Err error) (Err Output) refused memory spent other =
-      absurd (other (refused (λ want. let two = memory want in cc)))
-  spent_meant (Err error) (Err Endless) refused memory spent other =
-      absurd (other (refused (λ want. let two = memory want in cc)))
-  spent_meant (Err error) (Err NoMemory) refused memory spent other = inr refl
+  spent_meant (Err error) r refused memory spent other = inr (is_for_want _ (kind_of error) r refused memory other)

@@ -1,5 +1,5 @@
 -- What a run answers (ours): what it writes, and its status.
-use Rattle.std.specs.Prelude.{◌≡◌, ◌≢◌, ℕ, ◌+◌, Option, Some, None, IfSome, take, Ok, Err}
+use Rattle.std.specs.Prelude.{◌≡◌, ◌≢◌, ℕ, ◌+◌, Option, Some, None, IfErr, IfOk, IfSome, Result, take, Ok, Err}
 use Rattle.std.specs.Io.KnownBytes.{Appends, Keeps}
 use Rattle.vet_base.specs.Gives.{Told}
 use Rattle.vet_base.specs.Words.{Bytes, Text}
@@ -7,7 +7,9 @@ use Rattle.vet_base.specs.declared.limits.TheConstants.{MOST_INPUT_BYTES}
 use Rattle.vet_base.specs.declared.refusal.Refusal.{Refusal}
 use Rattle.vet_base.specs.declared.refusal.Refusal.TheVariants.{NoMemory}
 use Rattle.vet_http.specs.Output.{AppendsPart}
-use Rattle.vetd.specs.RefusalText.{refusal_line}
+use Rattle.vet_http.specs.declared.io_fault.IoFault.{IoFault}
+use Rattle.vet_http.specs.declared.io_fault.IoFault.TheVariants.{Output}
+use Rattle.vet_reports.specs.RefusalText.{refusal_line}
 use Rattle.vetd.specs.declared.answer.TheConstants.{PRINTED, REFUSED, EXPLAINED}
 
 -- what a run answers: a text, a refusal, or an explanation of the command line
@@ -56,3 +58,12 @@ Stops (Prints text) out out' errors errors' = AppendsPart out out' text × Keeps
 Stops (Refuses refusal) out out' errors errors' =
     Keeps out out' × AppendsPart errors errors' (refusal_line refusal) × (refusal ≢ NoMemory)
 Stops Explains out out' errors errors' = Keeps out out' × ((text : Text) × AppendsPart errors errors' text)
+
+-- What a run wrote, by what holds of its answer and what is left if it told nothing. With a status, all of the answer
+-- was written. Where a write failed, the front of it was. With another fault nothing was.
+pub record IsWritten (Holds : (Answer → Type 0) → Type 0) (Untold : Type 0) (status : Result ℕ IoFault)
+    (out out' errors errors' : Option Bytes) : Type 0 where
+  pub says : IfOk status (λ s. Holds (λ answer. Says answer s out out' errors errors'))
+  pub part : IfErr status (λ fault. fault ≡ Output → Holds (λ answer. Stops answer out out' errors errors'))
+  pub silent : IfErr status (λ fault. fault ≢ Output → Keeps out out' × Keeps errors errors')
+  pub untold : IfErr status (λ fault. fault ≢ Output → Untold)

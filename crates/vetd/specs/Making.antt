@@ -57,6 +57,10 @@ module _ {S : Type 0} (g : Ghosts S) (Gives : Giving S) where
   IsAnswerToNew words Explains left = ((asked : NewAsked) → AsksNew words asked → ⊥) × (left ≡ None)
   IsAnswerToNew words answer left = (asked : NewAsked) × (AsksNew words asked × IsAnswerFor asked answer left)
 
+  -- this holds of the answer to the words
+  abbrev pub AnswersNew : List Text → Option (Held S) → (Answer → Type 0) → Type 0
+  AnswersNew words left Holds = (answer : Answer) × (IsAnswerToNew words answer left × Holds answer)
+
   -- a run that told nothing made no register
   abbrev pub IsUnmade : List Text → Option (Held S) → Type 0
   IsUnmade words None = ⊤

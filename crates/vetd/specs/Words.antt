@@ -8,9 +8,10 @@ use Rattle.clap.specs.Simple.{App, app_of, new_rule, with_rule, with_subcommand,
 use Rattle.clap.specs.Walk.{rule_of}
 use Rattle.clap.specs.Faults.{fault_of}
 use Rattle.clap.specs.Kinds.{Kinds}
+use Rattle.vetd.specs.ApplyWords.{apply_app}
 use Rattle.vetd.specs.FileKind.{file_kind}
 use Rattle.vetd.specs.declared.file_kind.FileKind.{FileKind}
-use Rattle.vetd.specs.NewWords.{new_app}
+use Rattle.vetd.specs.NewWords.{new_app, option_rule}
 use Rattle.vetd.specs.declared.words.ClassWords.{ClassWords}
 use Rattle.clap.specs.declared.builder.arg.Arg.{Arg}
 use Rattle.clap.specs.declared.builder.command.Command.{Command}
@@ -57,9 +58,29 @@ class_alone_app = with_subcommand bare_app class_app.top
 abbrev pub file_app : App
 file_app = with_subcommand class_alone_app read_app.top
 
+-- with `--db PATH KIND`
+abbrev pub with_kind : App → App
+with_kind app = with_rule (with_rule app (option_rule true (codes "db"))) (word_rule (codes "KIND"))
+
+-- `NAME --db PATH KIND`
+abbrev pub view_app : Text → App
+view_app name = with_kind (simple.new_app name)
+
+-- with those that make a register or show one
+abbrev pub made_app : App
+made_app = with_subcommand file_app new_app.top
+
+-- with the one that changes a register
+abbrev pub changed_app : App
+changed_app = with_subcommand made_app apply_app.top
+
+-- with the one that reports of a register
+abbrev pub reported_app : App
+reported_app = with_subcommand changed_app (view_app (codes "report")).top
+
 -- the program's command line
 abbrev pub top_app : App
-top_app = with_subcommand file_app new_app.top
+top_app = with_subcommand reported_app (view_app (codes "export")).top
 
 -- the matches of a subcommand, where it is the one of this name
 abbrev pub rows_if_named : Text → Option (Text × List Row) → Option (List Row)

@@ -5,7 +5,6 @@ ghost use Rattle.clap.specs.Words.{kind_of};
 ghost use Rattle.vetd.specs.Answer.{Says, Stops, answer_for};
 ghost use Rattle.vet_http.specs.Output.{AppendsPart};
 
-use crate::refusal_text::refusal_text;
 use clap::Error;
 use clap::error::ErrorKind;
 use std::alloc::Global;
@@ -13,6 +12,7 @@ use std::io::Write;
 use vet_base::refusal::Refusal;
 use vet_http::io_fault::IoFault;
 use vet_http::output::write_whole;
+use vet_reports::refusal_text::refusal_text;
 
 /// The status of a run that printed its answer.
 pub const PRINTED: u8 = 0;

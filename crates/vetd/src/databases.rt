@@ -1,23 +1,43 @@
 //! Where databases are.
-ghost use Rattle.std.specs.Prelude.{◌≡◌, IfErr, IfOk, List, Result, false, ℕ};
+ghost use Rattle.std.specs.Prelude.{◌≡◌, ◌⊎◌, IfErr, IfOk, List, Result, false, ℕ};
 ghost use Rattle.sqlite.specs.Held.{Held, IsNew};
 ghost use Rattle.vet_base.specs.declared.refusal.Refusal.{Refusal as RefusalValue};
 ghost use Rattle.vet_store.specs.Runs.{IsOfStore};
 
-use sqlite::{Alter, Connection, Error, Wary};
+use sqlite::{Alter, Connection, Wary};
 use sqlite_disk::Start;
 use sqlite_std_file::FileFrom;
 use sqlite_store::FileStore;
+use std::{fs, io};
 use vet_base::refusal::Refusal;
+use vet_http::io_fault::IoFault;
 use vet_store::refused::refusal_of;
 
 /// A file and its log, of which a torn write may leave anything.
 pub type WaryFile = FileStore<FileFrom<Wary>>;
 
+/// The most bytes that a file has in which no database stands.
+const MOST_BYTES_OF_NONE: u64 = 1;
+
+/// What came of a run: its status or fault, and the connection to the database, where one was opened.
+pub struct DatabaseRun<S: Alter> {
+    pub status: Result<u8, IoFault>,
+    pub conn: Option<Connection<S>>,
+}
+
+impl<S: Alter + Drop> Drop for DatabaseRun<S> {
+    fn drop(self) {
+        let DatabaseRun { status: _, conn: _ } = self;
+    }
+}
+
 /// Gives connections to databases.
 pub trait Databases<S: Alter> {
     /// What a path may give: a connection, or why there is none.
     ghost may_give: { Self → List ℕ → Result (Held S) RefusalValue → Type 0 };
+
+    /// The same where a database is to stand there already.
+    ghost may_find: { Self → List ℕ → Result (Held S) RefusalValue → Type 0 };
 
     /// A connection to the database at a path, outside a transaction. Where nothing stands there, an empty database is
     /// made. Refused: `NoMemory`, and `StoreRefused` where what stands there can't be opened as a database.
@@ -25,6 +45,13 @@ pub trait Databases<S: Alter> {
         ensures given { may_give self.old path.now result }
         ensures outside { IfOk result (λ conn. conn.in_transaction ≡ false) }
         ensures refused { IfErr result IsOfStore };
+
+    /// A connection to the database that stands at a path, outside a transaction. Nothing is made. Refused:
+    /// `NotARegister` where no file stands there, or one of at most a byte, and else as `connect` refuses.
+    fn find(&mut self, path: &str) -> Result<Connection<S>, Refusal>
+        ensures found { may_find self.old path.now result }
+        ensures outside { IfOk result (λ conn. conn.in_transaction ≡ false) }
+        ensures refused { IfErr result (λ e. IsOfStore e ⊎ (e ≡ Refusal.NotARegister)) };
 }
 
 /// Databases in the files of this machine. A file is opened without sums of its pages, so that another program may
@@ -44,8 +71,41 @@ impl<'a> FileDatabases<'a> {
 impl Databases<WaryFile> for FileDatabases<'_> {
     ghost may_give = { λ _ _ given. IfOk given IsNew };
 
+    ghost may_find = { λ _ _ given. IfOk given IsNew };
+
     fn connect(&mut self, path: &str) -> Result<Connection<WaryFile>, Refusal> {
         connect_as(self.rt, path, Wary)
+    }
+
+    fn find(&mut self, path: &str) -> Result<Connection<WaryFile>, Refusal> {
+        check_file(self.rt, path)?;
+        connect_as(self.rt, path, Wary)
+    }
+}
+
+/// Refuses a path at which no database can stand: without a file, or with one of at most a byte.
+fn check_file(rt: &HostRuntime, path: &str) -> Result<(), Refusal>
+    ensures refused { IfErr result (λ e. IsOfStore e ⊎ (e ≡ Refusal.NotARegister)) }
+{
+    match fs::metadata(rt, path) {
+        Ok(found) => {
+            if found.is_file() && found.len() <= MOST_BYTES_OF_NONE {
+                return Err(Refusal::NotARegister);
+            }
+            Ok(())
+        }
+        Err(error) => Err(refusal_of_path(error.kind())),
+    }
+}
+
+/// What is told of a path of which nothing can be learned.
+fn refusal_of_path(kind: io::ErrorKind) -> Refusal
+    ensures { IsOfStore result ⊎ (result ≡ Refusal.NotARegister) }
+{
+    match kind {
+        io::ErrorKind::NotFound | io::ErrorKind::NotADirectory => Refusal::NotARegister,
+        io::ErrorKind::OutOfMemory => Refusal::NoMemory,
+        _ => Refusal::StoreRefused,
     }
 }
 

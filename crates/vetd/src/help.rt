@@ -7,6 +7,8 @@ pub const VERSION: &str = "0.1.0 (rattle logic dac8208d650f15bf)";
 pub const PROGRAM_HELP: &str = "\
 Read by class and read: one file on standard input. Not read: any other file. None is written.
 Made by new: the tables of a register in a database file. Nothing is read from standard input.
+Read by apply: a command document on standard input. It changes the register in a database file.
+Printed by report and export: what the register in a database file holds. Nothing is read from standard input.
 
 Classes, the first that holds:
   conflicting  the version is condemned, and yet some chain of steps leads to it
@@ -16,7 +18,7 @@ Classes, the first that holds:
   unvetted     none of these
 
 Statuses:
-  0  the answer was printed: a class, whichever it is, counts, or that a register was made
+  0  the answer was printed: a class, whichever it is, counts, an outcome, a report, a file, or that a register was made
   1  the words or the file were refused, or a read or a write failed
   2  the words are no command, or ask for help or the version: nothing is read or made
 
@@ -48,3 +50,35 @@ Refused 30: the file is no database, is in use, or can't be made.
 
 Example:
   vetd new --db register.db";
+
+/// What stands below the help of `export`.
+pub const EXPORT_HELP: &str = "\
+Printed: the file of that kind which the register gives, as `vetd read` reads it.
+Nothing is read from standard input, and nothing is written to the database.
+
+Refused 31 if no register stands at PATH, and 30 if no database can be opened there.
+
+Example:
+  vetd export --db register.db audits > supply-chain/audits.toml";
+
+/// What stands below the help of `apply`.
+pub const APPLY_HELP: &str = "\
+Read: a command document in TOML, with the key command and the keys of that command.
+Printed: done, the step, the number of what was made and how many pairs moved; or already, if it is held.
+A refused command changes nothing. The member is looked at to finish or withdraw a review.
+
+Refused 31 if no register stands at PATH, and 30 if no database can be opened there.
+
+Example:
+  vetd apply --db register.db --day 2024-05-01 < add-entry.toml";
+
+/// What stands below the help of `report`.
+pub const REPORT_HELP: &str = "\
+Printed: how many pairs have each class, the class of each pair, how pairs moved, or the reviews.
+Nothing is read from standard input, and nothing is written to the database.
+Status 0 means that the report was printed, not that all pairs are full.
+
+Refused 31 if no register stands at PATH, and 30 if no database can be opened there.
+
+Example:
+  vetd report --db register.db counts";

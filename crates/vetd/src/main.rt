@@ -2,46 +2,53 @@
 //!
 //! `vetd class PACKAGE VERSION CRITERION` prints the word of the class that an audits file gives a version of
 //! a package. `vetd read KIND`, KIND `audits`, `config` or `imports`, prints how many things a file holds, and
-//! how many were passed over. `vetd new --db PATH` makes a register in a database file, and prints `created`. Each
-//! ends with status 0. A refusal goes to standard error as one line, with status 1. Where the words are no
-//! command, or ask for help, clap's text goes to standard error, with status 2, and nothing is read or made.
+//! how many were passed over. `vetd new --db PATH` makes a register in a database file, and prints `created`.
+//! `vetd apply --db PATH --day D` has the command of a document run on it, and prints the outcome. `vetd report` and
+//! `vetd export` print what it holds, as a report or as one of the three files. Each ends with status 0. A refusal
+//! goes to standard error as one line, with status 1. Where the words are no command, or ask for help, clap's text
+//! goes to standard error, with status 2, and nothing is read or made.
 //!
-//! **The words and the input alone decide what is written and the status, and for `new` the words, the file and what
-//! the database answers. A run that ends with a fault wrote nothing, or, where a write failed, the front of that
-//! answer.**
+//! **The words and the input alone decide what is written and the status, and with `--db` the words, the input, the
+//! file and what the database answers. A run that ends with a fault wrote nothing, or, where a write failed, the front
+//! of that answer.**
 //!
-//! Scope of this crate: words, reads and writes, and where databases are. What a class is, what files hold and what
-//! stands in tables is told in the crates below.
+//! Scope of this crate: words, and where databases are. What a class is, what files hold, what stands in tables, how a
+//! report reads and how bytes are read and written is told in the crates below.
 #![tactic(auto)]
 
 ghost use Rattle.std.specs.Prelude.{◌≡◌, IfOk};
 
 mod answer;
+mod apply_words;
+mod applying;
 mod asked;
 mod class_line;
 mod counts;
 mod databases;
+mod export;
 mod file_kind;
 mod help;
 mod making;
 mod new_words;
+mod program;
 mod read_line;
-mod refusal_text;
+mod report_kind;
 mod run;
+mod view;
+mod view_words;
+mod viewing;
 mod words;
 
 use crate::answer::{EXPLAINED, explain};
-use crate::asked::CommandKind;
 use crate::databases::{FileDatabases, WaryFile};
-use crate::making::new_run;
-use crate::run::command_run;
-use crate::words::{begin_with, not_text};
+use crate::program::{ProgramCommand, program_run};
+use crate::words::not_text;
 use std::alloc::Global;
-use std::convert::AsStr;
 use std::io::Write;
 use std::process::ExitCode;
 use std::rt::Env;
 use std::{env, io};
+use vet_graph::plain::PlainKeeper;
 use vet_http::input::CountedReader;
 use vet_http::io_fault::IoFault;
 
@@ -53,15 +60,6 @@ fn words_after_name<R: Env + AllocGlobal>(rt: &R) -> io::Result<Vec<String>> {
     let mut words = env::args(rt)?;
     let _name = words.next();
     Ok(words.collect(rt.alloc())?)
-}
-
-/// The command as which words are taken, by the first of them.
-fn command_of<S: AsStr>(words: &[S]) -> CommandKind {
-    if begin_with(words, "read") {
-        CommandKind::Read
-    } else {
-        CommandKind::Class
-    }
 }
 
 /// Tells why the words can't be had: there was no memory, or one of them is no text.
@@ -87,36 +85,19 @@ fn fault_status<R: Eprint>(rt: &R, fault: IoFault) -> u8
     FAULTED
 }
 
-/// Answers the words of a command that reads a file.
-fn run_on_input(rt: &HostRuntime, words: &[String]) -> Result<u8, IoFault> {
-    command_run(
+/// Answers the words, over the databases in this machine's files. A connection is let go, and its file stays locked so
+/// long.
+fn run_words(rt: &HostRuntime, words: &[String]) -> Result<u8, IoFault> {
+    let run = program_run::<String, WaryFile, PlainKeeper, FileDatabases<'_>, _, _, _>(
         rt.alloc(),
-        command_of(words),
+        ProgramCommand::of_words(words),
         words,
         &mut CountedReader::new(rt.reader()),
-        &mut io::writer(rt),
-        &mut rt.stderr(),
-    )
-}
-
-/// Answers the words of a command that makes a register. The connection is let go, and its file stays locked so long.
-fn run_new(rt: &HostRuntime, words: &[String]) -> Result<u8, IoFault> {
-    let run = new_run::<String, WaryFile, FileDatabases<'_>, _, _>(
-        rt.alloc(),
-        words,
         &mut FileDatabases::new(rt),
         &mut io::writer(rt),
         &mut rt.stderr(),
     );
     run.status
-}
-
-fn run_words(rt: &HostRuntime, words: &[String]) -> Result<u8, IoFault> {
-    if begin_with(words, "new") {
-        run_new(rt, words)
-    } else {
-        run_on_input(rt, words)
-    }
 }
 
 fn main(rt: HostRuntime) -> ExitCode {

@@ -1,13 +1,12 @@
 //! A register is made in a database, by the words of a new command.
 ghost use Rattle.std.specs.Prelude.{◌≡◌, ◌≢◌, ◌<◌, ◌≤◌, IfErr, IfOk, OnOk, false, map, string_bytes};
-ghost use Rattle.std.specs.Io.KnownBytes.{Keeps};
-ghost use Rattle.vetd.specs.Answer.{Answer, Says, Stops, answer_for};
-ghost use Rattle.vetd.specs.Making.{IsAnswerFor, IsAnswerToNew, IsNewRegister, IsNoRegister, IsUnmade};
+ghost use Rattle.vetd.specs.Answer.{IsWritten, answer_for};
+ghost use Rattle.vetd.specs.Making.{AnswersNew, IsAnswerFor, IsNewRegister, IsNoRegister, IsUnmade};
 ghost use Rattle.vetd.specs.Making.{created_line};
 ghost use Rattle.vetd.specs.NewAsked.{new_asked};
 
 use crate::answer::{explain, report};
-use crate::databases::Databases;
+use crate::databases::{DatabaseRun, Databases};
 use crate::new_words::{NewWords, new_words};
 use sqlite::{Alter, Connection};
 use std::alloc::{AllocError, Global};
@@ -16,21 +15,8 @@ use std::io::Write;
 use vet_base::limits::MOST_MOVES;
 use vet_base::refusal::Refusal;
 use vet_graph::keeper::Keeper;
-use vet_graph::plain::PlainKeeper;
 use vet_http::io_fault::IoFault;
 use vet_store::store::Store;
-
-/// What came of a run: its status or fault, and the connection to the database, where one was opened.
-pub struct NewRun<S: Alter> {
-    pub status: Result<u8, IoFault>,
-    pub conn: Option<Connection<S>>,
-}
-
-impl<S: Alter + Drop> Drop for NewRun<S> {
-    fn drop(self) {
-        let NewRun { status: _, conn: _ } = self;
-    }
-}
 
 /// Answers the words of a new command, which come without the program's own name: makes a register in the database at
 /// their path. `created` goes to `writer`, and a refusal or clap's text to `errors`.
@@ -39,35 +25,27 @@ impl<S: Alter + Drop> Drop for NewRun<S> {
 /// want of memory the database holds what it held.** Refused, as told to its user: `StoreRefused` where no database
 /// can be opened or written there, and `NotARegister` where a table, an index or a view has a name of the register's
 /// tables. Faults: `NoMemory`, where nothing was written, and `Output`, where the front of the answer was.
-pub fn new_run<T: AsStr, S: Alter + Drop, D: Databases<S>, W: Write, E: Write>(
+pub fn new_run<T: AsStr, S: Alter + Drop, K: Keeper, D: Databases<S>, W: Write, E: Write>(
     alloc: Global,
     words: &[T],
     databases: &mut D,
     writer: &mut W,
     errors: &mut E,
-) -> NewRun<S>
-    ensures says { IfOk result.status (λ status. (answer : Answer)
-        × (IsAnswerToNew S.Store (D.may_give databases.old) (map T.text words.now) answer result.conn
-        × Says answer status (W.contents writer.old) (W.contents writer.new)
-        (E.contents errors.old) (E.contents errors.new))) }
-    ensures part { IfErr result.status (λ fault. fault ≡ IoFault.Output → (answer : Answer)
-        × (IsAnswerToNew S.Store (D.may_give databases.old) (map T.text words.now) answer result.conn
-        × Stops answer (W.contents writer.old) (W.contents writer.new)
-        (E.contents errors.old) (E.contents errors.new))) }
-    ensures silent { IfErr result.status (λ fault. fault ≢ IoFault.Output
-        → Keeps (W.contents writer.old) (W.contents writer.new)
-        × Keeps (E.contents errors.old) (E.contents errors.new)) }
-    ensures unmade { IfErr result.status (λ fault. fault ≢ IoFault.Output
-        → IsUnmade S.Store (D.may_give databases.old) (map T.text words.now) result.conn) }
+) -> DatabaseRun<S>
+    ensures written { IsWritten
+        (AnswersNew S.Store (D.may_give databases.old) (map T.text words.now) result.conn)
+        (IsUnmade S.Store (D.may_give databases.old) (map T.text words.now) result.conn)
+        result.status (W.contents writer.old) (W.contents writer.new)
+        (E.contents errors.old) (E.contents errors.new) }
     ensures faults { IfErr result.status (λ fault. (fault ≢ IoFault.Input) × (fault ≢ IoFault.Endless)) }
 {
     match new_words(alloc, words) {
         Ok(asked) => {
-            let (told, conn) = make_at::<S, D>(alloc, databases, asked);
+            let (told, conn) = make_at::<S, K, D>(alloc, databases, asked);
             let status = report(alloc, &told, writer, errors);
-            NewRun { status, conn }
+            DatabaseRun { status, conn }
         }
-        Err(error) => NewRun {
+        Err(error) => DatabaseRun {
             status: explain(alloc, &error, errors),
             conn: None,
         },
@@ -75,7 +53,7 @@ pub fn new_run<T: AsStr, S: Alter + Drop, D: Databases<S>, W: Write, E: Write>(
 }
 
 /// Makes a register at a path, and tells it.
-fn make_at<S: Alter + Drop, D: Databases<S>>(
+fn make_at<S: Alter + Drop, K: Keeper, D: Databases<S>>(
     alloc: Global,
     databases: &mut D,
     asked: NewWords<'_>,
@@ -90,7 +68,7 @@ fn make_at<S: Alter + Drop, D: Databases<S>>(
     };
     match databases.connect(asked.path) {
         Ok(conn) => {
-            let (made, conn) = make::<S, PlainKeeper>(alloc, conn, asked.moves_limit);
+            let (made, conn) = make::<S, K>(alloc, conn, asked.moves_limit);
             (told(made, text), Some(conn))
         }
         Err(refusal) => (Err(refusal), None),

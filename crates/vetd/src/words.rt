@@ -1,15 +1,18 @@
 //! The command line.
-ghost use Rattle.std.specs.Prelude.{◌≡◌, ◌≢◌, List, IfOk, IfErr, codes, map, option_and_then, option_map, true};
+ghost use Rattle.std.specs.Prelude.{◌≡◌, ◌≢◌, List, IfOk, IfErr, codes, false, map, option_and_then, option_map, true};
 ghost use Rattle.clap.specs.Words.{App, Rule, first_of, found_of, kind_of, rows_of, with_rule};
 ghost use Rattle.clap.specs.Words.{subcommand_rows_of, Text};
+ghost use Rattle.vetd.specs.ApplyWords.{apply_app};
 ghost use Rattle.vetd.specs.NewWords.{limit_rule, new_app, option_rule};
 ghost use Rattle.vetd.specs.Words.{IsApp, IsRule, asked_of, bare_app, begins_with, class_alone_app, class_app};
-ghost use Rattle.vetd.specs.Words.{class_given, file_app, given, kind_from, read_app, read_given, rows_if_named};
-ghost use Rattle.vetd.specs.Words.{top_app};
-ghost use Rattle.vetd.specs.Words.{word_rule, words_from};
+ghost use Rattle.vetd.specs.Words.{changed_app, class_given, file_app, given, kind_from, made_app, read_app};
+ghost use Rattle.vetd.specs.Words.{read_given, reported_app, rows_if_named, top_app, view_app, with_kind, word_rule};
+ghost use Rattle.vetd.specs.Words.{words_from};
 
 use crate::file_kind::FileKind;
-use crate::help::{CLASS_HELP, NEW_HELP, PROGRAM_HELP, READ_HELP, VERSION};
+use crate::help::{
+    APPLY_HELP, CLASS_HELP, EXPORT_HELP, NEW_HELP, PROGRAM_HELP, READ_HELP, REPORT_HELP, VERSION,
+};
 use clap::builder::ValueParser;
 use clap::error::ErrorKind;
 use clap::{Arg, ArgMatches, Command, Error};
@@ -177,6 +180,30 @@ fn surplus_word<S: AsStr>(words: &[S]) -> Option<&str> {
 fn top_command<'a>(alloc: Global) -> Result<Command<'a>, AllocError>
     ensures { IfOk result (IsApp top_app) }
 {
+    let export = export_command(alloc)?;
+    reported_commands(alloc)?.subcommand(export)
+}
+
+/// The command line before the last subcommand.
+fn reported_commands<'a>(alloc: Global) -> Result<Command<'a>, AllocError>
+    ensures { IfOk result (IsApp reported_app) }
+{
+    let report = report_command(alloc)?;
+    changed_commands(alloc)?.subcommand(report)
+}
+
+/// The command line with the subcommands that read a file, make a register or change one.
+fn changed_commands<'a>(alloc: Global) -> Result<Command<'a>, AllocError>
+    ensures { IfOk result (IsApp changed_app) }
+{
+    let apply = apply_command(alloc)?;
+    made_commands(alloc)?.subcommand(apply)
+}
+
+/// The command line with the subcommands that read a file, and the one that makes a register.
+fn made_commands<'a>(alloc: Global) -> Result<Command<'a>, AllocError>
+    ensures { IfOk result (IsApp made_app) }
+{
     let new = new_command(alloc)?;
     file_commands(alloc)?.subcommand(new)
 }
@@ -253,6 +280,55 @@ fn new_command<'a>(alloc: Global) -> Result<Command<'a>, AllocError>
     add(command, limit_option(alloc))
 }
 
+fn apply_command<'a>(alloc: Global) -> Result<Command<'a>, AllocError>
+    ensures { IfOk result (IsApp apply_app) }
+{
+    let command = Command::new(alloc, "apply")
+        .about("Changes the register in a database file by the command document on standard input")
+        .after_help(APPLY_HELP);
+    let command = add(command, path_option(alloc))?;
+    let command = add(command, day_option(alloc))?;
+    add(command, member_option(alloc))
+}
+
+fn report_command<'a>(alloc: Global) -> Result<Command<'a>, AllocError>
+    ensures { IfOk result (IsApp (view_app (codes "report"))) }
+{
+    let command = Command::new(alloc, "report")
+        .about("Prints what the register in a database file holds")
+        .after_help(REPORT_HELP);
+    with_kind(
+        alloc,
+        command,
+        "The report: counts, standing, standing-csv, moves or desk",
+    )
+}
+
+fn export_command<'a>(alloc: Global) -> Result<Command<'a>, AllocError>
+    ensures { IfOk result (IsApp (view_app (codes "export"))) }
+{
+    let command = Command::new(alloc, "export")
+        .about("Prints a file of the register in a database file")
+        .after_help(EXPORT_HELP);
+    with_kind(
+        alloc,
+        command,
+        "The kind of the file: audits, config or imports",
+    )
+}
+
+/// The command with the path of a register, and the kind of what it shows.
+fn with_kind<'a>(
+    alloc: Global,
+    command: Command<'a>,
+    help: &'a str,
+) -> Result<Command<'a>, AllocError>
+    ensures { (app : App) → IsApp app command.entry → IfOk result (IsApp (with_kind app)) }
+{
+    let command = add(command, path_option(alloc))?;
+    add(command, word(alloc, "KIND", help))
+}
+
 /// `--db PATH`, which is required.
 fn path_option<'a>(alloc: Global) -> Arg<'a>
     ensures { IsRule (option_rule true (codes "db")) result }
@@ -262,6 +338,27 @@ fn path_option<'a>(alloc: Global) -> Arg<'a>
         .value_name("PATH")
         .required(true)
         .help("Where the database file stands, or is to stand")
+}
+
+/// `--day D`, which is required.
+fn day_option<'a>(alloc: Global) -> Arg<'a>
+    ensures { IsRule (option_rule true (codes "day")) result }
+{
+    Arg::new(alloc, "day")
+        .long("day")
+        .value_name("D")
+        .required(true)
+        .help("The day of the command, as 2024-05-01")
+}
+
+/// `--member M`.
+fn member_option<'a>(alloc: Global) -> Arg<'a>
+    ensures { IsRule (option_rule false (codes "member")) result }
+{
+    Arg::new(alloc, "member")
+        .long("member")
+        .value_name("M")
+        .help("The member who gives the command")
 }
 
 /// `--moves-limit N`.

@@ -1,0 +1,15 @@
+-- The file of what is held.
+use Rattle.std.proofs.Common.{refl, string_bytes}
+use Rattle.vet_files.specs.Audits.{audits_told}
+use Rattle.vet_files.specs.AuditsTable.{audits_table}
+use Rattle.vet_files.specs.ReadAgain.{GivesBack}
+use Rattle.vet_files.specs.SameContent.{IsAudits, SameAudits}
+use Rattle.vetd.specs.declared.file_kind.FileKind.TheVariants.{Audits}
+use Rattle.vetd.proofs.Exports.{exported_file}
+use Rattle.vetd.proofs.export.audits_exported.Goals as goal
+
+pub returns-clause-file : goal.returns-clause-file
+returns-clause-file g c =
+    exported_file Audits c.args.register.now.state _ audits_table IsAudits (λ content. GivesBack audits_told (SameAudits content))
+    string_bytes refl (λ t b. b) c.in_ok-content.content c.write_audits.result c.in_ok-content.ensures.content
+    c.in_ok-content.ensures.readable c.write_audits.ensures.table c.write_audits.ensures.read

@@ -1,0 +1,25 @@
+-- What was written of the answer to words of a file.
+use Rattle.std.proofs.Common.{None, map, refl, subst, sym}
+use Rattle.vetd.specs.Answer.{IsWritten}
+use Rattle.vetd.specs.Program.{AnswersAs, IsUntoldAs}
+use Rattle.vetd.specs.declared.program.ProgramCommand.{ProgramCommand}
+use Rattle.vetd.specs.declared.program.ProgramCommand.TheVariants.{File}
+use Rattle.vetd.proofs.Answered.{is_written}
+use Rattle.vetd.proofs.program.program_run.Goals as goal
+
+pub returns-in-File-clause-written : goal.returns-in-File-clause-written
+returns-in-File-clause-written g c =
+    let gives = g.D.Databases.may_give c.args.databases.now in
+    let finds = g.D.Databases.may_find c.args.databases.now in
+    let known = g.R.Read.remaining c.args.reader.now.source in
+    let words = map g.T.AsStr.text c.args.words.now in
+    subst (λ (command : ProgramCommand). IsWritten (AnswersAs g.S.Store gives finds known words None command)
+    (IsUntoldAs g.S.Store gives finds known words None command) c.command_run.result
+    (g.W.Write.contents c.args.writer.now) (g.W.Write.contents c.command_run.new.writer)
+    (g.E.Write.contents c.args.errors.now) (g.E.Write.contents c.command_run.new.errors))
+    (sym c.in-File.is)
+    (is_written (AnswersAs g.S.Store gives finds known words None (File c.in-File.kind))
+    (IsUntoldAs g.S.Store gives finds known words None (File c.in-File.kind)) c.command_run.result
+    (g.W.Write.contents c.args.writer.now) (g.W.Write.contents c.command_run.new.writer)
+    (g.E.Write.contents c.args.errors.now) (g.E.Write.contents c.command_run.new.errors)
+    c.command_run.ensures.says c.command_run.ensures.part c.command_run.ensures.silent refl)

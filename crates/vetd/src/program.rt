@@ -1,0 +1,107 @@
+//! The program's commands: one run, and one table.
+ghost use Rattle.std.specs.Prelude.{◌≡◌, ◌+◌, Err, map};
+ghost use Rattle.vet_base.specs.declared.limits.TheConstants.{MOST_READS};
+ghost use Rattle.vet_http.specs.Input.{TakesAtMost};
+ghost use Rattle.vetd.specs.Answer.{IsWritten};
+ghost use Rattle.vetd.specs.Program.{AnswersAs, AsksNoInput, IsUntoldAs, command_of};
+
+use crate::applying::apply_run;
+use crate::asked::CommandKind;
+use crate::databases::{DatabaseRun, Databases};
+use crate::making::new_run;
+use crate::run::command_run;
+use crate::view_words::ViewCommand;
+use crate::viewing::view_run;
+use crate::words::begin_with;
+use sqlite::Alter;
+use std::alloc::Global;
+use std::convert::AsStr;
+use std::io::{Read, Write};
+use vet_base::limits::MOST_INPUT_BYTES;
+use vet_graph::keeper::Keeper;
+use vet_http::input::CountedReader;
+use vet_http::io_fault::IoFault;
+
+/// A command of the program, as which the words of a whole command line are taken. A further command is a row here, or
+/// in the table of its sort; a row in `of_words` and `program_run`; and the function that answers it.
+#[derive(Clone, Copy)]
+pub enum ProgramCommand {
+    File(CommandKind),
+    New,
+    Apply,
+    Show(ViewCommand),
+}
+
+impl ProgramCommand {
+    /// The command as which words are taken, by the first of them. Words that begin with none are taken as `class`,
+    /// so that they are explained.
+    pub fn of_words<S: AsStr>(words: &[S]) -> ProgramCommand
+        ensures { result ≡ command_of (map S.text words.now) }
+    {
+        if begin_with(words, "read") {
+            ProgramCommand::File(CommandKind::Read)
+        } else if begin_with(words, "new") {
+            ProgramCommand::New
+        } else if begin_with(words, "apply") {
+            ProgramCommand::Apply
+        } else if begin_with(words, "report") {
+            ProgramCommand::Show(ViewCommand::Report)
+        } else if begin_with(words, "export") {
+            ProgramCommand::Show(ViewCommand::Export)
+        } else {
+            ProgramCommand::File(CommandKind::Class)
+        }
+    }
+}
+
+/// Answers the words of a command, which come without the program's own name, by what the reader gives and what stands
+/// in the database at their path: the answer goes to `writer`, and a refusal or clap's text to `errors`.
+///
+/// **A status comes with the whole answer to the words, the input and the tables. A run that ends with a fault wrote
+/// nothing, or, where a write failed, the front of that answer.** Faults: `Input`, `Endless` and `NoMemory`, where
+/// nothing was written, and `Output`.
+pub fn program_run<
+    T: AsStr,
+    S: Alter + Drop,
+    K: Keeper,
+    D: Databases<S>,
+    R: Read,
+    W: Write,
+    E: Write,
+>(
+    alloc: Global,
+    command: ProgramCommand,
+    words: &[T],
+    reader: &mut CountedReader<R>,
+    databases: &mut D,
+    writer: &mut W,
+    errors: &mut E,
+) -> DatabaseRun<S>
+    ensures written { IsWritten
+        (AnswersAs S.Store (D.may_give databases.old) (D.may_find databases.old) (R.remaining reader.old.source)
+        (map T.text words.now) result.conn command)
+        (IsUntoldAs S.Store (D.may_give databases.old) (D.may_find databases.old) (R.remaining reader.old.source)
+        (map T.text words.now) result.conn command)
+        result.status (W.contents writer.old) (W.contents writer.new)
+        (E.contents errors.old) (E.contents errors.new) }
+
+    // No more is read, and nothing where nothing of the input is asked for. `Endless` comes when the reads are spent.
+    ensures bounded { TakesAtMost (MOST_INPUT_BYTES + 1)
+        (R.remaining reader.old.source) (R.remaining reader.new.source) }
+    ensures unread { AsksNoInput command (map T.text words.now) → reader.new ≡ reader.old }
+    ensures endless { result.status ≡ Err IoFault.Endless → reader.new.made ≡ MOST_READS }
+{
+    match command {
+        ProgramCommand::File(kind) => DatabaseRun {
+            status: command_run(alloc, kind, words, reader, writer, errors),
+            conn: None,
+        },
+        ProgramCommand::New => new_run::<T, S, K, D, W, E>(alloc, words, databases, writer, errors),
+        ProgramCommand::Apply => {
+            apply_run::<T, S, K, D, R, W, E>(alloc, words, reader, databases, writer, errors)
+        }
+        ProgramCommand::Show(kind) => {
+            view_run::<T, S, K, D, W, E>(alloc, kind, words, databases, writer, errors)
+        }
+    }
+}

@@ -1,0 +1,32 @@
+//! What is shown of a register.
+ghost use Rattle.std.specs.Prelude.{◌≡◌, IfErr, IfOk, string_bytes};
+ghost use Rattle.vetd.specs.View.{Shows};
+
+use crate::export::exported;
+use crate::file_kind::FileKind;
+use crate::report_kind::{ReportKind, reported};
+use std::alloc::Global;
+use vet_base::refusal::Refusal;
+use vet_graph::keeper::Keeper;
+use vet_register::register::Register;
+
+/// What a command shows of a register. A further one is a row here, a row in `text`, and the function that makes its
+/// text.
+#[derive(Clone, Copy)]
+pub enum View {
+    Export(FileKind),
+    Report(ReportKind),
+}
+
+impl View {
+    /// The text that is shown. Refused: `NoMemory`.
+    pub fn text<K: Keeper>(self, alloc: Global, register: &Register<K>) -> Result<String, Refusal>
+        ensures shows { IfOk result (λ text. Shows self register.now.state (string_bytes text)) }
+        ensures memory { IfErr result (λ e. e ≡ Refusal.NoMemory) }
+    {
+        match self {
+            View::Export(kind) => exported(alloc, kind, register),
+            View::Report(kind) => reported(alloc, kind, register),
+        }
+    }
+}
