@@ -3,7 +3,8 @@
 //! **A document gives exactly the command that its definition tells of its bytes, or its first fault in the order of
 //! its keys. A connection gives exactly the request that its bytes begin with, or its first fault.**
 //!
-//! Scope of this crate: command documents, requests, counted reads and whole writes. What is replied is to come here.
+//! Scope of this crate: command documents, requests, routes and the bytes of replies, counted reads and whole writes.
+//! What a request is answered is to come here.
 #![tactic(auto)]
 
 mod body;
