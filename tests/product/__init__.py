@@ -1,0 +1,1 @@
+"""The program as scripts run it on registers in files."""

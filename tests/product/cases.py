@@ -1,0 +1,482 @@
+"""What `run_register` gives a register in a file, with what is told, shown and exported by the rules."""
+
+from product.documents import demand_of, document, entry, table_of
+
+# ---- reports, byte for byte
+
+COUNTS = """\
+class            first   arrived  departed       now
+conflicting          0         0         0         0
+full                 0         1         1         0
+partial              0         0         0         0
+exempted             0         0         0         0
+unvetted             0         2         2         0
+demand               0         3         3         0
+"""
+NO_COUNTS = """\
+class            first   arrived  departed       now
+conflicting          0         0         0         0
+full                 0         0         0         0
+partial              0         0         0         0
+exempted             0         0         0         0
+unvetted             0         0         0         0
+demand               0         0         0         0
+"""
+# a period that began with two unvetted pairs
+CLOSED_COUNTS = """\
+class            first   arrived  departed       now
+conflicting          0         0         0         0
+full                 0         0         0         0
+partial              0         0         0         0
+exempted             0         0         0         0
+unvetted             2         0         0         2
+demand               2         0         0         2
+"""
+STANDING = """\
+serde                    1.0.1                safe-to-deploy       unvetted
+serde                    1.0.1                safe-to-run          full
+"""
+STANDING_CSV = """\
+package,version,criterion,class
+serde,1.0.1,safe-to-deploy,unvetted
+serde,1.0.1,safe-to-run,full
+"""
+MOVES = """\
+       1 2024-05-01 serde                    1.0.1                safe-to-deploy       none        unvetted
+       1 2024-05-01 serde                    1.0.1                safe-to-run          none        unvetted
+       2 2024-05-02 serde                    1.0.1                safe-to-run          unvetted    full
+       3 2024-05-03 serde                    1.0.1                safe-to-deploy       unvetted    none
+       3 2024-05-03 serde                    1.0.1                safe-to-run          full        none
+"""
+REVIEW = """\
+       1 2024-05-01 serde                    1.0.1                finished  -                       1 safe-to-deploy
+"""
+REVIEWS = """\
+       1 2024-05-02 serde                    1.0.1                waiting   -                       - safe-to-run
+       2 2024-05-03 serde                    1.0.1                assigned  ann                     - safe-to-deploy
+       3 2024-05-04 serde                    1.0.1                withdrawn -                       - safe-to-deploy,x
+       4 2024-05-05 serde                    1.0.1                finished  -                       7 safe-to-run
+"""
+LONG_STANDING = """\
+package-with-a-name-longer-than-24 1.0.0-alpha.of-many-parts read,"twice"         unvetted
+"""
+LONG_CSV = """\
+package,version,criterion,class
+package-with-a-name-longer-than-24,1.0.0-alpha.of-many-parts,"read,""twice""\",unvetted
+"""
+LONG_MOVES = """\
+       3 2024-05-01 package-with-a-name-longer-than-24 1.0.0-alpha.of-many-parts read,"twice"         none        \
+unvetted
+"""
+LONG_REVIEW = """\
+       1 2024-05-01 package-with-a-name-longer-than-24 1.0.0-alpha.of-many-parts assigned  a-member-of-more-than-16 \
+       - read,"twice"
+"""
+# packages by their bytes, versions by precedence and then by build and revision, criteria by their bytes
+REVISION = "0123456789abcdef" * 2 + "01234567"
+IN_ORDER = [
+    ("B", "1.9.0"),
+    ("B", "1.10.0"),
+    ("a", "1.0.0-alpha"),
+    ("a", "1.0.0-alpha.1"),
+    ("a", "1.0.0-beta"),
+    ("a", "1.0.0"),
+    ("a", f"1.0.0@git:{REVISION}"),
+    ("a", "1.0.0+1"),
+    ("a", "1.0.1"),
+    ("a-b", "1.0.0"),
+    ("a_b", "1.0.0"),
+    ("ab", "1.0.0"),
+]
+# the classes of versions that are full, exempted, partial by a delta from there, condemned, and unvetted
+OF_EACH_CLASS = """\
+serde                    1.0.0                safe-to-run          full
+serde                    1.0.1                safe-to-run          exempted
+serde                    1.0.2                safe-to-run          partial
+serde                    1.0.3                safe-to-run          conflicting
+serde                    1.0.4                safe-to-run          unvetted
+"""
+COUNTS_OF_EACH_CLASS = """\
+class            first   arrived  departed       now
+conflicting          0         1         0         1
+full                 0         2         1         1
+partial              0         1         0         1
+exempted             0         1         0         1
+unvetted             0         5         4         1
+demand               0        10         5         5
+"""
+
+
+def csv_of(pairs):
+    return "".join(f"{','.join(it)}\n" for it in [("package", "version", "criterion", "class"), *pairs])
+
+
+def table_in_disorder():
+    """A table by which a root demands the pairs, in another order, for safe-to-run."""
+    lines = ["what,n,p,q,r", "node,0,app,0.1.0,root"]
+    nodes = sorted(IN_ORDER, key=lambda it: it[1] + it[0])
+    lines += [f"node,{at},{package},{version},third" for at, (package, version) in enumerate(nodes, 1)]
+    lines += [f"edge,0,{at},dev," for at, _ in enumerate(nodes, 1)]
+    return "".join(f"{line}\n" for line in lines)
+
+
+LONG_NAME, LONG_VERSION, MARKS = "package-with-a-name-longer-than-24", "1.0.0-alpha.of-many-parts", 'read,"twice"'
+LONG_TABLE = table_of(LONG_VERSION).replace("serde", LONG_NAME)
+RUN = {"criteria": "safe-to-run"}
+OPENED = {"package": "serde", "version": "1.0.1"}
+
+# a name, the limit of moves, and in turn documents with what they are told, on a day and by a member, or reports
+EXAMPLES = [
+    ("nothing_is_held", None, [
+        ("counts", NO_COUNTS),
+        ("standing", ""),
+        ("standing-csv", "package,version,criterion,class\n"),
+        ("moves", ""),
+        ("desk", ""),
+    ]),
+    ("a_pair_arrives_and_departs", None, [
+        (demand_of("1.0.1"), "done 1 moves 2"),
+        (entry("full", **RUN, version="1.0.1"), "done 2 number 1 moves 1", "2024-05-02"),
+        ("standing", STANDING),
+        ("standing-csv", STANDING_CSV),
+        (document("drop-project", project="app"), "done 3 moves 2", "2024-05-03"),
+        ("counts", COUNTS),
+        ("moves", MOVES),
+        ("standing", ""),
+        (document("close-period"), "done 4 moves 0"),
+        ("counts", NO_COUNTS),
+        ("moves", ""),
+    ]),
+    ("a_member_finishes_a_review", None, [
+        (demand_of("1.0.1"), "done 1 moves 2"),
+        (document("add-member", member="ann"), "done 2 moves 0"),
+        (document("add-member", member="bob"), "done 3 moves 0"),
+        (document("open-review", **OPENED, criteria="safe-to-deploy"), "done 4 number 1 moves 0"),
+        (document("assign-review", review=1, member="ann"), "done 5 moves 0"),
+        (document("finish-review", review=1, version="1.0.1"), "refused 22 NotYours", "2024-05-01", "bob"),
+        (document("finish-review", review=1, delta="1.0.0 -> 1.0.2"), "refused 23 WrongTarget", "2024-05-01", "ann"),
+        (document("finish-review", review=1, version="1.0.1"), "done 6 number 1 moves 2", "2024-05-01", "ann"),
+        (document("finish-review", review=1, version="1.0.1"), "refused 21 ReviewClosed", "2024-05-01", "ann"),
+        ("desk", REVIEW),
+    ]),
+    ("moves_end_at_their_limit", 2, [
+        (demand_of("1.0.1"), "done 1 moves 2"),
+        (entry("full", version="1.0.1"), "refused 25 MovesFull"),
+        (document("close-period"), "done 2 moves 0"),
+        ("counts", CLOSED_COUNTS),
+        (entry("full", version="1.0.1"), "done 3 number 1 moves 2"),
+    ]),
+    ("a_member_is_added_twice", None, [
+        (b'command = "add-member"\nmember = "ann"\n', "done 1 moves 0"),
+        (b'command = "add-member"\nmember = "ann"\n', "already"),
+    ]),
+    ("reviews_of_each_state", None, [
+        (demand_of("1.0.1"), "done 1 moves 2"),
+        (document("add-member", member="ann"), "done 2 moves 0"),
+        (document("set-criterion", name="x"), "done 3 moves 0"),
+        (document("set-policy", policy="app", criteria=["x", "safe-to-deploy"]), "done 4 moves 1"),
+        *[
+            (entry("full", version=f"2.0.{number}"), f"done {4 + number} number {number} moves 0")
+            for number in range(1, 7)
+        ],
+        (document("open-review", **OPENED, **RUN), "done 11 number 1 moves 0", "2024-05-02"),
+        (document("open-review", **OPENED, criteria=["safe-to-deploy"]), "done 12 number 2 moves 0", "2024-05-03"),
+        (
+            document("open-review", **OPENED, criteria=["x", "safe-to-deploy"]),
+            "done 13 number 3 moves 0",
+            "2024-05-04",
+        ),
+        (document("open-review", **OPENED, **RUN), "done 14 number 4 moves 0", "2024-05-05"),
+        (document("assign-review", review=2, member="ann"), "done 15 moves 0"),
+        (document("withdraw-review", review=3), "done 16 moves 0", "2024-05-06", "ann"),
+        (document("assign-review", review=4, member="ann"), "done 17 moves 0"),
+        (document("finish-review", review=4, delta="2.0.1 -> 1.0.1"), "done 18 number 7 moves 1", "2024-05-06", "ann"),
+        ("desk", REVIEWS),
+    ]),
+    ("long_values_are_not_cut", None, [
+        (document("set-criterion", name=MARKS), "done 1 moves 0"),
+        (document("set-policy", policy="app", criteria=MARKS), "done 2 moves 0"),
+        (document("load-project", project="app", csv=LONG_TABLE), "done 3 moves 1"),
+        ("standing", LONG_STANDING),
+        ("standing-csv", LONG_CSV),
+        ("moves", LONG_MOVES),
+        (document("add-member", member="a-member-of-more-than-16"), "done 4 moves 0"),
+        (
+            document("open-review", package=LONG_NAME, version=LONG_VERSION, criteria=MARKS),
+            "done 5 number 1 moves 0",
+        ),
+        (document("assign-review", review=1, member="a-member-of-more-than-16"), "done 6 moves 0"),
+        ("desk", LONG_REVIEW),
+    ]),
+    ("pairs_stand_in_order", None, [
+        (document("load-project", project="app", csv=table_in_disorder()), f"done 1 moves {len(IN_ORDER)}"),
+        ("standing-csv", csv_of((*it, "safe-to-run", "unvetted") for it in IN_ORDER)),
+    ]),
+    ("a_pair_of_each_class", None, [
+        (
+            document("load-project", project="app", csv=table_of(*(f"1.0.{at}" for at in range(5)), kind="dev")),
+            "done 1 moves 5",
+        ),
+        (entry("full", **RUN, version="1.0.0"), "done 2 number 1 moves 1"),
+        (entry("exemption", **RUN, version="1.0.1"), "done 3 number 2 moves 1"),
+        (entry("delta", **RUN, delta="1.0.1 -> 1.0.2"), "done 4 number 3 moves 1"),
+        (entry("full", **RUN, version="1.0.3"), "done 5 number 4 moves 1"),
+        (entry("violation", **RUN, violation="=1.0.3"), "done 6 number 5 moves 1"),
+        ("standing", OF_EACH_CLASS),
+        ("counts", COUNTS_OF_EACH_CLASS),
+    ]),
+]
+
+# ---- refusals and outcomes by turns, on what two commands left
+
+WINDOW = {"user_id": 5, "start": "2023-01-01", "end": "2023-12-31"}
+EDGE = "what,n,p,q,r\nnode,0,app,0.1.0,root\nnode,1,serde,1.0.1,third\nedge,0,7,normal,\n"
+PARTIES = "what,n,p,q,r\nnode,0,app,0.1.0,root\nnode,1,app,0.1.0,third\n"
+TO = "2025-05-02"
+REFUSED = {
+    "each_refusal_has_its_line": [
+        (entry("full", package="ser de", version="1.0.1"), "refused 1 BadName"),
+        (entry("full", version="1.0"), "refused 2 BadVersion"),
+        (entry("violation", violation=">>1"), "refused 3 BadRequirement"),
+        (entry("wildcard", **WINDOW | {"start": "2023-02-29"}), "refused 4 BadDay"),
+        (entry("delta", delta="1.0.0 1.1.0"), "refused 5 BadDelta"),
+        (entry("full", criteria="nope", version="1.0.1"), "refused 6 UnknownCriterion nope"),
+        (document("set-criterion", name="safe-to-run"), "refused 7 BuiltInCriterion"),
+        (document("set-criterion", name="x"), "done 3 moves 0"),
+        (entry("full", criteria="x", version="1.0.1"), "done 4 number 2 moves 0"),
+        (document("remove-criterion", name="x"), "refused 8 CriterionInUse"),
+        (document("drop-entry", number=99), "refused 10 UnknownEntry"),
+        (document("import-peer", peer="z", audits=""), "refused 13 UnknownPeer"),
+        (document("drop-policy", policy="serde"), "refused 14 UnknownPolicy"),
+        (document("drop-project", project="zed"), "refused 15 UnknownProject"),
+        (document("load-project", project="app", csv=EDGE), "refused 16 UnknownNode 4"),
+        (document("load-project", project="app", csv=PARTIES), "refused 17 TwoParties 3"),
+        (document("assign-review", review=1, member="zed"), "refused 19 UnknownMember"),
+        (document("add-member", member="zed"), "done 5 moves 0"),
+        (document("assign-review", review=1, member="zed"), "refused 20 UnknownReview"),
+        (document("open-review", package="serde", version="9.9.9", **RUN), "refused 24 NotDemanded"),
+        (b"x =\n", "refused 26 TomlRefused"),
+        (document("load-project", project="app", csv="a,b\n"), "refused 27 CsvRefused 1"),
+        (b"command = 5\n", "refused 28 FieldRefused command command"),
+        (entry("full", **RUN, version="1.0.1"), "already 1"),
+    ],
+    # a window that ends before it begins, and one that ends more than 366 days after the day of the command
+    "windows_are_judged_by_the_day": [
+        (entry("trusted", **WINDOW | {"start": "2024-05-01", "end": TO}), "done 3 number 2 moves 0"),
+        (entry("trusted", **WINDOW | {"end": "2025-05-03"}), "refused 12 WindowTooLong"),
+        (entry("wildcard", **WINDOW | {"end": "2025-05-03"}), "refused 12 WindowTooLong"),
+        (entry("wildcard", **WINDOW | {"start": "2024-01-01"}), "refused 11 EmptyWindow"),
+    ],
+    "outcomes_have_their_numbers": [
+        (entry("full", version="1.0.1"), "done 3 number 2 moves 1"),
+        (entry("full", version="1.0.1", criteria=["safe-to-deploy"] * 2), "already 2"),
+        (document("drop-entry", number=2), "done 4 moves 1"),
+        (entry("full", version="1.0.1"), "done 5 number 3 moves 1"),
+        (document("add-member", member="ann"), "done 6 moves 0"),
+        (document("open-review", **OPENED, **RUN), "done 7 number 1 moves 0"),
+        (document("assign-review", review=1, member="ann"), "done 8 moves 0"),
+        (document("assign-review", review=1, member="ann"), "already"),
+        (document("drop-entry", number=9_223_372_036_854_775_807), "refused 10 UnknownEntry"),
+        (document("drop-project", project="app"), "done 9 moves 2"),
+    ],
+    # as many criteria as may be, and one that can be removed
+    "criteria_end_at_their_limit": [
+        *[(document("set-criterion", name=f"c{at:02}"), f"done {at + 2} moves 0") for at in range(1, 63)],
+        (document("set-criterion", name="c63"), "refused 9 TooManyCriteria"),
+        (document("remove-criterion", name="c01"), "done 65 moves 0"),
+        (document("remove-criterion", name="c01"), "refused 6 UnknownCriterion c01"),
+    ],
+    "a_member_is_ignored_where_none_is_asked": [
+        (document("close-period"), "done 3 moves 0"),
+        (document("set-policy", policy="app"), "done 4 moves 0"),
+        (document("set-policy", policy="app"), "already"),
+    ],
+}
+
+# ---- documents that are refused, each with its name and what is told
+
+PEER_CRITERIA = "".join(f"[criteria.c{at}]\n" for at in range(63))
+NODES = "what,n,p,q,r\n" + "".join(f"node,{at},a,1.0.{at},third\n" for at in range(10_001))
+EDGES = "what,n,p,q,r\n" + "".join(f"node,{at},a,1.0.{at},third\n" for at in range(317))
+EDGES += "".join(f"edge,{at // 317},{at % 317},normal,\n" for at in range(317 * 317))
+LONG_TEXT = [
+    (
+        "too many criteria of a peer",
+        document("import-peer", peer="p", audits=PEER_CRITERIA),
+        "refused 18 TooLarge peer-criteria",
+    ),
+    (
+        "a long text in a file",
+        document("replace-files", audits="", config=f'[cargo-vet]\nversion = "{"x" * 65_537}"', imports=""),
+        "refused 18 TooLarge text",
+    ),
+]
+MANY_NODES = [
+    ("too many nodes", document("load-project", project="app", csv=NODES), "refused 18 TooLarge nodes"),
+    ("too many edges", document("load-project", project="app", csv=EDGES), "refused 18 TooLarge edges"),
+]
+NO_TEXT = [
+    (f"no TOML, {place}", given, "refused 26 TomlRefused")
+    for place, given in enumerate(
+        [
+            b"x =",
+            b"\xff",
+            b'command = "add-member"\nmember = "a\xff"\n',
+            b'command = "close-period"\ncommand = "close-period"\n',
+            b"command = close-period\n",
+            b'{"command": "close-period"}\n',
+            b'command = "close-period" extra = 1\n',
+            b"\x00",
+        ]
+    )
+]
+NO_TEXT += [
+    ("an empty document", b"", "refused 28 FieldRefused command command"),
+    ("a remark alone", b"# close-period\n", "refused 28 FieldRefused command command"),
+]
+
+# ---- what is kept of each key: a document, the file that is exported, and tables in it
+
+OF_RUN = {"criteria": "safe-to-run", "version": "1.0.1"}
+UPPER = "0123456789ABCDEF" * 2 + "01234567"
+LONGEST = "x" * 65_536
+LAST_USER = 9_223_372_036_854_775_807
+KEPT = [
+    (
+        "a criterion with all keys",
+        document(
+            "set-criterion", name="x", description="Read.", description_url="https://x.example", implies="safe-to-run"
+        ),
+        "audits",
+        {"criteria": {"x": {
+            "description": "Read.", "description-url": "https://x.example", "implies": "safe-to-run"
+        }}},
+    ),
+    (
+        "a criterion with an empty description, that implies two",
+        document("set-criterion", name="x", description="", implies=["safe-to-run", "safe-to-deploy", "safe-to-run"]),
+        "audits",
+        {"criteria": {"x": {"description": "", "implies": ["safe-to-deploy", "safe-to-run"]}}},
+    ),
+    (
+        "a full entry with all keys",
+        entry("full", version="1.0.2", who=["Bob", "Ann"], notes="Only\ntests.", importable=False),
+        "audits",
+        {"audits": {"serde": [OF_RUN, {
+            "criteria": "safe-to-deploy", "version": "1.0.2", "who": ["Ann", "Bob"], "notes": "Only\ntests.",
+            "importable": False,
+        }]}},
+    ),
+    (
+        "a full entry of a revision",
+        entry("full", package="log", version=f"1.0.2@git:{UPPER}"),
+        "audits",
+        {"audits": {
+            "log": [{"criteria": "safe-to-deploy", "version": f"1.0.2@git:{REVISION}"}], "serde": [OF_RUN]
+        }},
+    ),
+    (
+        "a delta with all keys",
+        entry("delta", delta="1.0.0->  1.1.0", criteria=[], who="Ann", notes="", importable=True),
+        "audits",
+        {"audits": {"serde": [OF_RUN, {
+            "criteria": [], "delta": "1.0.0 -> 1.1.0", "who": "Ann", "notes": "", "importable": True
+        }]}},
+    ),
+    (
+        "a violation with all keys",
+        entry("violation", violation=">=1, <2", who=["Ann", "Ann"], notes="No.", importable=True),
+        "audits",
+        {"audits": {"serde": [OF_RUN, {
+            "criteria": "safe-to-deploy", "violation": ">=1, <2", "who": "Ann", "notes": "No.", "importable": True
+        }]}},
+    ),
+    (
+        "a wildcard with all keys",
+        entry("wildcard", user_id=LAST_USER, start="2023-01-01", end=TO, who="Ann", notes="N", renew=False),
+        "audits",
+        {"wildcard-audits": {"serde": [{
+            "criteria": "safe-to-deploy", "user-id": LAST_USER, "start": "2023-01-01", "end": TO, "who": "Ann",
+            "notes": "N", "renew": False,
+        }]}},
+    ),
+    (
+        "a trusted publisher with all keys, and days as dates",
+        b'command = "add-entry"\npackage = "serde"\nkind = "trusted"\nuser-id = 0\nstart = 2023-01-01\n'
+        b'end = 2023-12-31\ncriteria = "safe-to-run"\nnotes = "N"\n',
+        "audits",
+        {"trusted": {"serde": [{
+            "criteria": "safe-to-run", "user-id": 0, "start": "2023-01-01", "end": "2023-12-31", "notes": "N"
+        }]}},
+    ),
+    (
+        "an exemption with all keys",
+        entry("exemption", version="1.0.2", notes="N", suggest=False),
+        "config",
+        {"exemptions": {"serde": [{
+            "criteria": "safe-to-deploy", "version": "1.0.2", "notes": "N", "suggest": False
+        }]}},
+    ),
+    (
+        "a policy with all keys",
+        document("set-policy", policy="serde:1.0.1", audit_as_crates_io=False, criteria=[], dev_criteria="safe-to-run",
+            dependency_criteria={"log": [], "a_b": ["safe-to-run", "safe-to-deploy"]}, notes="N"),
+        "config",
+        {"policy": {"serde:1.0.1": {
+            "audit-as-crates-io": False, "criteria": [], "dev-criteria": "safe-to-run", "notes": "N",
+            "dependency-criteria": {"log": [], "a_b": ["safe-to-deploy", "safe-to-run"]},
+        }}},
+    ),
+    (
+        "a policy that says nothing",
+        document("set-policy", policy="log", dependency_criteria={}),
+        "config",
+        {"policy": {"log": {}}},
+    ),
+    (
+        "a peer with all keys",
+        document("set-peer", peer="p", url=["two", "one"], exclude=["log", "a"],
+            criteria_map={"read": "safe-to-run", "none": [], "safe-to-run": ["safe-to-run", "safe-to-deploy"]}),
+        "config",
+        {"imports": {"p": {
+            "url": ["one", "two"], "exclude": ["a", "log"],
+            "criteria-map": {"read": "safe-to-run", "none": [], "safe-to-run": ["safe-to-deploy", "safe-to-run"]},
+        }}},
+    ),
+    (
+        "a peer of no url",
+        document("set-peer", peer="p", url=[], exclude=[], criteria_map={}),
+        "config",
+        {"imports": {"p": {"url": []}}},
+    ),
+    (
+        "publisher records with all keys",
+        document("set-publishers", package="serde", records=[
+            {"version": "1.10.0", "when": "2023-02-03", "user-id": 5},
+            {"version": "1.9.0", "when": "2023-02-04", "user-id": 5, "user-login": "dt", "user-name": ""},
+            {"version": "1.10.0", "when": "2023-02-03", "user-id": 5},
+        ]),
+        "imports",
+        {"publisher": {"serde": [
+            {"version": "1.9.0", "when": "2023-02-04", "user-id": 5, "user-login": "dt", "user-name": ""},
+            {"version": "1.10.0", "when": "2023-02-03", "user-id": 5},
+        ]}},
+    ),
+    (
+        "notes as long as may be",
+        entry("exemption", version="1.0.2", notes=LONGEST),
+        "config",
+        {"exemptions": {"serde": [{"criteria": "safe-to-deploy", "version": "1.0.2", "notes": LONGEST}]}},
+    ),
+    (
+        "three files",
+        document(
+            "replace-files",
+            audits='[[audits.log]]\ncriteria = "safe-to-run"\nversion = "1.0.0"\nextra = 1\n',
+            config='default-criteria = ["x"]\n[cargo-vet]\nversion = "0.10"\n[imports.p]\nurl = "u"\n',
+            imports='[[audits.p.audits.log]]\ncriteria = "c"\ndelta = "1.0.0 -> 1.0.1"\n',
+        ),
+        "config",
+        {"default-criteria": "x", "cargo-vet": {"version": "0.10"}, "imports": {"p": {"url": "u"}}},
+    ),
+]
