@@ -55,7 +55,7 @@ left_by_commit old new was s command tied unshut is serves lasts clean trees may
         → AreTreesOf (rows_of s) trees ⊎ AreTreesOf (rows_of (after s command)) trees
     by (inl before) = inl (tied.leaves early unshut trees before)
     by (inr written) = inr (subst (λ (t : State). AreTreesOf (rows_of t) trees) is
-        (written.0, written.1, written.2 (tied.stands early (serves clean))))
+        (written.0, written.1, (written.2 (tied.stands early (serves clean))).0))
 
 -- where changes were refused, it leaves the rows before; or the ones or the others, if the commit refused them
 pub left_refused : (old new : sqlite.State) (was shut : Bool) (s : State) (command : Command)

@@ -220,7 +220,8 @@ crash_after g old mid end changes inside made last =
       (state g mid).now,
       is,
       λ rows stands.
-          (made (omega (arith, last.clean)) stands.rests.is_open).holds rows stands.holds,
+          let changes = made (omega (arith, last.clean)) stands.rests.is_open in
+          (changes.holds rows stands.holds, changes.spares stands.holds.has),
     ))
     (survives_begin g old (state g mid) _ inside) last
 
@@ -271,3 +272,20 @@ survives_same a P = record {
       λ clean serves. inl serves;
   crash = λ clean db leaves. inl leaves;
 }
+
+-- ---- the tables that are none of the register's
+
+pub others_same : (old new : Database) → new ≡ old → KeepsOthers old new
+others_same old new same = record {
+  schema = ap (λ (d : Database). d.schema) same;
+  rows = λ t there other. ap (λ (d : Database). d.trees t.tree) same;
+}
+
+pub others_committed : {S : Type 0} (g : Ghosts S) (old mid end : Held S) (changes : List RowChange)
+    → (HasCleanDisk (state g mid) → IsTrue (state g old).is_open
+    → Changes (state g (record old { in_transaction = true })) (state g mid) (all_changed changes))
+    → HasCleanDisk (state g mid) → ShowsState (state g mid) (state g end) (state g mid).now (state g mid).now false
+    → (rows : RowsValue) → Stands (state g old) rows → KeepsOthers (state g old).now (state g end).now
+others_committed g old mid end changes made clean shows rows stands =
+    subst (λ d. KeepsOthers (state g old).now d) (sym shows.now_is)
+    ((made clean stands.rests.is_open).spares stands.holds.has)

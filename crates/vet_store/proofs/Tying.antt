@@ -17,8 +17,11 @@ use Rattle.vet_rows.specs.RowsOf.{meta_row, rows_of}
 use Rattle.vet_rows.specs.SameRows.{SameRows}
 use Rattle.vet_rows.specs.declared.row.MetaRow.{MetaRow}
 use Rattle.vet_rows.specs.declared.row_change.RowChange.{RowChange}
+use Rattle.vet_store.proofs.Steps.{others_same, spares_then}
+use Rattle.vet_store.specs.Beside.{OthersStay}
 use Rattle.vet_store.specs.Cells.{cells_in}
-use Rattle.vet_store.specs.Committed.{AreTreesOf, IsAfter}
+use Rattle.vet_store.specs.Changes.{KeepsOthers}
+use Rattle.vet_store.specs.Committed.{AreTreesBeside, AreTreesOf, IsAfter}
 use Rattle.vet_store.specs.Stands.{Holds, Stands}
 use Rattle.vet_store.specs.Tied.{IsTied, IsWritten, Leaves}
 use Rattle.vet_store.specs.declared.table_name.TableName.{TableName}
@@ -89,7 +92,7 @@ still_clean old new P s clean = omega (arith, s.clean)
 pub written_next : (c : sqlite.State) (change : RowsValue → RowsValue) (rows next : RowsValue)
     → SameRows (change rows) next → (trees : Trees) → IsAfter c change trees → IsWritten c rows next trees
 written_next c change rows next same trees h =
-    (h.0, h.1, λ stands. holds_also h.0 (change rows) next same (h.2 rows stands))
+    (h.0, h.1, λ stands. let after = h.2 rows stands in (holds_also h.0 (change rows) next same after.0, after.1))
 
 -- changes that make the next rows are not none, since the step is another
 pub changes_next : (s : State) (c : Command) (changes : List RowChange)
@@ -115,10 +118,11 @@ reaches_commit changes Before P not some (inr (inr serves)) = serves
 -- a crash leaves what it could before, or the rows that were written, where those before them stood
 pub survives_written : (old new : sqlite.State) (shut : Bool) (rows next : RowsValue)
     → IsTied old shut rows → shut ≡ false → IsTrue old.is_open
-    → Survives old new (IsWritten old rows next) → Survives old new (AreTreesOf next)
+    → Survives old new (IsWritten old rows next) → Survives old new (AreTreesBeside old.now next)
 survives_written old new shut rows next tied unshut serves s =
-    survives_weaker old new (IsWritten old rows next) (AreTreesOf next)
-    (λ clean trees h. (h.0, h.1, h.2 (tied.stands (still_clean old new _ s clean) serves))) s
+    survives_weaker old new (IsWritten old rows next) (AreTreesBeside old.now next)
+    (λ clean trees h. let after = h.2 (tied.stands (still_clean old new _ s clean) serves) in
+    (h.0, h.1, after.0, after.1)) s
 
 -- ---- the store stays tied
 
@@ -156,3 +160,28 @@ tied_written old new was shut rows next P tied unshut autocommit written was_ope
   where
     stand : HasCleanDisk new → Stands new next
     stand clean = written clean (tied.stands (still_clean old new P s clean) (was_open clean))
+
+-- ---- the tables that are none of the register's
+
+pub others_as_were : (c : sqlite.State) → OthersStay c c
+others_as_were c clean serves = (clean, (serves, others_same c.now c.now refl))
+
+pub others_then : (a b c : sqlite.State) → OthersStay a b → OthersStay b c → OthersStay a c
+others_then a b c one two clean serves =
+    let later = two clean serves in
+    let earlier = one later.0 later.1.0 in (
+      earlier.0,
+      (earlier.1.0, spares_then a.now b.now c.now earlier.1.1 later.1.1),
+    )
+
+-- after a command, on a store whose rows stood
+pub others_stay : (old new : sqlite.State) (was : Bool) (rows : RowsValue) (P : Trees → Type 0)
+    → IsTied old was rows
+    → (HasCleanDisk new → IsTrue new.is_open → IsTrue old.is_open)
+    → Survives old new P
+    → (HasCleanDisk new → IsTrue new.is_open → Stands old rows → KeepsOthers old.now new.now)
+    → OthersStay old new
+others_stay old new was rows P tied was_open survives others clean serves =
+    let early = still_clean old new P survives clean in
+    let served = was_open clean serves in
+    (early, (served, others clean serves (tied.stands early served)))

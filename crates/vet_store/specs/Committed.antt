@@ -4,6 +4,7 @@ use Rattle.sqlite.specs.Effect.{Database}
 use Rattle.sqlite.specs.State.{State}
 use Rattle.sqlite_trees.specs.Tree.{Trees}
 use Rattle.vet_rows.specs.Rows.{RowsValue}
+use Rattle.vet_store.specs.Changes.{KeepsOthers}
 use Rattle.vet_store.specs.Stands.{Holds, Stands}
 use Rattle.vet_store.specs.declared.change.Stop.{Stop}
 use Rattle.vet_store.specs.declared.change.Stop.TheVariants.{Before, Commit}
@@ -17,10 +18,14 @@ IsBefore (Commit e) = ⊥
 abbrev pub AreTreesOf : RowsValue → Trees → Type 0
 AreTreesOf rows trees = (db : Database) × (trees ≡ db.trees) × Holds db rows
 
--- the trees of a database that has the rows after the change
+-- the same, and all else in it is as in the database before
+abbrev pub AreTreesBeside : Database → RowsValue → Trees → Type 0
+AreTreesBeside before rows trees = (db : Database) × (trees ≡ db.trees) × Holds db rows × KeepsOthers before db
+
+-- the trees of a database that has the rows after the change, and all else as before
 abbrev pub IsAfter : State → (RowsValue → RowsValue) → Trees → Type 0
 IsAfter s change trees = (db : Database) × (trees ≡ db.trees)
-    × ((rows : RowsValue) → Stands s rows → Holds db (change rows))
+    × ((rows : RowsValue) → Stands s rows → Holds db (change rows) × KeepsOthers s.now db)
 
 abbrev pub no_rows : RowsValue
 no_rows = record {

@@ -1,18 +1,16 @@
 -- What a crash leaves of a store, after a command and after a list of them (ours).
-use Rattle.std.specs.Prelude.{◌≡◌, ◌⊎◌, ◌++◌, ◌∷◌, Bool, false, IsTrue, List, Err}
-use Rattle.std.specs.List.{AllByRecursion}
+use Rattle.std.specs.Prelude.{◌≡◌, ◌⊎◌, ◌++◌, ◌∷◌, Bool, false, IsTrue, List}
 use Rattle.sqlite.specs.State.{HasCleanDisk}
 use Rattle.sqlite.specs.State as sqlite
 use Rattle.sqlite_trees.specs.Tree.{Trees}
 use Rattle.vet_base.specs.Gives.{Told}
-use Rattle.vet_base.specs.declared.refusal.Refusal.TheVariants.{StoreRefused}
 use Rattle.vet_register.specs.declared.command.Command.{Command}
 use Rattle.vet_register.specs.declared.command.Outcome.{Outcome}
 use Rattle.vet_register.specs.Runs.{after}
 use Rattle.vet_register.specs.State.{State}
 use Rattle.vet_rows.specs.RowsOf.{rows_of}
 use Rattle.vet_store.specs.Committed.{AreTreesOf}
-use Rattle.vet_store.specs.Runs.{Fails, Ran}
+use Rattle.vet_store.specs.Runs.{AreRefused, Fails, Ran}
 use Rattle.vet_store.specs.Tied.{Leaves}
 
 -- a crash leaves the rows of this state, or of the state after the command
@@ -32,7 +30,7 @@ pub record EndsShut (s : State) (commands : List Command) (answers : List (Told 
   pub answers_are : answers ≡ earlier ++ answer ∷ later
   pub ran : Ran s front earlier last
   pub fails : Fails answer
-  pub refused : AllByRecursion (λ told. told ≡ Err StoreRefused) later
+  pub refused : AreRefused later
 
 -- After commands, while the store is not shut, a crash leaves the rows of the last state. Once it is, a crash leaves
 -- these, or the rows of the state after the command whose commit failed

@@ -13,7 +13,8 @@ use Rattle.sqlite_trees.specs.Tree.{Trees}
 use Rattle.vet_rows.specs.Rows.{RowsValue}
 use Rattle.vet_store.specs.Forms.{code, form_of}
 use Rattle.vet_store.specs.Has.{HasTable, refers_not}
-use Rattle.vet_store.specs.Stands.{Holds, Rests}
+use Rattle.vet_store.specs.Stands.{Holds, Rests, Stands}
+use Rattle.vet_store.specs.Tied.{Leaves}
 use Rattle.vet_store.specs.declared.table_name.TableName.{TableName}
 
 -- no table, index or view has the name, but for the case of ASCII letters, and no foreign key refers to it
@@ -35,6 +36,16 @@ pub record SparesOthers (old new : Database) : Type 0 where
 abbrev pub IsMade : State → RowsValue → Trees → Type 0
 IsMade s rows trees = (db : Database) × (trees ≡ db.trees)
     × (Rests s → AreFree s.now.schema → Holds db rows × SparesOthers s.now db)
+
+-- no table was made: the connection rests, and shows what it did
+abbrev pub IsAsBefore : State → State → Type 0
+IsAsBefore old new = Rests new × (new.now ≡ old.now)
+
+-- the tables were made: they have these rows, a crash leaves them, and all else is as it was
+pub record HasMade (old new : State) (rows : RowsValue) : Type 0 where
+  pub stands : Stands new rows
+  pub leaves : Leaves new rows
+  pub others : SparesOthers old.now new.now
 
 -- ---- one table after another
 

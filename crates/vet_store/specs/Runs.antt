@@ -1,5 +1,6 @@
 -- What commands make of a stored register, one after the other (ours).
 use Rattle.std.specs.Prelude.{◌≡◌, ◌⊎◌, Bool, true, false, List, [], ◌∷◌, Ok, Err, filter, if◌then◌else◌}
+use Rattle.std.specs.List.{AllByRecursion}
 use Rattle.vet_base.specs.Gives.{Told}
 use Rattle.vet_base.specs.declared.refusal.Refusal.{Refusal}
 use Rattle.vet_base.specs.declared.refusal.Refusal.TheVariants.{NoMemory, StoreRefused}
@@ -16,6 +17,10 @@ IsOfStore e = (e ≡ NoMemory) ⊎ (e ≡ StoreRefused)
 -- a command failed by that, which no verdict tells
 abbrev pub Fails : Told Outcome → Type 0
 Fails answer = (answer ≡ Err NoMemory) ⊎ (answer ≡ Err StoreRefused)
+
+-- a shut store answered each so
+abbrev pub AreRefused : List (Told Outcome) → Type 0
+AreRefused = AllByRecursion (λ answer. answer ≡ Err StoreRefused)
 
 -- commands ran from a state, had these answers and left the last state. None leaves the state; or the verdict of the
 -- state is the answer to the first, and the rest ran from the state after it; or the first failed, and the rest ran

@@ -5,6 +5,7 @@ use Rattle.sqlite.specs.Effect.{Database}
 use Rattle.sqlite.specs.State.{HasCleanDisk}
 use Rattle.sqlite.specs.State as sqlite
 use Rattle.vet_rows.specs.Rows.{RowsValue}
+use Rattle.vet_store.specs.Changes.{KeepsOthers}
 use Rattle.vet_store.specs.Committed.{AreTreesOf}
 use Rattle.vet_store.specs.Stands.{Holds, Stands}
 
@@ -21,4 +22,5 @@ pub record IsTied (c : sqlite.State) (shut : Bool) (rows : RowsValue) : Type 0 w
 
 -- what a commit of some rows in place of others may leave, if those stood
 abbrev pub IsWritten : sqlite.State → RowsValue → RowsValue → Trees → Type 0
-IsWritten c rows next trees = (db : Database) × (trees ≡ db.trees) × (Stands c rows → Holds db next)
+IsWritten c rows next trees = (db : Database) × (trees ≡ db.trees)
+    × (Stands c rows → Holds db next × KeepsOthers c.now db)

@@ -3,6 +3,7 @@ ghost use Rattle.std.specs.Prelude.{◌≡◌, ◌⊎◌, [], false, IfErr, IsTr
 ghost use Rattle.sqlite.specs.Held.{state};
 ghost use Rattle.sqlite.specs.State.{HasCleanDisk, Survives};
 ghost use Rattle.vet_rows.specs.RowChanges.{all_changed};
+ghost use Rattle.vet_store.specs.Changes.{KeepsOthers};
 ghost use Rattle.vet_store.specs.Committed.{IsAfter, IsBefore, no_rows};
 ghost use Rattle.vet_store.specs.Made.{AreFree, IsMade, SparesOthers};
 ghost use Rattle.vet_store.specs.Stands.{Rests, Stands};
@@ -18,7 +19,7 @@ pub enum Stop {
     Commit(Error),
 }
 
-/// Makes the changes in one transaction, in their order.
+/// Makes the changes in one transaction, in their order. All else that the database has stays.
 pub fn commit_changes<S: Alter>(conn: &mut Connection<S>, changes: &[RowChange]) -> Result<(), Stop>
     requires { conn.old.in_transaction ≡ false }
     ensures autocommit { conn.new.in_transaction ≡ false }
@@ -27,6 +28,9 @@ pub fn commit_changes<S: Alter>(conn: &mut Connection<S>, changes: &[RowChange])
         → Stands (state S.Store conn.new) (all_changed changes.now rows)) }
     ensures kept { HasCleanDisk (state S.Store conn.new) → IsTrue (state S.Store conn.new).is_open → OnErr result (
         (rows : _) → Stands (state S.Store conn.old) rows → Stands (state S.Store conn.new) rows) }
+    ensures others { HasCleanDisk (state S.Store conn.new) → IsTrue (state S.Store conn.new).is_open
+        → (rows : _) → Stands (state S.Store conn.old) rows
+        → KeepsOthers (state S.Store conn.old).now (state S.Store conn.new).now }
     ensures opens { HasCleanDisk (state S.Store conn.new) → OnOk result (IsTrue (state S.Store conn.old).is_open) }
     ensures was_open { HasCleanDisk (state S.Store conn.new) → IsTrue (state S.Store conn.new).is_open
         → IsTrue (state S.Store conn.old).is_open }

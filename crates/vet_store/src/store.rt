@@ -101,6 +101,7 @@ impl<S: Alter + Drop, K: Keeper> Store<S, K> {
     /// Gives the connection back, outside a transaction. Takes no memory.
     pub fn close(self) -> Connection<S>
         ensures conn { result ≡ self.conn }
+        ensures outside { result.in_transaction ≡ false }
         ensures tables { IsTied (state S.Store result) self.shut (rows_of self.register.state) }
     {
         let Store {

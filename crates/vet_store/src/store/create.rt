@@ -8,7 +8,7 @@ ghost use Rattle.vet_rows.specs.RowChanges.{all_changed};
 ghost use Rattle.vet_rows.specs.RowsOf.{rows_of};
 ghost use Rattle.vet_rows.specs.declared.row.MetaRow.{MetaRow as MetaValue};
 ghost use Rattle.vet_store.specs.Committed.{no_rows};
-ghost use Rattle.vet_store.specs.Made.{AreFree, IsMade, SparesOthers};
+ghost use Rattle.vet_store.specs.Made.{AreFree, IsAsBefore, IsMade, SparesOthers};
 ghost use Rattle.vet_store.specs.Runs.{IsOfStore};
 ghost use Rattle.vet_store.specs.Stands.{Rests, Stands};
 ghost use Rattle.vet_store.specs.Tied.{IsTied};
@@ -44,6 +44,7 @@ impl<S: Alter + Drop, K: Keeper> Store<S, K> {
         ensures start { IfOk result (λ s. s.register.state ≡ start moves_limit) }
         ensures tables { IfOk result (λ s. (s.shut ≡ false)
             × IsTied (state S.Store s.conn) s.shut (rows_of s.register.state)) }
+        ensures outside { IfOk result (λ s. s.conn.in_transaction ≡ false) }
         ensures others { IfOk result (λ s. HasCleanDisk (state S.Store s.conn)
             → SparesOthers (state S.Store conn).now (state S.Store s.conn).now) }
         ensures taken { (AreFree (state S.Store conn).now.schema → ⊥)
@@ -51,8 +52,7 @@ impl<S: Alter + Drop, K: Keeper> Store<S, K> {
         ensures refused { AreFree (state S.Store conn).now.schema → IfErr result (λ e. IsOfStore e.refusal) }
         ensures autocommit { IfErr result (λ e. e.conn.in_transaction ≡ false) }
         ensures as_before { IfErr result (λ e. HasCleanDisk (state S.Store e.conn)
-            → IsTrue (state S.Store e.conn).is_open
-            → Rests (state S.Store e.conn) × ((state S.Store e.conn).now ≡ (state S.Store conn).now)) }
+            → IsTrue (state S.Store e.conn).is_open → IsAsBefore (state S.Store conn) (state S.Store e.conn)) }
         ensures crash { MatchResult result
             (λ s. Survives (state S.Store conn) (state S.Store s.conn)
             (IsMade (state S.Store conn) (rows_of (start moves_limit))))

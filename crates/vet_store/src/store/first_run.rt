@@ -1,14 +1,15 @@
 //! A store is made, and the first commands are run on it.
 //!
 //! **They leave what the machine makes of them from its beginning**, and the headline over commands holds of them.
-ghost use Rattle.std.specs.Prelude.{◌≡◌, ◌<◌, ◌≤◌, IfErr, IfOk, IsErrAnd, false, length};
+ghost use Rattle.std.specs.Prelude.{◌≡◌, ◌<◌, ◌≤◌, ◌⊎◌, IfErr, IfOk, IsErrAnd, IsTrue, false, length};
 ghost use Rattle.sqlite.specs.Held.{state};
+ghost use Rattle.sqlite.specs.State.{HasCleanDisk, Survives};
 ghost use Rattle.vet_register.specs.Sound.{IsBalanced};
 ghost use Rattle.vet_register.specs.State.{start};
 ghost use Rattle.vet_rows.specs.RowsOf.{rows_of};
 ghost use Rattle.vet_store.specs.Classes.{AddsUp, HasClassesOfChains};
 ghost use Rattle.vet_store.specs.Crash.{LeavesRun};
-ghost use Rattle.vet_store.specs.Made.{AreFree};
+ghost use Rattle.vet_store.specs.Made.{AreFree, HasMade, IsAsBefore, IsMade};
 ghost use Rattle.vet_store.specs.Repeats.{IsTurnWithRepeats};
 ghost use Rattle.vet_store.specs.Runs.{Each, IsOfDone, IsOfStore, Ran};
 ghost use Rattle.vet_store.specs.Tied.{IsTied};
@@ -38,8 +39,8 @@ impl<S: Alter + Drop, K: Keeper> Drop for FirstRun<S, K> {
 }
 
 impl<S: Alter + Drop, K: Keeper> Store<S, K> {
-    /// Makes a store and runs commands on it. Asks for what `create` asks. Refused: what `create` refuses, and
-    /// `NoMemory` with nothing run.
+    /// Makes a store and runs commands on it. Asks for what `create` asks. Refused: what `create` refuses, with the
+    /// database as it was; and `NoMemory` with nothing run, where a register that holds nothing may stand there.
     pub fn create_and_run(
         alloc: Global,
         conn: Connection<S>,
@@ -65,7 +66,14 @@ impl<S: Alter + Drop, K: Keeper> Store<S, K> {
         ensures taken { (AreFree (state S.Store conn).now.schema → ⊥)
             → IsErrAnd result (λ e. (e.refusal ≡ Refusal.NotARegister) × (e.conn ≡ conn)) }
         ensures refused { AreFree (state S.Store conn).now.schema → IfErr result (λ e. IsOfStore e.refusal) }
+        ensures outside { IfOk result (λ r. r.store.conn.in_transaction ≡ false) }
         ensures autocommit { IfErr result (λ e. e.conn.in_transaction ≡ false) }
+        ensures stands { IfErr result (λ e. HasCleanDisk (state S.Store e.conn)
+            → IsTrue (state S.Store e.conn).is_open → IsAsBefore (state S.Store conn) (state S.Store e.conn)
+            ⊎ ((e.refusal ≡ Refusal.NoMemory)
+            × HasMade (state S.Store conn) (state S.Store e.conn) (rows_of (start moves_limit)))) }
+        ensures crash { IfErr result (λ e. Survives (state S.Store conn) (state S.Store e.conn)
+            (IsMade (state S.Store conn) (rows_of (start moves_limit)))) }
     {
         let mut store = match Store::create(alloc, conn, moves_limit) {
             Ok(store) => store,

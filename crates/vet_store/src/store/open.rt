@@ -11,10 +11,11 @@ ghost use Rattle.vet_register.specs.State as machine;
 ghost use Rattle.vet_rows.specs.HeldState.{IsHeldState};
 ghost use Rattle.vet_rows.specs.RowsOf.{rows_of};
 ghost use Rattle.vet_rows.specs.SameRows.{SameRows};
+ghost use Rattle.vet_store.specs.Made.{IsAsBefore};
 ghost use Rattle.vet_store.specs.Opened.{IsStored, IsToldBy};
 ghost use Rattle.vet_store.specs.Read.{KeepsRest};
 ghost use Rattle.vet_store.specs.Runs.{IsOfStore};
-ghost use Rattle.vet_store.specs.Stands.{Holds, Rests};
+ghost use Rattle.vet_store.specs.Stands.{Holds};
 ghost use Rattle.vet_store.specs.Tied.{IsTied};
 
 use super::Store;
@@ -46,6 +47,7 @@ impl<S: Alter + Drop, K: Keeper> Store<S, K> {
             → (t : machine.State) → IsStored (state S.Store conn).now t → s.register.state ≡ t) }
         ensures tables { IfOk result (λ s. (s.shut ≡ false)
             × IsTied (state S.Store s.conn) s.shut (rows_of s.register.state)) }
+        ensures outside { IfOk result (λ s. s.conn.in_transaction ≡ false) }
         ensures unchanged { IfOk result (λ s. HasCleanDisk (state S.Store s.conn)
             → IsUnchanged (state S.Store conn) (state S.Store s.conn)) }
         ensures none { IfErr result (λ e. e.refusal ≡ Refusal.NotARegister → HasCleanDisk (state S.Store e.conn)
@@ -53,8 +55,7 @@ impl<S: Alter + Drop, K: Keeper> Store<S, K> {
         ensures refused { IfErr result (λ e. IsOfStore e.refusal ⊎ (e.refusal ≡ Refusal.NotARegister)) }
         ensures autocommit { IfErr result (λ e. e.conn.in_transaction ≡ false) }
         ensures as_before { IfErr result (λ e. HasCleanDisk (state S.Store e.conn)
-            → IsTrue (state S.Store e.conn).is_open
-            → Rests (state S.Store e.conn) × ((state S.Store e.conn).now ≡ (state S.Store conn).now)) }
+            → IsTrue (state S.Store e.conn).is_open → IsAsBefore (state S.Store conn) (state S.Store e.conn)) }
         ensures was_open { IfErr result (λ e. HasCleanDisk (state S.Store e.conn)
             → IsTrue (state S.Store e.conn).is_open → IsTrue (state S.Store conn).is_open) }
         ensures crash { MatchResult result

@@ -9,7 +9,8 @@ ghost use Rattle.vet_register.specs.Machine.{next};
 ghost use Rattle.vet_rows.specs.RowsOf.{rows_of};
 ghost use Rattle.vet_store.specs.Repeats.{IsReadable, RepeatsStay};
 ghost use Rattle.vet_store.specs.Runs.{Fails, IsTurn};
-ghost use Rattle.vet_store.specs.Committed.{AreTreesOf};
+ghost use Rattle.vet_store.specs.Beside.{OthersStay};
+ghost use Rattle.vet_store.specs.Committed.{AreTreesBeside};
 ghost use Rattle.vet_store.specs.Crash.{LeavesEither};
 ghost use Rattle.vet_store.specs.Tied.{IsTied};
 
@@ -23,20 +24,22 @@ use vet_register::change::{Change, Prepared};
 use vet_register::command::{Action, Command, Outcome};
 
 impl<S: Alter, K: Keeper> Store<S, K> {
-    /// Runs a command. After a refusal the register and the tables are as before. Refused: what `Register::prepare`
-    /// refuses, or `NoMemory` or `StoreRefused` by the store. If these come of the commit, the store is shut. A shut
-    /// store answers `StoreRefused` and touches nothing.
+    /// Runs a command. After a refusal the register and the tables are as before. What else the database has stays in
+    /// any case. Refused: what `Register::prepare` refuses, or `NoMemory` or `StoreRefused` by the store. If these come
+    /// of the commit, the store is shut. A shut store answers `StoreRefused` and touches nothing.
     pub fn run(&mut self, alloc: Global, command: &Command) -> Result<Outcome, Refusal>
         ensures turn { IsTurn self.old.register.state command.now result self.new.register.state }
         ensures repeats { RepeatsStay self.old.register.state command.now result self.new.register.state }
         ensures tables { IsTied (state S.Store self.new.conn) self.new.shut (rows_of self.new.register.state) }
+        ensures others { OthersStay (state S.Store self.old.conn) (state S.Store self.new.conn) }
+        ensures outside { self.new.conn.in_transaction ≡ false }
         ensures closed { IsTrue self.old.shut → (result ≡ Err Refusal.StoreRefused) × (self.new ≡ self.old) }
         ensures shuts { self.old.shut ≡ false → IsTrue self.new.shut → Fails result }
         ensures before { OnErr result (self.new.shut ≡ false
             → Survives (state S.Store self.old.conn) (state S.Store self.new.conn) (λ _. ⊥)) }
         ensures crash { IsTrue (state S.Store self.old.conn).is_open
             → Survives (state S.Store self.old.conn) (state S.Store self.new.conn)
-            (AreTreesOf (rows_of (next self.old.register.state command.now))) }
+            (AreTreesBeside (state S.Store self.old.conn).now (rows_of (next self.old.register.state command.now))) }
         ensures leaves { self.old.shut ≡ false → HasCleanDisk (state S.Store self.new.conn)
             → LeavesEither (state S.Store self.new.conn) self.old.register.state command.now }
     {
@@ -49,13 +52,14 @@ impl<S: Alter, K: Keeper> Store<S, K> {
     fn run_once(&mut self, alloc: Global, command: &Command) -> Result<Outcome, Refusal>
         ensures turn { IsTurn self.old.register.state command.now result self.new.register.state }
         ensures tables { IsTied (state S.Store self.new.conn) self.new.shut (rows_of self.new.register.state) }
+        ensures others { OthersStay (state S.Store self.old.conn) (state S.Store self.new.conn) }
         ensures closed { IsTrue self.old.shut → (result ≡ Err Refusal.StoreRefused) × (self.new ≡ self.old) }
         ensures shuts { self.old.shut ≡ false → IsTrue self.new.shut → Fails result }
         ensures before { OnErr result (self.new.shut ≡ false
             → Survives (state S.Store self.old.conn) (state S.Store self.new.conn) (λ _. ⊥)) }
         ensures crash { IsTrue (state S.Store self.old.conn).is_open
             → Survives (state S.Store self.old.conn) (state S.Store self.new.conn)
-            (AreTreesOf (rows_of (next self.old.register.state command.now))) }
+            (AreTreesBeside (state S.Store self.old.conn).now (rows_of (next self.old.register.state command.now))) }
         ensures leaves { self.old.shut ≡ false → HasCleanDisk (state S.Store self.new.conn)
             → LeavesEither (state S.Store self.new.conn) self.old.register.state command.now }
     {

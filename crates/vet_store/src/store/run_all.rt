@@ -12,10 +12,11 @@ ghost use Rattle.std.specs.Prelude.{◌≡◌, false, IfOk, IfErr, IsTrue, OnErr
 ghost use Rattle.sqlite.specs.Held.{state};
 ghost use Rattle.vet_register.specs.Sound.{IsBalanced};
 ghost use Rattle.vet_rows.specs.RowsOf.{rows_of};
+ghost use Rattle.vet_store.specs.Beside.{OthersStay};
 ghost use Rattle.vet_store.specs.Classes.{AddsUp, HasClassesOfChains};
 ghost use Rattle.vet_store.specs.Crash.{LeavesRun};
 ghost use Rattle.vet_store.specs.Repeats.{IsTurnWithRepeats};
-ghost use Rattle.vet_store.specs.Runs.{Each, IsOfDone, Ran};
+ghost use Rattle.vet_store.specs.Runs.{AreRefused, Each, IsOfDone, Ran};
 ghost use Rattle.vet_store.specs.Tied.{IsTied};
 
 use super::Store;
@@ -30,8 +31,8 @@ use vet_register::register::Register;
 
 impl<S: Alter, K: Keeper> Store<S, K> {
     /// Runs commands one after the other, whatever becomes of each, and answers what each was told in the state of its
-    /// turn, or that it met a want of memory or the store refused it. Room for the answers is taken first. Refused,
-    /// with nothing run: `NoMemory`.
+    /// turn, or that it met a want of memory or the store refused it. Of a store that is shut, each is told
+    /// `StoreRefused`. Room for the answers is taken first. Refused, with nothing run: `NoMemory`.
     pub fn run_all(
         &mut self,
         alloc: Global,
@@ -48,9 +49,12 @@ impl<S: Alter, K: Keeper> Store<S, K> {
         ensures repeats { IfOk result (λ answers.
             Each IsTurnWithRepeats self.old.register.state commands.now answers.items self.new.register.state) }
         ensures tables { IsTied (state S.Store self.new.conn) self.new.shut (rows_of self.new.register.state) }
+        ensures outside { self.new.conn.in_transaction ≡ false }
         ensures memory { IfErr result (λ e. e ≡ Refusal.NoMemory) }
         ensures err { OnErr result (self.new ≡ self.old) }
+        ensures others { OthersStay (state S.Store self.old.conn) (state S.Store self.new.conn) }
         ensures closed { IsTrue self.old.shut → self.new ≡ self.old }
+        ensures refused { IsTrue self.old.shut → IfOk result (λ answers. AreRefused answers.items) }
         ensures leaves { IfOk result (λ answers. self.old.shut ≡ false
             → LeavesRun (state S.Store self.new.conn) self.new.shut self.old.register.state commands.now answers.items
             self.new.register.state) }
@@ -71,7 +75,9 @@ impl<S: Alter, K: Keeper> Store<S, K> {
             Each IsTurnWithRepeats self.old.register.state commands.now answers.items self.new.register.state) }
         ensures memory { IfErr result (λ e. e ≡ Refusal.NoMemory) }
         ensures err { OnErr result (self.new ≡ self.old) }
+        ensures others { OthersStay (state S.Store self.old.conn) (state S.Store self.new.conn) }
         ensures closed { IsTrue self.old.shut → self.new ≡ self.old }
+        ensures refused { IsTrue self.old.shut → IfOk result (λ answers. AreRefused answers.items) }
         ensures leaves { IfOk result (λ answers. self.old.shut ≡ false
             → LeavesRun (state S.Store self.new.conn) self.new.shut self.old.register.state commands.now answers.items
             self.new.register.state) }

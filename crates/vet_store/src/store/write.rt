@@ -5,6 +5,7 @@ ghost use Rattle.sqlite.specs.State.{HasCleanDisk, Survives};
 ghost use Rattle.vet_register.specs.Machine.{CommandValue, next};
 ghost use Rattle.vet_register.specs.RegisterView.{IsPrepared};
 ghost use Rattle.vet_rows.specs.RowsOf.{rows_of};
+ghost use Rattle.vet_store.specs.Changes.{KeepsOthers};
 ghost use Rattle.vet_store.specs.Runs.{IsOfStore};
 ghost use Rattle.vet_store.specs.Stands.{Stands};
 ghost use Rattle.vet_store.specs.Tied.{IsWritten};
@@ -39,6 +40,9 @@ pub(crate) fn write_change<S: Alter, K: Keeper>(
     ensures kept { HasCleanDisk (state S.Store conn.new) → IsTrue (state S.Store conn.new).is_open
         → OnErr result (Stands (state S.Store conn.old) (rows_of register.now.state)
         → Stands (state S.Store conn.new) (rows_of register.now.state)) }
+    ensures others { HasCleanDisk (state S.Store conn.new) → IsTrue (state S.Store conn.new).is_open
+        → Stands (state S.Store conn.old) (rows_of register.now.state)
+        → KeepsOthers (state S.Store conn.old).now (state S.Store conn.new).now }
     ensures opens { HasCleanDisk (state S.Store conn.new) → OnOk result (IsTrue (state S.Store conn.old).is_open) }
     ensures was_open { HasCleanDisk (state S.Store conn.new) → IsTrue (state S.Store conn.new).is_open
         → IsTrue (state S.Store conn.old).is_open }

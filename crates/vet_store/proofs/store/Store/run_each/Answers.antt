@@ -1,13 +1,16 @@
-use Rattle.std.proofs.Common.{◌≡◌, ◌∙◌, ◌+◌, ◌++◌, ◌∷◌, [], ap, arith, inl, refl, subst, suc, sym, take}
+use Rattle.std.proofs.Common.{◌≡◌, ◌∙◌, ◌+◌, ◌++◌, ◌∷◌, [], Err, ap, arith, inl, refl, subst, suc, sym, take}
 use Rattle.std.proofs.Math.Seq.{take-suc}
 use Rattle.std.proofs.lemmas.List.{take_all}
 use Rattle.sqlite.specs.Held.{state}
+use Rattle.vet_base.specs.declared.refusal.Refusal.TheVariants.{StoreRefused}
 use Rattle.vet_store.specs.Crash.{LeavesRun}
 use Rattle.vet_store.specs.Repeats.{IsTurnWithRepeats}
-use Rattle.vet_store.specs.Runs.{Each, IsTurn}
+use Rattle.vet_store.specs.Runs.{AreRefused, Each, IsTurn}
 use Rattle.vet_store.specs.StoreView.{StoreView}
 use Rattle.vet_store.proofs.Crashes.{leaves_more}
+use Rattle.vet_store.proofs.Readings.{all_pushed}
 use Rattle.vet_store.proofs.Running.{each_more, each_weaker, ran_of}
+use Rattle.vet_store.proofs.Tying.{others_as_were, others_then}
 use Rattle.vet_store.proofs.store.Store.run_each.Goals as goal
 
 pub loop-command-init : goal.loop-command-init
@@ -21,7 +24,9 @@ loop-command-init g c =
       room = omega (arith, c.in_ok-reserve.ensures.ok, c.reserve.ensures.len, c.new-answers.ensures.len);
       leaves = λ unshut. subst (λ answers. LeavesRun (state g.S.Store s.conn) s.shut first [] answers first) (sym empty)
           (inl (unshut, λ clean. c.tables_are_of_register.ensures.leaves clean unshut));
+      others = others_as_were (state g.S.Store s.conn);
       closed = λ is. refl;
+      refused = λ is. rw empty tt;
     }
 
 pub loop-command-preserved : goal.loop-command-preserved
@@ -68,7 +73,12 @@ loop-command-preserved g c =
           (subst (λ cs. LeavesRun (state g.S.Store last.conn) last.shut first cs (so_far ++ a ∷ [])
           last.register.state)
           (sym commands) left);
+      others = others_then (state g.S.Store c.args.self.now.conn) (state g.S.Store mid.conn)
+          (state g.S.Store last.conn) inv.others ran.others;
       closed = λ is. (ran.closed (rw (inv.closed is) is)).1 ∙ inv.closed is;
+      refused = λ is. subst AreRefused (sym pushed.items)
+          (all_pushed (λ answer. answer ≡ Err StoreRefused) so_far a (inv.refused is)
+          (ran.closed (rw (inv.closed is) is)).0);
     }
 
 pub returns-clause-leaves : goal.returns-clause-leaves

@@ -1,9 +1,10 @@
 -- The commands so far had their turns, and there is room for the answers to the rest. What a crash leaves is known.
 use Rattle.std.proofs.Common.{◌≡◌, ◌≤◌, IsTrue, false, length, take, vec_capacity, vec_len}
 use Rattle.sqlite.specs.Held.{state}
+use Rattle.vet_store.specs.Beside.{OthersStay}
 use Rattle.vet_store.specs.Crash.{LeavesRun}
 use Rattle.vet_store.specs.Repeats.{IsTurnWithRepeats}
-use Rattle.vet_store.specs.Runs.{Each}
+use Rattle.vet_store.specs.Runs.{AreRefused, Each}
 use Rattle.vet_store.proofs.store.Store.run_each.Given as goal
 
 abbrev pub invariant-loop-command : goal.invariant-loop-command
@@ -14,5 +15,7 @@ invariant-loop-command g l = record {
   room : length l.commands ≤ vec_capacity l.answers;
   leaves : l.fn.self.shut ≡ false → LeavesRun (state g.S.Store l.self.conn) l.self.shut l.fn.self.register.state
       (take l.command-index l.commands) l.answers.items l.self.register.state;
+  others : OthersStay (state g.S.Store l.fn.self.conn) (state g.S.Store l.self.conn);
   closed : IsTrue l.fn.self.shut → l.self ≡ l.fn.self;
+  refused : IsTrue l.fn.self.shut → AreRefused l.answers.items;
 }

@@ -8,14 +8,16 @@ use Rattle.vet_register.specs.State.{State}
 use Rattle.vet_register.proofs.Turns.{turn_already, turn_done, turn_refused}
 use Rattle.vet_register.specs.declared.command.Outcome.TheVariants.{Already}
 use Rattle.vet_rows.specs.RowsOf.{rows_of}
-use Rattle.vet_store.specs.Committed.{AreTreesOf}
+use Rattle.vet_store.specs.Beside.{OthersStay}
+use Rattle.vet_store.specs.Committed.{AreTreesBeside}
 use Rattle.vet_store.specs.Crash.{LeavesEither}
 use Rattle.vet_store.specs.Runs.{IsTurn}
 use Rattle.vet_store.specs.StoreView.{StoreView}
 use Rattle.vet_store.specs.Tied.{IsTied}
 use Rattle.vet_store.proofs.Crashes.{after_accepted, left_after, left_before, left_refused}
 use Rattle.vet_store.proofs.Running.{turn_of}
-use Rattle.vet_store.proofs.Tying.{survives_written, tied_refused, tied_written}
+use Rattle.vet_store.proofs.Tying.{others_as_were, others_stay, survives_written}
+use Rattle.vet_store.proofs.Tying.{tied_refused, tied_written}
 use Rattle.vet_store.proofs.store.Store.run_once.Goals as goal
 
 pub returns-in-Err-clause-turn : goal.returns-in-Err-clause-turn
@@ -134,8 +136,9 @@ returns-in-Ok-clause-crash g c =
     c.prepare.ensures.state ∙ ap (λ (v : StoreView _ _). v.register.state) c.self.view_is in
     let conn : c.self.inside.conn ≡ c.args.self.now.conn = ap (λ (v : StoreView _ _). v.conn) c.self.view_is in
     subst (λ h. IsTrue (state g.S.Store h).is_open → Survives (state g.S.Store h) new
-    (AreTreesOf (rows_of (next c.args.self.now.register.state command)))) conn
-    (subst (λ (t : State). IsTrue old.is_open → Survives old new (AreTreesOf (rows_of (next t command)))) same crash)
+    (AreTreesBeside (state g.S.Store h).now (rows_of (next c.args.self.now.register.state command)))) conn
+    (subst (λ (t : State). IsTrue old.is_open → Survives old new (AreTreesBeside old.now (rows_of (next t command))))
+    same crash)
 
 -- ---- what a crash leaves
 
@@ -189,3 +192,45 @@ returns-in-Ok-clause-leaves g c unshut =
     let same : s ≡ c.args.self.now.register.state =
     c.prepare.ensures.state ∙ ap (λ (v : StoreView _ _). v.register.state) c.self.view_is in
     subst (λ (t : State). HasCleanDisk new → LeavesEither new t command) same left
+
+-- ---- other tables
+
+pub returns-in-Err-clause-others : goal.returns-in-Err-clause-others
+returns-in-Err-clause-others g c =
+    let conn = state g.S.Store c.self.inside.conn in
+    subst (λ (v : StoreView _ _). OthersStay (state g.S.Store v.conn) conn) c.self.view_is (others_as_were conn)
+
+pub returns-in-Ok-Already-clause-others : goal.returns-in-Ok-Already-clause-others
+returns-in-Ok-Already-clause-others g c =
+    let conn = state g.S.Store c.self.inside.conn in
+    subst (λ (v : StoreView _ _). OthersStay (state g.S.Store v.conn) conn) c.self.view_is (others_as_were conn)
+
+pub returns-in-Err-write_change-clause-others : goal.returns-in-Err-write_change-clause-others
+returns-in-Err-write_change-clause-others g c =
+    let command = c.args.command.now in
+    let old = state g.S.Store c.self.inside.conn in
+    let new = state g.S.Store c.write_change.new.conn in
+    let tied = subst (λ (s : State). IsTied old c.self.inside.shut (rows_of s)) (sym c.prepare.ensures.state)
+    c.self.invariant in
+    let prepared : IsPrepared g.K.Keeper.keeping c.prepare.new.self command c.in-Ok-Change.change =
+    subst (λ (p : Prepared _ _). IsAnswer g.K.Keeper.keeping c.prepare.new.self command p) c.in-Ok-Change.field-0-is
+    c.in-Ok-Change.ensures.prepared in
+    let h = c.in-Err-write_change.ensures in
+    subst (λ (v : StoreView _ _). OthersStay (state g.S.Store v.conn) new) c.self.view_is
+    (others_stay old new c.self.inside.shut (rows_of c.prepare.new.self.state) _ tied h.was_open
+    (c.write_change.ensures.crash command prepared) h.others)
+
+pub returns-in-Ok-clause-others : goal.returns-in-Ok-clause-others
+returns-in-Ok-clause-others g c =
+    let command = c.args.command.now in
+    let old = state g.S.Store c.self.inside.conn in
+    let new = state g.S.Store c.write_change.new.conn in
+    let tied = subst (λ (s : State). IsTied old c.self.inside.shut (rows_of s)) (sym c.prepare.ensures.state)
+    c.self.invariant in
+    let prepared : IsPrepared g.K.Keeper.keeping c.prepare.new.self command c.in-Ok-Change.change =
+    subst (λ (p : Prepared _ _). IsAnswer g.K.Keeper.keeping c.prepare.new.self command p) c.in-Ok-Change.field-0-is
+    c.in-Ok-Change.ensures.prepared in
+    let h = c.in-Ok.ensures in
+    subst (λ (v : StoreView _ _). OthersStay (state g.S.Store v.conn) new) c.self.view_is
+    (others_stay old new c.self.inside.shut (rows_of c.prepare.new.self.state) _ tied (λ clean _. h.opens clean)
+    (h.crash command prepared) h.others)

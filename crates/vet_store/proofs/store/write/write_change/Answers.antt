@@ -62,3 +62,17 @@ returns-clause-reaches g c clean is =
     reaches_commit changes (IsBefore c.in-Err-Commit.field-0) (IsTrue (state g.S.Store c.args.conn.now).is_open)
     (λ before. subst IsBefore c.in-Err-Commit.field-0-is before) (changes_next s command changes same)
     (c.in-Err-Commit.ensures.reaches clean)
+
+-- ---- other tables
+
+pub returns-in-Ok-clause-others : goal.returns-in-Ok-clause-others
+returns-in-Ok-clause-others g c clean serves was =
+    c.in-Ok.ensures.others clean serves (rows_of c.args.register.now.state) was
+
+pub returns-in-Err-Before-clause-others : goal.returns-in-Err-Before-clause-others
+returns-in-Err-Before-clause-others g c clean serves was =
+    c.in-Err-Before.ensures.others clean serves (rows_of c.args.register.now.state) was
+
+pub returns-clause-others : goal.returns-clause-others
+returns-clause-others g c clean serves was =
+    c.in-Err-Commit.ensures.others clean serves (rows_of c.args.register.now.state) was

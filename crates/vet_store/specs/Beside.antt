@@ -1,0 +1,10 @@
+-- What else a database has, beside the tables of a register (ours).
+use Rattle.std.specs.Prelude.{IsTrue}
+use Rattle.sqlite.specs.State.{HasCleanDisk, State}
+use Rattle.vet_store.specs.Changes.{KeepsOthers}
+
+-- A connection that serves on a clean disk did so before. It shows the same schema, and the rows of each table that is
+-- none of a register's as they were
+abbrev pub OthersStay : State → State → Type 0
+OthersStay old new =
+    HasCleanDisk new → IsTrue new.is_open → HasCleanDisk old × (IsTrue old.is_open × KeepsOthers old.now new.now)
