@@ -14,6 +14,7 @@ pub mod Keyed
 pub mod Makes
 pub mod Making
 pub mod Meanings
+pub mod MemoryFiles
 pub mod Numbers
 pub mod OneRows
 pub mod Opening

@@ -8,6 +8,7 @@ pub mod Form
 pub mod Forms
 pub mod Has
 pub mod Made
+pub mod MemoryFile
 pub mod Numbered
 pub mod Opened
 pub mod Read

@@ -19,6 +19,7 @@ mod has_form;
 pub mod laws;
 mod lent;
 pub mod memory;
+pub mod memory_file;
 pub mod read;
 mod read_row;
 mod read_table;
