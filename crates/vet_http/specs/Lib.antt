@@ -26,5 +26,6 @@ pub mod RequestFault
 pub mod RequestLaws
 pub mod Route
 pub mod RouteTable
+pub mod Shown
 pub mod Status
 pub mod Told

@@ -36,5 +36,6 @@ pub mod request_laws;
 pub mod request_limits;
 pub mod route;
 pub mod route_laws;
+mod shown;
 pub mod status;
 pub mod told;
