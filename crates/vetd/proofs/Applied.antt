@@ -1,8 +1,7 @@
 -- From what the steps of applying a document ensure to the answer over the connection.
-use Rattle.std.proofs.Common.{◌≡◌, ◌≢◌, ◌⊎◌, ◌∙◌, inl, inr, Bool, IsTrue, List, [], ℕ, ◌≤◌, ◌+◌, Option, Some, None}
+use Rattle.std.proofs.Common.{◌≡◌, ◌≢◌, ◌∙◌, inr, List, [], ℕ, ◌≤◌, ◌+◌, Option, Some, None}
 use Rattle.std.proofs.Common.{Result, Ok, Err, IfOk, IfErr, IfSome, IsOkAnd, ap, length, refl, sym, subst}
-use Rattle.sqlite.specs.Held.{Held, state}
-use Rattle.sqlite.specs.State.{HasCleanDisk, Survives}
+use Rattle.sqlite.specs.Held.{Held}
 use Rattle.sqlite_trees.specs.declared.store.Store.{Ghosts}
 use Rattle.vet_base.specs.Day.{DayValue, read_day}
 use Rattle.vet_base.specs.Gives.{Told, found_or}
@@ -19,10 +18,10 @@ use Rattle.vet_register.specs.declared.command.Outcome.{Outcome}
 use Rattle.vet_reports.specs.OutcomeText.{outcome_text}
 use Rattle.vetd.specs.Answer.{Answer, Explains, IsInput, Refuses, answer_for, input_read}
 use Rattle.vetd.specs.ApplyWords.{ApplyAsked}
-use Rattle.vetd.specs.Applying.{AnswersApply, IsAnswerToApply, IsApplied, IsApplyAnswer, IsApplyFor, IsApplyOn}
-use Rattle.vetd.specs.Applying.{IsDocumentAnswer, IsGiven, IsRunOf, IsUnapplied, day_given}
+use Rattle.vetd.specs.Applying.{AnswersApply, IsAnswerToApply, IsApplyAnswer, IsApplyFor, IsApplyOn}
+use Rattle.vetd.specs.Applying.{IsDocumentAnswer, IsGiven, IsRunOf, IsUnapplied}
 use Rattle.vetd.specs.Making.{Giving}
-use Rattle.vetd.specs.Opening.{IsNotOpened, IsOpenedAs}
+use Rattle.vetd.specs.Opening.{IsOpenedAs}
 use Rattle.vetd.proofs.AnswerLemmas.{some_input}
 
 module _ {S : Type 0} (g : Ghosts S) (document : Bytes) (day : DayValue) (giver : Option Bytes) {T : Type 0}

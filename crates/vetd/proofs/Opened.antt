@@ -1,5 +1,5 @@
 -- From what opening a store ensures to what it comes to, of the connection that is given back.
-use Rattle.std.proofs.Common.{◌≡◌, ◌⊎◌, inl, Bool, IsTrue, IfErr, IfOk, Result, Ok, Err, false, refl, sym, subst}
+use Rattle.std.proofs.Common.{◌≡◌, ◌⊎◌, inl, Bool, IsTrue, IfErr, IfOk, Result, Ok, Err, refl, sym, subst}
 use Rattle.sqlite.specs.Held.{Held, state}
 use Rattle.sqlite.specs.State.{HasCleanDisk, IsUnchanged, Survives}
 use Rattle.sqlite_trees.specs.declared.store.Store.{Ghosts}

@@ -1,5 +1,5 @@
 -- What a new command makes, and answers (ours).
-use Rattle.std.specs.Prelude.{◌≡◌, ◌⊎◌, IsTrue, List, MatchResult, Option, Some, None, Result, Ok, Err, codes, false}
+use Rattle.std.specs.Prelude.{◌≡◌, ◌⊎◌, IsTrue, List, Option, Some, None, Result, Ok, Err, codes, false}
 use Rattle.std.specs.Prelude.{ℕ, ⊤}
 use Rattle.clap.specs.Walk.{Text}
 use Rattle.sqlite.specs.Held.{Held, state}
