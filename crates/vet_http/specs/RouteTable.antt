@@ -1,5 +1,5 @@
--- The table of routes, as the rows of `matchit` in its order, and the route of a target (ours). In a pattern a parameter
--- is one token; beside it stands the text of the path, and where in that each parameter's name stands.
+-- The table of routes, as the rows of `matchit` in its order, and the route of a target (ours). In a pattern a
+-- parameter is one token; beside it stands the text of the path, and where in that each parameter's name stands.
 use Rattle.std.specs.Prelude.{ℕ, List, [], ◌∷◌, ◌++◌, Option, None, codes, if◌then◌else◌}
 use Rattle.std.specs.Option.{option_map}
 use Rattle.std.specs.Str.{is_utf8}

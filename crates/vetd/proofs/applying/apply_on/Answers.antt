@@ -27,7 +27,8 @@ returns-in-Err-read_at_most-clause-written g c =
     let known = g.R.Read.remaining c.args.reader.now.source in
     let asked = apply_asked c.args.asked in
     failed_written (AnswersApply g.S.Store gives known (Some asked) None)
-    (IsUnapplied g.S.Store gives known (Some asked) None) c.in-Err-read_at_most.fault _ _ c.in-Err-read_at_most.ensures.faults tt
+    (IsUnapplied g.S.Store gives known (Some asked) None) c.in-Err-read_at_most.fault _ _
+    c.in-Err-read_at_most.ensures.faults tt
 
 pub returns-clause-written : goal.returns-clause-written
 returns-clause-written g c =

@@ -10,6 +10,7 @@ use Rattle.vetd.proofs.export.audits_exported.Goals as goal
 
 pub returns-clause-file : goal.returns-clause-file
 returns-clause-file g c =
-    exported_file Audits c.args.register.now.state _ audits_table IsAudits (λ content. GivesBack audits_told (SameAudits content))
+    exported_file Audits c.args.register.now.state _ audits_table IsAudits
+    (λ content. GivesBack audits_told (SameAudits content))
     string_bytes refl (λ t b. b) c.in_ok-content.content c.write_audits.result c.in_ok-content.ensures.content
     c.in_ok-content.ensures.readable c.write_audits.ensures.table c.write_audits.ensures.read

@@ -10,6 +10,7 @@ use Rattle.vetd.proofs.export.config_exported.Goals as goal
 
 pub returns-clause-file : goal.returns-clause-file
 returns-clause-file g c =
-    exported_file Config c.args.register.now.state _ config_table IsConfig (λ content. GivesBack config_told (SameConfig content))
+    exported_file Config c.args.register.now.state _ config_table IsConfig
+    (λ content. GivesBack config_told (SameConfig content))
     string_bytes refl (λ t b. b) c.in_ok-content.content c.write_config.result c.in_ok-content.ensures.content
     c.in_ok-content.ensures.readable c.write_config.ensures.table c.write_config.ensures.read
