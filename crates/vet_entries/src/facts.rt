@@ -8,9 +8,8 @@ ghost use Rattle.std.specs.Cmp.Lexicographic.{slice_cmp};
 ghost use Rattle.vet_base.specs.Criteria.{IsTable};
 ghost use Rattle.vet_base.specs.Keyed.{IsByKey};
 ghost use Rattle.vet_entries.specs.ByPackage.{gathered, is_of};
-ghost use Rattle.vet_entries.specs.Facts.{Fits, FitsWithMoreRoom, HoldsRoomOf, IsHeld, RoomHoldsItself};
-ghost use Rattle.vet_entries.specs.Facts.{RoomHoldsOnward, edited, entries_of_peers, entries_total, is_named, no_facts};
-ghost use Rattle.vet_entries.specs.Facts.{peers_room, publishers_room, room_after};
+ghost use Rattle.vet_entries.specs.Facts.{Fits, HoldsRoomOf, IsHeld, edited, entries_of_peers, entries_total};
+ghost use Rattle.vet_entries.specs.Facts.{is_named, no_facts, peers_room, publishers_room, room_after};
 ghost use Rattle.vet_entries.specs.HeldPeer.{holding_or_none, peer_name, peer_of, with_content, with_settings};
 ghost use Rattle.vet_entries.specs.HeldPeer.{without_peer};
 ghost use Rattle.vet_entries.specs.Numbered.{AreByNumber, number_of, numbered, place_of};
@@ -493,11 +492,3 @@ impl EntryFacts {
         }
     }
 }
-
-/// An edit that fits still does where the facts are the same and no room is lost. None is lost where nothing
-/// happens, nor by one thing after another that each lose none. Does nothing.
-pub fn edits_fit_with_more_room()
-    ensures fits { FitsWithMoreRoom }
-    ensures itself { RoomHoldsItself }
-    ensures onward { RoomHoldsOnward }
-{}

@@ -20,6 +20,7 @@ pub mod holding;
 pub mod import;
 pub mod judge;
 pub mod kind;
+pub mod laws;
 pub mod local_criteria;
 pub mod peer_content;
 pub mod peer_settings;

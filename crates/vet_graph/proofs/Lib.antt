@@ -4,6 +4,7 @@ pub mod ClassSearch
 pub mod Differences
 pub mod Linking
 pub mod Reach
+pub mod ReachedHeads
 pub mod SameClass
 pub mod Standings
 pub mod Walk

@@ -14,7 +14,8 @@ use vet_base::refusal::Refusal;
 use vet_demand::policies::KeyedPolicy;
 use vet_demand::policy_key::PolicyKey;
 use vet_demand::project::NamedProject;
-use vet_entries::facts::{Edit, EntryFacts, edits_fit_with_more_room};
+use vet_entries::facts::{Edit, EntryFacts};
+use vet_entries::laws::edits_fit_with_more_room;
 
 /// Facts of packages, policies and projects, and what a config file says to the tool alone.
 pub struct Held {

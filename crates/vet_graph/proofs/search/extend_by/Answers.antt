@@ -1,6 +1,7 @@
 use Rattle.std.proofs.Common.{get_or}
 use Rattle.std.proofs.lemmas.List.{take_all}
-use Rattle.vet_graph.proofs.Reach.{LeadsOn-more, StandsBefore-kept, take-kept}
+use Rattle.vet_graph.proofs.Reach.{take-kept}
+use Rattle.vet_graph.proofs.ReachedHeads.{LeadsOn-more, StandsBefore-kept}
 use Rattle.vet_graph.proofs.search.extend_by.Goals as goal
 
 pub take_step-requires-clause-stands : goal.take_step-requires-clause-stands

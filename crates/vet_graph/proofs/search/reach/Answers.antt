@@ -1,8 +1,8 @@
 use Rattle.std.proofs.Common.{◌<◌, ap, length, arith, None, Some}
 use Rattle.std.proofs.lemmas.List.{length-take}
 use Rattle.vet_graph.specs.Search.{is_open, version_at, versions_at}
-use Rattle.vet_graph.proofs.Reach.{IsDone-next, IsDone-start, LeadsFrom-filed, closed-from_done, filed-stands, filed_at}
-use Rattle.vet_graph.proofs.Reach.{length-le_from_places, reached-iff, stands_at}
+use Rattle.vet_graph.proofs.Reach.{IsDone-next, closed-from_done, length-le_from_places, reached-iff}
+use Rattle.vet_graph.proofs.ReachedHeads.{IsDone-start, LeadsFrom-filed, filed-stands, filed_at, stands_at}
 use Rattle.vet_graph.proofs.search.reach.Goals as goal
 
 pub versions-init : goal.versions-init

@@ -1,5 +1,5 @@
 use Rattle.std.proofs.Common.{◌∙◌, sym}
-use Rattle.vet_graph.proofs.Reach.{IsReaching-next, LeadsOn-found, LeadsOn-next}
+use Rattle.vet_graph.proofs.ReachedHeads.{IsReaching-next, LeadsOn-found, LeadsOn-next}
 use Rattle.vet_graph.proofs.search.take_step.Goals as goal
 
 pub returns-then-index-clause-taken : goal.returns-then-index-clause-taken
