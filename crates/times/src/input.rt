@@ -21,6 +21,14 @@ pub enum Task {
     Desk(Reviews),
     /// So many rounds of finding a demand.
     Demands(usize),
+    /// So many rounds of commands to a register in a file.
+    Stored(Stored),
+    /// The opening of a register in a file.
+    Opened,
+    /// The parts of that.
+    Parts,
+    /// So many rounds of commands to a register in memory.
+    Memory(usize),
 }
 
 /// How much is to be timed of imports.
@@ -41,6 +49,15 @@ pub struct Reviews {
     pub rounds: usize,
 }
 
+/// How much is to be timed of a register in a file.
+#[derive(Clone, Copy)]
+pub struct Stored {
+    /// How many demanded pairs.
+    pub demanded: usize,
+    /// How many rounds.
+    pub rounds: usize,
+}
+
 /// What the words say.
 pub fn read_task(rt: &HostRuntime) -> Result<Task, Fault> {
     let mut words = env::args(rt)?;
@@ -48,11 +65,16 @@ pub fn read_task(rt: &HostRuntime) -> Result<Task, Fault> {
     let Some(task) = words.next() else {
         return Err(Fault::Words);
     };
-    let (first, second) = (words.next(), words.next());
-    task_of(task.as_str(), &first, &second)
+    let (first, second, third) = (words.next(), words.next(), words.next());
+    task_of(task.as_str(), &first, &second, &third)
 }
 
-fn task_of(task: &str, first: &Option<String>, second: &Option<String>) -> Result<Task, Fault> {
+fn task_of(
+    task: &str,
+    first: &Option<String>,
+    second: &Option<String>,
+    third: &Option<String>,
+) -> Result<Task, Fault> {
     match task {
         "imports" => Ok(Task::Imports(Sizes {
             rounds: number(first)?,
@@ -64,6 +86,13 @@ fn task_of(task: &str, first: &Option<String>, second: &Option<String>) -> Resul
             rounds: number(second)?,
         })),
         "demand" => Ok(Task::Demands(number(first)?)),
+        "store" => Ok(Task::Stored(Stored {
+            demanded: number(second)?,
+            rounds: number(third)?,
+        })),
+        "open" => Ok(Task::Opened),
+        "parts" => Ok(Task::Parts),
+        "memory" => Ok(Task::Memory(number(first)?)),
         _ => Err(Fault::Words),
     }
 }
@@ -75,6 +104,15 @@ fn number(word: &Option<String>) -> Result<usize, Fault> {
     match word.as_str().parse::<usize>() {
         Ok(number) => Ok(number),
         Err(_) => Err(Fault::Words),
+    }
+}
+
+/// The path behind the task.
+pub fn read_path(rt: &HostRuntime) -> Result<String, Fault> {
+    let mut words = env::args(rt)?;
+    match words.nth(2) {
+        Some(path) => Ok(path),
+        None => Err(Fault::Words),
     }
 }
 

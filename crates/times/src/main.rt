@@ -1,5 +1,5 @@
-//! Times imports into a register, files that replace what it holds, commands to its review desk, and what projects
-//! demand, by the clock: a program of benches, no part of the product.
+//! Times imports into a register, a register in a file, files that replace what is held, commands to a review desk, and
+//! what projects demand, by the clock: a program of benches, no part of the product.
 //!
 //! The word `imports` and two numbers have imports timed. Standard input holds audits files of a peer, each after the
 //! one before it and a line `---` between two. They are read, and a register is made of a project's demand and own
@@ -24,8 +24,20 @@
 //! are taken, a config file, whose policies are taken, and dependency tables, a line `---` between two. Of each table
 //! a line `read NODES EDGES` is printed, and then of each round `demand NANOSECONDS PAIRS`.
 //!
-//! Of each command of a round a line is printed of what it is, its nanoseconds and its outcome. The status is 1 where
-//! anything is refused or fails, and 2 where the words or the parts are not understood.
+//! The word `store`, a path, a number of demanded pairs and one of rounds have a register in a file timed. Standard
+//! input holds audits files of a peer, a line `---` between two. The file is made; each audits file is imported; and in
+//! each round an entry is added and dropped. Of each command a line is printed of what it is, its nanoseconds until it
+//! was prepared, from there until its rows were known, from there until they were committed, and in all, and how many
+//! changes of rows that were.
+//!
+//! The word `open` and a path have that register opened. `open NANOSECONDS NANOSECONDS COUNT` is printed: until the
+//! database was opened, from there until the register was, and how many entries it holds. The word `parts` and a path
+//! have the parts of that timed, and then a command that finds every class anew. The word `memory` and a number of
+//! rounds have commands to a register in memory timed, as those of `store` are with no demand. Of each part or command
+//! `WHAT NANOSECONDS` is printed.
+//!
+//! Of each other command of a round a line is printed of what it is, its nanoseconds and its outcome. The status is 1
+//! where anything is refused or fails, and 2 where the words or the parts are not understood.
 #![tactic(auto)]
 
 mod clock;
@@ -37,18 +49,25 @@ mod files;
 mod import_rounds;
 mod input;
 mod known;
+mod memory_rounds;
+mod opened_parts;
 mod project;
 mod replacements;
 mod reviews;
+mod stored_rounds;
 mod workspace;
+mod written;
 
 use demand_rounds::run_demands;
 use desk_rounds::run_reviews;
 use fault::Fault;
 use import_rounds::run_imports;
-use input::{Task, read_task, read_text};
+use input::{Task, read_path, read_task, read_text};
+use memory_rounds::run_memory;
+use opened_parts::run_parts;
 use replacements::run_replacements;
 use std::process::ExitCode;
+use stored_rounds::{run_opened, run_stored};
 
 /// The status of a run of words that aren't understood.
 const NOT_UNDERSTOOD: u8 = 2;
@@ -69,5 +88,18 @@ fn run_whole(rt: &HostRuntime) -> Result<(), Fault> {
         Task::Replacements(rounds) => run_replacements(rt, rounds, text.as_str()),
         Task::Desk(reviews) => run_reviews(rt, reviews),
         Task::Demands(rounds) => run_demands(rt, rounds, text.as_str()),
+        Task::Stored(sizes) => {
+            let path = read_path(rt)?;
+            run_stored(rt, sizes, path.as_str(), text.as_str())
+        }
+        Task::Opened => {
+            let path = read_path(rt)?;
+            run_opened(rt, path.as_str())
+        }
+        Task::Parts => {
+            let path = read_path(rt)?;
+            run_parts(rt, path.as_str())
+        }
+        Task::Memory(rounds) => run_memory(rt, rounds, text.as_str()),
     }
 }
