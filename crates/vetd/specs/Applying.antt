@@ -16,7 +16,7 @@ use Rattle.vet_register.specs.declared.command.Command.{Command}
 use Rattle.vet_register.specs.declared.command.Outcome.{Outcome}
 use Rattle.vet_reports.specs.OutcomeText.{outcome_text}
 use Rattle.vet_rows.specs.RowsOf.{rows_of}
-use Rattle.vet_store.specs.Committed.{AreTreesOf}
+use Rattle.vet_store.specs.Committed.{AreTreesBeside}
 use Rattle.vet_store.specs.Crash.{LeavesEither}
 use Rattle.vet_store.specs.Runs.{IsTurn}
 use Rattle.vet_store.specs.Tied.{IsTied}
@@ -27,7 +27,7 @@ use Rattle.vetd.specs.Opening.{IsNotOpened, IsOpenedAs}
 
 -- A command was run on a register that stood in the tables of an open connection: it was told its verdict, or memory
 -- was wanting or the store refused. The tables have the rows of the state that is left. A crash leaves these, or those
--- of the state after the command.
+-- of the state after the command beside all else that stood there.
 pub record IsRunOf {S : Type 0} (g : Ghosts S) (opened : Held S) (register : State) (command : Command)
     (answer : Told Outcome) (after : Held S) : Type 0 where
   pub end : State
@@ -35,7 +35,7 @@ pub record IsRunOf {S : Type 0} (g : Ghosts S) (opened : Held S) (register : Sta
   pub shut : Bool
   pub tables : IsTied (state g after) shut (rows_of end)
   pub crash : IsTrue (state g opened).is_open → Survives (state g opened) (state g after)
-      (AreTreesOf (rows_of (next register command)))
+      (AreTreesBeside (state g opened).now (rows_of (next register command)))
   pub leaves : HasCleanDisk (state g after) → LeavesEither (state g after) register command
 
 module _ {S : Type 0} (g : Ghosts S) (document : Bytes) (day : DayValue) (giver : Option Bytes) where
