@@ -8,6 +8,7 @@ pub mod DocumentKeys
 pub mod EntryDocument
 pub mod Fields
 pub mod FilesDocument
+pub mod Given
 pub mod Head
 pub mod Input
 pub mod IoFault

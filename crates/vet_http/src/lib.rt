@@ -18,6 +18,7 @@ mod document_keys;
 mod entry_document;
 mod fields;
 mod files_document;
+mod given;
 mod head;
 pub mod input;
 pub mod io_fault;

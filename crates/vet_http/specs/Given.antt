@@ -1,0 +1,39 @@
+-- The command that the body of a request gives (ours).
+use Rattle.std.specs.Prelude.{Ok}
+use Rattle.vet_base.specs.Day.{DayValue}
+use Rattle.vet_base.specs.Gives.{Told, ◌>>=◌}
+use Rattle.vet_base.specs.Words.{Text}
+use Rattle.vet_demand.specs.DependencyTable.{project_of_bytes}
+use Rattle.vet_files.specs.Imports.{peer_content_told}
+use Rattle.vet_http.specs.CommandDocument.{command_told}
+use Rattle.vet_http.specs.Parameter.{first_parameter, name_told, package_told}
+use Rattle.vet_http.specs.Request.{RequestValue}
+use Rattle.vet_http.specs.declared.route.Given.{Given}
+use Rattle.vet_http.specs.declared.route.Given.TheVariants.{Document, Peer, Project}
+use Rattle.vet_register.specs.declared.command.Action.{Action}
+use Rattle.vet_register.specs.declared.command.Action.TheVariants.{ImportPeer, LoadProject}
+use Rattle.vet_register.specs.declared.command.Command.{Command}
+
+-- the dependency table is that of the project which is the parameter; that one is looked at first
+abbrev pub project_given : Text → RequestValue → Told Action
+project_given target r =
+    package_told (first_parameter target) >>= λ name.
+    project_of_bytes r.body >>= λ project.
+    Ok (LoadProject (record { name = name; project = project }))
+
+-- the audits file is that of the peer which is the parameter; that one is looked at first
+abbrev pub peer_given : Text → RequestValue → Told Action
+peer_given target r =
+    name_told (first_parameter target) >>= λ name.
+    peer_content_told r.body >>= λ found.
+    Ok (ImportPeer name found.content)
+
+-- an action, on a day
+abbrev pub on_day : DayValue → Action → Told Command
+on_day day action = Ok (record { day = day; action = action })
+
+-- the command that is given on a day
+abbrev pub given_told : Given → DayValue → Text → RequestValue → Told Command
+given_told Project day target r = project_given target r >>= on_day day
+given_told Peer day target r = peer_given target r >>= on_day day
+given_told Document day target r = command_told r.body day r.member

@@ -1,0 +1,58 @@
+//! The command that the body of a request gives.
+ghost use Rattle.vet_base.specs.Gives.{Gives};
+ghost use Rattle.vet_http.specs.Given.{given_told, peer_given, project_given};
+
+use crate::command_document::read_command;
+use crate::parameter::first_parameter;
+use crate::request::Request;
+use crate::route::Given;
+use std::alloc::Global;
+use vet_base::day::Day;
+use vet_base::name::{Name, PackageName};
+use vet_base::refusal::Refusal;
+use vet_demand::project::NamedProject;
+use vet_demand::table_reader::read_project;
+use vet_files::imports_file::read_peer;
+use vet_register::command::{Action, Command};
+
+/// The command that the body of a request gives on a day. Refused: `BadName` of a parameter, before the body is looked
+/// at, and what the reader of the body refuses. `NoMemory` can come at any point.
+pub(crate) fn read_given(
+    alloc: Global,
+    given: Given,
+    day: Day,
+    target: &str,
+    request: &Request,
+) -> Result<Command, Refusal>
+    ensures { Gives (λ c. c) (given_told given day target.now request.now) result }
+{
+    match given {
+        Given::Project => {
+            let action = read_given_project(alloc, target, request)?;
+            Ok(Command { day, action })
+        }
+        Given::Peer => {
+            let action = read_given_peer(alloc, target, request)?;
+            Ok(Command { day, action })
+        }
+        Given::Document => read_command(alloc, request.body(), day, request.member()),
+    }
+}
+
+// Loads the project that is the parameter.
+fn read_given_project(alloc: Global, target: &str, request: &Request) -> Result<Action, Refusal>
+    ensures { Gives (λ a. a) (project_given target.now request.now) result }
+{
+    let name = PackageName::parse(alloc, first_parameter(target))?;
+    let project = read_project(alloc, request.body())?;
+    Ok(Action::LoadProject(NamedProject { name, project }))
+}
+
+// Imports the audits file of the peer that is the parameter.
+fn read_given_peer(alloc: Global, target: &str, request: &Request) -> Result<Action, Refusal>
+    ensures { Gives (λ a. a) (peer_given target.now request.now) result }
+{
+    let name = Name::parse(alloc, first_parameter(target))?;
+    let found = read_peer(alloc, request.body())?;
+    Ok(Action::ImportPeer(name, found.content))
+}
