@@ -1,21 +1,34 @@
 """A register with rows in each of its tables, and changes to its file: some leave a register there, and others leave
 none. That was worked out by hand."""
 
+from typing import NamedTuple
+
 from models.rows import names, optional, packed
 
-# a register with rows in each of the twelve tables
+# a register with rows in each of the twelve tables: its commands, each with what it is told
 COMMANDS = """2024-05-01 set-criterion reviewed safe-to-run
+#> done 1 moves 0
 2024-05-01 set-policy app criteria=safe-to-deploy
+#> done 2 moves 0
 2024-05-01 load-project app what,n,p,q,r%0anode,0,app,0.1.0,root%0anode,1,serde,1.0.1,third%0anode,2,log,0.4.0,third%0a\
 edge,0,1,normal,%0aedge,0,2,normal,%0a
+#> done 3 moves 4
 2024-05-01 set-peer p one - reviewed=safe-to-deploy
+#> done 4 moves 0
 2024-05-01 import-peer p [criteria.reviewed]%0a[[audits.serde]]%0acriteria="reviewed"%0aversion="1.0.1"%0a
+#> done 5 moves 2
 2024-05-01 set-publishers log 0.4.0,5,2023-02-03
+#> done 6 moves 0
 2024-05-01 add-entry wildcard log 5 2023-01-01 2023-12-31 reviewed
+#> done 7 number 2 moves 1
 2024-05-01 add-member ann
+#> done 8 moves 0
 2024-05-01 add-member bob
+#> done 9 moves 0
 2024-05-01 open-review log 0.4.0 safe-to-deploy
+#> done 10 number 1 moves 0
 2024-05-01 assign-review 1 ann
+#> done 11 moves 0
 """
 HELD = """step 11
 criterion reviewed safe-to-run
@@ -51,7 +64,78 @@ move 5 2024-05-01 serde 1.0.1 safe-to-deploy unvetted full
 move 5 2024-05-01 serde 1.0.1 safe-to-run unvetted full
 move 7 2024-05-01 log 0.4.0 safe-to-run unvetted full
 """
-MORE = ("2024-05-02 add-entry full log 0.4.0 safe-to-deploy\n", "done 12 number 3 moves 1")
+# the three files of it
+AUDITS = """[criteria.reviewed]
+implies = "safe-to-run"
+[audits]
+[[wildcard-audits.log]]
+criteria = "reviewed"
+user-id = 5
+start = "2023-01-01"
+end = "2023-12-31"
+"""
+CONFIG = """[imports.p]
+url = "one"
+criteria-map = { reviewed = "safe-to-deploy" }
+[policy.app]
+criteria = "safe-to-deploy"
+"""
+IMPORTS = """[[publisher.log]]
+version = "0.4.0"
+when = "2023-02-03"
+user-id = 5
+[audits.p.criteria.reviewed]
+[[audits.p.audits.serde]]
+criteria = "reviewed"
+version = "1.0.1"
+"""
+# commands that ask for what is held, and at last one that changes it
+MORE = """2024-05-01 set-criterion reviewed safe-to-run
+#> already
+2024-05-01 set-policy app criteria=safe-to-deploy
+#> already
+2024-05-01 load-project app what,n,p,q,r%0anode,0,app,0.1.0,root%0anode,1,log,0.4.0,third%0anode,2,serde,1.0.1,third%0a\
+edge,0,1,normal,%0aedge,0,2,normal,%0a
+#> already
+2024-05-01 set-peer p one - reviewed=safe-to-deploy
+#> already
+2024-05-01 import-peer p [criteria.reviewed]%0a[[audits.serde]]%0acriteria="reviewed"%0aversion="1.0.1"%0a
+#> already
+2024-05-01 set-publishers log 0.4.0,5,2023-02-03
+#> already
+2024-05-01 add-entry wildcard log 5 2023-01-01 2023-12-31 reviewed
+#> already 2
+2024-05-01 add-member ann
+#> already
+2024-05-01 add-member bob
+#> already
+2024-05-01 assign-review 1 ann
+#> already
+2024-05-02 add-entry full log 0.4.0 safe-to-deploy
+#> done 12 number 3 moves 1
+"""
+
+
+class Shown(NamedTuple):
+    """All that is shown of a register: what is held, the three files, and what commands are told."""
+
+    held: str
+    audits: str
+    config: str
+    imports: str
+    more: str
+
+    def replaced(self, *texts):
+        """The same with other texts in place of some, each of which stands somewhere."""
+        found = self
+        for text, other in zip(texts[::2], texts[1::2], strict=True):
+            if not any(text in it for it in found):
+                raise ValueError(f"{text} is not there")
+            found = Shown(*(it.replace(text, other) for it in found))
+        return found
+
+
+SHOWN = Shown(HELD, AUDITS, CONFIG, IMPORTS, MORE)
 
 # changes after the first two commands of an example, with a pair that is full and one that is unvetted
 ALTERED_STANDING = [
@@ -136,14 +220,20 @@ BAD_ROWS = [
     ("UPDATE reviews SET criteria = ?", UNKNOWN),
 ]
 
-# changes that leave a register, with what stands then in place of a line
+# changes that leave a register, with what is shown then in place of something else
 GOOD_ROWS = [
     ("UPDATE members SET name = 'zed' WHERE name = 'bob'", "member bob", "member zed"),
     ("UPDATE moves SET day = day + 1 WHERE step = 7", "move 7 2024-05-01", "move 7 2024-05-02"),
-    ("UPDATE peers SET url = x'333a74776f'", "url=one", "url=two"),
+    ("UPDATE peers SET url = x'333a74776f'", "url=one", "url=two", '"one"', '"two"', "peer p one", "peer p two"),
     ("UPDATE reviews SET day = day + 1", "review 1 2024-05-01", "review 1 2024-05-02"),
-    ("UPDATE reviews SET state = 3, member = ''", "assigned=ann", "withdrawn"),
-    ("UPDATE meta SET step = 7", "step 11", "step 7"),
+    (
+        "UPDATE reviews SET state = 3, member = ''",
+        "assigned=ann",
+        "withdrawn",
+        "assign-review 1 ann\n#> already",
+        "assign-review 1 ann\n#> refused 21 ReviewClosed",
+    ),
+    ("UPDATE meta SET step = 7", "step 11", "step 7", "done 12", "done 8"),
 ]
 
 # for each table what makes it none of a register's, by its name and the columns of its key
