@@ -33,7 +33,7 @@ abbrev pub on_day : DayValue → Action → Told Command
 on_day day action = Ok (record { day = day; action = action })
 
 -- the command that is given on a day
-abbrev pub given_told : Given → DayValue → Text → RequestValue → Told Command
+unfoldable pub given_told : Given → DayValue → Text → RequestValue → Told Command
 given_told Project day target r = project_given target r >>= on_day day
 given_told Peer day target r = peer_given target r >>= on_day day
 given_told Document day target r = command_told r.body day r.member

@@ -1,3 +1,6 @@
+pub mod Answer
+pub mod Answered
+pub mod AskedFor
 pub mod Body
 pub mod CommandDocument
 pub mod CommandWord
@@ -5,11 +8,13 @@ pub mod CriterionDocument
 pub mod DeskDocument
 pub mod DocumentField
 pub mod DocumentKeys
+pub mod DoneRequests
 pub mod EntryDocument
 pub mod Fields
 pub mod FilesDocument
 pub mod Given
 pub mod Head
+pub mod HeldAsked
 pub mod Input
 pub mod IoFault
 pub mod Output
@@ -27,6 +32,9 @@ pub mod RequestFault
 pub mod RequestLaws
 pub mod Route
 pub mod RouteTable
+pub mod Serve
+pub mod ServeBytes
 pub mod Shown
+pub mod ShutStore
 pub mod Status
 pub mod Told

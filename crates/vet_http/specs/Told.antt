@@ -11,7 +11,7 @@ use Rattle.vet_reports.specs.OutcomeText.{outcome_text}
 use Rattle.vet_reports.specs.RefusalText.{refusal_line}
 
 -- the reply to a refusal
-abbrev pub refusal_reply : Refusal → Reply
+unfoldable pub refusal_reply : Refusal → Reply
 refusal_reply refusal = text_reply (refusal_status refusal) (refusal_line refusal)
 
 -- the reply that is told, or the one to the refusal that is told in its place
@@ -20,7 +20,7 @@ reply_told (Ok reply) = reply
 reply_told (Err refusal) = refusal_reply refusal
 
 -- the reply to a command that was not refused
-abbrev pub outcome_reply : Outcome → Reply
+unfoldable pub outcome_reply : Outcome → Reply
 outcome_reply outcome = text_reply status.Ok (outcome_text outcome)
 
 -- the reply to a command

@@ -17,6 +17,7 @@ use vet_register::command::{Action, Command};
 
 /// The command that the body of a request gives on a day. Refused: `BadName` of a parameter, before the body is looked
 /// at, and what the reader of the body refuses. `NoMemory` can come at any point.
+#[tactic(auto, unfolding(crate::specs::Given::given_told))]
 pub(crate) fn read_given(
     alloc: Global,
     given: Given,

@@ -1,12 +1,14 @@
-//! The documents in which commands are sent, requests over HTTP, and how bytes are read and written.
+//! The documents in which commands are sent, requests over HTTP and their replies, and how bytes are read and written.
 //!
 //! **A document gives exactly the command that its definition tells of its bytes, or its first fault in the order of
-//! its keys. A connection gives exactly the request that its bytes begin with, or its first fault.**
+//! its keys. A connection gives exactly the request that its bytes begin with, or its first fault. The reply to it, and
+//! the register after it, are those of the definition.**
 //!
-//! Scope of this crate: command documents, requests, routes and the bytes of replies, counted reads and whole writes.
-//! What a request is answered is to come here.
+//! Scope of this crate: command documents, requests, routes, what is shown, the bytes of replies, connections served
+//! over a store, counted reads and whole writes. Sockets and their deadlines are the program's.
 #![tactic(auto)]
 
+pub mod answer;
 mod body;
 pub mod command_document;
 mod command_word;
@@ -37,6 +39,7 @@ pub mod request_laws;
 pub mod request_limits;
 pub mod route;
 pub mod route_laws;
+pub mod serve;
 mod shown;
 pub mod status;
 pub mod told;

@@ -1,6 +1,6 @@
 //! The three files of a register, by their names.
 //!
-//! **The text of a file is read by `toml` as what the register holds of it.**
+//! **The text of a file is read by `toml` as what the register holds of it, and so by the reader of that file.**
 ghost use Rattle.std.specs.Prelude.{◌≡◌, IfErr, IfOk, string_bytes};
 ghost use Rattle.vet_http.specs.RegisterFile.{IsFileOf, file_named};
 

@@ -58,7 +58,7 @@ impl ReplyBytes {
 }
 
 /// More bytes than any head has.
-pub(crate) const MOST_HEAD_BYTES: usize = 160;
+pub(crate) const MOST_REPLY_HEAD_BYTES: usize = 160;
 
 /// The most bytes that the methods of a target are told in.
 pub(crate) const MOST_ALLOW_BYTES: usize = 8;
@@ -121,7 +121,7 @@ impl Reply {
         body: &str,
     ) -> Reply
         requires empty { string_bytes text ≡ [] }
-        requires room { MOST_HEAD_BYTES + length body.now ≤ string_capacity text }
+        requires room { MOST_REPLY_HEAD_BYTES + length body.now ≤ string_capacity text }
         requires short { length methods.now ≤ MOST_ALLOW_BYTES }
         ensures { result ≡ reply_with status kind methods.now body.now }
     {
@@ -139,9 +139,9 @@ impl Reply {
 pub(crate) fn room_for(alloc: Global, bytes: usize) -> Result<String, AllocError>
     requires { bytes ≤ 9223372036854775807 }
     ensures empty { IfOk result (λ t. string_bytes t ≡ []) }
-    ensures room { IfOk result (λ t. MOST_HEAD_BYTES + bytes ≤ string_capacity t) }
+    ensures room { IfOk result (λ t. MOST_REPLY_HEAD_BYTES + bytes ≤ string_capacity t) }
 {
-    String::with_capacity(alloc, MOST_HEAD_BYTES + bytes)
+    String::with_capacity(alloc, MOST_REPLY_HEAD_BYTES + bytes)
 }
 
 /// The body of a status that tells nothing more.
@@ -159,10 +159,10 @@ fn fixed_body(status: Status) -> &'static str
 
 // Adds the head of a reply whose body has so many bytes.
 fn push_head(text: &mut String, status: Status, kind: ContentType, methods: &str, bytes: usize)
-    requires room { string_len text.old + MOST_HEAD_BYTES ≤ string_capacity text.old }
+    requires room { string_len text.old + MOST_REPLY_HEAD_BYTES ≤ string_capacity text.old }
     requires short { length methods.now ≤ MOST_ALLOW_BYTES }
     ensures bytes { string_bytes text.new ≡ string_bytes text.old ++ reply_head status kind methods.now bytes }
-    ensures len { string_len text.new ≤ string_len text.old + MOST_HEAD_BYTES }
+    ensures len { string_len text.new ≤ string_len text.old + MOST_REPLY_HEAD_BYTES }
     ensures capacity { string_capacity text.old ≤ string_capacity text.new }
 {
     let mut digits = Buffer::new();

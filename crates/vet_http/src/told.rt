@@ -17,6 +17,7 @@ use vet_reports::outcome_text::{MOST_OUTCOME_BYTES, outcome_text_is_short, write
 use vet_reports::refusal_text::{lines_by_example, refusal_text};
 
 /// The reply to a refusal. Refused for want of memory alone.
+#[tactic(auto, unfolding(crate::specs::Told::refusal_reply))]
 pub fn refusal_reply(alloc: Global, refusal: &Refusal) -> Result<Reply, AllocError>
     ensures { IfOk result (λ r. r ≡ refusal_reply refusal.now) }
 {
@@ -52,6 +53,7 @@ impl ReplyRoom {
     }
 
     /// The reply to a command that was not refused. Takes no memory.
+    #[tactic(auto, unfolding(crate::specs::Told::outcome_reply))]
     pub(crate) fn of_outcome(self, outcome: &Outcome) -> Reply
         requires { HasRoom self }
         ensures { result ≡ outcome_reply outcome.now }
@@ -80,6 +82,7 @@ impl ReplyRoom {
     }
 
     // The reply that tells of want of memory.
+    #[tactic(auto, unfolding(crate::specs::Told::refusal_reply))]
     fn no_memory(self) -> Reply
         requires { HasRoom self }
         ensures { result ≡ refusal_reply Refusal.NoMemory }

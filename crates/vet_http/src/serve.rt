@@ -1,0 +1,233 @@
+//! Requests are served: read, answered, and replied to.
+//!
+//! **Each connection that is replied to is a step of the machine: the reply and the state after it are those of the
+//! definition for the bytes that were read. With any other fault than a failed write nothing is changed or written.**
+//!
+//! So an answer is made whole before the first byte of it is written. A write that fails leaves the front of it.
+ghost use Rattle.std.specs.Prelude.{◌≡◌, ◌≢◌, ◌+◌, false, IfErr, IfOk, IsTrue, OnErr, OnOk};
+ghost use Rattle.std.specs.Io.KnownBytes.{Appends};
+ghost use Rattle.sqlite.specs.Held.{state};
+ghost use Rattle.sqlite.specs.State.{HasCleanDisk};
+ghost use Rattle.vet_base.specs.declared.limits.TheConstants.{MOST_INPUT_BYTES, MOST_READS};
+ghost use Rattle.vet_http.specs.DoneRequests.{IsOfDone, LeavesAmong};
+ghost use Rattle.vet_http.specs.Input.{TakesAtMost};
+ghost use Rattle.vet_http.specs.Output.{AppendsPart};
+ghost use Rattle.vet_http.specs.Serve.{Each, IsCutOffBy, IsCutOffTold, IsRefusedBy, IsRefusedTold, IsReplyToTold};
+ghost use Rattle.vet_http.specs.Serve.{IsServed, IsServedBy, IsServedWithRepeats, IsTurn, IsTurnOfShut};
+ghost use Rattle.vet_http.specs.Serve.{IsTurnWithRepeats, RepeatsStayTold};
+ghost use Rattle.vet_http.specs.ServeBytes.{IsTurnOfBytes};
+ghost use Rattle.vet_http.specs.declared.request_limits.TheConstants.{MOST_HEAD_BYTES};
+ghost use Rattle.vet_register.specs.Sound.{IsBalanced};
+ghost use Rattle.vet_rows.specs.RowsOf.{rows_of};
+ghost use Rattle.vet_store.specs.Classes.{AddsUp, HasClassesOfChains};
+ghost use Rattle.vet_store.specs.Tied.{IsTied};
+
+use crate::answer::answer;
+use crate::input::CountedReader;
+use crate::io_fault::IoFault;
+use crate::output::write_whole;
+use crate::reply::Reply;
+use crate::request::{Request, read_request};
+use crate::request_fault::RequestFault;
+use crate::status::Status;
+use sqlite::Alter;
+use std::alloc::Global;
+use std::io::{Read, Write};
+use vet_base::day::Day;
+use vet_base::refusal::Refusal;
+use vet_demand::laws::demand_is_least;
+use vet_graph::keeper::Keeper;
+use vet_graph::laws::each_pair_has_its_class;
+use vet_register::register::Register;
+use vet_store::store::Store;
+
+/// What a connection was replied.
+#[derive(Clone, Copy)]
+pub struct Served {
+    pub status: Status,
+}
+
+/// A connection, and the day on which it is served.
+#[derive(Drop)]
+pub struct Connection<R, W> {
+    pub day: Day,
+    pub reader: CountedReader<R>,
+    pub writer: W,
+}
+
+/// Reads one request and writes its reply. Refused, with nothing changed and nothing written: `Input`, `Endless` and
+/// `NoMemory`. Refused, with the front of the reply written: `Output`; then what the request asked for is done.
+pub fn serve_one<S: Alter, K: Keeper, R: Read, W: Write>(
+    alloc: Global,
+    store: &mut Store<S, K>,
+    day: Day,
+    reader: &mut CountedReader<R>,
+    writer: &mut W,
+) -> Result<Served, IoFault>
+    ensures served { IsServed day (R.remaining reader.old.source) (R.remaining reader.new.source)
+        (W.contents writer.old) (W.contents writer.new) store.old.register.state result store.new.register.state }
+    ensures repeats { IsServedWithRepeats day (R.remaining reader.old.source) (R.remaining reader.new.source)
+        (W.contents writer.old) (W.contents writer.new) store.old.register.state result store.new.register.state }
+    ensures unchanged { IfErr result (λ fault. fault ≢ IoFault.Output → store.new ≡ store.old) }
+    ensures tables { IsTied (state S.Store store.new.conn) store.new.shut (rows_of store.new.register.state) }
+    ensures closed { IsTrue store.old.shut → store.new ≡ store.old }
+    ensures refuses { IsTrue store.old.shut → IsServedBy (IsRefusedBy day)
+        (store.new.register.state ≡ store.old.register.state) (R.remaining reader.old.source)
+        (R.remaining reader.new.source) (W.contents writer.old) (W.contents writer.new) result }
+    ensures shuts { store.old.shut ≡ false → IsTrue store.new.shut
+        → IsServedBy (IsCutOffBy day store.new.register.state (state S.Store store.new.conn)) ⊥
+        (R.remaining reader.old.source) (R.remaining reader.new.source) (W.contents writer.old) (W.contents writer.new)
+        result }
+    ensures bounded { TakesAtMost (MOST_HEAD_BYTES + 1 + MOST_INPUT_BYTES)
+        (R.remaining reader.old.source) (R.remaining reader.new.source) }
+    ensures endless { result ≡ Err IoFault.Endless → reader.new.made ≡ MOST_READS }
+{
+    store.tables_are_of_register();
+    match read_request(alloc, reader) {
+        Ok(told) => match reply_to(alloc, store, day, told) {
+            Ok(reply) => write_reply(writer, &reply),
+            Err(fault) => Err(fault),
+        },
+        Err(fault) => Err(fault),
+    }
+}
+
+/// Writes a reply. Refused: `Output`, with the front of it written.
+fn write_reply<W: Write>(writer: &mut W, reply: &Reply) -> Result<Served, IoFault>
+    ensures status { IfOk result (λ served. served.status ≡ reply.now.status) }
+    ensures whole { OnOk result (Appends (W.contents writer.old) (W.contents writer.new) reply.now.bytes) }
+    ensures part { OnErr result (AppendsPart (W.contents writer.old) (W.contents writer.new) reply.now.bytes) }
+    ensures faults { IfErr result (λ fault. fault ≡ IoFault.Output) }
+{
+    write_whole(writer, reply.bytes.as_slice())?;
+    Ok(Served {
+        status: reply.status,
+    })
+}
+
+/// The reply to what is told of a connection's bytes. Refused, with nothing changed: `NoMemory`.
+fn reply_to<S: Alter, K: Keeper>(
+    alloc: Global,
+    store: &mut Store<S, K>,
+    day: Day,
+    told: Result<Request, RequestFault>,
+) -> Result<Reply, IoFault>
+    ensures reply { IfOk result (λ reply.
+        IsReplyToTold day told store.old.register.state reply store.new.register.state) }
+    ensures repeats { IfOk result (λ reply.
+        RepeatsStayTold day told store.old.register.state reply store.new.register.state) }
+    ensures memory { IfErr result (λ fault. fault ≡ IoFault.NoMemory) }
+    ensures err { OnErr result (store.new ≡ store.old) }
+    ensures tables { IsTied (state S.Store store.new.conn) store.new.shut (rows_of store.new.register.state) }
+    ensures closed { IsTrue store.old.shut → store.new ≡ store.old }
+    ensures refuses { IsTrue store.old.shut → IfOk result (λ reply. IsRefusedTold day told reply) }
+    ensures shuts { store.old.shut ≡ false → IsTrue store.new.shut → IfOk result (λ reply.
+        IsCutOffTold day store.new.register.state (state S.Store store.new.conn) told reply) }
+{
+    store.tables_are_of_register();
+    match told {
+        Ok(request) => match answer(alloc, store, day, &request) {
+            Ok(reply) => Ok(reply),
+            Err(_) => Err(IoFault::NoMemory),
+        },
+        Err(fault) => Ok(Reply::plain(alloc, fault.status())?),
+    }
+}
+
+/// Serves connections one after the other, whatever comes of each. Room for what came of them is taken first. Refused,
+/// with none served: `NoMemory`.
+pub fn serve_all<S: Alter, K: Keeper, R: Read, W: Write>(
+    alloc: Global,
+    store: &mut Store<S, K>,
+    connections: &mut [Connection<R, W>],
+) -> Result<Vec<Result<Served, IoFault>>, Refusal>
+    ensures turns { IfOk result (λ answers. Each (IsTurn R.remaining W.contents) store.old.register.state
+        connections.old connections.new answers.items store.new.register.state) }
+    ensures kept { IfOk result (λ answers.
+        IsOfDone R.remaining store.old.register.state connections.old connections.new store.new.register.state) }
+    ensures classes { HasClassesOfChains store.new.register.state }
+    ensures adds_up { AddsUp store.new.register.state }
+    ensures balance { IsBalanced store.new.register.state }
+    ensures repeats { IfOk result (λ answers. Each (IsTurnWithRepeats R.remaining W.contents) store.old.register.state
+        connections.old connections.new answers.items store.new.register.state) }
+    ensures memory { IfErr result (λ e. e ≡ Refusal.NoMemory) }
+    ensures err { OnErr result ((store.new ≡ store.old) × (connections.new ≡ connections.old)) }
+    ensures tables { IsTied (state S.Store store.new.conn) store.new.shut (rows_of store.new.register.state) }
+    ensures closed { IsTrue store.old.shut → store.new ≡ store.old }
+    ensures refuses { IsTrue store.old.shut → IfOk result (λ answers.
+        Each (IsTurnOfShut R.remaining W.contents) store.old.register.state
+        connections.old connections.new answers.items store.new.register.state) }
+    ensures leaves { store.old.shut ≡ false → IsTrue store.new.shut → HasCleanDisk (state S.Store store.new.conn)
+        → LeavesAmong R.remaining connections.old connections.new store.new.register.state
+        (state S.Store store.new.conn) }
+{
+    let answers = serve_each(alloc, store, connections);
+    classes_are_of_chains(store.register());
+    answers
+}
+
+/// Serves connections whose bytes are in memory. Nothing is asked of reads and writes: a slice tells what is left of
+/// it, and a vector what was written. A fault other than `Output` changes and writes nothing, and with that one, where
+/// a vector found no room, the front of the reply is written. Refused, with none served: `NoMemory`.
+pub fn serve_slices<S: Alter, K: Keeper>(
+    alloc: Global,
+    store: &mut Store<S, K>,
+    connections: &mut [Connection<&[u8], Vec<u8>>],
+) -> Result<Vec<Result<Served, IoFault>>, Refusal>
+    ensures turns { IfOk result (λ answers. Each (IsTurnOfBytes (λ r. r.now) (λ w. w.items)) store.old.register.state
+        connections.old connections.new answers.items store.new.register.state) }
+    ensures kept { IfOk result (λ answers. IsOfDone (λ r. Some r.now) store.old.register.state
+        connections.old connections.new store.new.register.state) }
+    ensures memory { IfErr result (λ e. e ≡ Refusal.NoMemory) }
+    ensures err { OnErr result ((store.new ≡ store.old) × (connections.new ≡ connections.old)) }
+{
+    serve_all(alloc, store, connections)
+}
+
+/// The same, but for the classes.
+fn serve_each<S: Alter, K: Keeper, R: Read, W: Write>(
+    alloc: Global,
+    store: &mut Store<S, K>,
+    connections: &mut [Connection<R, W>],
+) -> Result<Vec<Result<Served, IoFault>>, Refusal>
+    ensures turns { IfOk result (λ answers. Each (IsTurnWithRepeats R.remaining W.contents) store.old.register.state
+        connections.old connections.new answers.items store.new.register.state) }
+    ensures memory { IfErr result (λ e. e ≡ Refusal.NoMemory) }
+    ensures err { OnErr result ((store.new ≡ store.old) × (connections.new ≡ connections.old)) }
+    ensures tables { IsTied (state S.Store store.new.conn) store.new.shut (rows_of store.new.register.state) }
+    ensures closed { IsTrue store.old.shut → store.new ≡ store.old }
+    ensures refuses { IsTrue store.old.shut → IfOk result (λ answers.
+        Each (IsTurnOfShut R.remaining W.contents) store.old.register.state
+        connections.old connections.new answers.items store.new.register.state) }
+    ensures leaves { store.old.shut ≡ false → IsTrue store.new.shut → HasCleanDisk (state S.Store store.new.conn)
+        → LeavesAmong R.remaining connections.old connections.new store.new.register.state
+        (state S.Store store.new.conn) }
+{
+    store.tables_are_of_register();
+    let mut answers = Vec::new(alloc);
+    answers.reserve(connections.len())?;
+    'connections: for connection in connections.iter_mut() {
+        let day = connection.day;
+        let answer = serve_one(
+            alloc,
+            store,
+            day,
+            &mut connection.reader,
+            &mut connection.writer,
+        );
+        answers.push_reserved(answer);
+    }
+    Ok(answers)
+}
+
+/// The classes of a register are those that chains of entries give the least demand, they add up to it, and they are
+/// balanced with the moves. Does nothing.
+fn classes_are_of_chains<K: Keeper>(register: &Register<K>)
+    ensures classes { HasClassesOfChains register.now.state }
+    ensures adds_up { AddsUp register.now.state }
+    ensures balance { IsBalanced register.now.state }
+{
+    each_pair_has_its_class();
+    demand_is_least();
+    let _ = register.counts();
+}
