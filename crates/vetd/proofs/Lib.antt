@@ -6,4 +6,3 @@ mod Answered
 mod Applied
 mod Opened
 mod Viewed
-mod Exports

@@ -5,8 +5,7 @@ pub mod Applying
 pub mod Asked
 pub mod ClassLine
 pub mod Counts
-pub mod Exported
-pub mod FileKind
+pub mod FileWord
 pub mod Making
 pub mod NewAsked
 pub mod NewWords

@@ -1,7 +1,7 @@
 -- What the words of a command ask to be shown of a register (ours): a path, and what is shown.
 use Rattle.std.specs.Prelude.{List, Option, codes, option_and_then, option_map}
 use Rattle.clap.specs.Walk.{Row, Text, first_of}
-use Rattle.vetd.specs.FileKind.{file_kind}
+use Rattle.vetd.specs.FileWord.{file_of_word}
 use Rattle.vetd.specs.Reported.{report_kind}
 use Rattle.vetd.specs.Words.{given}
 use Rattle.vetd.specs.declared.view.View.{View}
@@ -25,7 +25,7 @@ name_of AsExport = codes "export"
 name_of AsReport = codes "report"
 
 abbrev pub view_named : ViewCommand → Text → Option View
-view_named AsExport word = option_map Export (file_kind word)
+view_named AsExport word = option_map Export (file_of_word word)
 view_named AsReport word = option_map Report (report_kind word)
 
 -- the path and what is shown, where both were given

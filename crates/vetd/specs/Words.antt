@@ -8,9 +8,9 @@ use Rattle.clap.specs.Simple.{App, app_of, new_rule, with_rule, with_subcommand,
 use Rattle.clap.specs.Walk.{rule_of}
 use Rattle.clap.specs.Faults.{fault_of}
 use Rattle.clap.specs.Kinds.{Kinds}
+use Rattle.vet_http.specs.declared.register_file.RegisterFile.{RegisterFile}
 use Rattle.vetd.specs.ApplyWords.{apply_app}
-use Rattle.vetd.specs.FileKind.{file_kind}
-use Rattle.vetd.specs.declared.file_kind.FileKind.{FileKind}
+use Rattle.vetd.specs.FileWord.{file_of_word}
 use Rattle.vetd.specs.NewWords.{new_app, option_rule}
 use Rattle.vetd.specs.declared.words.ClassWords.{ClassWords}
 use Rattle.clap.specs.declared.builder.arg.Arg.{Arg}
@@ -125,9 +125,9 @@ begins_with name (word ∷ rest) = bytes_eq word name
 -- ---- `read`
 
 -- the kind that the word names, where it was given and names one
-abbrev pub kind_from : List Row → Option FileKind
-kind_from rows = option_and_then file_kind (first_of (codes "KIND") rows)
+abbrev pub kind_from : List Row → Option RegisterFile
+kind_from rows = option_and_then file_of_word (first_of (codes "KIND") rows)
 
 -- the kind of file that the words of a read command name
-abbrev pub read_given : List Text → Option FileKind
+abbrev pub read_given : List Text → Option RegisterFile
 read_given words = option_and_then kind_from (given (codes "read") words)

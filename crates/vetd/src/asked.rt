@@ -5,7 +5,6 @@ ghost use Rattle.vet_base.specs.Gives.{Gives};
 ghost use Rattle.vetd.specs.Asked.{asked_by, class_asked, line_told, read_asked};
 
 use crate::class_line::class_line;
-use crate::file_kind::FileKind;
 use crate::read_line::read_line;
 use crate::words::{ClassWords, class_words, read_words};
 use clap::Error;
@@ -13,13 +12,14 @@ use clap::error::ErrorKind;
 use std::alloc::Global;
 use std::convert::AsStr;
 use vet_base::refusal::Refusal;
+use vet_http::register_file::RegisterFile;
 
 /// What a command asks for. A further command is a row here, a row in `line`, and the function that tells its
 /// line.
 #[derive(Clone, Copy)]
 pub enum Asked<'a> {
     Class(ClassWords<'a>),
-    Read(FileKind),
+    Read(RegisterFile),
 }
 
 impl Asked<'_> {

@@ -5,17 +5,17 @@ ghost use Rattle.vetd.specs.ReadLine.{audits_line_told, config_line_told, file_l
 ghost use Rattle.vetd.specs.ReadLine.{imports_line_told, read_told};
 
 use crate::counts::Counts;
-use crate::file_kind::FileKind;
 use std::alloc::Global;
 use vet_base::document::check_length;
 use vet_base::refusal::Refusal;
 use vet_files::audits_file::read_audits;
 use vet_files::config_file::read_config;
 use vet_files::imports_file::read_imports;
+use vet_http::register_file::RegisterFile;
 
 /// The line of a file. Refused, the first that holds: `TooLarge` of `input` for one of more than 8,388,608
 /// bytes, and what the reader of its kind refuses.
-pub fn read_line(alloc: Global, kind: FileKind, file: &[u8]) -> Result<String, Refusal>
+pub fn read_line(alloc: Global, kind: RegisterFile, file: &[u8]) -> Result<String, Refusal>
     ensures { Gives string_bytes (read_told kind file.now) result }
 {
     check_length(file)?;
@@ -23,13 +23,13 @@ pub fn read_line(alloc: Global, kind: FileKind, file: &[u8]) -> Result<String, R
 }
 
 /// The line of a file.
-fn file_line(alloc: Global, kind: FileKind, file: &[u8]) -> Result<String, Refusal>
+fn file_line(alloc: Global, kind: RegisterFile, file: &[u8]) -> Result<String, Refusal>
     ensures { Gives string_bytes (file_line_told kind file.now) result }
 {
     match kind {
-        FileKind::Audits => audits_line(alloc, file),
-        FileKind::Config => config_line(alloc, file),
-        FileKind::Imports => imports_line(alloc, file),
+        RegisterFile::Audits => audits_line(alloc, file),
+        RegisterFile::Config => config_line(alloc, file),
+        RegisterFile::Imports => imports_line(alloc, file),
     }
 }
 

@@ -2,19 +2,18 @@
 ghost use Rattle.std.specs.Prelude.{◌≡◌, IfErr, IfOk, string_bytes};
 ghost use Rattle.vetd.specs.View.{Shows};
 
-use crate::export::exported;
-use crate::file_kind::FileKind;
 use crate::report_kind::{ReportKind, reported};
 use std::alloc::Global;
 use vet_base::refusal::Refusal;
 use vet_graph::keeper::Keeper;
+use vet_http::register_file::{RegisterFile, file_text};
 use vet_register::register::Register;
 
 /// What a command shows of a register. A further one is a row here, a row in `text`, and the function that makes its
 /// text.
 #[derive(Clone, Copy)]
 pub enum View {
-    Export(FileKind),
+    Export(RegisterFile),
     Report(ReportKind),
 }
 
@@ -25,7 +24,7 @@ impl View {
         ensures memory { IfErr result (λ e. e ≡ Refusal.NoMemory) }
     {
         match self {
-            View::Export(kind) => exported(alloc, kind, register),
+            View::Export(file) => file_text(alloc, file, register),
             View::Report(kind) => reported(alloc, kind, register),
         }
     }

@@ -4,7 +4,7 @@ ghost use Rattle.clap.specs.Words.{found_of, kind_of, rows_of, subcommand_rows_o
 ghost use Rattle.vetd.specs.ViewWords.{name_of, view_asked, view_from, view_given, view_named};
 ghost use Rattle.vetd.specs.Words.{rows_if_named};
 
-use crate::file_kind::FileKind;
+use crate::file_word::file_of_word;
 use crate::report_kind::ReportKind;
 use crate::view::View;
 use crate::words::{matches_if_named, matches_of, value, words_error};
@@ -43,7 +43,7 @@ impl ViewCommand {
         ensures { result ≡ view_named self word.now }
     {
         match self {
-            ViewCommand::Export => Some(View::Export(FileKind::of_word(word)?)),
+            ViewCommand::Export => Some(View::Export(file_of_word(word)?)),
             ViewCommand::Report => Some(View::Report(ReportKind::of_word(word)?)),
         }
     }

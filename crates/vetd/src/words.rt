@@ -9,7 +9,7 @@ ghost use Rattle.vetd.specs.Words.{changed_app, class_given, file_app, given, ki
 ghost use Rattle.vetd.specs.Words.{read_given, reported_app, rows_if_named, top_app, view_app, with_kind, word_rule};
 ghost use Rattle.vetd.specs.Words.{words_from};
 
-use crate::file_kind::FileKind;
+use crate::file_word::file_of_word;
 use crate::help::{
     APPLY_HELP, CLASS_HELP, EXPORT_HELP, NEW_HELP, PROGRAM_HELP, READ_HELP, REPORT_HELP, VERSION,
 };
@@ -18,6 +18,7 @@ use clap::error::ErrorKind;
 use clap::{Arg, ArgMatches, Command, Error};
 use std::alloc::{AllocError, Global};
 use std::convert::AsStr;
+use vet_http::register_file::RegisterFile;
 
 /// What a class command asks for.
 #[derive(Clone, Copy)]
@@ -49,7 +50,7 @@ pub fn class_words<'a, S: AsStr>(alloc: Global, words: &'a [S]) -> Result<ClassW
 /// The kind of file that the words of a read command name, which come without the program's own name.
 /// Refused: clap's error of words that are no command line or ask for help, one of words that are another
 /// command or name no kind, and `OutOfMemory`.
-pub fn read_words<S: AsStr>(alloc: Global, words: &[S]) -> Result<FileKind, Error>
+pub fn read_words<S: AsStr>(alloc: Global, words: &[S]) -> Result<RegisterFile, Error>
     ensures found { IfOk result (λ kind. read_given (map S.text words.now) ≡ Some kind) }
     ensures refused { IfErr result (λ error. kind_of error ≢ ErrorKind.OutOfMemory
         → read_given (map S.text words.now) ≡ None) }
@@ -397,7 +398,7 @@ fn class_asked<'a>(matches: &ArgMatches<'a>) -> Option<ClassWords<'a>>
 }
 
 /// The kind that a read command names, where it is one.
-fn kind_asked(matches: &ArgMatches<'_>) -> Option<FileKind>
+fn kind_asked(matches: &ArgMatches<'_>) -> Option<RegisterFile>
     ensures { result
         ≡ option_and_then kind_from (rows_if_named (codes "read") (subcommand_rows_of matches.now)) }
 {
@@ -431,10 +432,10 @@ fn words_of<'a>(subcommand: &ArgMatches<'a>) -> Option<ClassWords<'a>>
 }
 
 /// The kind of file that a read command names.
-fn kind_of_file(subcommand: &ArgMatches<'_>) -> Option<FileKind>
+fn kind_of_file(subcommand: &ArgMatches<'_>) -> Option<RegisterFile>
     ensures { result ≡ kind_from (rows_of (found_of subcommand.now)) }
 {
-    FileKind::of_word(value(subcommand, "KIND")?)
+    file_of_word(value(subcommand, "KIND")?)
 }
 
 /// The value of an argument.

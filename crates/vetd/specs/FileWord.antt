@@ -1,13 +1,13 @@
--- The words for the kinds of files (ours).
+-- The words for the files of cargo-vet (ours).
 use Rattle.std.specs.Prelude.{Option, Some, None, codes, if◌then◌else◌}
 use Rattle.std.specs.Str.{bytes_eq}
-use Rattle.vetd.specs.declared.file_kind.FileKind.{FileKind}
-use Rattle.vetd.specs.declared.file_kind.FileKind.TheVariants.{Audits, Config, Imports}
 use Rattle.vet_base.specs.Words.{Text}
+use Rattle.vet_http.specs.declared.register_file.RegisterFile.{RegisterFile}
+use Rattle.vet_http.specs.declared.register_file.RegisterFile.TheVariants.{Audits, Config, Imports}
 
--- the kind that a word names
-abbrev pub file_kind : Text → Option FileKind
-file_kind word =
+-- the file that a word names
+abbrev pub file_of_word : Text → Option RegisterFile
+file_of_word word =
     if bytes_eq word (codes "audits") then Some Audits
     else (if bytes_eq word (codes "config") then Some Config
     else (if bytes_eq word (codes "imports") then Some Imports else None))
