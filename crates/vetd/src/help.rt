@@ -44,7 +44,8 @@ Example:
 /// What stands below the help of `new`.
 pub const NEW_HELP: &str = "\
 Makes the tables of a register that holds nothing, and prints created. Makes the file where none stands.
-What another program has in the database stays. A file PATH-wal may stand beside it. A refused file keeps its bytes.
+What another program has in the database stays. A refused file keeps its bytes.
+A file PATH-wal belongs to the register: copy both, or neither.
 Refused 31: a table, an index or a view has a name of the register's tables, as where a register stands already.
 Refused 30: the file is no database, is in use, or can't be made.
 
