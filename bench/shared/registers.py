@@ -55,7 +55,7 @@ class Register:
     """A drawn register of this size in a file."""
 
     def __init__(self, vetd, path, size):
-        self.vetd, self.path = vetd, path
+        self.vetd, self.path, self.size = vetd, path, size
         compare("new", self.run("new")[0], "created\n")
         for text, printed in given(size):
             compare("what is given", self.apply(text)[0], printed)
@@ -80,7 +80,7 @@ def run(measure, description):
     with tempfile.TemporaryDirectory(dir=FOLDER) as folder:
         try:
             measure(report, os.path.abspath(vetd), folder)
-        except (OSError, RuntimeError, ValueError, subprocess.SubprocessError) as fault:
+        except (AssertionError, OSError, RuntimeError, ValueError, subprocess.SubprocessError) as fault:
             print(fault)
             return 1
     print(f"{report.missed} missed")

@@ -24,6 +24,10 @@ def unpacked(data):
     return items
 
 
+def packed(items):
+    return b"".join(b"%d:%b" % (len(item), item) for item in items)
+
+
 def rows_of(conn, table):
     """Every row of a table, with its lists unpacked."""
     rows = []

@@ -23,14 +23,14 @@ def answer_of(line):
 
 
 class Register:
-    """What a program answers about the register at a path."""
+    """What a program answers about the register at a path, each time within so many seconds."""
 
-    def __init__(self, program, path):
-        self.program, self.path = program, path
+    def __init__(self, program, path, seconds=60):
+        self.program, self.path, self.seconds = program, path, seconds
 
     def run(self, command, *words, text=b""):
         words = [self.program, command, "--db", self.path, *words]
-        done = subprocess.run(words, input=text, capture_output=True, timeout=60)
+        done = subprocess.run(words, input=text, capture_output=True, timeout=self.seconds)
         return done.returncode, done.stdout, done.stderr
 
     def make(self, limit=None):

@@ -1,0 +1,1 @@
+"""The register over HTTP as scripts start and ask it."""
