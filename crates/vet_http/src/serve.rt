@@ -35,10 +35,8 @@ use std::alloc::Global;
 use std::io::{Read, Write};
 use vet_base::day::Day;
 use vet_base::refusal::Refusal;
-use vet_demand::laws::demand_is_least;
 use vet_graph::keeper::Keeper;
-use vet_graph::laws::each_pair_has_its_class;
-use vet_register::register::Register;
+use vet_store::laws::classes_are_of_chains;
 use vet_store::store::Store;
 
 /// What a connection was replied.
@@ -178,6 +176,9 @@ pub fn serve_slices<S: Alter, K: Keeper>(
         connections.old connections.new answers.items store.new.register.state) }
     ensures kept { IfOk result (λ answers. IsOfDone (λ r. Some r.now) store.old.register.state
         connections.old connections.new store.new.register.state) }
+    ensures classes { HasClassesOfChains store.new.register.state }
+    ensures adds_up { AddsUp store.new.register.state }
+    ensures balance { IsBalanced store.new.register.state }
     ensures memory { IfErr result (λ e. e ≡ Refusal.NoMemory) }
     ensures err { OnErr result ((store.new ≡ store.old) × (connections.new ≡ connections.old)) }
 {
@@ -218,16 +219,4 @@ fn serve_each<S: Alter, K: Keeper, R: Read, W: Write>(
         answers.push_reserved(answer);
     }
     Ok(answers)
-}
-
-/// The classes of a register are those that chains of entries give the least demand, they add up to it, and they are
-/// balanced with the moves. Does nothing.
-fn classes_are_of_chains<K: Keeper>(register: &Register<K>)
-    ensures classes { HasClassesOfChains register.now.state }
-    ensures adds_up { AddsUp register.now.state }
-    ensures balance { IsBalanced register.now.state }
-{
-    each_pair_has_its_class();
-    demand_is_least();
-    let _ = register.counts();
 }

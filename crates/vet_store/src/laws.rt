@@ -1,8 +1,28 @@
-//! What holds of runs, for callers to cite: each law is a function that does nothing.
+//! What holds of registers and of runs, for callers to cite: each law is a function that does nothing.
 //!
-//! **Two runs one after the other are one run of the commands of both. Each leaves what the machine makes alone of the
-//! commands that were done.**
+//! **Whatever a register holds, each demanded pair stands in the class that chains give it. Two runs one after the
+//! other are one run of the commands of both. Each leaves what the machine makes alone of the commands that were
+//! done.**
+ghost use Rattle.vet_register.specs.Sound.{IsBalanced};
+ghost use Rattle.vet_store.specs.Classes.{AddsUp, HasClassesOfChains};
 ghost use Rattle.vet_store.specs.RunLaws.{RunsKeepDone, TwoRunsAreOne};
+
+use vet_demand::laws::demand_is_least;
+use vet_graph::keeper::Keeper;
+use vet_graph::laws::each_pair_has_its_class;
+use vet_register::register::Register;
+
+/// The classes of a register are those that chains of entries give the least demand, they add up to it, and they are
+/// balanced with the moves. Does nothing.
+pub fn classes_are_of_chains<K: Keeper>(register: &Register<K>)
+    ensures classes { HasClassesOfChains register.now.state }
+    ensures adds_up { AddsUp register.now.state }
+    ensures balance { IsBalanced register.now.state }
+{
+    each_pair_has_its_class();
+    demand_is_least();
+    let _ = register.counts();
+}
 
 /// A run, and another from the state that it left, are one run of the commands of both.
 pub fn two_runs_are_one()

@@ -20,14 +20,12 @@ ghost use Rattle.vet_store.specs.Runs.{AreRefused, Each, IsOfDone, Ran};
 ghost use Rattle.vet_store.specs.Tied.{IsTied};
 
 use super::Store;
+use crate::laws::classes_are_of_chains;
 use sqlite::Alter;
 use std::alloc::Global;
 use vet_base::refusal::Refusal;
-use vet_demand::laws::demand_is_least;
 use vet_graph::keeper::Keeper;
-use vet_graph::laws::each_pair_has_its_class;
 use vet_register::command::{Command, Outcome};
-use vet_register::register::Register;
 
 impl<S: Alter, K: Keeper> Store<S, K> {
     /// Runs commands one after the other, whatever becomes of each, and answers what each was told in the state of its
@@ -91,16 +89,4 @@ impl<S: Alter, K: Keeper> Store<S, K> {
         }
         Ok(answers)
     }
-}
-
-/// The classes of a register are those that chains of entries give the least demand, they add up to it, and they are
-/// balanced with the moves. Does nothing.
-fn classes_are_of_chains<K: Keeper>(register: &Register<K>)
-    ensures classes { HasClassesOfChains register.now.state }
-    ensures adds_up { AddsUp register.now.state }
-    ensures balance { IsBalanced register.now.state }
-{
-    each_pair_has_its_class();
-    demand_is_least();
-    let _ = register.counts();
 }

@@ -1,5 +1,5 @@
 use Rattle.vet_register.specs.State.{demanded}
-use Rattle.vet_store.proofs.store.run_all.classes_are_of_chains.Goals as goal
+use Rattle.vet_store.proofs.laws.classes_are_of_chains.Goals as goal
 
 pub returns-clause-classes : goal.returns-clause-classes
 returns-clause-classes g c =
