@@ -13,34 +13,35 @@ use Rattle.vet_http.specs.declared.route.Route.TheVariants.{Counts, Standing, St
 use Rattle.vet_http.specs.declared.route.Route.TheVariants.{Class, File, Project, Peer, Commands}
 
 -- a path with parameters
-abbrev pub with_names : List ℕ → Text → List (ℕ × ℕ) → Route → List ℕ × RouteOf Route
+abbrev pub with_names : Text → Text → List (ℕ × ℕ) → Route → Text × RouteOf Route
 with_names pattern text names route =
     (pattern, record { pattern = pattern; text = text; names = names; value = route })
 
 -- a path without any
-abbrev pub plain : Text → Route → List ℕ × RouteOf Route
+abbrev pub plain : Text → Route → Text × RouteOf Route
 plain text route = with_names text text [] route
 
-abbrev pub one : List ℕ
-one = param_token ∷ []
+-- one parameter
+abbrev pub one_parameter : Text
+one_parameter = param_token ∷ []
 
 -- three, with slashes between
-abbrev pub three : List ℕ
-three = param_token ∷ 47 ∷ param_token ∷ 47 ∷ param_token ∷ []
+abbrev pub three_parameters : Text
+three_parameters = param_token ∷ 47 ∷ param_token ∷ 47 ∷ param_token ∷ []
 
 -- each path as it is put in, the first last
 unfoldable pub table : RowsOf (RouteOf Route)
 table =
     placed (plain (codes "/commands") Commands)
-    (placed (with_names (codes "/peers/" ++ one) (codes "/peers/{peer}") ((8, 12) ∷ []) Peer)
-    (placed (with_names (codes "/projects/" ++ one) (codes "/projects/{project}") ((11, 18) ∷ []) Project)
-    (placed (with_names (codes "/files/" ++ one) (codes "/files/{file}") ((8, 12) ∷ []) File)
-    (placed (with_names (codes "/class/" ++ three) (codes "/class/{package}/{version}/{criterion}")
+    (placed (with_names (codes "/peers/" ++ one_parameter) (codes "/peers/{peer}") ((8, 12) ∷ []) Peer)
+    (placed (with_names (codes "/projects/" ++ one_parameter) (codes "/projects/{project}") ((11, 18) ∷ []) Project)
+    (placed (with_names (codes "/files/" ++ one_parameter) (codes "/files/{file}") ((8, 12) ∷ []) File)
+    (placed (with_names (codes "/class/" ++ three_parameters) (codes "/class/{package}/{version}/{criterion}")
     ((8, 15) ∷ (18, 25) ∷ (28, 37) ∷ []) Class)
     (placed (plain (codes "/desk") Desk)
     (placed (plain (codes "/moves") Moves)
     (placed (plain (codes "/standing.csv") StandingCsv)
-    (placed (with_names (codes "/standing/" ++ one) (codes "/standing/{package}") ((11, 18) ∷ []) StandingOf)
+    (placed (with_names (codes "/standing/" ++ one_parameter) (codes "/standing/{package}") ((11, 18) ∷ []) StandingOf)
     (placed (plain (codes "/standing") Standing)
     (placed (plain (codes "/counts") Counts) []))))))))))
 

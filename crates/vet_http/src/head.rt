@@ -2,8 +2,8 @@
 //!
 //! A head has to end within the first 16,384 bytes. So after each read these, as far as they have come, are parsed
 //! anew: until a head stands there, none can, the input ends, or all of them are there. One byte more may be read,
-//! which tells whether the input goes on. The parser is given room for the fields of any head that is so short, so that it
-//! never runs out of it. How many fields a head may have is judged later, and only of a whole head.
+//! which tells whether the input goes on. The parser is given room for the fields of any head that is so short, so
+//! that it never runs out of it. How many fields a head may have is judged later, and only of a whole head.
 ghost use Rattle.std.specs.Prelude.{◌≡◌, ◌≢◌, ◌+◌, ℕ, ◌≤◌, List, [], length, take, vec_len, IfOk, IfErr, IfSome, OnOk};
 ghost use Rattle.std.specs.Io.KnownBytes.{Consumes};
 ghost use Rattle.httparse.specs.Spans.{IsRequestWithin};

@@ -74,11 +74,11 @@ counts = record {
 }
 
 -- the names of one criterion, and of two
-abbrev pub one : List Name
-one = codes "safe-to-deploy" ∷ []
+abbrev pub deploy_alone : List Name
+deploy_alone = codes "safe-to-deploy" ∷ []
 
-abbrev pub both : List Name
-both = codes "safe-to-deploy" ∷ codes "safe-to-run" ∷ []
+abbrev pub both_built_in : List Name
+both_built_in = codes "safe-to-deploy" ∷ codes "safe-to-run" ∷ []
 
 -- a review in a state; its criteria are told beside it
 abbrev pub review_in : ReviewState → Review

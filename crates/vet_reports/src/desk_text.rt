@@ -117,9 +117,11 @@ fn push_others(text: &mut String, names: &[Name]) -> Result<(), AllocError>
 
 /// The line of a review by example, in each state, for one criterion or two. Does nothing.
 pub fn desk_by_example()
-    ensures waiting { line_for example.both (example.review_in ReviewState.Waiting) ≡ example.waiting_line }
-    ensures assigned { line_for example.one (example.review_in (ReviewState.Assigned (codes "ann")))
+    ensures waiting { line_for example.both_built_in (example.review_in ReviewState.Waiting) ≡ example.waiting_line }
+    ensures assigned { line_for example.deploy_alone (example.review_in (ReviewState.Assigned (codes "ann")))
         ≡ example.assigned_line }
-    ensures finished { line_for example.one (example.review_in (ReviewState.Finished 1)) ≡ example.finished_line }
-    ensures withdrawn { line_for example.one (example.review_in ReviewState.Withdrawn) ≡ example.withdrawn_line }
+    ensures finished { line_for example.deploy_alone (example.review_in (ReviewState.Finished 1))
+        ≡ example.finished_line }
+    ensures withdrawn { line_for example.deploy_alone (example.review_in ReviewState.Withdrawn)
+        ≡ example.withdrawn_line }
 {}

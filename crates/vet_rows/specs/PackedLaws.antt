@@ -1,4 +1,4 @@
--- Laws of packed lists.
+-- Laws of packed lists (ours).
 use Rattle.std.specs.Prelude.{◌≡◌, ◌<◌, ◌^◌, List, Option, Some, length, map}
 use Rattle.std.specs.List.{All}
 use Rattle.vet_base.specs.Words.{Bytes}

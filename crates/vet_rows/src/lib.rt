@@ -4,7 +4,7 @@
 //! these to the rows of the state after a change. `state_of` gives the state again of its rows, in whatever order. A
 //! packed list is read as the items that were written, and nothing else reads as one.**
 //!
-//! Scope of this crate today: the rows of the twelve tables, what changes of a row each make of them, the rows of a
+//! Scope of this crate: the rows of the twelve tables, what changes of a row each make of them, the rows of a
 //! state, the changes of rows that a prepared change of the register makes, and the state of rows; that a register's
 //! state can be held in rows; packed lists, in which a column keeps many values, and sets of names and texts as such
 //! lists.

@@ -9,13 +9,14 @@ use Rattle.sqlite_value.specs.Keys.{plain}
 use Rattle.sqlite_value.specs.Order.{Row, column}
 use Rattle.sqlite_value.specs.declared.keys.Order.{Order}
 use Rattle.sqlite_value.specs.declared.value.Value.TheVariants.{Null}
+use Rattle.vet_base.specs.Words.{Name}
 
 -- a column: its name and its type
 abbrev pub ColumnForm : Type 0
-ColumnForm = List ℕ × Kind
+ColumnForm = Name × Kind
 
 pub record Form : Type 0 where
-  pub name : List ℕ
+  pub name : Name
   pub columns : List ColumnForm
   -- the places of the key's columns among the columns, from 0
   pub key : List ℕ

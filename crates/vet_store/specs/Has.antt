@@ -6,12 +6,13 @@ use Rattle.sqlite_schema.specs.declared.schema.Index.{Index}
 use Rattle.sqlite_schema.specs.declared.schema.Reference.{Reference}
 use Rattle.sqlite_schema.specs.declared.schema.Schema.{Schema}
 use Rattle.sqlite_schema.specs.declared.schema.Table.{Table}
+use Rattle.vet_base.specs.Words.{Name}
 use Rattle.vet_store.specs.Form.{Form, table_of}
 use Rattle.vet_store.specs.Forms.{form_of}
 use Rattle.vet_store.specs.declared.table_name.TableName.{TableName}
 
 -- the index that SQLite makes for the key
-abbrev pub key_index : Form → List ℕ
+abbrev pub key_index : Form → Name
 key_index form = codes "sqlite_autoindex_" ++ (form.name ++ codes "_1")
 
 -- an index of another table, or that of the key
@@ -22,7 +23,7 @@ spares form tree index = not (index.table == tree) || bytes_eq index.name (key_i
 abbrev pub is_apart : Form → ℕ → Table → Bool
 is_apart form tree table = not (table.tree == tree) || bytes_eq table.name form.name
 
-abbrev pub refers_not : List ℕ → Table → Bool
+abbrev pub refers_not : Name → Table → Bool
 refers_not name table = list_all (λ (ref : Reference). not (same_name name ref.parent)) table.references
 
 -- A table of this form stands somewhere under its name, with a tree of its own. No index but that of its key and no

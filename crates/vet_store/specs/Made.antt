@@ -10,6 +10,7 @@ use Rattle.sqlite_schema.specs.declared.schema.Schema.{Schema}
 use Rattle.sqlite_schema.specs.declared.schema.Table.{Table}
 use Rattle.sqlite_schema.specs.declared.schema.View.{View}
 use Rattle.sqlite_trees.specs.Tree.{Trees}
+use Rattle.vet_base.specs.Words.{Name}
 use Rattle.vet_rows.specs.Rows.{RowsValue}
 use Rattle.vet_store.specs.Forms.{code, form_of}
 use Rattle.vet_store.specs.Has.{HasTable, refers_not}
@@ -18,7 +19,7 @@ use Rattle.vet_store.specs.Tied.{Leaves}
 use Rattle.vet_store.specs.declared.table_name.TableName.{TableName}
 
 -- no table, index or view has the name, but for the case of ASCII letters, and no foreign key refers to it
-pub record IsFree (schema : Schema) (name : List ℕ) : Type 0 where
+pub record IsFree (schema : Schema) (name : Name) : Type 0 where
   pub unused : is_used schema name ≡ false
   pub unreferred : list_all (refers_not name) schema.tables ≡ true
 

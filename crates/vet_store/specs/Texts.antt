@@ -1,43 +1,44 @@
 -- The texts of the statements on a table (ours, in SQLite's language).
-use Rattle.std.specs.Prelude.{List, [], ◌∷◌, ◌++◌, codes, map, option_map, slice_get, unwrap_or, ℕ}
+use Rattle.std.specs.Prelude.{List, [], ◌∷◌, ◌++◌, codes, map, option_map, slice_get, unwrap_or}
 use Rattle.sqlite_schema.specs.declared.schema.Kind.{Kind}
 use Rattle.sqlite_schema.specs.declared.schema.Kind.TheVariants.{Any, Blob, Integer, Real, Text}
+use Rattle.vet_base.specs.Words.{Name, Text as Sql}
 use Rattle.vet_store.specs.Form.{ColumnForm, Form}
 
 -- the parts, with a text between each two
-abbrev pub joined : List ℕ → List (List ℕ) → List ℕ
+abbrev pub joined : Sql → List Sql → Sql
 joined between [] = []
 joined between (part ∷ []) = part
 joined between (part ∷ next ∷ rest) = part ++ (between ++ joined between (next ∷ rest))
 
-abbrev pub kind_word : Kind → List ℕ
+abbrev pub kind_word : Kind → Sql
 kind_word Integer = codes "INTEGER"
 kind_word Real = codes "REAL"
 kind_word Text = codes "TEXT"
 kind_word Blob = codes "BLOB"
 kind_word Any = codes "ANY"
 
-abbrev pub column_text : ColumnForm → List ℕ
+abbrev pub column_text : ColumnForm → Sql
 column_text c = c.0 ++ (codes " " ++ (kind_word c.1 ++ codes " NOT NULL"))
 
-abbrev pub key_names : Form → List (List ℕ)
+abbrev pub key_names : Form → List Name
 key_names form = map (λ at. unwrap_or (option_map (λ (c : ColumnForm). c.0) (slice_get form.columns at)) []) form.key
 
-abbrev pub create_text : Form → List ℕ
+abbrev pub create_text : Form → Sql
 create_text form =
     codes "CREATE TABLE " ++ (form.name ++ (codes " (" ++ (joined (codes ", ") (map column_text form.columns)
     ++ (codes ", PRIMARY KEY (" ++ (joined (codes ", ") (key_names form) ++ codes ")) STRICT")))))
 
-abbrev pub insert_text : Form → List ℕ
+abbrev pub insert_text : Form → Sql
 insert_text form =
     codes "INSERT INTO " ++ (form.name ++ (codes " VALUES ("
     ++ (joined (codes ", ") (map (λ c. codes "?") form.columns) ++ codes ")")))
 
-abbrev pub delete_text : Form → List ℕ
+abbrev pub delete_text : Form → Sql
 delete_text form =
     codes "DELETE FROM " ++ (form.name ++ (codes " WHERE "
     ++ joined (codes " AND ") (map (λ name. name ++ codes " = ?") (key_names form))))
 
 -- the rowid and the columns of each row, by the rowid
-abbrev pub select_text : Form → List ℕ
+abbrev pub select_text : Form → Sql
 select_text form = codes "SELECT rowid, * FROM " ++ (form.name ++ codes " ORDER BY rowid")

@@ -6,6 +6,7 @@ use Rattle.sqlite_value.specs.Order.{Row as Cells, column}
 use Rattle.sqlite_value.specs.declared.value.Value.{Value}
 use Rattle.sqlite_value.specs.declared.value.Value.TheVariants.{Blob, Int, Text}
 use Rattle.vet_base.specs.Items.{IsIn}
+use Rattle.vet_base.specs.Words.{Bytes}
 use Rattle.vet_rows.specs.Rows.{RowsValue}
 use Rattle.vet_store.specs.Cells.{cells_in}
 use Rattle.vet_store.specs.Form.{ColumnForm, Form}
@@ -29,7 +30,7 @@ pub record AreTyped (kinds : List Kind) (row : Cells) : Type 0 where
 
 -- each text of the cells is one
 abbrev pub IsReadable : Cells → Type 0
-IsReadable cells = (at : ℕ) (t : List ℕ) → column cells at ≡ Text t → IsUtf8 t
+IsReadable cells = (at : ℕ) (t : Bytes) → column cells at ≡ Text t → IsUtf8 t
 
 -- each text of the rows is one
 abbrev pub AreReadable : RowsValue → Type 0

@@ -3,7 +3,7 @@
 //! **After every list of commands the tables have the rows of the machine which keeps alone those that were done. A
 //! change of rows is one transaction: the tables have all of it or none of it, after a crash too.**
 //!
-//! Scope of this crate today: the twelve tables, their statements and transactions, what stands in them, and the store,
+//! Scope of this crate: the twelve tables, their statements and transactions, what stands in them, and the store,
 //! which is made with the tables of a register that holds nothing, or opened from the tables of one, and runs commands.
 #![tactic(auto)]
 
