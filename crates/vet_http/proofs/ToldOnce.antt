@@ -1,17 +1,17 @@
 -- Two things that are told of one connection's bytes.
 use Rattle.std.proofs.Common.{inl, inr, refl, ap, arith, length, drop}
 use Rattle.httparse.proofs.GrammarLemmas.{request_unique}
-use Rattle.httparse.specs.Grammar.{RequestHead, print_request, EndsInTarget}
+use Rattle.httparse.specs.Grammar.{RequestHead, print_request}
 use Rattle.vet_base.specs.Words.{Bytes}
 use Rattle.vet_http.specs.Head.{HasLongHead, HasNoHead, front}
 use Rattle.vet_http.specs.Request.{of_head, no_head, long_head, request_told}
-use Rattle.vet_http.specs.RequestLaws.{IsToldOnce}
+use Rattle.vet_http.specs.RequestLaws.{IsCutTarget, IsToldOnce}
 
 -- no head and a too long one
-both : (input : Bytes) → HasNoHead input → HasLongHead input → EndsInTarget (front input)
+both : (input : Bytes) → HasNoHead input → HasLongHead input → IsCutTarget input
 both input (none, inl short) (none', past, may) = absurd (omega (arith, short, past))
 both input (none, inr never) (none', past, inl (more, head, reads)) = absurd (never more head _ reads)
-both input (none, inr never) (none', past, inr ends) = ends
+both input (none, inr never) (none', past, inr ends) = (past, (never, ends))
 
 pub told_once : IsToldOnce
 told_once input one other (of_head h (r, x)) (of_head k (q, y)) =
