@@ -11,7 +11,7 @@ use Rattle.vet_http.specs.declared.io_fault.IoFault.{IoFault}
 use Rattle.vet_http.specs.declared.io_fault.IoFault.TheVariants.{Output}
 
 module _ (Answers : (Answer → Type 0) → Type 0) (Untold : Type 0) where
-  was_untold : (r : Result ℕ IoFault) → Untold → IfErr r (λ fault. fault ≢ Output → Untold)
+  pub was_untold : (r : Result ℕ IoFault) → Untold → IfErr r (λ fault. fault ≢ Output → Untold)
   was_untold (Ok status) untold = tt
   was_untold (Err fault) untold = λ other. untold
 
@@ -96,4 +96,34 @@ module _ (Answers : (Answer → Type 0) → Type 0) (Untold : Type 0) where
     part = λ output. absurd (other output);
     silent = λ _. (Keeps-refl out, Keeps-refl errors);
     untold = λ _. untold;
+  }
+
+-- what was written is the same answer, told of more
+module _ (Answers Others : (Answer → Type 0) → Type 0) (Untold Unsaid : Type 0)
+    (answers : (Holds : Answer → Type 0) → Answers Holds → Others Holds) (untold : Untold → Unsaid) where
+  says_as : (r : Result ℕ IoFault) (out out' errors errors' : Option (List ℕ))
+      → IfOk r (λ status. Answers (λ a. Says a status out out' errors errors'))
+      → IfOk r (λ status. Others (λ a. Says a status out out' errors errors'))
+  says_as (Err fault) out out' errors errors' says = tt
+  says_as (Ok status) out out' errors errors' says = answers (λ a. Says a status out out' errors errors') says
+
+  stops_as : (r : Result ℕ IoFault) (out out' errors errors' : Option (List ℕ))
+      → IfErr r (λ fault. fault ≡ Output → Answers (λ a. Stops a out out' errors errors'))
+      → IfErr r (λ fault. fault ≡ Output → Others (λ a. Stops a out out' errors errors'))
+  stops_as (Ok status) out out' errors errors' stops = tt
+  stops_as (Err fault) out out' errors errors' stops = λ output.
+      answers (λ a. Stops a out out' errors errors') (stops output)
+
+  untold_as : (r : Result ℕ IoFault) → IfErr r (λ fault. fault ≢ Output → Untold)
+      → IfErr r (λ fault. fault ≢ Output → Unsaid)
+  untold_as (Ok status) told = tt
+  untold_as (Err fault) told = λ other. untold (told other)
+
+  pub written_as : (r : Result ℕ IoFault) (out out' errors errors' : Option (List ℕ))
+      → IsWritten Answers Untold r out out' errors errors' → IsWritten Others Unsaid r out out' errors errors'
+  written_as r out out' errors errors' written = record {
+    says = says_as r out out' errors errors' written.says;
+    part = stops_as r out out' errors errors' written.part;
+    silent = written.silent;
+    untold = untold_as r written.untold;
   }

@@ -6,3 +6,8 @@ mod Answered
 mod Applied
 mod Opened
 mod Viewed
+mod ServingLemmas
+mod Fronts
+mod Sitting
+mod Served
+mod Asking

@@ -11,7 +11,7 @@ use Rattle.clap.specs.declared.error.kind.ErrorKind.{ErrorKind}
 use Rattle.clap.specs.declared.error.kind.ErrorKind.TheVariants.{OutOfMemory}
 use Rattle.clap.specs.declared.parser.matches.ArgMatches.{ArgMatches}
 use Rattle.clap.proofs.OnLiterals.{clap_on_literals}
-use Rattle.vetd.specs.Words.{given, rows_if_named, top_app, unless_fault}
+use Rattle.vetd.specs.Words.{rows_given, rows_if_named, top_app, unless_fault}
 
 simple : is_simple top_app ≡ true
 unfolding clap_on_literals
@@ -22,8 +22,8 @@ unfolding clap_on_literals
 simple_and_free = refl
 
 given_ok : (name : Text) (words : List Text) → fault_of top_app words ≡ []
-    → given name words ≡ rows_if_named name (subcommand_of top_app words)
-unfolding given
+    → rows_given name words ≡ rows_if_named name (subcommand_of top_app words)
+unfolding rows_given
 given_ok name words none = ap (λ (ks : Kinds). unless_fault ks (rows_if_named name (subcommand_of top_app words))) none
 
 none_of : (k : ErrorKind) (ks : Kinds) (rows : Option (List Row)) → IsAmong k ks → unless_fault ks rows ≡ None
@@ -32,8 +32,8 @@ none_of k (y ∷ ys) rows among = refl
 
 given_err : (name : Text) (words : List Text) (k : ErrorKind) → (k ≡ OutOfMemory) ⊎ IsAmong k (fault_of top_app words)
     → k ≢ OutOfMemory
-    → given name words ≡ None
-unfolding given
+    → rows_given name words ≡ None
+unfolding rows_given
 given_err name words k (inl memory) other = absurd (other memory)
 given_err name words k (inr among) other =
     none_of k (fault_of top_app words) (rows_if_named name (subcommand_of top_app words)) among
@@ -43,7 +43,7 @@ given_found : {R : Type 0} (name : Text) (app : App) (words : List Text) (subcom
     → app ≡ top_app
     → (is_simple app ≡ true → R × (subcommand ≡ subcommand_of app words))
     → (is_simple_and_free app ≡ true → fault_of app words ≡ [])
-    → given name words ≡ rows_if_named name subcommand
+    → rows_given name words ≡ rows_if_named name subcommand
 given_found name app words subcommand app_is met none =
     let same : subcommand ≡ subcommand_of top_app words =
     (met (ap is_simple app_is ∙ simple)).1 ∙ ap (λ (a : App). subcommand_of a words) app_is in
@@ -54,7 +54,7 @@ given_found name app words subcommand app_is met none =
 -- where clap refuses the words, they give nothing
 given_refused : (name : Text) (app : App) (words : List Text) (error : Error) → app ≡ top_app
     → (is_simple_and_free app ≡ true → HasKind (fault_of app words) error) → kind_of error ≢ OutOfMemory
-    → given name words ≡ None
+    → rows_given name words ≡ None
 given_refused name app words error app_is fails other =
     let kind : HasKind (fault_of top_app words) error =
     subst (λ (a : App). HasKind (fault_of a words) error) app_is
@@ -65,13 +65,13 @@ given_refused name app words error app_is fails other =
 pub all_found : (app : App) (words : List Text) (r : Result ArgMatches Error) → app ≡ top_app
     → IfOk r (HasMatchesOf app words)
     → (is_simple_and_free app ≡ true → FailsBy (fault_of app words) r)
-    → IfOk r (λ matches. (name : Text) → given name words ≡ rows_if_named name (subcommand_rows_of matches))
+    → IfOk r (λ matches. (name : Text) → rows_given name words ≡ rows_if_named name (subcommand_rows_of matches))
 all_found app words (Err error) app_is met fails = tt
 all_found app words (Ok matches) app_is met fails =
     λ name. given_found name app words (subcommand_rows_of matches) app_is met fails
 
 pub all_refused : (app : App) (words : List Text) (r : Result ArgMatches Error) → app ≡ top_app
     → (is_simple_and_free app ≡ true → FailsBy (fault_of app words) r)
-    → IfErr r (λ error. kind_of error ≢ OutOfMemory → (name : Text) → given name words ≡ None)
+    → IfErr r (λ error. kind_of error ≢ OutOfMemory → (name : Text) → rows_given name words ≡ None)
 all_refused app words (Ok matches) app_is fails = tt
 all_refused app words (Err error) app_is fails = λ other name. given_refused name app words error app_is fails other

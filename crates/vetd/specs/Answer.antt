@@ -1,5 +1,6 @@
 -- What a run answers (ours): what it writes, and its status.
-use Rattle.std.specs.Prelude.{◌≡◌, ◌≢◌, ℕ, ◌+◌, Option, Some, None, IfErr, IfOk, IfSome, Result, take, Ok, Err}
+use Rattle.std.specs.Prelude.{◌≡◌, ◌≢◌, ℕ, ◌+◌, Bool, true, false, Option, Some, None, IfErr, IfOk, IfSome}
+use Rattle.std.specs.Prelude.{Result, Ok, Err, codes, take}
 use Rattle.std.specs.Io.KnownBytes.{Appends, Keeps}
 use Rattle.vet_base.specs.Gives.{Told}
 use Rattle.vet_base.specs.Words.{Bytes, Text}
@@ -12,11 +13,17 @@ use Rattle.vet_http.specs.declared.io_fault.IoFault.TheVariants.{Output}
 use Rattle.vet_reports.specs.RefusalText.{refusal_line}
 use Rattle.vetd.specs.declared.answer.TheConstants.{PRINTED, REFUSED, EXPLAINED}
 
--- what a run answers: a text, a refusal, or an explanation of the command line
+-- what a run answers: a text, a refusal, or an explanation of the command line; or what it printed as it served
+-- clients, and whether the network was lost before the end
 pub data Answer : Type 0 where
   Prints : Text → Answer
   Refuses : Refusal → Answer
   Explains : Answer
+  Serves : Text → Bool → Answer
+
+-- what is told where the network is lost
+abbrev pub network_line : Text
+network_line = codes "fault: network\n"
 
 -- a text is printed, as this view sees it, and a refusal is told
 abbrev pub answer_for : {A : Type 0} → (A → Text) → Told A → Answer
@@ -51,6 +58,10 @@ Says (Refuses refusal) status out out' errors errors' =
     (status ≡ REFUSED) × Keeps out out' × Appends errors errors' (refusal_line refusal) × (refusal ≢ NoMemory)
 Says Explains status out out' errors errors' =
     (status ≡ EXPLAINED) × Keeps out out' × ((text : Text) × Appends errors errors' text)
+Says (Serves text false) status out out' errors errors' =
+    (status ≡ PRINTED) × Appends out out' text × Keeps errors errors'
+Says (Serves text true) status out out' errors errors' =
+    (status ≡ REFUSED) × Appends out out' text × Appends errors errors' network_line
 
 -- what was written where a write failed
 abbrev pub Stops : Answer → Option Bytes → Option Bytes → Option Bytes → Option Bytes → Type 0
@@ -58,6 +69,9 @@ Stops (Prints text) out out' errors errors' = AppendsPart out out' text × Keeps
 Stops (Refuses refusal) out out' errors errors' =
     Keeps out out' × AppendsPart errors errors' (refusal_line refusal) × (refusal ≢ NoMemory)
 Stops Explains out out' errors errors' = Keeps out out' × ((text : Text) × AppendsPart errors errors' text)
+Stops (Serves text false) out out' errors errors' = AppendsPart out out' text × Keeps errors errors'
+Stops (Serves text true) out out' errors errors' =
+    Appends out out' text × AppendsPart errors errors' network_line
 
 -- What a run wrote, by what holds of its answer and what is left if it told nothing. With a status, all of the answer
 -- was written. Where a write failed, the front of it was. With another fault nothing was.

@@ -20,7 +20,7 @@ use Rattle.vet_store.specs.Committed.{AreTreesBeside}
 use Rattle.vet_store.specs.Crash.{LeavesEither}
 use Rattle.vet_store.specs.Runs.{IsTurn}
 use Rattle.vet_store.specs.Tied.{IsTied}
-use Rattle.vetd.specs.Answer.{Answer, Explains, IsInput, Prints, Refuses, input_read}
+use Rattle.vetd.specs.Answer.{Answer, Explains, IsInput, Prints, Refuses, Serves, input_read}
 use Rattle.vetd.specs.ApplyWords.{ApplyAsked}
 use Rattle.vetd.specs.Making.{Giving}
 use Rattle.vetd.specs.Opening.{IsNotOpened, IsOpenedAs}
@@ -54,6 +54,7 @@ module _ {S : Type 0} (g : Ghosts S) (document : Bytes) (day : DayValue) (giver 
       (((refusal ≡ NoMemory) ⊎ (command_told document day giver ≡ Err refusal)) × (after ≡ opened))
       ⊎ IsGiven opened register (Err refusal) after
   IsDocumentAnswer opened register Explains after = ⊥
+  IsDocumentAnswer opened register (Serves text lost) after = ⊥
 
   -- a register was opened, and this is the answer over it
   pub record IsApplied (before : Held S) (answer : Answer) (after : Held S) : Type 0 where
@@ -68,6 +69,7 @@ module _ {S : Type 0} (g : Ghosts S) (document : Bytes) (day : DayValue) (giver 
   IsApplyAnswer before (Refuses refusal) after =
       IsNotOpened g before refusal after ⊎ IsApplied before (Refuses refusal) after
   IsApplyAnswer before Explains after = ⊥
+  IsApplyAnswer before (Serves text lost) after = ⊥
 
 -- the day that words give, if they ask for something and their text is a day
 abbrev pub day_given : Option ApplyAsked → Option DayValue

@@ -13,6 +13,10 @@ pub mod Opening
 pub mod Program
 pub mod ReadLine
 pub mod Reported
+pub mod ServeAsked
+pub mod ServeRun
+pub mod ServeWords
+pub mod Serving
 pub mod View
 pub mod ViewWords
 pub mod Viewing

@@ -13,7 +13,7 @@ use Rattle.vet_store.specs.Made.{AreFree, IsMade, SparesOthers}
 use Rattle.vet_store.specs.Runs.{IsOfStore}
 use Rattle.vet_store.specs.Stands.{Rests}
 use Rattle.vet_store.specs.Tied.{IsTied}
-use Rattle.vetd.specs.Answer.{Answer, Explains, Prints, Refuses}
+use Rattle.vetd.specs.Answer.{Answer, Explains, Prints, Refuses, Serves}
 use Rattle.vetd.specs.NewAsked.{AsksNew, NewAsked}
 
 -- what is told of a register that was made
@@ -51,6 +51,7 @@ module _ {S : Type 0} (g : Ghosts S) (Gives : Giving S) where
   IsAnswerFor asked (Refuses refusal) (Some after) = (before : Held S) × (Gives asked.path (Ok before)
       × IsNoRegister g asked.moves_limit before refusal after)
   IsAnswerFor asked Explains left = ⊥
+  IsAnswerFor asked (Serves text lost) left = ⊥
 
   -- the same of words: they are explained where they are no new command
   abbrev pub IsAnswerToNew : List Text → Answer → Option (Held S) → Type 0

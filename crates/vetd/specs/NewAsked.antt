@@ -2,7 +2,7 @@
 use Rattle.std.specs.Prelude.{◌≡◌, ℕ, List, Some, codes}
 use Rattle.clap.specs.Walk.{Row, Text, first_of}
 use Rattle.vetd.specs.NewWords.{IsLimit}
-use Rattle.vetd.specs.Words.{given}
+use Rattle.vetd.specs.Words.{rows_given}
 use Rattle.vetd.specs.declared.new_words.NewWords.{NewWords}
 
 -- a path, and how many moves the register may record
@@ -22,5 +22,5 @@ pub record IsAskedBy (rows : List Row) (asked : NewAsked) : Type 0 where
 -- the words of a new command ask for them
 pub record AsksNew (words : List Text) (asked : NewAsked) : Type 0 where
   pub rows : List Row
-  pub given : given (codes "new") words ≡ Some rows
+  pub given : rows_given (codes "new") words ≡ Some rows
   pub asks : IsAskedBy rows asked

@@ -9,12 +9,13 @@ use Rattle.vetd.specs.ApplyGiven.{apply_given}
 use Rattle.vetd.specs.Applying.{AnswersApply, IsUnapplied, day_given}
 use Rattle.vetd.specs.Asked.{asked_by}
 use Rattle.vetd.specs.Making.{AnswersNew, Giving, IsUnmade}
+use Rattle.vetd.specs.ServeRun.{AnswersServe, IsUnserved}
 use Rattle.vetd.specs.ViewWords.{view_given}
 use Rattle.vetd.specs.Viewing.{AnswersView, IsUntold}
 use Rattle.vetd.specs.Words.{begins_with}
 use Rattle.vetd.specs.declared.asked.CommandKind.TheVariants.{Class, Read}
 use Rattle.vetd.specs.declared.program.ProgramCommand.{ProgramCommand}
-use Rattle.vetd.specs.declared.program.ProgramCommand.TheVariants.{Apply, File, New, Show}
+use Rattle.vetd.specs.declared.program.ProgramCommand.TheVariants.{Apply, File, New, Serve, Show}
 use Rattle.vetd.specs.declared.view_words.ViewCommand.TheVariants.{Export, Report}
 
 -- the command as which words are taken, by the first of them
@@ -24,7 +25,8 @@ command_of words =
     else (if begins_with (codes "new") words then New
     else (if begins_with (codes "apply") words then Apply
     else (if begins_with (codes "report") words then Show Report
-    else (if begins_with (codes "export") words then Show Export else File Class))))
+    else (if begins_with (codes "export") words then Show Export
+    else (if begins_with (codes "serve") words then Serve else File Class)))))
 
 module _ {S : Type 0} (g : Ghosts S) (Gives Finds : Giving S) (known : Option Bytes) (words : List Text)
     (left : Option (Held S)) where
@@ -34,6 +36,7 @@ module _ {S : Type 0} (g : Ghosts S) (Gives Finds : Giving S) (known : Option By
   AnswersAs New Holds = AnswersNew g Gives words left Holds
   AnswersAs Apply Holds = AnswersApply g Finds known (apply_given words) left Holds
   AnswersAs (Show command) Holds = AnswersView g Finds (view_given command words) left Holds
+  AnswersAs Serve Holds = AnswersServe g Finds words left Holds
 
   -- what a run that told nothing left
   abbrev pub IsUntoldAs : ProgramCommand → Type 0
@@ -41,6 +44,7 @@ module _ {S : Type 0} (g : Ghosts S) (Gives Finds : Giving S) (known : Option By
   IsUntoldAs New = IsUnmade g Gives words left
   IsUntoldAs Apply = IsUnapplied g Finds known (apply_given words) left
   IsUntoldAs (Show command) = IsUntold g Finds (view_given command words) left
+  IsUntoldAs Serve = IsUnserved g Finds words left
 
 -- nothing of the input is asked for
 abbrev pub AsksNoInput : ProgramCommand → List Text → Type 0
@@ -48,3 +52,4 @@ AsksNoInput (File kind) words = asked_by kind words ≡ None
 AsksNoInput New words = ⊤
 AsksNoInput Apply words = day_given (apply_given words) ≡ None
 AsksNoInput (Show command) words = ⊤
+AsksNoInput Serve words = ⊤

@@ -3,7 +3,7 @@ use Rattle.std.specs.Prelude.{List, Option, codes, option_and_then, option_map}
 use Rattle.clap.specs.Walk.{Row, Text, first_of}
 use Rattle.vetd.specs.FileWord.{file_of_word}
 use Rattle.vetd.specs.Reported.{report_kind}
-use Rattle.vetd.specs.Words.{given}
+use Rattle.vetd.specs.Words.{rows_given}
 use Rattle.vetd.specs.declared.view.View.{View}
 use Rattle.vetd.specs.declared.view.View.TheVariants.{Export, Report}
 use Rattle.vetd.specs.declared.view_words.ViewCommand.{ViewCommand}
@@ -35,4 +35,4 @@ view_from command rows = option_and_then (λ path. option_map (λ view. record {
 
 -- what the words of such a command ask for
 abbrev pub view_given : ViewCommand → List Text → Option ViewAsked
-view_given command words = option_and_then (view_from command) (given (name_of command) words)
+view_given command words = option_and_then (view_from command) (rows_given (name_of command) words)

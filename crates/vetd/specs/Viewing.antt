@@ -5,7 +5,7 @@ use Rattle.sqlite.specs.Held.{Held}
 use Rattle.sqlite_trees.specs.declared.store.Store.{Ghosts}
 use Rattle.vet_base.specs.declared.refusal.Refusal.{Refusal}
 use Rattle.vet_register.specs.State.{State}
-use Rattle.vetd.specs.Answer.{Answer, Explains, Prints, Refuses}
+use Rattle.vetd.specs.Answer.{Answer, Explains, Prints, Refuses, Serves}
 use Rattle.vetd.specs.Making.{Giving}
 use Rattle.vetd.specs.Opening.{IsNotOpened, IsOpenedAs}
 use Rattle.vetd.specs.View.{Shows}
@@ -29,6 +29,7 @@ module _ {S : Type 0} (g : Ghosts S) (Gives : Giving S) where
   IsViewFor asked (Refuses refusal) (Some after) = (before : Held S) × (Gives asked.path (Ok before)
       × IsNotOpened g before refusal after)
   IsViewFor asked Explains left = ⊥
+  IsViewFor asked (Serves text lost) left = ⊥
 
   -- the same of what words ask for: they are explained where they ask for nothing
   abbrev pub IsAnswerToView : Option ViewAsked → Answer → Option (Held S) → Type 0

@@ -12,6 +12,7 @@ use Rattle.vet_http.specs.declared.register_file.RegisterFile.{RegisterFile}
 use Rattle.vetd.specs.ApplyWords.{apply_app}
 use Rattle.vetd.specs.FileWord.{file_of_word}
 use Rattle.vetd.specs.NewWords.{new_app, option_rule}
+use Rattle.vetd.specs.ServeWords.{serve_app}
 use Rattle.vetd.specs.declared.words.ClassWords.{ClassWords}
 use Rattle.clap.specs.declared.builder.arg.Arg.{Arg}
 use Rattle.clap.specs.declared.builder.command.Command.{Command}
@@ -78,9 +79,13 @@ changed_app = with_subcommand made_app apply_app.top
 abbrev pub reported_app : App
 reported_app = with_subcommand changed_app (view_app (codes "report")).top
 
+-- with the one that writes a file of a register
+abbrev pub exported_app : App
+exported_app = with_subcommand reported_app (view_app (codes "export")).top
+
 -- the program's command line
 abbrev pub top_app : App
-top_app = with_subcommand reported_app (view_app (codes "export")).top
+top_app = with_subcommand exported_app serve_app.top
 
 -- the matches of a subcommand, where it is the one of this name
 abbrev pub rows_if_named : Text → Option (Text × List Row) → Option (List Row)
@@ -92,8 +97,8 @@ unless_fault [] rows = rows
 unless_fault (k ∷ ks) rows = None
 
 -- the matches that clap gives the subcommand of a name, where it takes the words
-unfoldable pub given : Text → List Text → Option (List Row)
-given name words = unless_fault (fault_of top_app words) (rows_if_named name (subcommand_of top_app words))
+unfoldable pub rows_given : Text → List Text → Option (List Row)
+rows_given name words = unless_fault (fault_of top_app words) (rows_if_named name (subcommand_of top_app words))
 
 -- ---- `class`
 
@@ -115,7 +120,7 @@ words_from rows = option_and_then (λ p. option_and_then (λ v.
 
 -- what the words of a class command ask for
 abbrev pub class_given : List Text → Option AskedWords
-class_given words = option_and_then words_from (given (codes "class") words)
+class_given words = option_and_then words_from (rows_given (codes "class") words)
 
 -- whether words begin with one
 abbrev pub begins_with : Text → List Text → Bool
@@ -130,4 +135,4 @@ kind_from rows = option_and_then file_of_word (first_of (codes "KIND") rows)
 
 -- the kind of file that the words of a read command name
 abbrev pub read_given : List Text → Option RegisterFile
-read_given words = option_and_then kind_from (given (codes "read") words)
+read_given words = option_and_then kind_from (rows_given (codes "read") words)

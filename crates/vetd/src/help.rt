@@ -9,6 +9,7 @@ Read by class and read: one file on standard input. Not read: any other file. No
 Made by new: the tables of a register in a database file. Nothing is read from standard input.
 Read by apply: a command document on standard input. It changes the register in a database file.
 Printed by report and export: what the register in a database file holds. Nothing is read from standard input.
+Served by serve: a register over HTTP, in a database file or in memory. Nothing is read from standard input.
 
 Classes, the first that holds:
   conflicting  the version is condemned, and yet some chain of steps leads to it
@@ -19,7 +20,8 @@ Classes, the first that holds:
 
 Statuses:
   0  the answer was printed: a class, whichever it is, counts, an outcome, a report, a file, or that a register was made
-  1  the words or the file were refused, or a read or a write failed
+     or served
+  1  the words or the file were refused, or a read or a write failed, or the network did
   2  the words are no command, or ask for help or the version: nothing is read or made
 
 Example:
@@ -83,3 +85,16 @@ Refused 31 if no register stands at PATH, and 30 if no database can be opened th
 
 Example:
   vetd report --db register.db counts";
+
+/// What stands below the help of `serve`.
+pub const SERVE_HELP: &str = "\
+Served: the register in the database file at PATH, or a new one in memory, which ends with the program.
+Printed: listening on 127.0.0.1:N, and after K connections served M, where M of them had their whole reply.
+Each connection has one request, one reply, and 30 seconds. Without --day it is served on the clock's day in UTC.
+A program in front of it must set the field Vet-Member, and take it from what comes from outside.
+
+Refused 4 for a bad day, 31 if no register stands at PATH, and 30 if no database can be opened there.
+fault: network is told if the port can't be had, or is lost.
+
+Example:
+  vetd serve --port 8080 --connections 1000000 --db register.db";

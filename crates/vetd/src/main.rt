@@ -4,13 +4,14 @@
 //! a package. `vetd read KIND`, KIND `audits`, `config` or `imports`, prints how many things a file holds, and
 //! how many were passed over. `vetd new --db PATH` makes a register in a database file, and prints `created`.
 //! `vetd apply --db PATH --day D` has the command of a document run on it, and prints the outcome. `vetd report` and
-//! `vetd export` print what it holds, as a report or as one of the three files. Each ends with status 0. A refusal
-//! goes to standard error as one line, with status 1. Where the words are no command, or ask for help, clap's text
-//! goes to standard error, with status 2, and nothing is read or made.
+//! `vetd export` print what it holds, as a report or as one of the three files. `vetd serve --port N --connections K`
+//! serves a register over HTTP. Each ends with status 0. A refusal goes to standard error as one line, with status 1.
+//! Where the words are no command, or ask for help, clap's text goes to standard error, with status 2, and nothing is
+//! read or made.
 //!
 //! **The words and the input alone decide what is written and the status, and with `--db` the words, the input, the
-//! file and what the database answers. A run that ends with a fault wrote nothing, or, where a write failed, the front
-//! of that answer.**
+//! file and what the database answers. With `serve` the clients and the clock do so too. A run that ends with a fault
+//! wrote nothing, or, where a write failed, the front of that answer.**
 //!
 //! Scope of this crate: words, and where databases are. What a class is, what files hold, what stands in tables, how a
 //! report reads and how bytes are read and written is told in the crates below.
@@ -21,10 +22,12 @@ ghost use Rattle.std.specs.Prelude.{◌≡◌, IfOk};
 mod answer;
 mod apply_words;
 mod applying;
+mod arrivals;
 mod asked;
 mod class_line;
 mod counts;
 mod databases;
+mod deadline;
 mod file_word;
 mod help;
 mod making;
@@ -33,6 +36,11 @@ mod program;
 mod read_line;
 mod report_kind;
 mod run;
+mod serve_lines;
+mod serve_run;
+mod serve_words;
+mod serving;
+mod timed;
 mod view;
 mod view_words;
 mod viewing;
@@ -87,10 +95,11 @@ fn fault_status<R: Eprint>(rt: &R, fault: IoFault) -> u8
 /// Answers the words, over the databases in this machine's files. A connection is let go, and its file stays locked so
 /// long.
 fn run_words(rt: &HostRuntime, words: &[String]) -> Result<u8, IoFault> {
-    let run = program_run::<String, WaryFile, PlainKeeper, FileDatabases<'_>, _, _, _>(
+    let run = program_run::<String, WaryFile, PlainKeeper, FileDatabases<'_>, _, _, _, _>(
         rt.alloc(),
         ProgramCommand::of_words(words),
         words,
+        rt,
         &mut CountedReader::new(rt.reader()),
         &mut FileDatabases::new(rt),
         &mut io::writer(rt),

@@ -10,6 +10,7 @@ use crate::asked::CommandKind;
 use crate::databases::{DatabaseRun, Databases};
 use crate::making::new_run;
 use crate::run::command_run;
+use crate::serve_run::serve_run;
 use crate::view_words::ViewCommand;
 use crate::viewing::view_run;
 use crate::words::begin_with;
@@ -17,6 +18,8 @@ use sqlite::Alter;
 use std::alloc::Global;
 use std::convert::AsStr;
 use std::io::{Read, Write};
+use std::net::Net;
+use std::time::Clock;
 use vet_base::limits::MOST_INPUT_BYTES;
 use vet_graph::keeper::Keeper;
 use vet_http::input::CountedReader;
@@ -30,6 +33,7 @@ pub enum ProgramCommand {
     New,
     Apply,
     Show(ViewCommand),
+    Serve,
 }
 
 impl ProgramCommand {
@@ -48,6 +52,8 @@ impl ProgramCommand {
             ProgramCommand::Show(ViewCommand::Report)
         } else if begin_with(words, "export") {
             ProgramCommand::Show(ViewCommand::Export)
+        } else if begin_with(words, "serve") {
+            ProgramCommand::Serve
         } else {
             ProgramCommand::File(CommandKind::Class)
         }
@@ -58,13 +64,15 @@ impl ProgramCommand {
 /// in the database at their path: the answer goes to `writer`, and a refusal or clap's text to `errors`.
 ///
 /// **A status comes with the whole answer to the words, the input and the tables. A run that ends with a fault wrote
-/// nothing, or, where a write failed, the front of that answer.** Faults: `Input`, `Endless` and `NoMemory`, where
+/// nothing, or, where a write failed, the front of that answer. What serves clients does so on the network and by the
+/// clock of `host`, which tells nothing of them.** Faults: `Input`, `Endless` and `NoMemory`, where
 /// nothing was written, and `Output`.
 pub fn program_run<
     T: AsStr,
     S: Alter + Drop,
     K: Keeper,
     D: Databases<S>,
+    H: Net + Clock,
     R: Read,
     W: Write,
     E: Write,
@@ -72,6 +80,7 @@ pub fn program_run<
     alloc: Global,
     command: ProgramCommand,
     words: &[T],
+    host: &H,
     reader: &mut CountedReader<R>,
     databases: &mut D,
     writer: &mut W,
@@ -102,6 +111,9 @@ pub fn program_run<
         }
         ProgramCommand::Show(kind) => {
             view_run::<T, S, K, D, W, E>(alloc, kind, words, databases, writer, errors)
+        }
+        ProgramCommand::Serve => {
+            serve_run::<T, S, K, D, H, W, E>(alloc, words, host, databases, writer, errors)
         }
     }
 }

@@ -4,15 +4,18 @@ ghost use Rattle.clap.specs.Words.{App, Rule, first_of, found_of, kind_of, rows_
 ghost use Rattle.clap.specs.Words.{subcommand_rows_of, Text};
 ghost use Rattle.vetd.specs.ApplyWords.{apply_app};
 ghost use Rattle.vetd.specs.NewWords.{limit_rule, new_app, option_rule};
+ghost use Rattle.vetd.specs.ServeWords.{number_rule, serve_app};
 ghost use Rattle.vetd.specs.Words.{IsApp, IsRule, asked_of, bare_app, begins_with, class_alone_app, class_app};
-ghost use Rattle.vetd.specs.Words.{changed_app, class_given, file_app, given, kind_from, made_app, read_app};
-ghost use Rattle.vetd.specs.Words.{read_given, reported_app, rows_if_named, top_app, view_app, with_kind, word_rule};
-ghost use Rattle.vetd.specs.Words.{words_from};
+ghost use Rattle.vetd.specs.Words.{changed_app, class_given, exported_app, file_app, kind_from, made_app};
+ghost use Rattle.vetd.specs.Words.{read_app, read_given, reported_app, rows_given, rows_if_named, top_app, view_app};
+ghost use Rattle.vetd.specs.Words.{with_kind, word_rule, words_from};
 
 use crate::file_word::file_of_word;
 use crate::help::{
-    APPLY_HELP, CLASS_HELP, EXPORT_HELP, NEW_HELP, PROGRAM_HELP, READ_HELP, REPORT_HELP, VERSION,
+    APPLY_HELP, CLASS_HELP, EXPORT_HELP, NEW_HELP, PROGRAM_HELP, READ_HELP, REPORT_HELP,
+    SERVE_HELP, VERSION,
 };
+use crate::serve_words::{LAST_PORT, MOST_CONNECTIONS};
 use clap::builder::ValueParser;
 use clap::error::ErrorKind;
 use clap::{Arg, ArgMatches, Command, Error};
@@ -123,10 +126,10 @@ pub(crate) fn matches_of<'a, S: AsStr>(
     alloc: Global,
     words: &'a [S],
 ) -> Result<ArgMatches<'a>, Error>
-    ensures found { IfOk result (λ matches. (name : Text) → given name (map S.text words.entry.now)
+    ensures found { IfOk result (λ matches. (name : Text) → rows_given name (map S.text words.entry.now)
         ≡ rows_if_named name (subcommand_rows_of matches)) }
     ensures refused { IfErr result (λ error. kind_of error ≢ ErrorKind.OutOfMemory
-        → (name : Text) → given name (map S.text words.entry.now) ≡ None) }
+        → (name : Text) → rows_given name (map S.text words.entry.now) ≡ None) }
 {
     match matches_by_clap(alloc, words) {
         Ok(matches) => Ok(matches),
@@ -136,10 +139,10 @@ pub(crate) fn matches_of<'a, S: AsStr>(
 
 /// What clap gives of the words.
 fn matches_by_clap<'a, S: AsStr>(alloc: Global, words: &'a [S]) -> Result<ArgMatches<'a>, Error>
-    ensures found { IfOk result (λ matches. (name : Text) → given name (map S.text words.entry.now)
+    ensures found { IfOk result (λ matches. (name : Text) → rows_given name (map S.text words.entry.now)
         ≡ rows_if_named name (subcommand_rows_of matches)) }
     ensures refused { IfErr result (λ error. kind_of error ≢ ErrorKind.OutOfMemory
-        → (name : Text) → given name (map S.text words.entry.now) ≡ None) }
+        → (name : Text) → rows_given name (map S.text words.entry.now) ≡ None) }
 {
     top_command(alloc)?.try_get_matches_from(words)
 }
@@ -181,11 +184,19 @@ fn surplus_word<S: AsStr>(words: &[S]) -> Option<&str> {
 fn top_command<'a>(alloc: Global) -> Result<Command<'a>, AllocError>
     ensures { IfOk result (IsApp top_app) }
 {
+    let serve = serve_command(alloc)?;
+    exported_commands(alloc)?.subcommand(serve)
+}
+
+/// The command line before the last subcommand.
+fn exported_commands<'a>(alloc: Global) -> Result<Command<'a>, AllocError>
+    ensures { IfOk result (IsApp exported_app) }
+{
     let export = export_command(alloc)?;
     reported_commands(alloc)?.subcommand(export)
 }
 
-/// The command line before the last subcommand.
+/// The command line with the subcommands that read a file, make a register, change one or report of one.
 fn reported_commands<'a>(alloc: Global) -> Result<Command<'a>, AllocError>
     ensures { IfOk result (IsApp reported_app) }
 {
@@ -277,7 +288,7 @@ fn new_command<'a>(alloc: Global) -> Result<Command<'a>, AllocError>
     let command = Command::new(alloc, "new")
         .about("Makes a register in a database file")
         .after_help(NEW_HELP);
-    let command = add(command, path_option(alloc))?;
+    let command = add(command, path_option(alloc, true))?;
     add(command, limit_option(alloc))
 }
 
@@ -287,8 +298,8 @@ fn apply_command<'a>(alloc: Global) -> Result<Command<'a>, AllocError>
     let command = Command::new(alloc, "apply")
         .about("Changes the register in a database file by the command document on standard input")
         .after_help(APPLY_HELP);
-    let command = add(command, path_option(alloc))?;
-    let command = add(command, day_option(alloc))?;
+    let command = add(command, path_option(alloc, true))?;
+    let command = add(command, day_option(alloc, true))?;
     add(command, member_option(alloc))
 }
 
@@ -318,6 +329,18 @@ fn export_command<'a>(alloc: Global) -> Result<Command<'a>, AllocError>
     )
 }
 
+fn serve_command<'a>(alloc: Global) -> Result<Command<'a>, AllocError>
+    ensures { IfOk result (IsApp serve_app) }
+{
+    let command = Command::new(alloc, "serve")
+        .about("Serves a register over HTTP on the loopback")
+        .after_help(SERVE_HELP);
+    let command = add(command, port_option(alloc))?;
+    let command = add(command, connections_option(alloc))?;
+    let command = add(command, path_option(alloc, false))?;
+    add(command, day_option(alloc, false))
+}
+
 /// The command with the path of a register, and the kind of what it shows.
 fn with_kind<'a>(
     alloc: Global,
@@ -326,30 +349,54 @@ fn with_kind<'a>(
 ) -> Result<Command<'a>, AllocError>
     ensures { (app : App) → IsApp app command.entry → IfOk result (IsApp (with_kind app)) }
 {
-    let command = add(command, path_option(alloc))?;
+    let command = add(command, path_option(alloc, true))?;
     add(command, word(alloc, "KIND", help))
 }
 
-/// `--db PATH`, which is required.
-fn path_option<'a>(alloc: Global) -> Arg<'a>
-    ensures { IsRule (option_rule true (codes "db")) result }
+/// `--db PATH`.
+fn path_option<'a>(alloc: Global, required: bool) -> Arg<'a>
+    ensures { IsRule (option_rule required (codes "db")) result }
 {
     Arg::new(alloc, "db")
         .long("db")
         .value_name("PATH")
-        .required(true)
+        .required(required)
         .help("Where the database file stands, or is to stand")
 }
 
-/// `--day D`, which is required.
-fn day_option<'a>(alloc: Global) -> Arg<'a>
-    ensures { IsRule (option_rule true (codes "day")) result }
+/// `--day D`.
+fn day_option<'a>(alloc: Global, required: bool) -> Arg<'a>
+    ensures { IsRule (option_rule required (codes "day")) result }
 {
     Arg::new(alloc, "day")
         .long("day")
         .value_name("D")
-        .required(true)
+        .required(required)
         .help("The day of the command, as 2024-05-01")
+}
+
+/// `--port N`, which is required.
+fn port_option<'a>(alloc: Global) -> Arg<'a>
+    ensures { IsRule (number_rule 65535 (codes "port")) result }
+{
+    Arg::new(alloc, "port")
+        .long("port")
+        .value_name("N")
+        .required(true)
+        .value_parser(ValueParser::Unsigned(1, LAST_PORT as u64))
+        .help("The port of 127.0.0.1 at which clients connect")
+}
+
+/// `--connections K`, which is required.
+fn connections_option<'a>(alloc: Global) -> Arg<'a>
+    ensures { IsRule (number_rule 1000000 (codes "connections")) result }
+{
+    Arg::new(alloc, "connections")
+        .long("connections")
+        .value_name("K")
+        .required(true)
+        .value_parser(ValueParser::Unsigned(1, MOST_CONNECTIONS as u64))
+        .help("How many connections are waited for before the program ends")
 }
 
 /// `--member M`.

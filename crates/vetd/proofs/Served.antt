@@ -1,0 +1,193 @@
+-- From what came of serving a register to the answer to the words.
+use Rattle.std.proofs.Common.{◌≡◌, ◌≢◌, ◌∙◌, inr, ℕ, List, Bool, Option, Some, None, Result, Ok, Err, IfErr, IfOk}
+use Rattle.std.proofs.Common.{ap, refl, subst, sym}
+use Rattle.std.specs.Bool.{⊤}
+use Rattle.std.specs.Io.KnownBytes.{Keeps}
+use Rattle.clap.specs.Walk.{Text}
+use Rattle.sqlite.specs.Held.{Held, state}
+use Rattle.sqlite_trees.specs.declared.store.Store.{Ghosts}
+use Rattle.vet_base.specs.Day.{DayValue}
+use Rattle.vet_base.specs.Gives.{Told}
+use Rattle.vet_base.specs.Words.{Bytes}
+use Rattle.vet_base.specs.declared.limits.TheConstants.{MOST_MOVES}
+use Rattle.vet_base.specs.declared.refusal.Refusal.{Refusal}
+use Rattle.vet_http.specs.declared.io_fault.IoFault.{IoFault}
+use Rattle.vet_http.specs.declared.io_fault.IoFault.TheVariants.{Output}
+use Rattle.vet_register.specs.State.{State, start}
+use Rattle.vet_rows.specs.RowsOf.{rows_of}
+use Rattle.vet_store.specs.Runs.{IsOfStore}
+use Rattle.vet_store.specs.Tied.{IsTied}
+use Rattle.vetd.specs.Answer.{Answer, Explains, IsWritten, Prints, Refuses, Says, Serves, Stops}
+use Rattle.vetd.specs.Making.{Giving}
+use Rattle.vetd.specs.Opening.{IsNotOpened, IsOpenedAs}
+use Rattle.vetd.specs.ServeAsked.{AsksServe, ServeAsked}
+use Rattle.vetd.specs.ServeRun.{Answered, AnswersServe, IsAnswerToServe, IsServeAt, IsServeInMemory, IsServeOn}
+use Rattle.vetd.specs.ServeRun.{IsServeOver, IsServeWhere, IsSitting, IsSittingOf, IsUnserved, IsUnservedAt}
+use Rattle.vetd.specs.ServeRun.{IsUnservedOver, day_told, on_day}
+use Rattle.vetd.specs.declared.serve_run.Service.{Service}
+use Rattle.vetd.proofs.Answered.{told_written, was_untold, written_as}
+
+-- an answer was written that is one
+pub is_told : (Is : Answer → Type 0) (Untold : Type 0) (answer : Answer) → Is answer → Untold → (r : Result ℕ IoFault)
+    (out out' errors errors' : Option Bytes)
+    → IfOk r (λ status. Says answer status out out' errors errors')
+    → IfErr r (λ fault. fault ≡ Output → Stops answer out out' errors errors')
+    → IfErr r (λ fault. fault ≢ Output → Keeps out out' × Keeps errors errors')
+    → IsWritten (Answered Is) Untold r out out' errors errors'
+is_told Is Untold answer is untold r out out' errors errors' says stops silent =
+    told_written (Answered Is) Untold answer (λ Holds holds. (answer, (is, holds))) r out out' errors errors' says stops
+    silent (was_untold (Answered Is) Untold r untold)
+
+-- what was written of one answer is written of what it is an answer to
+pub is_told_of : (Is Of : Answer → Type 0) (Untold Unsaid : Type 0) → ((answer : Answer) → Is answer → Of answer)
+    → (Untold → Unsaid) → (r : Result ℕ IoFault) (out out' errors errors' : Option Bytes)
+    → IsWritten (Answered Is) Untold r out out' errors errors'
+    → IsWritten (Answered Of) Unsaid r out out' errors errors'
+is_told_of Is Of Untold Unsaid of untold r out out' errors errors' written =
+    written_as (Answered Is) (Answered Of) Untold Unsaid
+    (λ Holds answered. (answered.0, (of answered.0 answered.1.0, answered.1.1))) untold
+    r out out' errors errors' written
+
+module _ {S : Type 0} (g : Ghosts S) (service : Service) (before : Held S) where
+  served_over : (opened after : Held S) (register end : State) (shut : Bool) → IsOpenedAs g before register opened
+      → IsTied (state g after) shut (rows_of end) → (answer : Answer) → IsSittingOf service register end answer
+      → IsServeOver g service before answer after
+  served_over opened after register end shut opens tables (Prints text) is = absurd is
+  served_over opened after register end shut opens tables (Refuses refusal) is = absurd is
+  served_over opened after register end shut opens tables Explains is = absurd is
+  served_over opened after register end shut opens tables (Serves text lost) is = record {
+    opened = opened;
+    register = register;
+    opens = opens;
+    end = end;
+    sitting = is;
+    shut = shut;
+    tables = tables;
+  }
+
+  -- clients were served from a register that was opened, and the connection was given back
+  pub over_opened : (Same : Type 0) (opened last after : Held S) (register end : State) (shut : Bool)
+      → IsOpenedAs g before register opened → (Same → last ≡ opened) → after ≡ last
+      → IsTied (state g after) shut (rows_of end) → (r : Result ℕ IoFault) (out out' errors errors' : Option Bytes)
+      → IsWritten (Answered (IsSittingOf service register end)) Same r out out' errors errors'
+      → IsWritten (Answered (λ answer. IsServeOver g service before answer after)) (IsUnservedOver g before after) r
+      out out' errors errors'
+  over_opened Same opened last after register end shut opens same closed tables =
+      is_told_of (IsSittingOf service register end) (λ answer. IsServeOver g service before answer after) Same
+      (IsUnservedOver g before after) (served_over opened after register end shut opens tables)
+      (λ untold. inr (
+        register,
+        subst (λ (h : Held S). IsOpenedAs g before register h) (sym (closed ∙ same untold)) opens,
+      ))
+
+-- clients were served from a new register in memory
+module _ (service : Service) where
+  in_memory : (register end : State) → register ≡ start MOST_MOVES → (answer : Answer)
+      → IsSittingOf service register end answer → IsServeInMemory service answer
+  in_memory register end first (Prints text) is = absurd is
+  in_memory register end first (Refuses refusal) is = absurd is
+  in_memory register end first Explains is = absurd is
+  in_memory register end first (Serves text lost) is =
+      (end, subst (λ (s : State). IsSitting service s text lost end) first is)
+
+  pub of_memory : (Same : Type 0) (register end : State) → register ≡ start MOST_MOVES → (r : Result ℕ IoFault)
+      (out out' errors errors' : Option Bytes)
+      → IsWritten (Answered (IsSittingOf service register end)) Same r out out' errors errors'
+      → IsWritten (Answered (IsServeInMemory service)) ⊤ r out out' errors errors'
+  of_memory Same register end first =
+      is_told_of (IsSittingOf service register end) (IsServeInMemory service) Same ⊤ (in_memory register end first)
+      (λ untold. tt)
+
+module _ {S : Type 0} (g : Ghosts S) (Finds : Giving S) where
+  -- what came of a connection that was found at a path
+  pub at_path : (service : Service) (path : Text) (before after : Held S) → Finds path (Ok before)
+      → (r : Result ℕ IoFault) (out out' errors errors' : Option Bytes)
+      → IsWritten (Answered (λ answer. IsServeOver g service before answer after)) (IsUnservedOver g before after) r
+      out out' errors errors'
+      → IsWritten (Answered (λ answer. IsServeAt g Finds service path answer (Some after)))
+      (IsUnservedAt g Finds (Some path) (Some after)) r out out' errors errors'
+  at_path service path before after finds =
+      is_told_of (λ answer. IsServeOver g service before answer after)
+      (λ answer. IsServeAt g Finds service path answer (Some after)) (IsUnservedOver g before after)
+      (IsUnservedAt g Finds (Some path) (Some after)) (λ answer is. (before, (finds, is)))
+      (λ untold. (before, (finds, untold)))
+
+  module _ (asked : ServeAsked) (service : Service) (day : day_told asked.day ≡ Ok service.day)
+      (same : service ≡ on_day asked service.day) (left : Option (Held S)) where
+    served_where : (answer : Answer) → IsServeWhere g Finds service asked.path answer left
+        → IsServeOn g Finds asked (day_told asked.day) answer left
+    served_where answer is =
+        subst (λ (told : Told (Option DayValue)). IsServeOn g Finds asked told answer left) (sym day)
+        (subst (λ (s : Service). IsServeWhere g Finds s asked.path answer left) same is)
+
+    -- what came of what is asked for, at a path
+    pub on_path : (path : Text) → asked.path ≡ Some path → (r : Result ℕ IoFault)
+        (out out' errors errors' : Option Bytes)
+        → IsWritten (Answered (λ answer. IsServeAt g Finds service path answer left))
+        (IsUnservedAt g Finds (Some path) left) r out out' errors errors'
+        → IsWritten (Answered (λ answer. IsServeOn g Finds asked (day_told asked.day) answer left))
+        (IsUnservedAt g Finds asked.path left) r out out' errors errors'
+    on_path path told =
+        is_told_of (λ answer. IsServeAt g Finds service path answer left)
+        (λ answer. IsServeOn g Finds asked (day_told asked.day) answer left) (IsUnservedAt g Finds (Some path) left)
+        (IsUnservedAt g Finds asked.path left)
+        (λ answer is. served_where answer
+        (subst (λ (p : Option Text). IsServeWhere g Finds service p answer left) (sym told) is))
+        (subst (λ (p : Option Text). IsUnservedAt g Finds p left) (sym told))
+
+    -- and in memory
+    pub on_none : asked.path ≡ None → left ≡ None → (r : Result ℕ IoFault) (out out' errors errors' : Option Bytes)
+        → IsWritten (Answered (IsServeInMemory service)) ⊤ r out out' errors errors'
+        → IsWritten (Answered (λ answer. IsServeOn g Finds asked (day_told asked.day) answer left))
+        (IsUnservedAt g Finds asked.path left) r out out' errors errors'
+    on_none told none =
+        is_told_of (IsServeInMemory service) (λ answer. IsServeOn g Finds asked (day_told asked.day) answer left) ⊤
+        (IsUnservedAt g Finds asked.path left)
+        (λ answer is. served_where answer
+        (subst (λ (p : Option Text). IsServeWhere g Finds service p answer left) (sym told) (is, none)))
+        (λ untold. subst (λ (h : Option (Held S)). IsUnservedAt g Finds asked.path h) (sym none) tt)
+
+  -- a bad day is told before all else
+  pub bad_day : (asked : ServeAsked) (refusal : Refusal) → day_told asked.day ≡ Err refusal
+      → IsServeOn g Finds asked (day_told asked.day) (Refuses refusal) None
+  bad_day asked refusal bad =
+      subst (λ (told : Told (Option DayValue)). IsServeOn g Finds asked told (Refuses refusal) None) (sym bad)
+      (refl, refl)
+
+  never_explained : (service : Service) (path : Option Text) (left : Option (Held S))
+      → IsServeWhere g Finds service path Explains left → ⊥
+  never_explained service None left is = is.0
+  never_explained service (Some path) None is = is
+  never_explained service (Some path) (Some after) is = is.1.1
+
+  no_explanation : (asked : ServeAsked) (told : Told (Option DayValue)) (left : Option (Held S))
+      → IsServeOn g Finds asked told Explains left → ⊥
+  no_explanation asked (Ok day) left is = never_explained (on_day asked day) asked.path left is
+  no_explanation asked (Err refusal) left is = let two : Explains ≡ Refuses refusal = is.0 in cc
+
+  module _ (words : List Text) (asked : ServeAsked) (asks : AsksServe words asked) where
+    answers_words : (left : Option (Held S)) (answer : Answer)
+        → IsServeOn g Finds asked (day_told asked.day) answer left → IsAnswerToServe g Finds words answer left
+    answers_words left (Prints text) is = (asked, (asks, is))
+    answers_words left (Refuses refusal) is = (asked, (asks, is))
+    answers_words left Explains is = absurd (no_explanation asked (day_told asked.day) left is)
+    answers_words left (Serves text lost) is = (asked, (asks, is))
+
+    unserved_words : (left : Option (Held S)) → IsUnservedAt g Finds asked.path left → IsUnserved g Finds words left
+    unserved_words None untold = tt
+    unserved_words (Some after) untold = (asked, (asks, untold))
+
+    -- what came of what the words ask for
+    pub of_words : (left : Option (Held S)) (r : Result ℕ IoFault) (out out' errors errors' : Option Bytes)
+        → IsWritten (Answered (λ answer. IsServeOn g Finds asked (day_told asked.day) answer left))
+        (IsUnservedAt g Finds asked.path left) r out out' errors errors'
+        → IsWritten (AnswersServe g Finds words left) (IsUnserved g Finds words left) r out out' errors errors'
+    of_words left =
+        is_told_of (λ answer. IsServeOn g Finds asked (day_told asked.day) answer left)
+        (λ answer. IsAnswerToServe g Finds words answer left) (IsUnservedAt g Finds asked.path left)
+        (IsUnserved g Finds words left) (answers_words left) (unserved_words left)
+
+  -- words that are no serve command are explained
+  pub serve_explained : (words : List Text) → ((asked : ServeAsked) → AsksServe words asked → ⊥)
+      → (Holds : Answer → Type 0) → Holds Explains → AnswersServe g Finds words None Holds
+  serve_explained words none Holds holds = (Explains, ((none, refl), holds))

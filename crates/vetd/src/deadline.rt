@@ -1,0 +1,61 @@
+//! How long a connection may last, and the day of the clock.
+ghost use Rattle.std.specs.Prelude.{◌≡◌, ◌<◌, ◌/◌, IfOk, IfSome, pos};
+ghost use Rattle.std.specs.Duration.{as_nanos};
+ghost use Rattle.vet_base.specs.Day.{day_number};
+
+use std::io;
+use std::time::{Clock, Duration, Instant, SystemTime, UNIX_EPOCH};
+use vet_base::day::Day;
+
+/// How many seconds a connection may last, from when it is accepted.
+pub const CONNECTION_SECONDS: u64 = 30;
+
+/// How many seconds a day has.
+const SECONDS_OF_A_DAY: u64 = 86_400;
+
+/// When a connection ends, by the clock that counts from an arbitrary start.
+#[derive(Clone, Copy)]
+pub struct Deadline {
+    end: Instant,
+}
+
+impl Deadline {
+    /// The deadline of a connection that is accepted now. An error where the clock can't be read.
+    pub fn from_now<C: Clock>(clock: &C) -> io::Result<Deadline> {
+        let lasting = Duration::from_secs(CONNECTION_SECONDS);
+        match Instant::now(clock)?.checked_add(lasting) {
+            Some(end) => Ok(Deadline { end }),
+            None => Err(io::Error::from(io::ErrorKind::InvalidData)),
+        }
+    }
+
+    /// The time that is left, which is never none: as a time-out of a socket, none would mean that it may wait forever.
+    /// An error where no time is left, or the clock can't be read.
+    pub fn time_left<C: Clock>(self, clock: &C) -> io::Result<Duration>
+        ensures { IfOk result (λ left. 0 < as_nanos left) }
+    {
+        let left = self.end.duration_since(Instant::now(clock)?);
+        if left.is_zero() {
+            return Err(io::Error::from(io::ErrorKind::TimedOut));
+        }
+        Ok(left)
+    }
+}
+
+/// The clock's day in UTC. An error where the clock can't be read, or is past 9999-12-31.
+pub fn today<C: Clock>(clock: &C) -> io::Result<Day> {
+    match SystemTime::now(clock)?.duration_since(UNIX_EPOCH) {
+        Ok(since_1970) => match day_at(since_1970.as_secs()) {
+            Some(day) => Ok(day),
+            None => Err(io::Error::from(io::ErrorKind::InvalidData)),
+        },
+        Err(_) => Err(io::Error::from(io::ErrorKind::InvalidData)),
+    }
+}
+
+/// The day that it is so many seconds after 1970 began, unless that is past 9999-12-31.
+fn day_at(seconds: u64) -> Option<Day>
+    ensures { IfSome result (λ day. day_number day ≡ pos (seconds / SECONDS_OF_A_DAY)) }
+{
+    Day::of_number((seconds / SECONDS_OF_A_DAY) as i64)
+}
