@@ -1,5 +1,5 @@
-/* An allocator that refuses one allocation, the one whose number REFUSE_ALLOCATION gives. As it refuses,
-   it makes the file that REFUSED_MARK names. */
+/* An allocator that refuses one allocation, the one whose number REFUSE_ALLOCATION gives. With REFUSE_ONCE_ACCEPTED they
+   are counted from the first connection on that is accepted. As it refuses, it makes the file that REFUSED_MARK names. */
 #define _GNU_SOURCE
 #include <dlfcn.h>
 #include <errno.h>
@@ -9,11 +9,12 @@
 #include <unistd.h>
 
 static long seen;
+static int accepted;
 
 static int refuses(void)
 {
     const char *number = getenv("REFUSE_ALLOCATION");
-    if (number == NULL || ++seen != atol(number))
+    if (number == NULL || (!accepted && getenv("REFUSE_ONCE_ACCEPTED") != NULL) || ++seen != atol(number))
         return 0;
     const char *mark = getenv("REFUSED_MARK");
     int file = mark == NULL ? -1 : open(mark, O_CREAT | O_WRONLY, 0600);
@@ -53,4 +54,16 @@ int posix_memalign(void **place, size_t alignment, size_t size)
     if (next == NULL)
         next = dlsym(RTLD_NEXT, "posix_memalign");
     return refuses() ? ENOMEM : next(place, alignment, size);
+}
+
+/* as <sys/socket.h> has it, but for the type of an address */
+int accept4(int listener, void *address, unsigned *length, int flags)
+{
+    static int (*next)(int, void *, unsigned *, int);
+    if (next == NULL)
+        next = dlsym(RTLD_NEXT, "accept4");
+    int connection = next(listener, address, length, flags);
+    if (connection >= 0)
+        accepted = 1;
+    return connection;
 }
