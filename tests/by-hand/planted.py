@@ -6,19 +6,26 @@ import re
 import shutil
 from typing import NamedTuple
 
-# what such a function answers, by the last part of its result
-GIVES_UP = {
-    "Refusal": "{base}::refusal::Refusal::NoMemory",
-    "AllocError": "std::alloc::AllocError",
-    "IoFault": "crate::io_fault::IoFault::NoMemory",
-    "Error": "clap::Error::from(std::alloc::AllocError)",
-    "io": "std::io::Error::from(std::io::ErrorKind::OutOfMemory)",
-}
+from answers import LOWEST, answer_of
+
 # not of the product
-PASSED_OVER = ("trials", "toml_only", "times")
+PASSED_OVER = ("trials", "toml_only", "times", "exchanges")
 # a planted program is slow, so that these are reached sooner in it
-LIMITS = {"MOST_ENTRIES": 1_000, "MOST_PUBLISHERS": 1_000, "MOST_POLICIES": 100}
-LOWEST = "vet_base"
+LIMITS = {
+    "MOST_ENTRIES": 1_000,
+    "MOST_PUBLISHERS": 1_000,
+    "MOST_POLICIES": 100,
+    "MOST_NODES": 500,
+    "MOST_EDGES": 5_000,
+    "MOST_MEMBERS": 100,
+    "MOST_REVIEWS": 200,
+}
+# where connections are made: files, texts, and what stands there in a planted program
+FEWER = [
+    ("vet_store/src/memory_file.rt", r"Options::new\(0\)", r"crate::few_pages::fewer(\g<0>)"),
+    ("vetd/src/databases.rt", r"Connection::open_from\(", "vet_store::few_pages::open_from("),
+    ("trials/src/stored.rt", r"Connection::open_from\(", "vet_store::few_pages::open_from("),
+]
 PLANTED = """//! Whether a function is to give up, as C says.
 
 unsafe extern "C" {
@@ -31,15 +38,15 @@ pub fn gives_up(number: usize) -> bool {
 """
 
 TOKEN = re.compile(
-    r"""//[^\n]*|"(?:\\.|[^"\\])*"|'(?:\\.|[^'\\])'|\bfn \w+|\b(?:if|else|while|for|loop)\b|=>|[(){}\[\];,]""", re.S
+    r"""//[^\n]*|"(?:\\.|[^"\\])*"|'(?:\\.|[^'\\])'|\bfn \w+|\b(?:if|else|while|for|loop)\b|=>|[(){}\[\];,]"""
+    # the types of a call, whose commas end no expression
+    r"|::<(?:[^<>]|<[^<>]*>)*>",
+    re.S,
 )
 CLAUSE = re.compile(r"\b(requires|ensures)\*?\s*\w*\*?\s*$")
 OWNER = re.compile(r"^(?:pub(?:\(\w+\))? )?(impl|trait)\b([^{]*)\{", re.M)
-RESULT = re.compile(r"->\s*(?:(io)::Result<.*|Result<.*,\s*(\w+),?\s*>)\s*$", re.S)
-
-
 # a branch that gives up by itself
-GIVES_UP_ITSELF = re.compile(r"\s*(return )?Err\(\S*(NoMemory|AllocError)\);?\s*$")
+GIVES_UP_ITSELF = re.compile(r"\s*(return )?\(?Err\(\S*(NoMemory|AllocError|OutOfMemory\)*)\)(, None\))?;?\s*$")
 
 
 class Plant(NamedTuple):
@@ -149,51 +156,55 @@ def gives_up_itself(text, found, place, end):
 def in_body(name, answer, text, found, body):
     """The plants of a function whose body begins here."""
     at = next(it for it, token in enumerate(found) if token[0] == body)
-    yield Plant(name, body + 1, answer)
+    yield Plant(name, body + 1, answer.text)
     heads = []
     for head, place, end in branches_of(text, found, at + 1, past_group(found, at) - 1):
-        if gives_up_itself(text, found, place, end):
+        if gives_up_itself(text, found, place, end) or not answer.stands_behind(text[body:place]):
             continue
         heads.append(f"{name} at {' '.join(head.split())}")
         again = f" ({heads.count(heads[-1])})" if heads.count(heads[-1]) > 1 else ""
-        yield Plant(heads[-1] + again, place, answer, end)
+        yield Plant(heads[-1] + again, place, answer.text, end)
 
 
 def plants_of(module, text):
+    """The plants of a file of this module."""
     found = tokens(text)
     for at, (place, token) in enumerate(found):
         if not token.startswith("fn "):
             continue
         signature, body = head_of(text, found, at)
-        result = RESULT.search(signature.rstrip())
-        if body is None or not result or (result[1] or result[2]) not in GIVES_UP:
+        answer = answer_of(signature, module.partition("::")[0], text)
+        if body is None or answer is None:
             continue
         is_inner = text[text.rfind("\n", 0, place) + 1].isspace()
         owner = [owner_of(text, place)] if is_inner else []
-        yield from in_body("::".join([module, *owner, token[3:]]), GIVES_UP[result[1] or result[2]], text, found, body)
+        yield from in_body("::".join([module, *owner, token[3:]]), answer, text, found, body)
 
 
 def sources(root):
-    """The crates of the product with the files of their code."""
+    """The crates of the product with the files of their code, each with the path of its module."""
     for crate in sorted(os.listdir(os.path.join(root, "crates"))):
-        folder = os.path.join(root, "crates", crate, "src")
-        if crate in PASSED_OVER or not os.path.isdir(folder):
+        top = os.path.join(root, "crates", crate, "src")
+        if crate in PASSED_OVER or not os.path.isdir(top):
             continue
-        for name in sorted(os.listdir(folder)):
-            yield crate, os.path.join(folder, name)
+        for folder, within, files in os.walk(top):
+            within.sort()
+            parts = os.path.relpath(folder, top).split(os.sep) if folder != top else []
+            for name in sorted(files):
+                stem = os.path.splitext(name)[0]
+                own = [] if not parts and stem in ("lib", "main") else [stem]
+                yield "::".join([crate, *parts, *own]), os.path.join(folder, name)
 
 
-def plant_file(crate, file, names):
+def plant_file(module, file, names):
     """Plants each function of a file, by its place in the list of names, to which they are added."""
     with open(file, encoding="utf-8") as it:
         text = it.read()
-    stem = os.path.splitext(os.path.basename(file))[0]
-    module = crate if stem in ("lib", "main") else f"{crate}::{stem}"
-    base = "crate" if crate == LOWEST else LOWEST
+    base = "crate" if module.partition("::")[0] == LOWEST else LOWEST
     plants = list(plants_of(module, text))
     pieces = []
     for number, plant in enumerate(plants, len(names)):
-        asked = f" if {base}::planted::gives_up({number}) {{ return Err({plant.answer.format(base=base)}); }}"
+        asked = f" if {base}::planted::gives_up({number}) {{ return {plant.answer}; }}"
         pieces.append((plant.place, asked if plant.end is None else f" {{{asked}"))
         pieces += [] if plant.end is None else [(plant.end, " }")]
     for place, piece in sorted(pieces, key=lambda it: it[0], reverse=True):
@@ -203,19 +214,39 @@ def plant_file(crate, file, names):
         it.write(text)
 
 
-def lower_limits(file):
+def changed(file, pattern, other):
+    """Changes the one text of a file that has this form."""
     with open(file, encoding="utf-8") as it:
-        text = it.read()
-    for name, most in LIMITS.items():
-        text, count = re.subn(rf"(const {name}: usize = )[\d_]+;", rf"\g<1>{most};", text)
-        if count != 1:
-            raise ValueError(f"{name} stands {count} times in {file}")
+        text, count = re.subn(pattern, other, it.read(), flags=re.M)
+    if count != 1:
+        raise ValueError(f"{pattern} stands {count} times in {file}")
     with open(file, "w", encoding="utf-8") as it:
         it.write(text)
 
 
-def plant_all(root, copy, code_in_c):
-    """Makes the planted copy, and tells the names of the functions, each at its number."""
+def add_module(crate, name, text):
+    with open(os.path.join(crate, "src", f"{name}.rt"), "w", encoding="utf-8") as it:
+        it.write(text)
+    with open(os.path.join(crate, "src", "lib.rt"), "a", encoding="utf-8") as it:
+        it.write(f"pub mod {name};\n")
+
+
+def make_fast(copy, few_pages):
+    """Lowers limits, and lets each connection keep few pages."""
+    crates = os.path.join(copy, "crates")
+    for name, most in LIMITS.items():
+        limits = os.path.join(crates, LOWEST, "src", "limits.rt")
+        changed(limits, rf"(const {name}: usize = )[\d_]+;", rf"\g<1>{most};")
+    for file, pattern, other in FEWER:
+        changed(os.path.join(crates, file), pattern, other)
+    changed(os.path.join(copy, "crates.txt"), r"^vet_store: ", r"\g<0>sqlite_std_file ")
+    with open(few_pages, encoding="utf-8") as it:
+        add_module(os.path.join(crates, "vet_store"), "few_pages", it.read())
+
+
+def plant_all(root, copy, beside):
+    """Makes the planted copy, and tells the names of the functions, each at its number. Beside this file stands the
+    code that the copy has besides."""
     names = []
     for crate in os.listdir(os.path.join(root, "crates")):
         of_crate = os.path.join(root, "crates", crate, "src")
@@ -223,14 +254,11 @@ def plant_all(root, copy, code_in_c):
             shutil.copytree(of_crate, os.path.join(copy, "crates", crate, "src"))
     for name in ("crates.txt", "HANDLES"):
         shutil.copy2(os.path.join(root, name), copy)
-    for crate, file in sources(copy):
-        plant_file(crate, file, names)
+    for module, file in sources(copy):
+        plant_file(module, file, names)
+    make_fast(copy, os.path.join(beside, "few_pages.txt"))
     lowest = os.path.join(copy, "crates", LOWEST)
-    lower_limits(os.path.join(lowest, "src", "limits.rt"))
-    with open(os.path.join(lowest, "src", "planted.rt"), "w", encoding="utf-8") as it:
-        it.write(PLANTED)
-    with open(os.path.join(lowest, "src", "lib.rt"), "a", encoding="utf-8") as it:
-        it.write("pub mod planted;\n")
+    add_module(lowest, "planted", PLANTED)
     os.makedirs(os.path.join(lowest, "c"))
-    shutil.copy2(code_in_c, os.path.join(lowest, "c"))
+    shutil.copy2(os.path.join(beside, "giving_up.c"), os.path.join(lowest, "c"))
     return names

@@ -1,0 +1,172 @@
+"""The tests that are given the planted programs: those of the scripts of tests/ that meet most functions. Of scripts
+with many tests of one kind each so manieth is taken."""
+
+import glob
+import importlib.machinery
+import itertools
+import os
+import sys
+import tempfile
+import types
+from functools import partial
+
+import planted
+
+TESTS = os.path.dirname(os.path.dirname(os.path.abspath(__file__)))
+# scripts with a generator `tests` of names and calls, all of which are taken
+SCRIPTS = ("run_trials", "run_files", "run_written")
+# 8 MB, for which a planted program takes over a minute
+LEFT_OUT = ("the largest file",)
+# how far apart those stand that are taken: batches of run_chains and of run_demand, dependency tables in a batch, lists
+# of run_store, and forms of tables of run_opened
+CHAINS_APART = 40
+QUESTIONS_APART = 60
+TABLES_AT_ONCE = 100
+STORED_APART = 2
+FORMS_APART = 5
+# how many drawn lists of run_held_files are taken
+LISTS = 8
+# these meet no function that others don't meet, and wait
+UNSERVED = ("always_out_of_memory", "a_wait_that_fails_is_one_of_them", "a_listener_that_is_lost")
+
+
+def load(name, programs):
+    """A script of tests/ as a module, which runs the planted program in place of the built one."""
+    script = types.ModuleType(name)
+    script.__file__ = os.path.join(TESTS, name)
+    importlib.machinery.SourceFileLoader(name, script.__file__).exec_module(script)
+    for constant in ("PROGRAM", "TRIALS", "VETD"):
+        if hasattr(script, constant):
+            setattr(script, constant, programs[os.path.basename(getattr(script, constant))])
+    if hasattr(script, "module_of"):
+        script.module_of = lambda other: load(other, programs)
+    return script
+
+
+def is_told(classes, words, file, line):
+    found = classes.told(words, file)
+    if found != line + "\n":
+        raise AssertionError(f"{found}, and not {line}")
+
+
+def over_failing_streams(streams, test):
+    """A test of fail_streams, whose library and counts each process has to itself."""
+    with tempfile.TemporaryDirectory() as folder:
+        test(streams.Runner(folder), streams.PRINTED[0])
+
+
+def at_a_path(test):
+    """A test of run_new, which has a path at which no file stands."""
+    with tempfile.TemporaryDirectory() as folder:
+        test(os.path.join(folder, "register.db"))
+
+
+def are_told(tables, cases):
+    """What is told of some dependency tables, by one run."""
+    found = tables.told_of([given for _, given, _ in cases])
+    for given, (_, _, expected) in zip(found, cases):
+        tables.compare(given, expected)
+
+
+def of_files(programs):
+    """What `vetd` tells of one file, and the machine's classes."""
+    classes, chains, program = (load(it, programs) for it in ("run_classes", "run_chains", "run_program"))
+    for name, words, file, line in classes.rows():
+        yield name, partial(is_told, classes, words, file, line)
+    cases = list(chains.cases())
+    for at in range(0, len(cases), CHAINS_APART * chains.PACKAGES):
+        yield f"chains from {at}", partial(chains.compare, cases[at : at + chains.PACKAGES])
+    for test in (program.readme_examples, program.lines_of_refusals, program.words_that_are_no_text):
+        yield test.__name__, test
+    streams = load("fail_streams", programs)
+    for test in (streams.answers_in_pieces, streams.a_write_of_nothing_fails):
+        yield test.__name__, partial(over_failing_streams, streams, test)
+
+
+def at_size(programs):
+    """Of the tests at size what no smaller one meets, at the limits of the planted programs."""
+    large, reviews = load("run_large", programs), load("run_reviews", programs)
+    for script in (large, reviews):
+        vars(script).update(planted.LIMITS)
+    for test in (
+        large.as_many_entries_as_may_be,
+        large.as_many_publisher_records_as_may_be,
+        large.as_many_policies_as_may_be,
+        large.files_of_as_many_entries_as_may_be,
+        large.files_of_as_many_publisher_records_as_may_be,
+        large.files_of_as_many_policies_as_may_be,
+        reviews.as_many_members_as_may_be,
+        reviews.as_many_reviews_as_may_be,
+    ):
+        yield test.__name__, test
+
+
+def of_projects(programs):
+    """Dependency tables, and what projects demand."""
+    tables, demand = load("run_tables", programs), load("run_demand", programs)
+    vars(tables).update(planted.LIMITS)
+    cases = tables.small_cases()
+    for at in range(0, len(cases), TABLES_AT_ONCE):
+        yield f"tables from {at}", partial(are_told, tables, cases[at : at + TABLES_AT_ONCE])
+    for name, given, told in tables.limits():
+        yield name, partial(are_told, tables, [(name, given, told)])
+    for file in sorted(glob.glob(os.path.join(TESTS, "demands", "*.txt"))):
+        yield os.path.basename(file), partial(demand.compare_file, file)
+    cases = demand.cases()
+    for at in range(0, demand.CASES, demand.PROJECTS * QUESTIONS_APART):
+        batch = list(itertools.islice(cases, demand.PROJECTS))
+        next(itertools.islice(cases, demand.PROJECTS * (QUESTIONS_APART - 1), None), None)
+        yield f"projects from {at}", partial(demand.compare_questions, [batch])
+
+
+def of_databases(programs):
+    """Registers in files, as they are made, opened and given commands. Of what opens or shows one, one kind stands for
+    all, and the faults of each key are those of run_serve, where one program is told them all."""
+    new, opened, register = (load(it, programs) for it in ("run_new", "run_opened", "run_register"))
+    for test in new.TESTS:
+        yield test.__name__, partial(at_a_path, test)
+    opened.ASKED = opened.ASKED[1:2]
+    for name, test in opened.tests_of_files():
+        if name.startswith("the register, ") or not name.endswith(("dumped", "vacuumed")):
+            yield name, test
+    yield from opened.tests_of_rows()
+    yield from itertools.islice(opened.tests_of_forms(), None, None, FORMS_APART)
+    words = ("apply", "report", "export")
+    register.COMMANDS = [next(it for it in register.COMMANDS if it[0] == word) for word in words]
+    register.key_faults = tuple
+    yield from register.tests()
+    # its other tests are of the examples' workspace, which has more entries than a planted program holds
+    yield "run_clients", load("run_clients", programs).each_table_is_sound_after_each_command
+
+
+def of_stores(programs):
+    """Commands to registers in files, and the files of what is held."""
+    store, held = load("run_store", programs), load("run_held_files", programs)
+    given = (it for it in store.tests() if not it[0].endswith("command by command"))
+    yield from itertools.islice(given, None, None, STORED_APART)
+    held.LISTS = LISTS
+    yield from held.tests()
+
+
+def of_requests(programs):
+    """Requests to `vetd serve`, and to the program that serves slices and itself."""
+    yield from (it for it in load("run_serve", programs).named() if it[0] not in UNSERVED)
+    yield from load("run_exchanges", programs).named()
+
+
+def tests(programs):
+    """The names and the calls of all tests. What several of them begin from is made before any process is forked."""
+    os.environ["VETD"] = programs["vetd"]
+    sys.path.insert(0, TESTS)
+    for name in SCRIPTS:
+        yield from (it for it in load(name, programs).tests() if it[0] not in LEFT_OUT)
+    for some in (of_files, at_size, of_projects, of_databases, of_stores, of_requests):
+        yield from some(programs)
+
+
+def share_ports(place, count):
+    """This process takes each so manieth of the ports of served/server.py, so that no other is given the same."""
+    from served import server
+
+    own = range(server.DRAWN + place, server.DRAWN + server.PORT_COUNT, count)
+    server.PORTS = itertools.cycle([server.FIRST_PORT + at % server.PORT_COUNT for at in own])
