@@ -137,6 +137,19 @@ class Server:
                 client.shutdown(socket.SHUT_WR)
             return read_to_end(client)
 
+    def reply_or_end(self, given):
+        """All that a client gets until its connection ends, if need be by a reset."""
+        chunks = []
+        with self.connect() as client:
+            try:
+                client.sendall(given)
+                while chunk := client.recv(65_536):
+                    chunks.append(chunk)
+            except (BrokenPipeError, ConnectionResetError):
+                pass
+        self.faulted += not chunks
+        return b"".join(chunks)
+
     def told(self, method, target, status, body, kind=TEXT, given=None, fields=(), allow=None):
         """Asks, and holds each byte of the reply."""
         found = self.exchange(request_of(method, target, given, fields))

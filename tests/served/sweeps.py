@@ -84,20 +84,6 @@ REQUESTS = [
 LOOK = request_of("GET", "/projects/app")
 
 
-def reply_to(server, given):
-    """All that a client gets until its connection ends, if need be by a reset."""
-    chunks = []
-    with server.connect() as client:
-        try:
-            client.sendall(given)
-            while chunk := client.recv(65_536):
-                chunks.append(chunk)
-        except (BrokenPipeError, ConnectionResetError):
-            pass
-    server.faulted += not chunks
-    return b"".join(chunks)
-
-
 class Sweep:
     """The runs of a request to copies of a register in a file. `environment` is that of a program which has an
     allocation refused, by its number, a file that it makes then, and from where allocations are counted."""
@@ -115,7 +101,7 @@ class Sweep:
             path = self.copy(folder)
             try:
                 with Server(1, "--db", path, **how) as server:
-                    reply = reply_to(server, self.request.given)
+                    reply = server.reply_or_end(self.request.given)
             except NotListening as unheard:
                 reply = unheard.answer
             return os.path.exists(met), reply, rows_in(path)
@@ -123,8 +109,8 @@ class Sweep:
     def answer_in_memory(self, met, how):
         """What is held is what the next client is shown."""
         with Server(2, **how) as server:
-            reply, was_met = reply_to(server, self.request.given), os.path.exists(met)
-            return was_met, reply, reply_to(server, LOOK)
+            reply, was_met = server.reply_or_end(self.request.given), os.path.exists(met)
+            return was_met, reply, server.reply_or_end(LOOK)
 
     def copy(self, folder):
         path = os.path.join(folder, "register.db")
