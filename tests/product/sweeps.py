@@ -80,11 +80,11 @@ COMMANDS = [
 ]
 
 
-def files_begun(program):
-    """The files of the register that is swept, by the ends of their names."""
+def files_begun(program, *more):
+    """The files of the register that is swept, by the ends of their names. It was given more documents."""
     with tempfile.TemporaryDirectory(dir=FOLDER) as folder:
         register = Register(program, os.path.join(folder, "register.db")).make()
-        for given in MADE:
+        for given in (*MADE, *more):
             status, _, errors = register.apply(given)
             if status != 0:
                 raise AssertionError(f"{given}: {errors}")
