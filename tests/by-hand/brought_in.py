@@ -14,7 +14,7 @@ import planted
 
 TESTS = os.path.dirname(os.path.dirname(os.path.abspath(__file__)))
 # scripts with a generator `tests` of names and calls, all of which are taken
-SCRIPTS = ("run_trials", "run_files", "run_written")
+SCRIPTS = ("machine/run_trials", "files/run_files", "files/run_written")
 # 8 MB, for which a planted program takes over a minute
 LEFT_OUT = ("the largest file",)
 # how far apart those stand that are taken: batches of run_chains and of run_demand, dependency tables in a batch, lists
@@ -70,7 +70,8 @@ def are_told(tables, cases):
 
 def of_files(programs):
     """What `vetd` tells of one file, and the machine's classes."""
-    classes, chains, program = (load(it, programs) for it in ("run_classes", "run_chains", "run_program"))
+    scripts = ("classes/run_classes", "classes/run_chains", "program/run_program")
+    classes, chains, program = (load(it, programs) for it in scripts)
     for name, words, file, line in classes.rows():
         yield name, partial(is_told, classes, words, file, line)
     cases = list(chains.cases())
@@ -78,14 +79,14 @@ def of_files(programs):
         yield f"chains from {at}", partial(chains.compare, cases[at : at + chains.PACKAGES])
     for test in (program.readme_examples, program.lines_of_refusals, program.words_that_are_no_text):
         yield test.__name__, test
-    streams = load("fail_streams", programs)
+    streams = load("program/fail_streams", programs)
     for test in (streams.answers_in_pieces, streams.a_write_of_nothing_fails):
         yield test.__name__, partial(over_failing_streams, streams, test)
 
 
 def at_size(programs):
     """Of the tests at size what no smaller one meets, at the limits of the planted programs."""
-    large, reviews = load("run_large", programs), load("run_reviews", programs)
+    large, reviews = load("machine/run_large", programs), load("machine/run_reviews", programs)
     for script in (large, reviews):
         vars(script).update(planted.LIMITS)
     for test in (
@@ -103,7 +104,7 @@ def at_size(programs):
 
 def of_projects(programs):
     """Dependency tables, and what projects demand."""
-    tables, demand = load("run_tables", programs), load("run_demand", programs)
+    tables, demand = load("tables/run_tables", programs), load("demands/run_demand", programs)
     vars(tables).update(planted.LIMITS)
     cases = tables.small_cases()
     for at in range(0, len(cases), TABLES_AT_ONCE):
@@ -122,7 +123,7 @@ def of_projects(programs):
 def of_databases(programs):
     """Registers in files, as they are made, opened and given commands. Of what opens or shows one, one kind stands for
     all, and the faults of each key are those of run_serve, where one program is told them all."""
-    new, opened, register = (load(it, programs) for it in ("run_new", "run_opened", "run_register"))
+    new, opened, register = (load(it, programs) for it in ("store/run_new", "store/run_opened", "program/run_register"))
     for test in new.TESTS:
         yield test.__name__, partial(at_a_path, test)
     opened.ASKED = opened.ASKED[1:2]
@@ -136,12 +137,12 @@ def of_databases(programs):
     register.key_faults = tuple
     yield from register.tests()
     # its other tests are of the examples' workspace, which has more entries than a planted program holds
-    yield "run_clients", load("run_clients", programs).each_table_is_sound_after_each_command
+    yield "run_clients", load("store/run_clients", programs).each_table_is_sound_after_each_command
 
 
 def of_stores(programs):
     """Commands to registers in files, and the files of what is held."""
-    store, held = load("run_store", programs), load("run_held_files", programs)
+    store, held = load("store/run_store", programs), load("files/run_held_files", programs)
     given = (it for it in store.tests() if not it[0].endswith("command by command"))
     yield from itertools.islice(given, None, None, STORED_APART)
     held.LISTS = LISTS
@@ -150,8 +151,8 @@ def of_stores(programs):
 
 def of_requests(programs):
     """Requests to `vetd serve`, and to the program that serves slices and itself."""
-    yield from (it for it in load("run_serve", programs).named() if it[0] not in UNSERVED)
-    yield from load("run_exchanges", programs).named()
+    yield from (it for it in load("served/run_serve", programs).named() if it[0] not in UNSERVED)
+    yield from load("served/run_exchanges", programs).named()
 
 
 def tests(programs):
