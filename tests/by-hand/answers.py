@@ -9,7 +9,7 @@ OUT_OF_MEMORY = "sqlite::Error::SqliteFailure(sqlite::ErrorCode::OutOfMemory)"
 ERRORS = {
     "Refusal": "{vet_base}::refusal::Refusal::NoMemory",
     "AllocError": "std::alloc::AllocError",
-    "IoFault": "{vet_http}::io_fault::IoFault::NoMemory",
+    "IoFault": "{vet_requests}::io_fault::IoFault::NoMemory",
     "InsertError": "matchit::InsertError::OutOfMemory",
     "Stop": f"crate::change::Stop::Before({OUT_OF_MEMORY})",
     "Refused": "crate::refused::Refused {{ refusal: {vet_base}::refusal::Refusal::NoMemory, conn: {conn} }}",
@@ -44,7 +44,7 @@ def error_of(kind, crate, text, conn=None):
     """The error of this name in a file of a crate."""
     if kind == "Error":
         return OF_LIBRARIES[LIBRARY.search(text)[1]]
-    crates = {name: "crate" if name == crate else name for name in (LOWEST, "vet_http")}
+    crates = {name: "crate" if name == crate else name for name in (LOWEST, "vet_requests")}
     return ERRORS[kind].format(conn=conn, **crates)
 
 

@@ -12,21 +12,10 @@ use Rattle.vet_base.specs.declared.refusal.Refusal.TheVariants.{NoMemory, StoreR
 use Rattle.vet_http.specs.Answer.{IsByMethod, IsByRoute, IsRun, IsUnavailable}
 use Rattle.vet_http.specs.Answered.{Tells, reply_of}
 use Rattle.vet_http.specs.Given.{given_told}
-use Rattle.vet_http.specs.Reply.{not_allowed, plain_reply}
-use Rattle.vet_http.specs.Request.{RequestValue}
-use Rattle.vet_http.specs.Route.{asked_at, asked_by, told_methods}
-use Rattle.vet_http.specs.RouteTable.{route_at, route_of}
 use Rattle.vet_http.specs.Shown.{IsShown}
 use Rattle.vet_http.specs.Told.{command_reply, outcome_reply, refusal_reply}
 use Rattle.vet_http.specs.declared.answer.Answered.{Answered}
 use Rattle.vet_http.specs.declared.answer.Answered.TheVariants as answered
-use Rattle.vet_http.specs.declared.reply.Reply.{Reply}
-use Rattle.vet_http.specs.declared.route.Asked.{Asked}
-use Rattle.vet_http.specs.declared.route.Asked.TheVariants.{Runs, Shows}
-use Rattle.vet_http.specs.declared.route.Given.{Given}
-use Rattle.vet_http.specs.declared.route.Route.{Route}
-use Rattle.vet_http.specs.declared.route.Shown.{Shown}
-use Rattle.vet_http.specs.declared.status.Status.TheVariants as status
 use Rattle.vet_register.specs.Runs.{after, left, outcome_by, told}
 use Rattle.vet_register.specs.State.{State}
 use Rattle.vet_register.specs.Verdict.{verdict}
@@ -34,6 +23,17 @@ use Rattle.vet_register.specs.declared.command.Command.{Command}
 use Rattle.vet_register.specs.declared.command.Outcome.{Outcome}
 use Rattle.vet_register.specs.declared.verdict.Answer.{Answer}
 use Rattle.vet_register.specs.declared.verdict.Answer.TheVariants.{Accepted, Already}
+use Rattle.vet_requests.specs.Reply.{not_allowed, plain_reply}
+use Rattle.vet_requests.specs.Request.{RequestValue}
+use Rattle.vet_requests.specs.Route.{asked_at, asked_by, told_methods}
+use Rattle.vet_requests.specs.RouteTable.{route_at, route_of}
+use Rattle.vet_requests.specs.declared.reply.Reply.{Reply}
+use Rattle.vet_requests.specs.declared.route.Asked.{Asked}
+use Rattle.vet_requests.specs.declared.route.Asked.TheVariants.{Runs, Shows}
+use Rattle.vet_requests.specs.declared.route.Given.{Given}
+use Rattle.vet_requests.specs.declared.route.Route.{Route}
+use Rattle.vet_requests.specs.declared.route.Shown.{Shown}
+use Rattle.vet_requests.specs.declared.status.Status.TheVariants as status
 use Rattle.vet_store.specs.Runs.{IsOfStore, IsTurn}
 
 pub same_refusal : {A E : Type 0} (x y : E) → ◌≡◌ {A = Result A E} (Err x) (Err y) → x ≡ y

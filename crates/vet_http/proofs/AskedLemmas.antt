@@ -15,17 +15,17 @@ use Rattle.vet_http.specs.AskedFor.{given_at, given_by, given_in}
 use Rattle.vet_http.specs.ShutStore.{IsCutOff, IsRefused, IsToldCutOff, IsToldRefused, LeavesAsked}
 use Rattle.vet_http.specs.Given.{given_told}
 use Rattle.vet_http.specs.HeldAsked.{HeldStays, RepeatsStay, TellsHeld}
-use Rattle.vet_http.specs.Request.{RequestValue}
-use Rattle.vet_http.specs.Route.{asked_at, asked_by}
+use Rattle.vet_requests.specs.Request.{RequestValue}
+use Rattle.vet_requests.specs.Route.{asked_at, asked_by}
 use Rattle.vet_http.specs.Told.{outcome_reply}
 use Rattle.vet_http.specs.declared.answer.Answered.{Answered}
 use Rattle.vet_http.specs.declared.answer.Answered.TheVariants as answered
-use Rattle.vet_http.specs.declared.reply.Reply.{Reply}
-use Rattle.vet_http.specs.declared.route.Asked.{Asked}
-use Rattle.vet_http.specs.declared.route.Asked.TheVariants.{Runs, Shows}
-use Rattle.vet_http.specs.declared.route.Given.{Given}
-use Rattle.vet_http.specs.declared.route.Route.{Route}
-use Rattle.vet_http.specs.declared.route.Shown.{Shown}
+use Rattle.vet_requests.specs.declared.reply.Reply.{Reply}
+use Rattle.vet_requests.specs.declared.route.Asked.{Asked}
+use Rattle.vet_requests.specs.declared.route.Asked.TheVariants.{Runs, Shows}
+use Rattle.vet_requests.specs.declared.route.Given.{Given}
+use Rattle.vet_requests.specs.declared.route.Route.{Route}
+use Rattle.vet_requests.specs.declared.route.Shown.{Shown}
 use Rattle.vet_register.specs.State.{State}
 use Rattle.vet_register.specs.declared.command.Command.{Command}
 use Rattle.vet_register.specs.declared.command.Outcome.{Outcome}

@@ -9,16 +9,7 @@ use Rattle.vet_http.specs.Answer.{IsByMethod, IsByRoute, IsRun}
 use Rattle.vet_http.specs.AskedFor.{given_at, given_by, given_in}
 use Rattle.vet_http.specs.DoneRequests.{AreDone, IsAskedBy, IsDone, IsOfDone}
 use Rattle.vet_http.specs.Given.{given_told}
-use Rattle.vet_http.specs.Request.{RequestValue}
-use Rattle.vet_http.specs.Route.{asked_at, asked_by}
-use Rattle.vet_http.specs.RouteTable.{route_of}
 use Rattle.vet_http.specs.Serve.{Each, IsServed, IsTurn, Replies}
-use Rattle.vet_http.specs.declared.io_fault.IoFault.{IoFault}
-use Rattle.vet_http.specs.declared.io_fault.IoFault.TheVariants.{Input, Output, Endless, NoMemory}
-use Rattle.vet_http.specs.declared.reply.Reply.{Reply}
-use Rattle.vet_http.specs.declared.route.Asked.{Asked}
-use Rattle.vet_http.specs.declared.route.Asked.TheVariants.{Runs, Shows}
-use Rattle.vet_http.specs.declared.route.Route.{Route}
 use Rattle.vet_http.specs.declared.serve.Connection.{Connection}
 use Rattle.vet_http.specs.declared.serve.Served.{Served}
 use Rattle.vet_register.specs.Runs.{left, outcome_by}
@@ -27,6 +18,15 @@ use Rattle.vet_register.specs.Verdict.{verdict}
 use Rattle.vet_register.specs.declared.command.Command.{Command}
 use Rattle.vet_register.specs.declared.verdict.Answer.{Answer}
 use Rattle.vet_register.specs.declared.verdict.Answer.TheVariants.{Already, Accepted}
+use Rattle.vet_requests.specs.Request.{RequestValue}
+use Rattle.vet_requests.specs.Route.{asked_at, asked_by}
+use Rattle.vet_requests.specs.RouteTable.{route_of}
+use Rattle.vet_requests.specs.declared.io_fault.IoFault.{IoFault}
+use Rattle.vet_requests.specs.declared.io_fault.IoFault.TheVariants.{Input, Output, Endless, NoMemory}
+use Rattle.vet_requests.specs.declared.reply.Reply.{Reply}
+use Rattle.vet_requests.specs.declared.route.Asked.{Asked}
+use Rattle.vet_requests.specs.declared.route.Asked.TheVariants.{Runs, Shows}
+use Rattle.vet_requests.specs.declared.route.Route.{Route}
 use Rattle.vet_store.specs.Runs.{is_done, machine}
 
 -- a state stays, or a command of these that is done leads to the other

@@ -1,13 +1,6 @@
 mod AnswerLemmas
 mod AskedLemmas
 mod DoneLemmas
-mod FieldRoom
 mod FileLemmas
-mod FrontLemmas
-mod OccurrenceLemmas
-mod ReadLemmas
-mod RequestLemmas
-mod RoutePaths
 mod ServeLemmas
-mod ToldOnce
 mod TurnLemmas

@@ -7,18 +7,18 @@ use Rattle.vet_base.specs.Day.{DayValue}
 use Rattle.vet_base.specs.Words.{Bytes}
 use Rattle.vet_http.specs.ShutStore.{LeavesAsked}
 use Rattle.vet_http.specs.DoneRequests.{IsAskedBy}
-use Rattle.vet_http.specs.Input.{IsReadFrom}
-use Rattle.vet_http.specs.Output.{AppendsPart}
-use Rattle.vet_http.specs.Request.{RequestValue, Requests}
-use Rattle.vet_http.specs.RequestFault.{ToldOf}
+use Rattle.vet_requests.specs.Input.{IsReadFrom}
+use Rattle.vet_requests.specs.Output.{AppendsPart}
+use Rattle.vet_requests.specs.Request.{RequestValue, Requests}
+use Rattle.vet_requests.specs.RequestFault.{ToldOf}
 use Rattle.vet_http.specs.Serve.{Exchanges, IsCutOffBy, IsServed, IsServedBy, IsServedWithRepeats, Replies}
 use Rattle.vet_http.specs.Serve.{RepliesWithRepeats}
 use Rattle.vet_http.specs.ServeBytes.{IsServedOfBytes, RepliesToBytes}
-use Rattle.vet_http.specs.declared.io_fault.IoFault.{IoFault}
-use Rattle.vet_http.specs.declared.io_fault.IoFault.TheVariants.{Input, Output, Endless, NoMemory}
-use Rattle.vet_http.specs.declared.reply.Reply.{Reply}
+use Rattle.vet_requests.specs.declared.io_fault.IoFault.{IoFault}
+use Rattle.vet_requests.specs.declared.io_fault.IoFault.TheVariants.{Input, Output, Endless, NoMemory}
+use Rattle.vet_requests.specs.declared.reply.Reply.{Reply}
 use Rattle.vet_http.specs.declared.serve.Served.{Served}
-use Rattle.vet_http.proofs.ReadLemmas.{read_each}
+use Rattle.vet_requests.proofs.ReadLemmas.{read_each}
 use Rattle.vet_register.specs.State.{State}
 use Rattle.vet_register.specs.declared.command.Command.{Command}
 use Rattle.vet_store.specs.Crash.{LeavesEither}

@@ -8,11 +8,11 @@ use Rattle.sqlite.specs.State as sqlite
 use Rattle.vet_base.specs.Words.{Bytes}
 use Rattle.vet_http.specs.DoneRequests.{IsAskedAmong, IsAskedAt, LeavesAmong}
 use Rattle.vet_http.specs.Serve.{Each}
-use Rattle.vet_http.specs.declared.io_fault.IoFault.{IoFault}
 use Rattle.vet_http.specs.declared.serve.Connection.{Connection}
 use Rattle.vet_http.specs.declared.serve.Served.{Served}
 use Rattle.vet_register.specs.State.{State}
 use Rattle.vet_register.specs.declared.command.Command.{Command}
+use Rattle.vet_requests.specs.declared.io_fault.IoFault.{IoFault}
 use Rattle.vet_store.specs.Crash.{LeavesEither}
 
 -- ---- what holds of each

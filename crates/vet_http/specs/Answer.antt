@@ -4,20 +4,20 @@ use Rattle.vet_base.specs.Day.{DayValue}
 use Rattle.vet_base.specs.Gives.{Told}
 use Rattle.vet_base.specs.declared.refusal.Refusal.TheVariants.{NoMemory, StoreRefused}
 use Rattle.vet_http.specs.Given.{given_told}
-use Rattle.vet_http.specs.Reply.{not_allowed, plain_reply}
-use Rattle.vet_http.specs.Request.{RequestValue}
-use Rattle.vet_http.specs.Route.{asked_at, asked_by, told_methods}
-use Rattle.vet_http.specs.RouteTable.{route_of}
 use Rattle.vet_http.specs.Shown.{IsShown}
 use Rattle.vet_http.specs.Told.{command_reply, refusal_reply}
-use Rattle.vet_http.specs.declared.reply.Reply.{Reply}
-use Rattle.vet_http.specs.declared.route.Asked.{Asked}
-use Rattle.vet_http.specs.declared.route.Asked.TheVariants.{Runs, Shows}
-use Rattle.vet_http.specs.declared.route.Route.{Route}
-use Rattle.vet_http.specs.declared.status.Status.TheVariants as status
 use Rattle.vet_register.specs.Runs.{after, told}
 use Rattle.vet_register.specs.State.{State}
 use Rattle.vet_register.specs.declared.command.Command.{Command}
+use Rattle.vet_requests.specs.Reply.{not_allowed, plain_reply}
+use Rattle.vet_requests.specs.Request.{RequestValue}
+use Rattle.vet_requests.specs.Route.{asked_at, asked_by, told_methods}
+use Rattle.vet_requests.specs.RouteTable.{route_of}
+use Rattle.vet_requests.specs.declared.reply.Reply.{Reply}
+use Rattle.vet_requests.specs.declared.route.Asked.{Asked}
+use Rattle.vet_requests.specs.declared.route.Asked.TheVariants.{Runs, Shows}
+use Rattle.vet_requests.specs.declared.route.Route.{Route}
+use Rattle.vet_requests.specs.declared.status.Status.TheVariants as status
 
 -- a reply that changes nothing
 abbrev pub Stays : Reply → Reply → State → State → Type 0

@@ -5,7 +5,7 @@ use Rattle.vet_base.specs.declared.refusal.Refusal.TheVariants.{NoMemory}
 use Rattle.vet_http.specs.Told.{outcome_reply, refusal_reply}
 use Rattle.vet_http.specs.declared.answer.Answered.{Answered}
 use Rattle.vet_http.specs.declared.answer.Answered.TheVariants as answered
-use Rattle.vet_http.specs.declared.reply.Reply.{Reply}
+use Rattle.vet_requests.specs.declared.reply.Reply.{Reply}
 
 -- the reply
 abbrev pub reply_of : Answered → Reply

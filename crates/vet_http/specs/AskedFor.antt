@@ -3,13 +3,13 @@ use Rattle.std.specs.Prelude.{Option, Some, None, Ok, Err}
 use Rattle.vet_base.specs.Day.{DayValue}
 use Rattle.vet_base.specs.Gives.{Told}
 use Rattle.vet_http.specs.Given.{given_told}
-use Rattle.vet_http.specs.Request.{RequestValue}
-use Rattle.vet_http.specs.Route.{asked_at, asked_by}
-use Rattle.vet_http.specs.RouteTable.{route_of}
-use Rattle.vet_http.specs.declared.route.Asked.{Asked}
-use Rattle.vet_http.specs.declared.route.Asked.TheVariants.{Runs, Shows}
-use Rattle.vet_http.specs.declared.route.Route.{Route}
 use Rattle.vet_register.specs.declared.command.Command.{Command}
+use Rattle.vet_requests.specs.Request.{RequestValue}
+use Rattle.vet_requests.specs.Route.{asked_at, asked_by}
+use Rattle.vet_requests.specs.RouteTable.{route_of}
+use Rattle.vet_requests.specs.declared.route.Asked.{Asked}
+use Rattle.vet_requests.specs.declared.route.Asked.TheVariants.{Runs, Shows}
+use Rattle.vet_requests.specs.declared.route.Route.{Route}
 
 -- a command that is told
 unfoldable pub given_in : Told Command → Option Command

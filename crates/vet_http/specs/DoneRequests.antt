@@ -5,7 +5,7 @@ use Rattle.sqlite.specs.State as sqlite
 use Rattle.vet_base.specs.Day.{DayValue}
 use Rattle.vet_base.specs.Words.{Bytes}
 use Rattle.vet_http.specs.AskedFor.{asked_for}
-use Rattle.vet_http.specs.Request.{RequestValue, Requests}
+use Rattle.vet_requests.specs.Request.{RequestValue, Requests}
 use Rattle.vet_http.specs.declared.serve.Connection.{Connection}
 use Rattle.vet_register.specs.Runs.{after, told}
 use Rattle.vet_register.specs.State.{State}

@@ -6,13 +6,13 @@ use Rattle.vet_base.specs.Words.{Text}
 use Rattle.vet_demand.specs.DependencyTable.{project_of_bytes}
 use Rattle.vet_files.specs.Imports.{peer_content_told}
 use Rattle.vet_http.specs.CommandDocument.{command_told}
-use Rattle.vet_http.specs.Parameter.{first_parameter, name_told, package_told}
-use Rattle.vet_http.specs.Request.{RequestValue}
-use Rattle.vet_http.specs.declared.route.Given.{Given}
-use Rattle.vet_http.specs.declared.route.Given.TheVariants.{Document, Peer, Project}
 use Rattle.vet_register.specs.declared.command.Action.{Action}
 use Rattle.vet_register.specs.declared.command.Action.TheVariants.{ImportPeer, LoadProject}
 use Rattle.vet_register.specs.declared.command.Command.{Command}
+use Rattle.vet_requests.specs.Parameter.{first_parameter, name_told, package_told}
+use Rattle.vet_requests.specs.Request.{RequestValue}
+use Rattle.vet_requests.specs.declared.route.Given.{Given}
+use Rattle.vet_requests.specs.declared.route.Given.TheVariants.{Document, Peer, Project}
 
 -- the dependency table is that of the project which is the parameter; that one is looked at first
 abbrev pub project_given : Text → RequestValue → Told Action

@@ -5,7 +5,7 @@ use Rattle.vet_http.specs.Answer.{IsUnavailable}
 use Rattle.vet_http.specs.Answered.{reply_of}
 use Rattle.vet_http.specs.Told.{outcome_reply}
 use Rattle.vet_http.specs.declared.answer.Answered.{Answered}
-use Rattle.vet_http.specs.declared.reply.Reply.{Reply}
+use Rattle.vet_requests.specs.declared.reply.Reply.{Reply}
 use Rattle.vet_register.specs.declared.command.Command.{Command}
 use Rattle.vet_register.specs.declared.command.Outcome.TheVariants.{Already}
 use Rattle.vet_register.specs.State.{State}

@@ -8,14 +8,14 @@ use Rattle.vet_http.specs.Answer.{IsReplyTo, Stays}
 use Rattle.vet_http.specs.AskedFor.{asked_for}
 use Rattle.vet_http.specs.ShutStore.{IsToldCutOff, IsToldRefused}
 use Rattle.vet_http.specs.HeldAsked.{RepeatsStay}
-use Rattle.vet_http.specs.Input.{IsReadFrom}
-use Rattle.vet_http.specs.Output.{AppendsPart}
-use Rattle.vet_http.specs.Reply.{plain_reply}
-use Rattle.vet_http.specs.Request.{RequestValue, Requests}
-use Rattle.vet_http.specs.RequestFault.{ToldOf, fault_status}
-use Rattle.vet_http.specs.declared.io_fault.IoFault.{IoFault}
-use Rattle.vet_http.specs.declared.io_fault.IoFault.TheVariants.{Input, Output, Endless, NoMemory}
-use Rattle.vet_http.specs.declared.reply.Reply.{Reply}
+use Rattle.vet_requests.specs.Input.{IsReadFrom}
+use Rattle.vet_requests.specs.Output.{AppendsPart}
+use Rattle.vet_requests.specs.Reply.{plain_reply}
+use Rattle.vet_requests.specs.Request.{RequestValue, Requests}
+use Rattle.vet_requests.specs.RequestFault.{ToldOf, fault_status}
+use Rattle.vet_requests.specs.declared.io_fault.IoFault.{IoFault}
+use Rattle.vet_requests.specs.declared.io_fault.IoFault.TheVariants.{Input, Output, Endless, NoMemory}
+use Rattle.vet_requests.specs.declared.reply.Reply.{Reply}
 use Rattle.vet_http.specs.declared.serve.Connection.{Connection}
 use Rattle.vet_http.specs.declared.serve.Served.{Served}
 use Rattle.vet_register.specs.State.{State}

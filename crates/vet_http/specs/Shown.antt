@@ -7,17 +7,9 @@ use Rattle.vet_demand.specs.declared.project.NamedProject.{NamedProject}
 use Rattle.vet_graph.specs.Class.{class_word}
 use Rattle.vet_graph.specs.Standing.{class_in}
 use Rattle.vet_graph.specs.declared.class.Class.{Class}
-use Rattle.vet_http.specs.Parameter.{first_parameter, name_told, package_told, second_parameter}
-use Rattle.vet_http.specs.Parameter.{third_parameter, version_told}
 use Rattle.vet_http.specs.RegisterFile.{IsFileOf, file_named}
-use Rattle.vet_http.specs.Reply.{plain_reply, reply_with, text_reply}
 use Rattle.vet_http.specs.Told.{reply_told}
-use Rattle.vet_http.specs.declared.content_type.ContentType.TheVariants as content
 use Rattle.vet_http.specs.declared.register_file.RegisterFile.{RegisterFile}
-use Rattle.vet_http.specs.declared.reply.Reply.{Reply}
-use Rattle.vet_http.specs.declared.route.Shown.{Shown}
-use Rattle.vet_http.specs.declared.route.Shown.TheVariants as shown
-use Rattle.vet_http.specs.declared.status.Status.TheVariants as status
 use Rattle.vet_register.specs.Held.{project_at}
 use Rattle.vet_register.specs.State.{State, standing}
 use Rattle.vet_reports.specs.CountsText.{counts_text}
@@ -26,6 +18,14 @@ use Rattle.vet_reports.specs.MovesText.{moves_text}
 use Rattle.vet_reports.specs.StandingCsv.{standing_csv}
 use Rattle.vet_reports.specs.StandingText.{standing_text}
 use Rattle.vet_reports.specs.declared.standing_text.Filter.{Filter}
+use Rattle.vet_requests.specs.Parameter.{first_parameter, name_told, package_told, second_parameter}
+use Rattle.vet_requests.specs.Parameter.{third_parameter, version_told}
+use Rattle.vet_requests.specs.Reply.{plain_reply, reply_with, text_reply}
+use Rattle.vet_requests.specs.declared.content_type.ContentType.TheVariants as content
+use Rattle.vet_requests.specs.declared.reply.Reply.{Reply}
+use Rattle.vet_requests.specs.declared.route.Shown.{Shown}
+use Rattle.vet_requests.specs.declared.route.Shown.TheVariants as shown
+use Rattle.vet_requests.specs.declared.status.Status.TheVariants as status
 
 -- ---- bodies
 

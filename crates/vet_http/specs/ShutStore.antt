@@ -5,7 +5,7 @@ use Rattle.sqlite.specs.State as sqlite
 use Rattle.vet_base.specs.Gives.{Told}
 use Rattle.vet_http.specs.Answer.{IsUnavailable}
 use Rattle.vet_http.specs.declared.answer.Answered.{Answered}
-use Rattle.vet_http.specs.declared.reply.Reply.{Reply}
+use Rattle.vet_requests.specs.declared.reply.Reply.{Reply}
 use Rattle.vet_register.specs.declared.command.Command.{Command}
 use Rattle.vet_register.specs.State.{State}
 use Rattle.vet_store.specs.Crash.{LeavesEither}

@@ -2,13 +2,13 @@
 use Rattle.std.specs.Prelude.{Ok, Err}
 use Rattle.vet_base.specs.Gives.{Told}
 use Rattle.vet_base.specs.declared.refusal.Refusal.{Refusal}
-use Rattle.vet_http.specs.Reply.{text_reply}
-use Rattle.vet_http.specs.Status.{refusal_status}
-use Rattle.vet_http.specs.declared.reply.Reply.{Reply}
-use Rattle.vet_http.specs.declared.status.Status.TheVariants as status
 use Rattle.vet_register.specs.declared.command.Outcome.{Outcome}
 use Rattle.vet_reports.specs.OutcomeText.{outcome_text}
 use Rattle.vet_reports.specs.RefusalText.{refusal_line}
+use Rattle.vet_requests.specs.Reply.{text_reply}
+use Rattle.vet_requests.specs.Status.{refusal_status}
+use Rattle.vet_requests.specs.declared.reply.Reply.{Reply}
+use Rattle.vet_requests.specs.declared.status.Status.TheVariants as status
 
 -- the reply to a refusal
 unfoldable pub refusal_reply : Refusal → Reply

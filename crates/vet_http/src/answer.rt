@@ -11,10 +11,10 @@ ghost use Rattle.vet_http.specs.AskedFor.{asked_for, given_at, given_by, given_i
 ghost use Rattle.vet_http.specs.ShutStore.{IsCutOff, IsRefused, IsToldCutOff, IsToldRefused};
 ghost use Rattle.vet_http.specs.Given.{given_told};
 ghost use Rattle.vet_http.specs.HeldAsked.{HeldStays, RepeatsStay};
-ghost use Rattle.vet_http.specs.Reply.{not_allowed, plain_reply};
+ghost use Rattle.vet_requests.specs.Reply.{not_allowed, plain_reply};
 ghost use Rattle.vet_http.specs.ReplyRoom.{HasRoom};
-ghost use Rattle.vet_http.specs.Route.{asked_at, asked_by, told_methods};
-ghost use Rattle.vet_http.specs.RouteTable.{route_at, route_of};
+ghost use Rattle.vet_requests.specs.Route.{asked_at, asked_by, told_methods};
+ghost use Rattle.vet_requests.specs.RouteTable.{route_at, route_of};
 ghost use Rattle.vet_http.specs.Shown.{IsShown};
 ghost use Rattle.vet_http.specs.Told.{refusal_reply};
 ghost use Rattle.vet_rows.specs.RowsOf.{rows_of};
@@ -24,11 +24,7 @@ ghost use Rattle.vet_store.specs.Runs.{Fails, IsOfStore, IsTurn};
 ghost use Rattle.vet_store.specs.Tied.{IsTied};
 
 use crate::given::read_given;
-use crate::reply::Reply;
-use crate::request::Request;
-use crate::route::{Asked, Given, Route, Shown, find_route};
 use crate::shown::show;
-use crate::status::Status;
 use crate::told::ReplyRoom;
 use sqlite::Alter;
 use std::alloc::Global;
@@ -37,6 +33,10 @@ use vet_base::refusal::Refusal;
 use vet_graph::keeper::Keeper;
 use vet_register::command::{Command, Outcome};
 use vet_register::register::Register;
+use vet_requests::reply::Reply;
+use vet_requests::request::Request;
+use vet_requests::route::{Asked, Given, Route, Shown, find_route};
+use vet_requests::status::Status;
 use vet_store::store::Store;
 
 /// What a request is answered: a reply, or what came of its command, to which the reply is written into room that was

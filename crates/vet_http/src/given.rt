@@ -3,9 +3,6 @@ ghost use Rattle.vet_base.specs.Gives.{Gives};
 ghost use Rattle.vet_http.specs.Given.{given_told, peer_given, project_given};
 
 use crate::command_document::read_command;
-use crate::parameter::first_parameter;
-use crate::request::Request;
-use crate::route::Given;
 use std::alloc::Global;
 use vet_base::day::Day;
 use vet_base::name::{Name, PackageName};
@@ -14,6 +11,9 @@ use vet_demand::project::NamedProject;
 use vet_demand::table_reader::read_project;
 use vet_files::imports_file::read_peer;
 use vet_register::command::{Action, Command};
+use vet_requests::parameter::first_parameter;
+use vet_requests::request::Request;
+use vet_requests::route::Given;
 
 /// The command that the body of a request gives on a day. Refused: `BadName` of a parameter, before the body is looked
 /// at, and what the reader of the body refuses. `NoMemory` can come at any point.

@@ -6,7 +6,6 @@ ghost use Rattle.std.specs.Option.{option_copied};
 ghost use Rattle.std.specs.Prelude.{◌≡◌, ◌⊎◌, IfErr, IfOk, Some, string_bytes};
 ghost use Rattle.vet_base.specs.Gives.{Gives};
 ghost use Rattle.vet_graph.specs.Standing.{class_in};
-ghost use Rattle.vet_http.specs.Parameter.{first_parameter};
 ghost use Rattle.vet_http.specs.RegisterFile.{file_named};
 ghost use Rattle.vet_http.specs.Shown.{IsFile, IsShown, class_line, class_told, csv, lines, package_standing_told};
 ghost use Rattle.vet_http.specs.Shown.{pairs_of, table_of, table_told, toml};
@@ -14,13 +13,9 @@ ghost use Rattle.vet_http.specs.Told.{refusal_reply};
 ghost use Rattle.vet_register.specs.Held.{project_at};
 ghost use Rattle.vet_register.specs.State.{standing};
 ghost use Rattle.vet_reports.specs.StandingText.{standing_text};
+ghost use Rattle.vet_requests.specs.Parameter.{first_parameter};
 
-use crate::content_type::ContentType;
-use crate::parameter::{first_parameter, second_parameter, third_parameter};
 use crate::register_file::{RegisterFile, file_text};
-use crate::reply::Reply;
-use crate::route::Shown;
-use crate::status::Status;
 use std::alloc::Global;
 use vet_base::name::{Name, PackageName};
 use vet_base::refusal::Refusal;
@@ -35,6 +30,11 @@ use vet_reports::desk_text::desk_text;
 use vet_reports::moves_text::moves_text;
 use vet_reports::standing_csv::standing_csv;
 use vet_reports::standing_text::{Filter, standing_text};
+use vet_requests::content_type::ContentType;
+use vet_requests::parameter::{first_parameter, second_parameter, third_parameter};
+use vet_requests::reply::Reply;
+use vet_requests::route::Shown;
+use vet_requests::status::Status;
 
 /// The reply that shows something of a register for a target. Refused: `BadName` and `BadVersion` of a parameter, the
 /// first that is at fault, and `NoMemory`.

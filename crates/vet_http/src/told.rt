@@ -4,17 +4,17 @@
 //! taken before the command runs, and the reply is written into that. The same room serves where memory is wanting.
 ghost use Rattle.std.specs.Prelude.{◌≡◌, ◌⊎◌, ◌≤◌, [], IfOk, length};
 ghost use Rattle.vet_http.specs.ReplyRoom.{HasRoom};
-ghost use Rattle.vet_http.specs.Reply.{text_reply};
+ghost use Rattle.vet_requests.specs.Reply.{text_reply};
 ghost use Rattle.vet_http.specs.Told.{outcome_reply, refusal_reply};
 
-use crate::content_type::ContentType;
-use crate::reply::{Reply, room_for};
-use crate::status::Status;
 use std::alloc::{AllocError, Global};
 use vet_base::refusal::Refusal;
 use vet_register::command::Outcome;
 use vet_reports::outcome_text::{MOST_OUTCOME_BYTES, outcome_text_is_short, write_outcome};
 use vet_reports::refusal_text::{lines_by_example, refusal_text};
+use vet_requests::content_type::ContentType;
+use vet_requests::reply::{Reply, room_for};
+use vet_requests::status::Status;
 
 /// The reply to a refusal. Refused for want of memory alone.
 #[tactic(auto, unfolding(crate::specs::Told::refusal_reply))]

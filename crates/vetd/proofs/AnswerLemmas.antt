@@ -14,8 +14,8 @@ use Rattle.vetd.specs.Answer.{Answer, Explains, Answers, IsInput, Says, Stops, T
 use Rattle.vetd.specs.Answer.{input_read}
 use Rattle.vet_http.specs.Output.{AppendsPart}
 use Rattle.vetd.specs.declared.answer.TheConstants.{EXPLAINED}
-use Rattle.vet_http.specs.declared.io_fault.IoFault.{IoFault}
-use Rattle.vet_http.specs.declared.io_fault.IoFault.TheVariants.{Output}
+use Rattle.vet_requests.specs.declared.io_fault.IoFault.{IoFault}
+use Rattle.vet_requests.specs.declared.io_fault.IoFault.TheVariants.{Output}
 
 -- what was read is what a run reads of some input, the reader's where it tells it
 pub some_input : (known : Option (List ℕ)) (file : List ℕ) → IfSome known (λ input. file ≡ input_read input)

@@ -7,8 +7,8 @@ use Rattle.clap.specs.declared.error.kind.ErrorKind.TheVariants.{OutOfMemory}
 use Rattle.vetd.specs.Answer.{Answer, Explains, IsWritten, Says, Stops}
 use Rattle.vetd.specs.declared.answer.TheConstants.{EXPLAINED}
 use Rattle.vet_http.specs.Output.{AppendsPart}
-use Rattle.vet_http.specs.declared.io_fault.IoFault.{IoFault}
-use Rattle.vet_http.specs.declared.io_fault.IoFault.TheVariants.{Output}
+use Rattle.vet_requests.specs.declared.io_fault.IoFault.{IoFault}
+use Rattle.vet_requests.specs.declared.io_fault.IoFault.TheVariants.{Output}
 
 module _ (Answers : (Answer → Type 0) → Type 0) (Untold : Type 0) where
   pub was_untold : (r : Result ℕ IoFault) → Untold → IfErr r (λ fault. fault ≢ Output → Untold)

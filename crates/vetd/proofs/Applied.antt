@@ -10,8 +10,8 @@ use Rattle.vet_base.specs.declared.limits.TheConstants.{MOST_INPUT_BYTES}
 use Rattle.vet_base.specs.declared.refusal.Refusal.{Refusal}
 use Rattle.vet_base.specs.declared.refusal.Refusal.TheVariants.{BadDay}
 use Rattle.vet_http.specs.CommandDocument.{command_told}
-use Rattle.vet_http.specs.declared.io_fault.IoFault.{IoFault}
-use Rattle.vet_http.specs.declared.io_fault.IoFault.TheVariants.{Output}
+use Rattle.vet_requests.specs.declared.io_fault.IoFault.{IoFault}
+use Rattle.vet_requests.specs.declared.io_fault.IoFault.TheVariants.{Output}
 use Rattle.vet_register.specs.State.{State}
 use Rattle.vet_register.specs.declared.command.Command.{Command}
 use Rattle.vet_register.specs.declared.command.Outcome.{Outcome}

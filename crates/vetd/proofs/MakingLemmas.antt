@@ -16,8 +16,8 @@ use Rattle.vetd.specs.Answer.{Answer, Explains, answer_for}
 use Rattle.vetd.specs.Making.{AnswersNew, Giving, IsAnswerFor, IsAnswerToNew, IsNewRegister, IsNoRegister}
 use Rattle.vetd.specs.Making.{IsUnmade, created_line}
 use Rattle.vetd.specs.NewAsked.{AsksNew, NewAsked}
-use Rattle.vet_http.specs.declared.io_fault.IoFault.{IoFault}
-use Rattle.vet_http.specs.declared.io_fault.IoFault.TheVariants.{Output}
+use Rattle.vet_requests.specs.declared.io_fault.IoFault.{IoFault}
+use Rattle.vet_requests.specs.declared.io_fault.IoFault.TheVariants.{Output}
 
 module _ {S : Type 0} (g : Ghosts S) (limit : ℕ) (before : Held S) where
   -- what a store that was made ensures, of the connection that it gives back

@@ -8,8 +8,8 @@ use Rattle.clap.specs.declared.error.kind.ErrorKind.TheVariants.{OutOfMemory}
 use Rattle.vetd.specs.Answer.{Answers, Says, Stops, Telling}
 use Rattle.vetd.specs.Asked.{line_told, telling_of}
 use Rattle.vetd.specs.declared.asked.Asked.{Asked}
-use Rattle.vet_http.specs.declared.io_fault.IoFault.{IoFault}
-use Rattle.vet_http.specs.declared.io_fault.IoFault.TheVariants.{Input, Output, Endless, NoMemory}
+use Rattle.vet_requests.specs.declared.io_fault.IoFault.{IoFault}
+use Rattle.vet_requests.specs.declared.io_fault.IoFault.TheVariants.{Input, Output, Endless, NoMemory}
 
 -- where clap told an error of words that mean something, memory was wanting
 pub is_for_want : (Nothing : Type 0) (kind : ErrorKind) (r : Result ℕ IoFault) → (kind ≢ OutOfMemory → Nothing)

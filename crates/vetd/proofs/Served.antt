@@ -11,8 +11,8 @@ use Rattle.vet_base.specs.Gives.{Told}
 use Rattle.vet_base.specs.Words.{Bytes}
 use Rattle.vet_base.specs.declared.limits.TheConstants.{MOST_MOVES}
 use Rattle.vet_base.specs.declared.refusal.Refusal.{Refusal}
-use Rattle.vet_http.specs.declared.io_fault.IoFault.{IoFault}
-use Rattle.vet_http.specs.declared.io_fault.IoFault.TheVariants.{Output}
+use Rattle.vet_requests.specs.declared.io_fault.IoFault.{IoFault}
+use Rattle.vet_requests.specs.declared.io_fault.IoFault.TheVariants.{Output}
 use Rattle.vet_register.specs.State.{State, start}
 use Rattle.vet_rows.specs.RowsOf.{rows_of}
 use Rattle.vet_store.specs.Runs.{IsOfStore}

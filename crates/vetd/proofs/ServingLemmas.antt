@@ -6,10 +6,10 @@ use Rattle.std.specs.List.{AllByRecursion}
 use Rattle.vet_base.specs.Day.{DayValue}
 use Rattle.vet_base.specs.Words.{Bytes}
 use Rattle.vet_http.specs.Serve.{IsTurn}
-use Rattle.vet_http.specs.declared.io_fault.IoFault.{IoFault}
 use Rattle.vet_http.specs.declared.serve.Connection.{Connection}
 use Rattle.vet_http.specs.declared.serve.Served.{Served}
 use Rattle.vet_register.specs.State.{State}
+use Rattle.vet_requests.specs.declared.io_fault.IoFault.{IoFault}
 use Rattle.vetd.specs.Serving.{AreServed, Arrives, IsOnDay, Serves, Turn, Turns, is_lost, replied, whole}
 use Rattle.vetd.specs.declared.arrivals.Arrival.{Arrival}
 use Rattle.vetd.specs.declared.arrivals.Arrival.TheVariants.{Client, Failed, Lost}

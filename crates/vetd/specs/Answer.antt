@@ -8,8 +8,8 @@ use Rattle.vet_base.specs.declared.limits.TheConstants.{MOST_INPUT_BYTES}
 use Rattle.vet_base.specs.declared.refusal.Refusal.{Refusal}
 use Rattle.vet_base.specs.declared.refusal.Refusal.TheVariants.{NoMemory}
 use Rattle.vet_http.specs.Output.{AppendsPart}
-use Rattle.vet_http.specs.declared.io_fault.IoFault.{IoFault}
-use Rattle.vet_http.specs.declared.io_fault.IoFault.TheVariants.{Output}
+use Rattle.vet_requests.specs.declared.io_fault.IoFault.{IoFault}
+use Rattle.vet_requests.specs.declared.io_fault.IoFault.TheVariants.{Output}
 use Rattle.vet_reports.specs.RefusalText.{refusal_line}
 use Rattle.vetd.specs.declared.answer.TheConstants.{PRINTED, REFUSED, EXPLAINED}
 

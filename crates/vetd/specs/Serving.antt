@@ -5,7 +5,7 @@ use Rattle.std.specs.Fmt.{decimal}
 use Rattle.vet_base.specs.Day.{DayValue}
 use Rattle.vet_base.specs.Words.{Bytes, Text}
 use Rattle.vet_http.specs.Serve.{IsServed, IsTurn}
-use Rattle.vet_http.specs.declared.io_fault.IoFault.{IoFault}
+use Rattle.vet_requests.specs.declared.io_fault.IoFault.{IoFault}
 use Rattle.vet_http.specs.declared.serve.Connection.{Connection}
 use Rattle.vet_http.specs.declared.serve.Served.{Served}
 use Rattle.vet_register.specs.State.{State}

@@ -6,7 +6,7 @@ ghost use Rattle.std.specs.Prelude.{◌≡◌, ◌≤◌, [], ◌∷◌, IfSome,
 ghost use Rattle.std.specs.Iterator.{DrainsIf, IsFinite, size};
 ghost use Rattle.sqlite.specs.Held.{state};
 ghost use Rattle.vet_http.specs.Serve.{IsTurn};
-ghost use Rattle.vet_http.specs.declared.io_fault.IoFault.{IoFault as IoFaultValue};
+ghost use Rattle.vet_requests.specs.declared.io_fault.IoFault.{IoFault as IoFaultValue};
 ghost use Rattle.vet_http.specs.declared.serve.Connection.{Connection as ConnectionValue};
 ghost use Rattle.vet_http.specs.declared.serve.Served.{Served as ServedValue};
 ghost use Rattle.vet_rows.specs.RowsOf.{rows_of};

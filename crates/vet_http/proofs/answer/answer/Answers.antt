@@ -2,8 +2,8 @@
 use Rattle.sqlite.specs.Held.{state}
 use Rattle.vet_http.specs.Answer.{IsByRoute}
 use Rattle.vet_http.specs.AskedFor.{asked_for}
-use Rattle.vet_http.specs.RouteTable.{route_of}
-use Rattle.vet_http.specs.declared.reply.Reply.{Reply}
+use Rattle.vet_requests.specs.RouteTable.{route_of}
+use Rattle.vet_requests.specs.declared.reply.Reply.{Reply}
 use Rattle.vet_http.proofs.AnswerLemmas.{replied}
 use Rattle.vet_http.proofs.AskedLemmas.{repeats_stay, told_cut_off, told_refused}
 use Rattle.vet_http.proofs.answer.answer.Goals as goal

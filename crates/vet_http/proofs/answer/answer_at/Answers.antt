@@ -4,8 +4,8 @@ use Rattle.std.proofs.Common.{◌∙◌, inl, refl, sym}
 use Rattle.std.proofs.lemmas.Result.{IfErr-weaker, IfOk-weaker}
 use Rattle.vet_http.specs.Answered.{reply_of}
 use Rattle.vet_http.specs.AskedFor.{given_at, given_by}
-use Rattle.vet_http.specs.Route.{asked_at, asked_by}
-use Rattle.vet_http.specs.RouteTable.{route_at}
+use Rattle.vet_requests.specs.Route.{asked_at, asked_by}
+use Rattle.vet_requests.specs.RouteTable.{route_at}
 use Rattle.vet_http.proofs.AnswerLemmas.{at_none, at_route, refused_at}
 use Rattle.vet_http.proofs.AskedLemmas.{at_found, at_missing, cut_as, held_as, never, none_held, none_refused}
 use Rattle.vet_http.proofs.AskedLemmas.{refused_as, store_refused, unread_held}

@@ -5,9 +5,9 @@ use Rattle.std.proofs.lemmas.Result.{IfErr-weaker, IfOk-weaker}
 use Rattle.vet_http.specs.Answer.{IsByRoute}
 use Rattle.vet_http.specs.Answered.{reply_of}
 use Rattle.vet_http.specs.AskedFor.{asked_for, given_at}
-use Rattle.vet_http.specs.RouteTable.{route_at, route_of}
+use Rattle.vet_requests.specs.RouteTable.{route_at, route_of}
 use Rattle.vet_http.specs.Told.{refusal_reply}
-use Rattle.vet_http.specs.declared.route.Route.{Route}
+use Rattle.vet_requests.specs.declared.route.Route.{Route}
 use Rattle.vet_http.proofs.AnswerLemmas.{at_none, no_route, same_route}
 use Rattle.vet_http.proofs.AskedLemmas.{at_missing, cut_as, held_as, never, none_held, none_refused}
 use Rattle.vet_http.proofs.AskedLemmas.{refused_as}

@@ -2,7 +2,7 @@
 use Rattle.std.proofs.Common.{Err, List, Ok, OnErr, Result, subst, ℕ}
 use Rattle.std.specs.Io.KnownBytes.{Appends}
 use Rattle.vet_http.specs.Output.{AppendsPart}
-use Rattle.vet_http.specs.declared.io_fault.IoFault.{IoFault}
+use Rattle.vet_requests.specs.declared.io_fault.IoFault.{IoFault}
 use Rattle.vetd.proofs.serve_run.tell_network.Goals as goal
 
 on_err : (r : Result ℕ IoFault) (P : Type 0) → P → OnErr r P

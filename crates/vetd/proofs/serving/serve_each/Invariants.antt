@@ -1,7 +1,7 @@
 -- What came so far was served, and the whole replies among it are counted.
 use Rattle.std.proofs.Common.{◌≡◌, ◌+◌, ◌≤◌, IsTrue, List, Result, false}
 use Rattle.sqlite.specs.Held.{state}
-use Rattle.vet_http.specs.declared.io_fault.IoFault.{IoFault}
+use Rattle.vet_requests.specs.declared.io_fault.IoFault.{IoFault}
 use Rattle.vet_http.specs.declared.serve.Served.{Served}
 use Rattle.vet_rows.specs.RowsOf.{rows_of}
 use Rattle.vet_store.specs.Tied.{IsTied}

@@ -1,0 +1,15 @@
+pub mod Body
+pub mod Fields
+pub mod Head
+pub mod Input
+pub mod IoFault
+pub mod Output
+pub mod Parameter
+pub mod Reply
+pub mod ReplyByExample
+pub mod Request
+pub mod RequestFault
+pub mod RequestLaws
+pub mod Route
+pub mod RouteTable
+pub mod Status

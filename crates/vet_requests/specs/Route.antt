@@ -1,0 +1,53 @@
+-- Which methods each route has, and what is asked by them (ours; RFC 9110, methods and Allow).
+use Rattle.std.specs.Prelude.{List, [], ◌∷◌, ◌++◌, Option, Some, None, codes, if◌then◌else◌}
+use Rattle.std.specs.Str.{bytes_eq}
+use Rattle.vet_base.specs.Words.{Bytes, Text}
+use Rattle.vet_requests.specs.declared.route.Asked.{Asked}
+use Rattle.vet_requests.specs.declared.route.Asked.TheVariants.{Shows, Runs}
+use Rattle.vet_requests.specs.declared.route.Given.TheVariants as given
+use Rattle.vet_requests.specs.declared.route.Route.{Route}
+use Rattle.vet_requests.specs.declared.route.Route.TheVariants as route
+use Rattle.vet_requests.specs.declared.route.Shown.{Shown}
+use Rattle.vet_requests.specs.declared.route.Shown.TheVariants as shown
+
+-- a method, and what is asked by it
+abbrev pub Row : Type 0
+Row = Text × Asked
+
+abbrev pub GET : Text
+GET = codes "GET"
+
+abbrev pub PUT : Text
+PUT = codes "PUT"
+
+abbrev pub POST : Text
+POST = codes "POST"
+
+-- something is shown, and nothing else is asked
+abbrev pub shown_alone : Shown → List Row
+shown_alone what = (GET, Shows what) ∷ []
+
+-- the methods of a route, in the order in which they are told
+abbrev pub asked_at : Route → List Row
+asked_at route.Counts = shown_alone shown.Counts
+asked_at route.Standing = shown_alone shown.Standing
+asked_at route.StandingOf = shown_alone shown.StandingOf
+asked_at route.StandingCsv = shown_alone shown.StandingCsv
+asked_at route.Moves = shown_alone shown.Moves
+asked_at route.Desk = shown_alone shown.Desk
+asked_at route.Class = shown_alone shown.Class
+asked_at route.File = shown_alone shown.File
+asked_at route.Project = (GET, Shows shown.Project) ∷ (PUT, Runs given.Project) ∷ []
+asked_at route.Peer = (PUT, Runs given.Peer) ∷ []
+asked_at route.Commands = (POST, Runs given.Document) ∷ []
+
+-- what is asked by a method
+abbrev pub asked_by : Bytes → List Row → Option Asked
+asked_by method [] = None
+asked_by method (row ∷ rows) = if bytes_eq method row.0 then Some row.1 else asked_by method rows
+
+-- methods as they are told
+abbrev pub told_methods : List Row → Text
+told_methods [] = []
+told_methods (row ∷ []) = row.0
+told_methods (row ∷ other ∷ rows) = row.0 ++ (codes ", " ++ told_methods (other ∷ rows))

@@ -1,0 +1,54 @@
+-- The table of routes, as the rows of `matchit` in its order, and the route of a target (ours). In a pattern a
+-- parameter is one token; beside it stands the text of the path, and where in that each parameter's name stands.
+use Rattle.std.specs.Prelude.{ℕ, List, [], ◌∷◌, ◌++◌, Option, None, codes, if◌then◌else◌}
+use Rattle.std.specs.Option.{option_map}
+use Rattle.std.specs.Str.{is_utf8}
+use Rattle.matchit.specs.Order.{placed}
+use Rattle.matchit.specs.Router.{RouteOf}
+use Rattle.matchit.specs.Rows.{RowsOf, param_token}
+use Rattle.matchit.specs.Seek.{first}
+use Rattle.vet_base.specs.Words.{Bytes, Text}
+use Rattle.vet_requests.specs.declared.route.Route.{Route}
+use Rattle.vet_requests.specs.declared.route.Route.TheVariants.{Counts, Standing, StandingOf, StandingCsv, Moves, Desk}
+use Rattle.vet_requests.specs.declared.route.Route.TheVariants.{Class, File, Project, Peer, Commands}
+
+-- a path with parameters
+abbrev pub with_names : Text → Text → List (ℕ × ℕ) → Route → Text × RouteOf Route
+with_names pattern text names route =
+    (pattern, record { pattern = pattern; text = text; names = names; value = route })
+
+-- a path without any
+abbrev pub plain : Text → Route → Text × RouteOf Route
+plain text route = with_names text text [] route
+
+-- one parameter
+abbrev pub one_parameter : Text
+one_parameter = param_token ∷ []
+
+-- three, with slashes between
+abbrev pub three_parameters : Text
+three_parameters = param_token ∷ 47 ∷ param_token ∷ 47 ∷ param_token ∷ []
+
+-- each path as it is put in, the first last
+unfoldable pub table : RowsOf (RouteOf Route)
+table =
+    placed (plain (codes "/commands") Commands)
+    (placed (with_names (codes "/peers/" ++ one_parameter) (codes "/peers/{peer}") ((8, 12) ∷ []) Peer)
+    (placed (with_names (codes "/projects/" ++ one_parameter) (codes "/projects/{project}") ((11, 18) ∷ []) Project)
+    (placed (with_names (codes "/files/" ++ one_parameter) (codes "/files/{file}") ((8, 12) ∷ []) File)
+    (placed (with_names (codes "/class/" ++ three_parameters) (codes "/class/{package}/{version}/{criterion}")
+    ((8, 15) ∷ (18, 25) ∷ (28, 37) ∷ []) Class)
+    (placed (plain (codes "/desk") Desk)
+    (placed (plain (codes "/moves") Moves)
+    (placed (plain (codes "/standing.csv") StandingCsv)
+    (placed (with_names (codes "/standing/" ++ one_parameter) (codes "/standing/{package}") ((11, 18) ∷ []) StandingOf)
+    (placed (plain (codes "/standing") Standing)
+    (placed (plain (codes "/counts") Counts) []))))))))))
+
+-- the route of a target that is a text
+abbrev pub route_at : Text → Option Route
+route_at target = option_map (λ (r : RouteOf Route). r.value) (first table target)
+
+-- the route of a target; one that is no text, which no head has, has none
+abbrev pub route_of : Bytes → Option Route
+route_of target = if is_utf8 target then route_at target else None

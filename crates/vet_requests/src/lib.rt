@@ -1,0 +1,27 @@
+//! Requests over HTTP and their replies as bytes, and how bytes are read and written.
+//!
+//! **A connection gives exactly the request that its bytes begin with, or its first fault. A target has the route that
+//! the table gives it, and what is asked there by a method is the row of the route. The bytes of a reply are those of
+//! its definition.**
+//!
+//! Scope of this crate: heads, fields and bodies of requests, their parameters, routes, statuses, replies, counted
+//! reads and whole writes. It knows no register: what is answered of one is told in `vet_http`, which gives all names
+//! of this crate on.
+#![tactic(auto)]
+
+mod body;
+pub mod content_type;
+mod fields;
+mod head;
+pub mod input;
+pub mod io_fault;
+pub mod output;
+pub mod parameter;
+pub mod reply;
+pub mod request;
+pub mod request_fault;
+pub mod request_laws;
+pub mod request_limits;
+pub mod route;
+pub mod route_laws;
+pub mod status;

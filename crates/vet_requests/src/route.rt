@@ -1,0 +1,190 @@
+//! Routes: which targets there are, by which methods, and what is asked there.
+//!
+//! **A target has the route that the table gives it. What is asked there by a method is the row of the route.**
+//!
+//! A further route is a path in the table of `router`, and a row of `asked` and one of `methods`. What a path has in
+//! braces is a parameter: it matches what stands between two slashes, if that is not empty.
+ghost use Rattle.std.specs.Prelude.{◌≡◌, ◌≤◌, IfErr, IfOk, length};
+ghost use Rattle.matchit.specs.Seek.{first};
+ghost use Rattle.std.specs.Prelude.{Some, None, if◌then◌else◌};
+ghost use Rattle.std.specs.Str.{bytes_eq};
+ghost use Rattle.vet_requests.specs.Route.{asked_at, asked_by, shown_alone, told_methods};
+ghost use Rattle.vet_requests.specs.RouteTable.{route_at, table};
+
+use crate::reply::MOST_ALLOW_BYTES;
+use matchit::{InsertError, Router};
+use std::alloc::Global;
+use vet_base::refusal::Refusal;
+
+/// A route.
+#[derive(Clone, Copy)]
+pub enum Route {
+    Counts,
+    Standing,
+    StandingOf,
+    StandingCsv,
+    Moves,
+    Desk,
+    Class,
+    File,
+    Project,
+    Peer,
+    Commands,
+}
+
+/// What is shown of the register.
+#[derive(Clone, Copy)]
+pub enum Shown {
+    /// The counts by class.
+    Counts,
+    /// The class of each demanded pair.
+    Standing,
+    /// The class of each demanded pair of a package.
+    StandingOf,
+    /// The class of each demanded pair, as CSV.
+    StandingCsv,
+    /// The moves since the first counts.
+    Moves,
+    /// The reviews.
+    Desk,
+    /// The class of one pair.
+    Class,
+    /// One of the three files of cargo-vet.
+    File,
+    /// The dependency table of a project.
+    Project,
+}
+
+/// What the body of a request gives, which becomes a command.
+#[derive(Clone, Copy)]
+pub enum Given {
+    /// The dependency table of a project, which is loaded.
+    Project,
+    /// The audits file of a peer, which is imported.
+    Peer,
+    /// A command document.
+    Document,
+}
+
+/// What is asked of the register.
+#[derive(Clone, Copy)]
+pub enum Asked {
+    /// To show something. It changes nothing.
+    Shows(Shown),
+    /// To run the command that the body gives.
+    Runs(Given),
+}
+
+/// The route of a target that is a text, if it has one. Refused: `NoMemory`.
+pub fn find_route(alloc: Global, target: &str) -> Result<Option<Route>, Refusal>
+    ensures route { IfOk result (λ found. found ≡ route_at target.now) }
+    ensures memory { IfErr result (λ e. e ≡ Refusal.NoMemory) }
+{
+    match router(alloc) {
+        Ok(router) => Ok(route_in(&router, target)),
+        Err(_) => Err(Refusal::NoMemory),
+    }
+}
+
+// The paths and their routes.
+fn router(alloc: Global) -> Result<Router<Route>, InsertError>
+    ensures { IfOk result (λ router. router ≡ table) }
+{
+    let mut router = Router::new(alloc);
+    router.insert("/counts", Route::Counts)?;
+    router.insert("/standing", Route::Standing)?;
+    router.insert("/standing/{package}", Route::StandingOf)?;
+    router.insert("/standing.csv", Route::StandingCsv)?;
+    router.insert("/moves", Route::Moves)?;
+    router.insert("/desk", Route::Desk)?;
+    router.insert("/class/{package}/{version}/{criterion}", Route::Class)?;
+    router.insert("/files/{file}", Route::File)?;
+    router.insert("/projects/{project}", Route::Project)?;
+    router.insert("/peers/{peer}", Route::Peer)?;
+    router.insert("/commands", Route::Commands)?;
+    Ok(router)
+}
+
+// The route of a target in the table.
+fn route_in(router: &Router<Route>, target: &str) -> Option<Route>
+    requires { router.now ≡ table }
+    ensures { result ≡ route_at target.now }
+{
+    match router.at(target) {
+        Ok(found) => Some(*found.value),
+        Err(_) => None,
+    }
+}
+
+impl Route {
+    /// What is asked at the route by a method, if it has that method. Case matters in a method (RFC 9110, methods).
+    pub fn asked(self, method: &[u8]) -> Option<Asked>
+        ensures { result ≡ asked_by method.now (asked_at self) }
+    {
+        match self {
+            Route::Counts => shown_by_get(method, Shown::Counts),
+            Route::Standing => shown_by_get(method, Shown::Standing),
+            Route::StandingOf => shown_by_get(method, Shown::StandingOf),
+            Route::StandingCsv => shown_by_get(method, Shown::StandingCsv),
+            Route::Moves => shown_by_get(method, Shown::Moves),
+            Route::Desk => shown_by_get(method, Shown::Desk),
+            Route::Class => shown_by_get(method, Shown::Class),
+            Route::File => shown_by_get(method, Shown::File),
+            Route::Project => asked_of_project(method),
+            Route::Peer => given_by(method, b"PUT".as_slice(), Given::Peer),
+            Route::Commands => given_by(method, b"POST".as_slice(), Given::Document),
+        }
+    }
+
+    /// The methods of the route, with a comma and a space between, as `Allow` tells them (RFC 9110, Allow).
+    pub fn methods(self) -> &'static str
+        ensures methods { result.now ≡ told_methods (asked_at self) }
+        ensures short { length result.now ≤ MOST_ALLOW_BYTES }
+    {
+        match self {
+            Route::Counts
+            | Route::Standing
+            | Route::StandingOf
+            | Route::StandingCsv
+            | Route::Moves
+            | Route::Desk
+            | Route::Class
+            | Route::File => "GET",
+            Route::Project => "GET, PUT",
+            Route::Peer => "PUT",
+            Route::Commands => "POST",
+        }
+    }
+}
+
+// What a route that only shows something is asked.
+fn shown_by_get(method: &[u8], shown: Shown) -> Option<Asked>
+    ensures { result ≡ asked_by method.now (shown_alone shown) }
+{
+    if method == b"GET".as_slice() {
+        Some(Asked::Shows(shown))
+    } else {
+        None
+    }
+}
+
+// What a project is asked.
+fn asked_of_project(method: &[u8]) -> Option<Asked>
+    ensures { result ≡ asked_by method.now (asked_at Route.Project) }
+{
+    if method == b"PUT".as_slice() {
+        return Some(Asked::Runs(Given::Project));
+    }
+    shown_by_get(method, Shown::Project)
+}
+
+// What a route is asked that has one method, and no other than to give something.
+fn given_by(method: &[u8], word: &[u8], given: Given) -> Option<Asked>
+    ensures { result ≡ (if bytes_eq method.now word.now then Some (Asked.Runs given) else None) }
+{
+    if method == word {
+        Some(Asked::Runs(given))
+    } else {
+        None
+    }
+}
