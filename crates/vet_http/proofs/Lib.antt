@@ -1,6 +1,5 @@
 mod AnswerLemmas
 mod AskedLemmas
 mod DoneLemmas
-mod FileLemmas
 mod ServeLemmas
 mod TurnLemmas

@@ -4,8 +4,8 @@ use Rattle.vet_base.specs.Day.{DayValue}
 use Rattle.vet_base.specs.Gives.{Told, ◌>>=◌}
 use Rattle.vet_base.specs.Words.{Text}
 use Rattle.vet_demand.specs.DependencyTable.{project_of_bytes}
+use Rattle.vet_documents.specs.CommandDocument.{command_told}
 use Rattle.vet_files.specs.Imports.{peer_content_told}
-use Rattle.vet_http.specs.CommandDocument.{command_told}
 use Rattle.vet_register.specs.declared.command.Action.{Action}
 use Rattle.vet_register.specs.declared.command.Action.TheVariants.{ImportPeer, LoadProject}
 use Rattle.vet_register.specs.declared.command.Command.{Command}

@@ -4,12 +4,12 @@ use Rattle.vet_base.specs.Gives.{Told, ◌>>=◌}
 use Rattle.vet_base.specs.Words.{Name, Text}
 use Rattle.vet_demand.specs.WrittenProject.{written_text}
 use Rattle.vet_demand.specs.declared.project.NamedProject.{NamedProject}
+use Rattle.vet_documents.specs.RegisterFile.{IsFileOf, file_named}
+use Rattle.vet_documents.specs.declared.register_file.RegisterFile.{RegisterFile}
 use Rattle.vet_graph.specs.Class.{class_word}
 use Rattle.vet_graph.specs.Standing.{class_in}
 use Rattle.vet_graph.specs.declared.class.Class.{Class}
-use Rattle.vet_http.specs.RegisterFile.{IsFileOf, file_named}
 use Rattle.vet_http.specs.Told.{reply_told}
-use Rattle.vet_http.specs.declared.register_file.RegisterFile.{RegisterFile}
 use Rattle.vet_register.specs.Held.{project_at}
 use Rattle.vet_register.specs.State.{State, standing}
 use Rattle.vet_reports.specs.CountsText.{counts_text}

@@ -2,13 +2,13 @@
 ghost use Rattle.vet_base.specs.Gives.{Gives};
 ghost use Rattle.vet_http.specs.Given.{given_told, peer_given, project_given};
 
-use crate::command_document::read_command;
 use std::alloc::Global;
 use vet_base::day::Day;
 use vet_base::name::{Name, PackageName};
 use vet_base::refusal::Refusal;
 use vet_demand::project::NamedProject;
 use vet_demand::table_reader::read_project;
+use vet_documents::command_document::read_command;
 use vet_files::imports_file::read_peer;
 use vet_register::command::{Action, Command};
 use vet_requests::parameter::first_parameter;

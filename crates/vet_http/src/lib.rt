@@ -1,34 +1,20 @@
-//! The documents in which commands are sent, and requests over HTTP with the replies to them.
+//! Requests over HTTP, what is answered to them, and connections served over a store.
 //!
-//! **A document gives exactly the command that its definition tells of its bytes, or its first fault in the order of
-//! its keys. A connection gives exactly the request that its bytes begin with, or its first fault. The reply to it, and
-//! the register after it, are those of the definition.**
+//! **The reply to a request, and the register after it, are those of the definition. Of a connection that is the request
+//! with which its bytes begin, or its first fault.**
 //!
-//! Scope of this crate: command documents, what is shown and what is told, and connections served over a store. Requests
-//! and replies as bytes are those of `vet_requests`, whose names are given on. Sockets and their deadlines are the
-//! program's.
+//! Scope of this crate: what is given and asked by a request, what is shown, what is told, and one connection after the
+//! other. The bytes of requests and replies are those of `vet_requests`, command documents those of `vet_documents`, and
+//! the names of both are given on. Sockets and their deadlines are the program's.
 #![tactic(auto)]
 
 pub mod answer;
-pub mod command_document;
-mod command_word;
-mod criterion_document;
-mod desk_document;
-mod document_field;
-mod document_keys;
-mod entry_document;
-mod files_document;
 mod given;
-mod names_at;
-mod peer_document;
-mod policy_document;
-mod project_document;
-mod publishers_document;
-pub mod register_file;
 pub mod serve;
 mod shown;
 pub mod told;
 
+pub use vet_documents::{command_document, register_file};
 pub use vet_requests::{
     content_type, input, io_fault, output, parameter, reply, request, request_fault, request_laws,
     request_limits, route, route_laws, status,

@@ -5,8 +5,8 @@
 ghost use Rattle.std.specs.Option.{option_copied};
 ghost use Rattle.std.specs.Prelude.{◌≡◌, ◌⊎◌, IfErr, IfOk, Some, string_bytes};
 ghost use Rattle.vet_base.specs.Gives.{Gives};
+ghost use Rattle.vet_documents.specs.RegisterFile.{file_named};
 ghost use Rattle.vet_graph.specs.Standing.{class_in};
-ghost use Rattle.vet_http.specs.RegisterFile.{file_named};
 ghost use Rattle.vet_http.specs.Shown.{IsFile, IsShown, class_line, class_told, csv, lines, package_standing_told};
 ghost use Rattle.vet_http.specs.Shown.{pairs_of, table_of, table_told, toml};
 ghost use Rattle.vet_http.specs.Told.{refusal_reply};
@@ -15,13 +15,13 @@ ghost use Rattle.vet_register.specs.State.{standing};
 ghost use Rattle.vet_reports.specs.StandingText.{standing_text};
 ghost use Rattle.vet_requests.specs.Parameter.{first_parameter};
 
-use crate::register_file::{RegisterFile, file_text};
 use std::alloc::Global;
 use vet_base::name::{Name, PackageName};
 use vet_base::refusal::Refusal;
 use vet_base::version::VetVersion;
 use vet_demand::project::NamedProject;
 use vet_demand::table_writer::write_project;
+use vet_documents::register_file::{RegisterFile, file_text};
 use vet_graph::class::Class;
 use vet_graph::keeper::Keeper;
 use vet_register::register::Register;

@@ -2,8 +2,8 @@
 use Rattle.std.specs.Prelude.{Option, Some, None, codes, if◌then◌else◌}
 use Rattle.std.specs.Str.{bytes_eq}
 use Rattle.vet_base.specs.Words.{Text}
-use Rattle.vet_http.specs.declared.register_file.RegisterFile.{RegisterFile}
-use Rattle.vet_http.specs.declared.register_file.RegisterFile.TheVariants.{Audits, Config, Imports}
+use Rattle.vet_documents.specs.declared.register_file.RegisterFile.{RegisterFile}
+use Rattle.vet_documents.specs.declared.register_file.RegisterFile.TheVariants.{Audits, Config, Imports}
 
 -- the file that a word names
 abbrev pub file_of_word : Text → Option RegisterFile

@@ -2,11 +2,11 @@
 use Rattle.std.specs.Prelude.{Ok}
 use Rattle.vet_base.specs.Document.{length_told}
 use Rattle.vet_base.specs.Gives.{◌>>=◌}
+use Rattle.vet_documents.specs.declared.register_file.RegisterFile.{RegisterFile}
+use Rattle.vet_documents.specs.declared.register_file.RegisterFile.TheVariants.{Audits, Config, Imports}
 use Rattle.vet_files.specs.Audits.{audits_told}
 use Rattle.vet_files.specs.Config.{config_told}
 use Rattle.vet_files.specs.Imports.{imports_told}
-use Rattle.vet_http.specs.declared.register_file.RegisterFile.{RegisterFile}
-use Rattle.vet_http.specs.declared.register_file.RegisterFile.TheVariants.{Audits, Config, Imports}
 use Rattle.vetd.specs.Answer.{Telling}
 use Rattle.vetd.specs.Counts.{counts_line, counts_of_audits, counts_of_config, counts_of_imports}
 

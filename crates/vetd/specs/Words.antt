@@ -8,7 +8,7 @@ use Rattle.clap.specs.Simple.{App, app_of, new_rule, with_rule, with_subcommand,
 use Rattle.clap.specs.Walk.{rule_of}
 use Rattle.clap.specs.Faults.{fault_of}
 use Rattle.clap.specs.Kinds.{Kinds}
-use Rattle.vet_http.specs.declared.register_file.RegisterFile.{RegisterFile}
+use Rattle.vet_documents.specs.declared.register_file.RegisterFile.{RegisterFile}
 use Rattle.vetd.specs.ApplyWords.{apply_app}
 use Rattle.vetd.specs.FileWord.{file_of_word}
 use Rattle.vetd.specs.NewWords.{new_app, option_rule}

@@ -1,0 +1,13 @@
+pub mod CommandDocument
+pub mod CommandWord
+pub mod CriterionDocument
+pub mod DeskDocument
+pub mod DocumentField
+pub mod DocumentKeys
+pub mod EntryDocument
+pub mod FilesDocument
+pub mod PeerDocument
+pub mod PolicyDocument
+pub mod ProjectDocument
+pub mod PublishersDocument
+pub mod RegisterFile

@@ -1,0 +1,105 @@
+//! Command documents.
+//!
+//! **The bytes of a document give the command that its definition tells of them, or the first fault.**
+ghost use Rattle.std.specs.Option.{option_copied};
+ghost use Rattle.toml.specs.View.{table_view};
+ghost use Rattle.vet_base.specs.Gives.{Gives};
+ghost use Rattle.vet_documents.specs.CommandDocument.{action_told, close_period_told, command_told, word_told};
+
+use crate::command_word::CommandWord;
+use crate::criterion_document::{read_remove_criterion, read_set_criterion};
+use crate::desk_document::{
+    read_add_member, read_assign_review, read_finish_review, read_open_review, read_withdraw_review,
+};
+use crate::document_field::text_at;
+use crate::document_keys::{COMMAND, refuse_others};
+use crate::entry_document::{read_add_entry, read_drop_entry};
+use crate::files_document::read_replace_files;
+use crate::peer_document::{read_drop_peer, read_import_peer, read_set_peer};
+use crate::policy_document::{read_drop_policy, read_set_policy};
+use crate::project_document::{read_drop_project, read_load_project};
+use crate::publishers_document::read_set_publishers;
+use std::alloc::Global;
+use toml::Table;
+use vet_base::day::Day;
+use vet_base::document::check_length;
+use vet_base::refusal::Refusal;
+use vet_files::field::fault;
+use vet_files::read::document::read_document;
+use vet_register::command::{Action, Command};
+
+/// The command of a document that is given on a day, and by a member where one is told beside it. Only who finishes
+/// or withdraws a review is looked at, and then last.
+///
+/// Refused, the first that holds: `TooLarge` of `input` for more than 8,388,608 bytes; `TomlRefused` where they are no
+/// TOML document in UTF-8. Then key by key in the order of the command: `BadName`, `BadVersion`, `BadRequirement`,
+/// `BadDay` and `BadDelta` of a text that is no such value, `TooLarge` of `text`, and `FieldRefused` of what else does
+/// not belong where it stands or is missing. Then `FieldRefused` of the least key that the command lacks, then what the
+/// readers of the files within the document refuse, and last `BadName` and `FieldRefused` of the member. `NoMemory` can
+/// come at any point.
+pub fn read_command(
+    alloc: Global,
+    document: &[u8],
+    day: Day,
+    member: Option<&[u8]>,
+) -> Result<Command, Refusal>
+    ensures { Gives (λ command. command) (command_told document.now day (option_copied member.entry)) result }
+{
+    check_length(document)?;
+    let table = read_document(alloc, document)?;
+    let word = read_word(alloc, &table)?;
+    let action = read_action(alloc, member, &table, word)?;
+    Ok(Command { day, action })
+}
+
+/// The word of the command.
+fn read_word(alloc: Global, document: &Table) -> Result<CommandWord, Refusal>
+    ensures { Gives (λ w. w) (word_told (table_view document.now)) result }
+{
+    let word = text_at(alloc, document, COMMAND)?;
+    match CommandWord::of_word(word) {
+        Some(command) => Ok(command),
+        None => Err(fault(alloc, COMMAND, COMMAND)),
+    }
+}
+
+/// What the command of a word asks for. A further command is a row here, and a row of the table of words.
+fn read_action(
+    alloc: Global,
+    giver: Option<&[u8]>,
+    document: &Table,
+    word: CommandWord,
+) -> Result<Action, Refusal>
+    ensures { Gives (λ action. action)
+        (action_told (option_copied giver.entry) (table_view document.now) word) result }
+{
+    match word {
+        CommandWord::SetCriterion => read_set_criterion(alloc, document),
+        CommandWord::RemoveCriterion => read_remove_criterion(alloc, document),
+        CommandWord::AddEntry => read_add_entry(alloc, document),
+        CommandWord::DropEntry => read_drop_entry(alloc, document),
+        CommandWord::SetPolicy => read_set_policy(alloc, document),
+        CommandWord::DropPolicy => read_drop_policy(alloc, document),
+        CommandWord::SetPeer => read_set_peer(alloc, document),
+        CommandWord::DropPeer => read_drop_peer(alloc, document),
+        CommandWord::ImportPeer => read_import_peer(alloc, document),
+        CommandWord::SetPublishers => read_set_publishers(alloc, document),
+        CommandWord::LoadProject => read_load_project(alloc, document),
+        CommandWord::DropProject => read_drop_project(alloc, document),
+        CommandWord::ReplaceFiles => read_replace_files(alloc, document),
+        CommandWord::ClosePeriod => read_close_period(alloc, document),
+        CommandWord::AddMember => read_add_member(alloc, document),
+        CommandWord::OpenReview => read_open_review(alloc, document),
+        CommandWord::AssignReview => read_assign_review(alloc, document),
+        CommandWord::FinishReview => read_finish_review(alloc, document, giver),
+        CommandWord::WithdrawReview => read_withdraw_review(alloc, document, giver),
+    }
+}
+
+/// Closes the period.
+fn read_close_period(alloc: Global, document: &Table) -> Result<Action, Refusal>
+    ensures { Gives (λ action. action) (close_period_told (table_view document.now)) result }
+{
+    refuse_others(alloc, COMMAND, document, &[COMMAND])?;
+    Ok(Action::ClosePeriod)
+}

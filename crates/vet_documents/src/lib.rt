@@ -1,0 +1,24 @@
+//! The documents in which commands are sent, and the three files of a register as texts.
+//!
+//! **A document gives exactly the command that its definition tells of its bytes, or its first fault in the order of
+//! its keys. The text of a file is one that is read as what the register holds.**
+//!
+//! Scope of this crate: the words and keys of command documents, and which file of a register is written by its name.
+//! What entries and files within a document mean is told by the readers of `vet_files` and `vet_demand`. `vet_http`
+//! gives the public names of this crate on.
+#![tactic(auto)]
+
+pub mod command_document;
+mod command_word;
+mod criterion_document;
+mod desk_document;
+mod document_field;
+mod document_keys;
+mod entry_document;
+mod files_document;
+mod names_at;
+mod peer_document;
+mod policy_document;
+mod project_document;
+mod publishers_document;
+pub mod register_file;

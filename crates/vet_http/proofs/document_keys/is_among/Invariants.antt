@@ -1,8 +1,0 @@
--- A key is among all where it is among the rest.
-use Rattle.std.proofs.Common.{◌≡◌, drop, map}
-use Rattle.vet_http.specs.DocumentField.{is_among}
-use Rattle.vet_http.proofs.document_keys.is_among.Given as goal
-
-abbrev pub invariant-known : goal.invariant-known
-invariant-known l =
-    is_among (map (λ k. k.now) l.known) l.key ≡ is_among (map (λ k. k.now) (drop l.name-index l.known)) l.key

@@ -1,6 +1,0 @@
--- The values so far are those that were gone over.
-use Rattle.std.proofs.Common.{◌≡◌}
-use Rattle.vet_http.proofs.names_at.unworded.Given as goal
-
-abbrev pub invariant-found : goal.invariant-found
-invariant-found g l = l.values.items ≡ l.yielded
