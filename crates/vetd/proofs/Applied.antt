@@ -16,13 +16,13 @@ use Rattle.vet_register.specs.State.{State}
 use Rattle.vet_register.specs.declared.command.Command.{Command}
 use Rattle.vet_register.specs.declared.command.Outcome.{Outcome}
 use Rattle.vet_reports.specs.OutcomeText.{outcome_text}
-use Rattle.vetd.specs.Answer.{Answer, Explains, IsInput, Refuses, answer_for, input_read}
-use Rattle.vetd.specs.ApplyWords.{ApplyAsked}
+use Rattle.vetd_words.specs.Answer.{Answer, Explains, IsInput, Refuses, answer_for, input_read}
+use Rattle.vetd_words.specs.ApplyWords.{ApplyAsked}
 use Rattle.vetd.specs.Applying.{AnswersApply, IsAnswerToApply, IsApplyAnswer, IsApplyFor, IsApplyOn}
 use Rattle.vetd.specs.Applying.{IsDocumentAnswer, IsGiven, IsRunOf, IsUnapplied}
 use Rattle.vetd.specs.Making.{Giving}
 use Rattle.vetd.specs.Opening.{IsOpenedAs}
-use Rattle.vetd.proofs.AnswerLemmas.{some_input}
+use Rattle.vetd_words.proofs.AnswerLemmas.{some_input}
 
 module _ {S : Type 0} (g : Ghosts S) (document : Bytes) (day : DayValue) (giver : Option Bytes) {T : Type 0}
     (text : T → List ℕ) where

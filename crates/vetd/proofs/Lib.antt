@@ -1,8 +1,4 @@
-mod WordsLemmas
-mod AnswerLemmas
-mod RunLemmas
 mod MakingLemmas
-mod Answered
 mod Applied
 mod Opened
 mod Viewed
@@ -10,4 +6,3 @@ mod ServingLemmas
 mod Fronts
 mod Sitting
 mod Served
-mod Asking

@@ -12,10 +12,10 @@ use Rattle.vet_store.specs.Made.{AreFree, IsMade, SparesOthers}
 use Rattle.vet_store.specs.Runs.{IsOfStore}
 use Rattle.vet_store.specs.Stands.{Rests}
 use Rattle.vet_store.specs.Tied.{IsTied}
-use Rattle.vetd.specs.Answer.{Answer, Explains, answer_for}
+use Rattle.vetd_words.specs.Answer.{Answer, Explains, answer_for}
 use Rattle.vetd.specs.Making.{AnswersNew, Giving, IsAnswerFor, IsAnswerToNew, IsNewRegister, IsNoRegister}
 use Rattle.vetd.specs.Making.{IsUnmade, created_line}
-use Rattle.vetd.specs.NewAsked.{AsksNew, NewAsked}
+use Rattle.vetd_words.specs.NewAsked.{AsksNew, NewAsked}
 use Rattle.vet_requests.specs.declared.io_fault.IoFault.{IoFault}
 use Rattle.vet_requests.specs.declared.io_fault.IoFault.TheVariants.{Output}
 

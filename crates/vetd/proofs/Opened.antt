@@ -15,9 +15,9 @@ use Rattle.vet_store.specs.Stands.{Holds, Rests}
 use Rattle.vet_store.specs.Tied.{IsTied}
 use Rattle.vet_base.specs.Words.{Text}
 use Rattle.vetd.specs.Opening.{IsNotOpened, IsOpenedAs, Stays}
-use Rattle.vetd.specs.View.{Shows}
+use Rattle.vetd_words.specs.View.{Shows}
 use Rattle.vetd.specs.Viewing.{IsShown}
-use Rattle.vetd.specs.declared.view.View.{View}
+use Rattle.vetd_words.specs.declared.view.View.{View}
 
 module _ {S : Type 0} (g : Ghosts S) (before : Held S) where
   -- a store that was opened

@@ -10,12 +10,12 @@ use Rattle.vet_requests.specs.declared.io_fault.IoFault.TheVariants.{Output}
 use Rattle.vet_register.specs.Sound.{IsBalanced}
 use Rattle.vet_register.specs.State.{State}
 use Rattle.vet_store.specs.Classes.{AddsUp, HasClassesOfChains}
-use Rattle.vetd.specs.Answer.{IsWritten, Says, Serves, Stops, network_line}
+use Rattle.vetd_words.specs.Answer.{IsWritten, Says, Serves, Stops, network_line}
 use Rattle.vetd.specs.ServeRun.{Answered, HasHeadline, IsPrinted, IsSitting, IsSittingOf}
 use Rattle.vetd.specs.Serving.{AreServed, listening_line, replied, served_line}
-use Rattle.vetd.specs.declared.answer.TheConstants.{PRINTED, REFUSED}
+use Rattle.vetd_words.specs.declared.answer.TheConstants.{PRINTED, REFUSED}
 use Rattle.vetd.specs.declared.serve_run.Service.{Service}
-use Rattle.vetd.proofs.Answered.{told_written}
+use Rattle.vetd_words.proofs.Answered.{told_written}
 use Rattle.vetd.proofs.Fronts.{front_behind, front_of_both}
 
 -- what is asked of other faults is nothing where there is none but that of a write

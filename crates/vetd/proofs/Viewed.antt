@@ -5,11 +5,11 @@ use Rattle.sqlite_trees.specs.declared.store.Store.{Ghosts}
 use Rattle.vet_base.specs.declared.refusal.Refusal.{Refusal}
 use Rattle.vet_requests.specs.declared.io_fault.IoFault.{IoFault}
 use Rattle.vet_requests.specs.declared.io_fault.IoFault.TheVariants.{Output}
-use Rattle.vetd.specs.Answer.{Answer, Explains, Refuses, answer_for}
 use Rattle.vetd.specs.Making.{Giving}
 use Rattle.vetd.specs.Opening.{IsNotOpened}
-use Rattle.vetd.specs.ViewWords.{ViewAsked}
 use Rattle.vetd.specs.Viewing.{AnswersView, IsAnswerToView, IsShown, IsUntold, IsViewFor}
+use Rattle.vetd_words.specs.Answer.{Answer, Explains, Refuses, answer_for}
+use Rattle.vetd_words.specs.ViewWords.{ViewAsked}
 
 module _ {S : Type 0} (g : Ghosts S) (Gives : Giving S) {T : Type 0} (text : T → List ℕ) where
   -- where a path gave a connection, the answer is what was shown over it

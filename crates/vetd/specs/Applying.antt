@@ -20,10 +20,10 @@ use Rattle.vet_store.specs.Committed.{AreTreesBeside}
 use Rattle.vet_store.specs.Crash.{LeavesEither}
 use Rattle.vet_store.specs.Runs.{IsTurn}
 use Rattle.vet_store.specs.Tied.{IsTied}
-use Rattle.vetd.specs.Answer.{Answer, Explains, IsInput, Prints, Refuses, Serves, input_read}
-use Rattle.vetd.specs.ApplyWords.{ApplyAsked}
 use Rattle.vetd.specs.Making.{Giving}
 use Rattle.vetd.specs.Opening.{IsNotOpened, IsOpenedAs}
+use Rattle.vetd_words.specs.Answer.{Answer, Explains, IsInput, Prints, Refuses, Serves, input_read}
+use Rattle.vetd_words.specs.ApplyWords.{ApplyAsked}
 
 -- A command was run on a register that stood in the tables of an open connection: it was told its verdict, or memory
 -- was wanting or the store refused. The tables have the rows of the state that is left. A crash leaves these, or those

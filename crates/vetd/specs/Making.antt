@@ -13,8 +13,8 @@ use Rattle.vet_store.specs.Made.{AreFree, IsMade, SparesOthers}
 use Rattle.vet_store.specs.Runs.{IsOfStore}
 use Rattle.vet_store.specs.Stands.{Rests}
 use Rattle.vet_store.specs.Tied.{IsTied}
-use Rattle.vetd.specs.Answer.{Answer, Explains, Prints, Refuses, Serves}
-use Rattle.vetd.specs.NewAsked.{AsksNew, NewAsked}
+use Rattle.vetd_words.specs.Answer.{Answer, Explains, Prints, Refuses, Serves}
+use Rattle.vetd_words.specs.NewAsked.{AsksNew, NewAsked}
 
 -- what is told of a register that was made
 abbrev pub created_line : Text

@@ -4,19 +4,19 @@ use Rattle.clap.specs.Walk.{Text}
 use Rattle.sqlite.specs.Held.{Held}
 use Rattle.sqlite_trees.specs.declared.store.Store.{Ghosts}
 use Rattle.vet_base.specs.Words.{Bytes}
-use Rattle.vetd.specs.Answer.{Answer, Answers}
-use Rattle.vetd.specs.ApplyGiven.{apply_given}
 use Rattle.vetd.specs.Applying.{AnswersApply, IsUnapplied, day_given}
-use Rattle.vetd.specs.Asked.{asked_by}
 use Rattle.vetd.specs.Making.{AnswersNew, Giving, IsUnmade}
 use Rattle.vetd.specs.ServeRun.{AnswersServe, IsUnserved}
-use Rattle.vetd.specs.ViewWords.{view_given}
 use Rattle.vetd.specs.Viewing.{AnswersView, IsUntold}
-use Rattle.vetd.specs.Words.{begins_with}
-use Rattle.vetd.specs.declared.asked.CommandKind.TheVariants.{Class, Read}
 use Rattle.vetd.specs.declared.program.ProgramCommand.{ProgramCommand}
 use Rattle.vetd.specs.declared.program.ProgramCommand.TheVariants.{Apply, File, New, Serve, Show}
-use Rattle.vetd.specs.declared.view_words.ViewCommand.TheVariants.{Export, Report}
+use Rattle.vetd_words.specs.Answer.{Answer, Answers}
+use Rattle.vetd_words.specs.ApplyGiven.{apply_given}
+use Rattle.vetd_words.specs.Asked.{asked_by}
+use Rattle.vetd_words.specs.ViewWords.{view_given}
+use Rattle.vetd_words.specs.Words.{begins_with}
+use Rattle.vetd_words.specs.declared.asked.CommandKind.TheVariants.{Class, Read}
+use Rattle.vetd_words.specs.declared.view_words.ViewCommand.TheVariants.{Export, Report}
 
 -- the command as which words are taken, by the first of them
 abbrev pub command_of : List Text → ProgramCommand

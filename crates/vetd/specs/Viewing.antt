@@ -5,12 +5,12 @@ use Rattle.sqlite.specs.Held.{Held}
 use Rattle.sqlite_trees.specs.declared.store.Store.{Ghosts}
 use Rattle.vet_base.specs.declared.refusal.Refusal.{Refusal}
 use Rattle.vet_register.specs.State.{State}
-use Rattle.vetd.specs.Answer.{Answer, Explains, Prints, Refuses, Serves}
 use Rattle.vetd.specs.Making.{Giving}
 use Rattle.vetd.specs.Opening.{IsNotOpened, IsOpenedAs}
-use Rattle.vetd.specs.View.{Shows}
-use Rattle.vetd.specs.ViewWords.{ViewAsked}
-use Rattle.vetd.specs.declared.view.View.{View}
+use Rattle.vetd_words.specs.Answer.{Answer, Explains, Prints, Refuses, Serves}
+use Rattle.vetd_words.specs.View.{Shows}
+use Rattle.vetd_words.specs.ViewWords.{ViewAsked}
+use Rattle.vetd_words.specs.declared.view.View.{View}
 
 -- a text shows the register that was opened
 pub record IsShown {S : Type 0} (g : Ghosts S) (before : Held S) (view : View) (text : Text) (after : Held S) : Type 0

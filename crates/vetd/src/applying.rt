@@ -6,15 +6,13 @@ ghost use Rattle.vet_base.specs.Day.{read_day};
 ghost use Rattle.vet_base.specs.declared.limits.TheConstants.{MOST_READS};
 ghost use Rattle.vet_reports.specs.OutcomeText.{outcome_text};
 ghost use Rattle.vet_reports.specs.declared.outcome_text.TheConstants.{MOST_OUTCOME_BYTES};
-ghost use Rattle.vetd.specs.Answer.{IsWritten, answer_for};
-ghost use Rattle.vetd.specs.ApplyGiven.{apply_given};
-ghost use Rattle.vetd.specs.ApplyWords.{apply_asked};
+ghost use Rattle.vetd_words.specs.Answer.{IsWritten, answer_for};
+ghost use Rattle.vetd_words.specs.ApplyGiven.{apply_given};
+ghost use Rattle.vetd_words.specs.ApplyWords.{apply_asked};
 ghost use Rattle.vetd.specs.Applying.{AnswersApply, IsApplyAnswer, IsApplyFor, IsDocumentAnswer};
 ghost use Rattle.vetd.specs.Applying.{IsUnapplied, day_given};
 ghost use Rattle.vet_http.specs.Input.{TakesAtMost};
 
-use crate::answer::{explain, report};
-use crate::apply_words::{ApplyWords, apply_words};
 use crate::databases::{DatabaseRun, Databases};
 use sqlite::{Alter, Connection};
 use std::alloc::Global;
@@ -30,6 +28,8 @@ use vet_http::io_fault::IoFault;
 use vet_register::command::Outcome;
 use vet_reports::outcome_text::{MOST_OUTCOME_BYTES, write_outcome};
 use vet_store::store::Store;
+use vetd_words::answer::{explain, report};
+use vetd_words::apply_words::{ApplyWords, apply_words};
 
 /// Answers the words of an apply command, which come without the program's own name, by the document that the reader
 /// gives: the line of the outcome goes to `writer`, and a refusal or clap's text to `errors`. At most 8,388,609 bytes

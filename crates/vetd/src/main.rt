@@ -13,43 +13,27 @@
 //! file and what the database answers. With `serve` the clients and the clock do so too. A run that ends with a fault
 //! wrote nothing, or, where a write failed, the front of that answer.**
 //!
-//! Scope of this crate: words, and where databases are. What a class is, what files hold, what stands in tables, how a
-//! report reads and how bytes are read and written is told in the crates below.
+//! Scope of this crate: what each command does with a register, and where databases are. What words ask for is told in
+//! `vetd_words`. What a class is, what files hold, what stands in tables, how a report reads and how bytes are read and
+//! written is told in the crates below.
 #![tactic(auto)]
 
 ghost use Rattle.std.specs.Prelude.{◌≡◌, IfOk};
 
-mod answer;
-mod apply_words;
 mod applying;
 mod arrivals;
-mod asked;
-mod class_line;
-mod counts;
 mod databases;
 mod deadline;
-mod file_word;
-mod help;
 mod making;
-mod new_words;
 mod program;
-mod read_line;
-mod report_kind;
-mod run;
 mod serve_lines;
 mod serve_run;
-mod serve_words;
 mod serving;
 mod timed;
-mod view;
-mod view_words;
 mod viewing;
-mod words;
 
-use crate::answer::{EXPLAINED, explain};
 use crate::databases::{FileDatabases, WaryFile};
 use crate::program::{ProgramCommand, program_run};
-use crate::words::not_text;
 use std::alloc::Global;
 use std::io::Write;
 use std::process::ExitCode;
@@ -58,6 +42,8 @@ use std::{env, io};
 use vet_graph::plain::PlainKeeper;
 use vet_http::input::CountedReader;
 use vet_http::io_fault::IoFault;
+use vetd_words::answer::{EXPLAINED, explain};
+use vetd_words::words::not_text;
 
 /// The status of a run that ended with a fault.
 const FAULTED: u8 = 1;

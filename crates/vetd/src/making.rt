@@ -1,13 +1,11 @@
 //! A register is made in a database, by the words of a new command.
 ghost use Rattle.std.specs.Prelude.{◌≡◌, ◌≢◌, ◌<◌, ◌≤◌, IfErr, IfOk, OnOk, false, map, string_bytes};
-ghost use Rattle.vetd.specs.Answer.{IsWritten, answer_for};
 ghost use Rattle.vetd.specs.Making.{AnswersNew, IsAnswerFor, IsNewRegister, IsNoRegister, IsUnmade};
 ghost use Rattle.vetd.specs.Making.{created_line};
-ghost use Rattle.vetd.specs.NewAsked.{new_asked};
+ghost use Rattle.vetd_words.specs.Answer.{IsWritten, answer_for};
+ghost use Rattle.vetd_words.specs.NewAsked.{new_asked};
 
-use crate::answer::{explain, report};
 use crate::databases::{DatabaseRun, Databases};
-use crate::new_words::{NewWords, new_words};
 use sqlite::{Alter, Connection};
 use std::alloc::{AllocError, Global};
 use std::convert::AsStr;
@@ -17,6 +15,8 @@ use vet_base::refusal::Refusal;
 use vet_graph::keeper::Keeper;
 use vet_http::io_fault::IoFault;
 use vet_store::store::Store;
+use vetd_words::answer::{explain, report};
+use vetd_words::new_words::{NewWords, new_words};
 
 /// Answers the words of a new command, which come without the program's own name: makes a register in the database at
 /// their path. `created` goes to `writer`, and a refusal or clap's text to `errors`.

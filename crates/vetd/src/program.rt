@@ -2,18 +2,14 @@
 ghost use Rattle.std.specs.Prelude.{◌≡◌, ◌+◌, Err, map};
 ghost use Rattle.vet_base.specs.declared.limits.TheConstants.{MOST_READS};
 ghost use Rattle.vet_http.specs.Input.{TakesAtMost};
-ghost use Rattle.vetd.specs.Answer.{IsWritten};
 ghost use Rattle.vetd.specs.Program.{AnswersAs, AsksNoInput, IsUntoldAs, command_of};
+ghost use Rattle.vetd_words.specs.Answer.{IsWritten};
 
 use crate::applying::apply_run;
-use crate::asked::CommandKind;
 use crate::databases::{DatabaseRun, Databases};
 use crate::making::new_run;
-use crate::run::command_run;
 use crate::serve_run::serve_run;
-use crate::view_words::ViewCommand;
 use crate::viewing::view_run;
-use crate::words::begin_with;
 use sqlite::Alter;
 use std::alloc::Global;
 use std::convert::AsStr;
@@ -24,6 +20,10 @@ use vet_base::limits::MOST_INPUT_BYTES;
 use vet_graph::keeper::Keeper;
 use vet_http::input::CountedReader;
 use vet_http::io_fault::IoFault;
+use vetd_words::asked::CommandKind;
+use vetd_words::run::command_run;
+use vetd_words::view_words::ViewCommand;
+use vetd_words::words::begin_with;
 
 /// A command of the program, as which the words of a whole command line are taken. A further command is a row here, or
 /// in the table of its sort; a row in `of_words` and `program_run`; and the function that answers it.

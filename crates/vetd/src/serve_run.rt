@@ -9,18 +9,16 @@ ghost use Rattle.vet_rows.specs.RowsOf.{rows_of};
 ghost use Rattle.vet_store.specs.Classes.{AddsUp, HasClassesOfChains};
 ghost use Rattle.vet_store.specs.Runs.{IsOfStore};
 ghost use Rattle.vet_store.specs.Tied.{IsTied};
-ghost use Rattle.vetd.specs.Answer.{IsWritten, network_line};
-ghost use Rattle.vetd.specs.ServeAsked.{serve_asked};
+ghost use Rattle.vetd_words.specs.Answer.{IsWritten, network_line};
+ghost use Rattle.vetd_words.specs.ServeAsked.{serve_asked};
 ghost use Rattle.vetd.specs.ServeRun.{Answered, AnswersServe, IsServeAt, IsServeInMemory, IsServeOn, IsServeOver};
 ghost use Rattle.vetd.specs.ServeRun.{IsSittingOf, IsUnserved, IsUnservedAt, IsUnservedOver, day_told, on_day};
 ghost use Rattle.vetd.specs.Serving.{AreServed, replied};
-ghost use Rattle.vetd.specs.declared.serve_words.TheConstants.{MOST_CONNECTIONS};
+ghost use Rattle.vetd_words.specs.declared.serve_words.TheConstants.{MOST_CONNECTIONS};
 
-use crate::answer::{PRINTED, REFUSED, explain, report};
 use crate::arrivals::Arrivals;
 use crate::databases::{DatabaseRun, Databases};
 use crate::serve_lines::ServeLines;
-use crate::serve_words::{ServeWords, serve_words};
 use crate::serving::{Sitting, serve_each};
 use sqlite::{Alter, Connection};
 use std::alloc::Global;
@@ -37,6 +35,8 @@ use vet_http::output::write_whole;
 use vet_store::laws::classes_are_of_chains;
 use vet_store::memory_file::{MemoryFiles, connect_in_memory};
 use vet_store::store::Store;
+use vetd_words::answer::{PRINTED, REFUSED, explain, report};
+use vetd_words::serve_words::{ServeWords, serve_words};
 
 /// What is told where the port can't be had, or what listened is lost.
 const NETWORK_LINE: &str = "fault: network\n";

@@ -13,7 +13,7 @@ ghost use Rattle.vet_rows.specs.RowsOf.{rows_of};
 ghost use Rattle.vet_store.specs.Tied.{IsTied};
 ghost use Rattle.vetd.specs.Serving.{Serves, is_lost, whole};
 ghost use Rattle.vetd.specs.declared.arrivals.Arrival.{Arrival as ArrivalValue};
-ghost use Rattle.vetd.specs.declared.serve_words.TheConstants.{MOST_CONNECTIONS};
+ghost use Rattle.vetd_words.specs.declared.serve_words.TheConstants.{MOST_CONNECTIONS};
 
 use crate::arrivals::Arrival;
 use crate::timed::HangUp;

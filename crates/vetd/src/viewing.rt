@@ -1,14 +1,11 @@
 //! Something is shown of a register in a database, by the words of a command.
 ghost use Rattle.std.specs.Prelude.{◌≡◌, ◌≢◌, IfErr, IfOk, false, map, string_bytes};
-ghost use Rattle.vetd.specs.Answer.{IsWritten, answer_for};
-ghost use Rattle.vetd.specs.ViewWords.{view_asked, view_given};
+ghost use Rattle.vetd_words.specs.Answer.{IsWritten, answer_for};
+ghost use Rattle.vetd_words.specs.ViewWords.{view_asked, view_given};
 ghost use Rattle.vetd.specs.Opening.{IsNotOpened};
 ghost use Rattle.vetd.specs.Viewing.{AnswersView, IsShown, IsUntold, IsViewFor};
 
-use crate::answer::{explain, report};
 use crate::databases::{DatabaseRun, Databases};
-use crate::view::View;
-use crate::view_words::{ViewCommand, ViewWords, view_words};
 use sqlite::{Alter, Connection};
 use std::alloc::Global;
 use std::convert::AsStr;
@@ -17,6 +14,9 @@ use vet_base::refusal::Refusal;
 use vet_graph::keeper::Keeper;
 use vet_http::io_fault::IoFault;
 use vet_store::store::Store;
+use vetd_words::answer::{explain, report};
+use vetd_words::view::View;
+use vetd_words::view_words::{ViewCommand, ViewWords, view_words};
 
 /// Answers the words of a command that shows something of a register, which come without the program's own name: the
 /// text goes to `writer`, and a refusal or clap's text to `errors`.

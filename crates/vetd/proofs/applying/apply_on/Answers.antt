@@ -2,10 +2,10 @@
 use Rattle.std.proofs.Common.{None, Some, rules, string_bytes}
 use Rattle.std.specs.Option.{option_copied}
 use Rattle.vet_base.specs.Day.{read_day}
-use Rattle.vetd.specs.Answer.{answer_for}
-use Rattle.vetd.specs.ApplyWords.{apply_asked}
+use Rattle.vetd_words.specs.Answer.{answer_for}
+use Rattle.vetd_words.specs.ApplyWords.{apply_asked}
 use Rattle.vetd.specs.Applying.{AnswersApply, IsUnapplied}
-use Rattle.vetd.proofs.Answered.{failed_written, told_written}
+use Rattle.vetd_words.proofs.Answered.{failed_written, told_written}
 use Rattle.vetd.proofs.Applied.{apply_of_input, apply_undone, apply_untold, bad_day, is_no_day, is_that_day}
 use Rattle.vetd.proofs.applying.apply_on.Goals as goal
 

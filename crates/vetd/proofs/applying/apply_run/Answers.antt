@@ -1,12 +1,12 @@
 -- The answer to the words, from what was asked and what came of it.
 use Rattle.std.proofs.Common.{◌≡◌, None, Option, ap, inl, inr, map, subst, sym, ◌∙◌}
-use Rattle.vetd.specs.Answer.{IsWritten}
-use Rattle.vetd.specs.ApplyGiven.{apply_given}
-use Rattle.vetd.specs.ApplyWords.{ApplyAsked}
+use Rattle.vetd_words.specs.Answer.{IsWritten}
+use Rattle.vetd_words.specs.ApplyGiven.{apply_given}
+use Rattle.vetd_words.specs.ApplyWords.{ApplyAsked}
 use Rattle.vetd.specs.Applying.{AnswersApply, IsUnapplied, day_given}
-use Rattle.vetd.proofs.Answered.{explained_written}
+use Rattle.vetd_words.proofs.Answered.{explained_written}
 use Rattle.vetd.proofs.Applied.{apply_explained}
-use Rattle.vetd.proofs.RunLemmas.{is_for_want}
+use Rattle.vetd_words.proofs.RunLemmas.{is_for_want}
 use Rattle.vetd.proofs.applying.apply_run.Goals as goal
 
 pub returns-in-Ok-clause-written : goal.returns-in-Ok-clause-written

@@ -1,6 +1,6 @@
 -- What came of a path is what making a register there told.
 use Rattle.std.proofs.Common.{string_bytes}
-use Rattle.vetd.specs.NewAsked.{new_asked}
+use Rattle.vetd_words.specs.NewAsked.{new_asked}
 use Rattle.vetd.proofs.MakingLemmas.{made_answer}
 use Rattle.vetd.proofs.making.make_at.Goals as goal
 

@@ -1,8 +1,8 @@
 -- The answer to the words, from what was asked and what came of it.
 use Rattle.std.proofs.Common.{None, map, string_bytes}
 use Rattle.vetd.specs.Making.{AnswersNew, IsUnmade}
-use Rattle.vetd.specs.NewAsked.{new_asked}
-use Rattle.vetd.proofs.Answered.{explained_written, told_written}
+use Rattle.vetd_words.specs.NewAsked.{new_asked}
+use Rattle.vetd_words.proofs.Answered.{explained_written, told_written}
 use Rattle.vetd.proofs.MakingLemmas.{made_of_words, new_explained, told_unmade}
 use Rattle.vetd.proofs.making.new_run.Goals as goal
 

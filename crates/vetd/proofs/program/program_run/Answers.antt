@@ -1,10 +1,10 @@
 -- What was written of the answer to words of a file.
 use Rattle.std.proofs.Common.{None, map, refl, subst, sym}
-use Rattle.vetd.specs.Answer.{IsWritten}
+use Rattle.vetd_words.specs.Answer.{IsWritten}
 use Rattle.vetd.specs.Program.{AnswersAs, IsUntoldAs}
 use Rattle.vetd.specs.declared.program.ProgramCommand.{ProgramCommand}
 use Rattle.vetd.specs.declared.program.ProgramCommand.TheVariants.{File}
-use Rattle.vetd.proofs.Answered.{is_written}
+use Rattle.vetd_words.proofs.Answered.{is_written}
 use Rattle.vetd.proofs.program.program_run.Goals as goal
 
 pub returns-in-File-clause-written : goal.returns-in-File-clause-written

@@ -1,6 +1,6 @@
 -- What came of a path is what came of the register there.
 use Rattle.std.proofs.Common.{None, Some}
-use Rattle.vetd.specs.Answer.{Refuses}
+use Rattle.vetd_words.specs.Answer.{Refuses}
 use Rattle.vetd.specs.ServeRun.{IsServeAt, IsUnservedAt}
 use Rattle.vetd.proofs.Served.{at_path, is_told}
 use Rattle.vetd.proofs.serve_run.serve_file.Goals as goal

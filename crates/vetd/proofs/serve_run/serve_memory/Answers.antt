@@ -1,7 +1,7 @@
 -- What came of serving a new register in memory, or why none was made.
 use Rattle.std.proofs.Common.{◌≡◌}
 use Rattle.std.specs.Bool.{⊤}
-use Rattle.vetd.specs.Answer.{Refuses}
+use Rattle.vetd_words.specs.Answer.{Refuses}
 use Rattle.vetd.specs.ServeRun.{IsServeInMemory}
 use Rattle.vetd.proofs.Served.{is_told, of_memory}
 use Rattle.vetd.proofs.serve_run.serve_memory.Goals as goal

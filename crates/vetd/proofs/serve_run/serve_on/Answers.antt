@@ -1,7 +1,7 @@
 -- What came of what is asked for, by whether its day is one and a path is told.
 use Rattle.std.proofs.Common.{None, Option, ap, option_map, refl}
-use Rattle.vetd.specs.Answer.{Refuses}
-use Rattle.vetd.specs.ServeAsked.{serve_asked}
+use Rattle.vetd_words.specs.Answer.{Refuses}
+use Rattle.vetd_words.specs.ServeAsked.{serve_asked}
 use Rattle.vetd.specs.ServeRun.{IsServeOn, IsUnservedAt, day_told}
 use Rattle.vetd.proofs.Served.{bad_day, is_told, on_none, on_path}
 use Rattle.vetd.proofs.serve_run.serve_on.Goals as goal

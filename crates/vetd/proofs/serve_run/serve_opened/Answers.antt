@@ -1,6 +1,6 @@
 -- What came of serving a register that was opened, or why none was.
 use Rattle.std.proofs.Common.{◌≡◌, ap, inl}
-use Rattle.vetd.specs.Answer.{Refuses}
+use Rattle.vetd_words.specs.Answer.{Refuses}
 use Rattle.vetd.specs.ServeRun.{IsServeOver, IsUnservedOver}
 use Rattle.vetd.proofs.Opened.{is_not_opened, is_opened}
 use Rattle.vetd.proofs.Served.{is_told, over_opened}

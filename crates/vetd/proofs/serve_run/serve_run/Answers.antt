@@ -1,8 +1,8 @@
 -- The answer to the words, from what was asked and what came of it.
 use Rattle.std.proofs.Common.{None, map}
-use Rattle.vetd.specs.ServeAsked.{serve_asked}
+use Rattle.vetd_words.specs.ServeAsked.{serve_asked}
 use Rattle.vetd.specs.ServeRun.{AnswersServe, IsUnserved}
-use Rattle.vetd.proofs.Answered.{explained_written}
+use Rattle.vetd_words.proofs.Answered.{explained_written}
 use Rattle.vetd.proofs.Served.{of_words, serve_explained}
 use Rattle.vetd.proofs.serve_run.serve_run.Goals as goal
 

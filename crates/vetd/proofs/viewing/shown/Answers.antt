@@ -1,6 +1,6 @@
 -- What was shown of a store that was opened, of the connection that is given back.
 use Rattle.std.proofs.Common.{IfOk, string_bytes}
-use Rattle.vetd.specs.View.{Shows}
+use Rattle.vetd_words.specs.View.{Shows}
 use Rattle.vetd.proofs.Opened.{is_not_shown, is_opened, is_shown, stays}
 use Rattle.vetd.proofs.viewing.shown.Goals as goal
 

@@ -1,6 +1,6 @@
 -- What came of a path is what was shown of the register there.
 use Rattle.std.proofs.Common.{string_bytes}
-use Rattle.vetd.specs.ViewWords.{view_asked}
+use Rattle.vetd_words.specs.ViewWords.{view_asked}
 use Rattle.vetd.proofs.Viewed.{view_answer}
 use Rattle.vetd.proofs.viewing.view_at.Goals as goal
 

@@ -1,8 +1,8 @@
 -- The answer to the words, from what was asked and what came of it.
 use Rattle.std.proofs.Common.{None, map, string_bytes}
-use Rattle.vetd.specs.ViewWords.{view_asked, view_given}
+use Rattle.vetd_words.specs.ViewWords.{view_asked, view_given}
 use Rattle.vetd.specs.Viewing.{AnswersView, IsUntold}
-use Rattle.vetd.proofs.Answered.{explained_written, told_written}
+use Rattle.vetd_words.proofs.Answered.{explained_written, told_written}
 use Rattle.vetd.proofs.Viewed.{view_explained, view_of_words, view_untold}
 use Rattle.vetd.proofs.viewing.view_run.Goals as goal
 

@@ -1,0 +1,83 @@
+-- What a run answers (ours): what it writes, and its status.
+use Rattle.std.specs.Prelude.{◌≡◌, ◌≢◌, ℕ, ◌+◌, Bool, true, false, Option, Some, None, IfErr, IfOk, IfSome}
+use Rattle.std.specs.Prelude.{Result, Ok, Err, codes, take}
+use Rattle.std.specs.Io.KnownBytes.{Appends, Keeps}
+use Rattle.vet_base.specs.Gives.{Told}
+use Rattle.vet_base.specs.Words.{Bytes, Text}
+use Rattle.vet_base.specs.declared.limits.TheConstants.{MOST_INPUT_BYTES}
+use Rattle.vet_base.specs.declared.refusal.Refusal.{Refusal}
+use Rattle.vet_base.specs.declared.refusal.Refusal.TheVariants.{NoMemory}
+use Rattle.vet_requests.specs.Output.{AppendsPart}
+use Rattle.vet_requests.specs.declared.io_fault.IoFault.{IoFault}
+use Rattle.vet_requests.specs.declared.io_fault.IoFault.TheVariants.{Output}
+use Rattle.vet_reports.specs.RefusalText.{refusal_line}
+use Rattle.vetd_words.specs.declared.answer.TheConstants.{PRINTED, REFUSED, EXPLAINED}
+
+-- what a run answers: a text, a refusal, or an explanation of the command line; or what it printed as it served
+-- clients, and whether the network was lost before the end
+pub data Answer : Type 0 where
+  Prints : Text → Answer
+  Refuses : Refusal → Answer
+  Explains : Answer
+  Serves : Text → Bool → Answer
+
+-- what is told where the network is lost
+abbrev pub network_line : Text
+network_line = codes "fault: network\n"
+
+-- a text is printed, as this view sees it, and a refusal is told
+abbrev pub answer_for : {A : Type 0} → (A → Text) → Told A → Answer
+answer_for text (Ok told) = Prints (text told)
+answer_for text (Err refusal) = Refuses refusal
+
+-- what a run reads of its input: at most a byte more than a file may have
+abbrev pub input_read : Bytes → Bytes
+input_read input = take (MOST_INPUT_BYTES + 1) input
+
+-- what words ask for: the text that is told of what was read
+abbrev pub Telling : Type 0
+Telling = Bytes → Told Text
+
+-- the answer to what the words ask for and the input
+abbrev pub answer_of : Option Telling → Bytes → Answer
+answer_of (Some telling) input = answer_for (λ text. text) (telling (input_read input))
+answer_of None input = Explains
+
+-- the input is what the reader holds, where the reader tells it
+abbrev pub IsInput : Option Bytes → Bytes → Type 0
+IsInput known input = IfSome known (λ bytes. input ≡ bytes)
+
+-- this holds of the answer to what the words ask for and the input
+abbrev pub Answers : Option Bytes → Option Telling → (Answer → Type 0) → Type 0
+Answers known asked Holds = (input : Bytes) × (IsInput known input × Holds (answer_of asked input))
+
+-- the status, and what was written to the output and to the errors. Want of memory is never told so.
+abbrev pub Says : Answer → ℕ → Option Bytes → Option Bytes → Option Bytes → Option Bytes → Type 0
+Says (Prints text) status out out' errors errors' = (status ≡ PRINTED) × Appends out out' text × Keeps errors errors'
+Says (Refuses refusal) status out out' errors errors' =
+    (status ≡ REFUSED) × Keeps out out' × Appends errors errors' (refusal_line refusal) × (refusal ≢ NoMemory)
+Says Explains status out out' errors errors' =
+    (status ≡ EXPLAINED) × Keeps out out' × ((text : Text) × Appends errors errors' text)
+Says (Serves text false) status out out' errors errors' =
+    (status ≡ PRINTED) × Appends out out' text × Keeps errors errors'
+Says (Serves text true) status out out' errors errors' =
+    (status ≡ REFUSED) × Appends out out' text × Appends errors errors' network_line
+
+-- what was written where a write failed
+abbrev pub Stops : Answer → Option Bytes → Option Bytes → Option Bytes → Option Bytes → Type 0
+Stops (Prints text) out out' errors errors' = AppendsPart out out' text × Keeps errors errors'
+Stops (Refuses refusal) out out' errors errors' =
+    Keeps out out' × AppendsPart errors errors' (refusal_line refusal) × (refusal ≢ NoMemory)
+Stops Explains out out' errors errors' = Keeps out out' × ((text : Text) × AppendsPart errors errors' text)
+Stops (Serves text false) out out' errors errors' = AppendsPart out out' text × Keeps errors errors'
+Stops (Serves text true) out out' errors errors' =
+    Appends out out' text × AppendsPart errors errors' network_line
+
+-- What a run wrote, by what holds of its answer and what is left if it told nothing. With a status, all of the answer
+-- was written. Where a write failed, the front of it was. With another fault nothing was.
+pub record IsWritten (Holds : (Answer → Type 0) → Type 0) (Untold : Type 0) (status : Result ℕ IoFault)
+    (out out' errors errors' : Option Bytes) : Type 0 where
+  pub says : IfOk status (λ s. Holds (λ answer. Says answer s out out' errors errors'))
+  pub part : IfErr status (λ fault. fault ≡ Output → Holds (λ answer. Stops answer out out' errors errors'))
+  pub silent : IfErr status (λ fault. fault ≢ Output → Keeps out out' × Keeps errors errors')
+  pub untold : IfErr status (λ fault. fault ≢ Output → Untold)

@@ -1,0 +1,16 @@
+pub mod Answer
+pub mod ApplyGiven
+pub mod ApplyWords
+pub mod Asked
+pub mod ClassLine
+pub mod Counts
+pub mod FileWord
+pub mod NewAsked
+pub mod NewWords
+pub mod ReadLine
+pub mod Reported
+pub mod ServeAsked
+pub mod ServeWords
+pub mod View
+pub mod ViewWords
+pub mod Words

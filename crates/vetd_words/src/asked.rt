@@ -1,0 +1,77 @@
+//! What the words of a command line ask for.
+ghost use Rattle.std.specs.Prelude.{◌≡◌, ◌≢◌, IfOk, IfErr, map, string_bytes};
+ghost use Rattle.clap.specs.Words.{kind_of};
+ghost use Rattle.vet_base.specs.Gives.{Gives};
+ghost use Rattle.vetd_words.specs.Asked.{asked_by, class_asked, line_told, read_asked};
+
+use crate::class_line::class_line;
+use crate::read_line::read_line;
+use crate::words::{ClassWords, class_words, read_words};
+use clap::Error;
+use clap::error::ErrorKind;
+use std::alloc::Global;
+use std::convert::AsStr;
+use vet_base::refusal::Refusal;
+use vet_documents::register_file::RegisterFile;
+
+/// What a command asks for. A further command is a row here, a row in `line`, and the function that tells its
+/// line.
+#[derive(Clone, Copy)]
+pub enum Asked<'a> {
+    Class(ClassWords<'a>),
+    Read(RegisterFile),
+}
+
+impl Asked<'_> {
+    /// The line that is told of a file.
+    pub fn line(self, alloc: Global, file: &[u8]) -> Result<String, Refusal>
+        ensures { Gives string_bytes (line_told self.entry file.now) result }
+    {
+        match self {
+            Asked::Class(words) => class_line(alloc, words, file),
+            Asked::Read(kind) => read_line(alloc, kind, file),
+        }
+    }
+}
+
+/// A command of the program, as which the words of a whole command line are taken. A further command is a row
+/// here, and a row in `asked`.
+#[derive(Clone, Copy)]
+pub enum CommandKind {
+    Class,
+    Read,
+}
+
+impl CommandKind {
+    /// What words ask for that are to be this command. Refused as `class_words` and `read_words` refuse them.
+    pub fn asked<'a, S: AsStr>(self, alloc: Global, words: &'a [S]) -> Result<Asked<'a>, Error>
+        ensures found { IfOk result (λ asked.
+            asked_by self (map S.text words.entry.now) ≡ Some (line_told asked)) }
+        ensures refused { IfErr result (λ error. kind_of error ≢ ErrorKind.OutOfMemory
+            → asked_by self (map S.text words.entry.now) ≡ None) }
+    {
+        match self {
+            CommandKind::Class => asked_class(alloc, words),
+            CommandKind::Read => asked_read(alloc, words),
+        }
+    }
+}
+
+/// What the words of a class command ask for. Refused as `class_words` refuses them.
+fn asked_class<'a, S: AsStr>(alloc: Global, words: &'a [S]) -> Result<Asked<'a>, Error>
+    ensures found { IfOk result (λ asked.
+        class_asked (map S.text words.entry.now) ≡ Some (line_told asked)) }
+    ensures refused { IfErr result (λ error. kind_of error ≢ ErrorKind.OutOfMemory
+        → class_asked (map S.text words.entry.now) ≡ None) }
+{
+    Ok(Asked::Class(class_words(alloc, words)?))
+}
+
+/// What the words of a read command ask for. Refused as `read_words` refuses them.
+fn asked_read<S: AsStr>(alloc: Global, words: &[S]) -> Result<Asked<'static>, Error>
+    ensures found { IfOk result (λ asked. read_asked (map S.text words.now) ≡ Some (line_told asked)) }
+    ensures refused { IfErr result (λ error. kind_of error ≢ ErrorKind.OutOfMemory
+        → read_asked (map S.text words.now) ≡ None) }
+{
+    Ok(Asked::Read(read_words(alloc, words)?))
+}

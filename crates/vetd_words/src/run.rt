@@ -1,0 +1,105 @@
+//! A run, from what is asked and the input to what is written.
+ghost use Rattle.std.specs.Prelude.{◌≡◌, ◌≢◌, ◌+◌, ◌⊎◌, IfOk, IfErr, map, string_bytes};
+ghost use Rattle.std.specs.Io.KnownBytes.{Keeps};
+ghost use Rattle.clap.specs.Words.{kind_of};
+ghost use Rattle.vet_base.specs.declared.limits.TheConstants.{MOST_READS};
+ghost use Rattle.vetd_words.specs.Answer.{Answers, Says, Stops};
+ghost use Rattle.vetd_words.specs.Asked.{asked_by, telling_of};
+ghost use Rattle.vet_requests.specs.Input.{TakesAtMost};
+
+use crate::answer::{explain, report};
+use crate::asked::{Asked, CommandKind};
+use clap::Error;
+use clap::error::ErrorKind;
+use std::alloc::Global;
+use std::convert::AsStr;
+use std::io::{Read, Write};
+use vet_base::limits::MOST_INPUT_BYTES;
+use vet_requests::input::CountedReader;
+use vet_requests::io_fault::IoFault;
+
+/// Answers the words of a command, which come without the program's own name, by the file that the reader
+/// gives: what is told of it goes to `writer`, and a refusal or clap's text to `errors`. What clap's text says
+/// is left open. At most 8,388,609 bytes are read, by at most 10,000,000 reads.
+///
+/// **A status comes with the whole answer to the words and the input.** Told, the first that holds: clap's
+/// text of words that are no such command, and the command's own refusals. Refused: `Input`, `Endless` and
+/// `NoMemory`, where nothing was written, and `Output`, where the front of the answer was.
+pub fn command_run<S: AsStr, R: Read, W: Write, E: Write>(
+    alloc: Global,
+    command: CommandKind,
+    words: &[S],
+    reader: &mut CountedReader<R>,
+    writer: &mut W,
+    errors: &mut E,
+) -> Result<u8, IoFault>
+    ensures says { IfOk result (λ status. Answers (R.remaining reader.old.source)
+        (asked_by command (map S.text words.now))
+        (λ answer. Says answer status (W.contents writer.old) (W.contents writer.new)
+        (E.contents errors.old) (E.contents errors.new))) }
+    ensures part { IfErr result (λ fault. fault ≡ IoFault.Output
+        → Answers (R.remaining reader.old.source) (asked_by command (map S.text words.now))
+        (λ answer. Stops answer (W.contents writer.old) (W.contents writer.new)
+        (E.contents errors.old) (E.contents errors.new))) }
+    ensures silent { IfErr result (λ fault. fault ≢ IoFault.Output
+        → Keeps (W.contents writer.old) (W.contents writer.new)
+        × Keeps (E.contents errors.old) (E.contents errors.new)) }
+
+    // No more is read, and nothing where the words are no such command.
+    ensures bounded { TakesAtMost (MOST_INPUT_BYTES + 1)
+        (R.remaining reader.old.source) (R.remaining reader.new.source) }
+    ensures unread { asked_by command (map S.text words.now) ≡ None → reader.new ≡ reader.old }
+    ensures unfailing { asked_by command (map S.text words.now) ≡ None
+        → IfErr result (λ fault. (fault ≢ IoFault.Input) × (fault ≢ IoFault.Endless)) }
+
+    // `Endless` comes when the reads are spent, and where they are, nothing is told of a file.
+    ensures endless { result ≡ Err IoFault.Endless → reader.new.made ≡ MOST_READS }
+    ensures spent { reader.old.made ≡ MOST_READS → asked_by command (map S.text words.now) ≢ None
+        → (result ≡ Err IoFault.Endless) ⊎ (result ≡ Err IoFault.NoMemory) }
+{
+    let asked = command.asked(alloc, words);
+    run(alloc, asked, reader, writer, errors)
+}
+
+/// Answers what is asked by the file that the reader gives, or explains clap's error: the line goes to
+/// `writer`, and a refusal or clap's text to `errors`.
+fn run<R: Read, W: Write, E: Write>(
+    alloc: Global,
+    asked: Result<Asked<'_>, Error>,
+    reader: &mut CountedReader<R>,
+    writer: &mut W,
+    errors: &mut E,
+) -> Result<u8, IoFault>
+    ensures says { IfOk result (λ status. Answers (R.remaining reader.old.source) (telling_of asked.entry)
+        (λ answer. Says answer status (W.contents writer.old) (W.contents writer.new)
+        (E.contents errors.old) (E.contents errors.new))) }
+    ensures part { IfErr result (λ fault. fault ≡ IoFault.Output
+        → Answers (R.remaining reader.old.source) (telling_of asked.entry)
+        (λ answer. Stops answer (W.contents writer.old) (W.contents writer.new)
+        (E.contents errors.old) (E.contents errors.new))) }
+    ensures silent { IfErr result (λ fault. fault ≢ IoFault.Output
+        → Keeps (W.contents writer.old) (W.contents writer.new)
+        × Keeps (E.contents errors.old) (E.contents errors.new)) }
+
+    // No more is read, and nothing where there is an error; one for want of memory is told as that.
+    ensures bounded { TakesAtMost (MOST_INPUT_BYTES + 1)
+        (R.remaining reader.old.source) (R.remaining reader.new.source) }
+    ensures unread { IfErr asked.entry (λ _. reader.new ≡ reader.old) }
+    ensures unfailing { IfErr asked.entry (λ _.
+        IfErr result (λ fault. (fault ≢ IoFault.Input) × (fault ≢ IoFault.Endless))) }
+    ensures memory { IfErr asked.entry (λ error. kind_of error ≡ ErrorKind.OutOfMemory
+        → result ≡ Err IoFault.NoMemory) }
+
+    // `Endless` comes when the reads are spent, and where they are, nothing is told.
+    ensures endless { result ≡ Err IoFault.Endless → reader.new.made ≡ MOST_READS }
+    ensures spent { reader.old.made ≡ MOST_READS
+        → IfOk asked.entry (λ _. result ≡ Err IoFault.Endless) }
+{
+    let asked = match asked {
+        Ok(asked) => asked,
+        Err(error) => return explain(alloc, &error, errors),
+    };
+    let input = reader.read_at_most(alloc, MOST_INPUT_BYTES + 1)?;
+    let told = asked.line(alloc, input.as_slice());
+    report(alloc, &told, writer, errors)
+}

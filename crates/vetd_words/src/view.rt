@@ -1,0 +1,31 @@
+//! What is shown of a register.
+ghost use Rattle.std.specs.Prelude.{◌≡◌, IfErr, IfOk, string_bytes};
+ghost use Rattle.vetd_words.specs.View.{Shows};
+
+use crate::report_kind::{ReportKind, reported};
+use std::alloc::Global;
+use vet_base::refusal::Refusal;
+use vet_documents::register_file::{RegisterFile, file_text};
+use vet_graph::keeper::Keeper;
+use vet_register::register::Register;
+
+/// What a command shows of a register. A further one is a row here, a row in `text`, and the function that makes its
+/// text.
+#[derive(Clone, Copy)]
+pub enum View {
+    Export(RegisterFile),
+    Report(ReportKind),
+}
+
+impl View {
+    /// The text that is shown. Refused: `NoMemory`.
+    pub fn text<K: Keeper>(self, alloc: Global, register: &Register<K>) -> Result<String, Refusal>
+        ensures shows { IfOk result (λ text. Shows self register.now.state (string_bytes text)) }
+        ensures memory { IfErr result (λ e. e ≡ Refusal.NoMemory) }
+    {
+        match self {
+            View::Export(file) => file_text(alloc, file, register),
+            View::Report(kind) => reported(alloc, kind, register),
+        }
+    }
+}

@@ -1,0 +1,108 @@
+//! The words of a command that shows something of a register.
+ghost use Rattle.std.specs.Prelude.{◌≡◌, ◌≢◌, IfErr, IfOk, map, option_and_then, option_map};
+ghost use Rattle.clap.specs.Words.{found_of, kind_of, rows_of, subcommand_rows_of};
+ghost use Rattle.vetd_words.specs.ViewWords.{name_of, view_asked, view_from, view_given, view_named};
+ghost use Rattle.vetd_words.specs.Words.{rows_if_named};
+
+use crate::file_word::file_of_word;
+use crate::report_kind::ReportKind;
+use crate::view::View;
+use crate::words::{matches_if_named, matches_of, value, words_error};
+use clap::error::ErrorKind;
+use clap::{ArgMatches, Error};
+use std::alloc::{AllocError, Global};
+use std::convert::AsStr;
+
+/// A command that shows something of a register. A further one is a row here and in each function below.
+#[derive(Clone, Copy)]
+pub enum ViewCommand {
+    Export,
+    Report,
+}
+
+/// A path, and what is to be shown of the register there.
+#[derive(Clone, Copy)]
+pub struct ViewWords<'a> {
+    pub path: &'a str,
+    pub view: View,
+}
+
+impl ViewCommand {
+    /// The word with which its command line begins.
+    fn name(self) -> &'static str
+        ensures { result.now ≡ name_of self }
+    {
+        match self {
+            ViewCommand::Export => "export",
+            ViewCommand::Report => "report",
+        }
+    }
+
+    /// What the word for its kind asks to be shown.
+    fn view(self, word: &str) -> Option<View>
+        ensures { result ≡ view_named self word.now }
+    {
+        match self {
+            ViewCommand::Export => Some(View::Export(file_of_word(word)?)),
+            ViewCommand::Report => Some(View::Report(ReportKind::of_word(word)?)),
+        }
+    }
+}
+
+/// What the words of such a command ask for, which come without the program's own name. Refused: clap's error of words
+/// that are no command line or ask for help, one of words that are another command or name no kind, and `OutOfMemory`.
+pub fn view_words<'a, S: AsStr>(
+    alloc: Global,
+    command: ViewCommand,
+    words: &'a [S],
+) -> Result<ViewWords<'a>, Error>
+    ensures found { IfOk result (λ asked.
+        view_given command (map S.text words.entry.now) ≡ Some (view_asked asked)) }
+    ensures refused { IfErr result (λ error. kind_of error ≢ ErrorKind.OutOfMemory
+        → view_given command (map S.text words.entry.now) ≡ None) }
+{
+    let matches = matches_of(alloc, words)?;
+    match asked_by(command, &matches) {
+        Some(asked) => Ok(asked),
+        None => Err(no_kind(alloc, command, &matches)?),
+    }
+}
+
+/// The error of a word that is no kind, which it names; or of words that are another command.
+fn no_kind(
+    alloc: Global,
+    command: ViewCommand,
+    matches: &ArgMatches<'_>,
+) -> Result<Error, AllocError>
+    ensures { IfOk result (λ error. kind_of error ≡ ErrorKind.InvalidValue) }
+{
+    let kinds = match command {
+        ViewCommand::Export => "audits, config or imports",
+        ViewCommand::Report => "counts, standing, standing-csv, moves or desk",
+    };
+    let word = kind_word(command, matches).unwrap_or("");
+    let message = format!(in alloc; "'{word}' is no kind of what is shown: {kinds}")?;
+    words_error(alloc, ErrorKind::InvalidValue, message.as_str())
+}
+
+/// The word that stands for a kind, where the words are such a command.
+fn kind_word<'a>(command: ViewCommand, matches: &ArgMatches<'a>) -> Option<&'a str> {
+    value(matches_if_named(matches, command.name())?, "KIND")
+}
+
+/// What such a command asks for, where the words are one.
+fn asked_by<'a>(command: ViewCommand, matches: &ArgMatches<'a>) -> Option<ViewWords<'a>>
+    ensures { option_map view_asked result
+        ≡ option_and_then (view_from command) (rows_if_named (name_of command) (subcommand_rows_of matches.now)) }
+{
+    words_of(command, matches_if_named(matches, command.name())?)
+}
+
+/// The path, and what the word for the kind asks to be shown.
+fn words_of<'a>(command: ViewCommand, subcommand: &ArgMatches<'a>) -> Option<ViewWords<'a>>
+    ensures { option_map view_asked result ≡ view_from command (rows_of (found_of subcommand.now)) }
+{
+    let path = value(subcommand, "db")?;
+    let view = command.view(value(subcommand, "KIND")?)?;
+    Some(ViewWords { path, view })
+}
