@@ -24,7 +24,7 @@ use Rattle.vetd_words.specs.ServeAsked.{AsksServe, ServeAsked}
 use Rattle.vetd.specs.ServeRun.{Answered, AnswersServe, IsAnswerToServe, IsServeAt, IsServeInMemory, IsServeOn}
 use Rattle.vetd.specs.ServeRun.{IsServeOver, IsServeWhere, IsSitting, IsSittingOf, IsUnserved, IsUnservedAt}
 use Rattle.vetd.specs.ServeRun.{IsUnservedOver, day_told, on_day}
-use Rattle.vetd.specs.declared.serve_run.Service.{Service}
+use Rattle.vetd.specs.declared.commands.serve_run.Service.{Service}
 use Rattle.vetd_words.proofs.Answered.{told_written, was_untold, written_as}
 
 -- an answer was written that is one

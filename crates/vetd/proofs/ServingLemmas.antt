@@ -11,8 +11,8 @@ use Rattle.vet_http.specs.declared.serve.Served.{Served}
 use Rattle.vet_register.specs.State.{State}
 use Rattle.vet_requests.specs.declared.io_fault.IoFault.{IoFault}
 use Rattle.vetd.specs.Serving.{AreServed, Arrives, IsOnDay, Serves, Turn, Turns, is_lost, replied, whole}
-use Rattle.vetd.specs.declared.arrivals.Arrival.{Arrival}
-use Rattle.vetd.specs.declared.arrivals.Arrival.TheVariants.{Client, Failed, Lost}
+use Rattle.vetd.specs.declared.clients.arrivals.Arrival.{Arrival}
+use Rattle.vetd.specs.declared.clients.arrivals.Arrival.TheVariants.{Client, Failed, Lost}
 
 pub lost_more : {R W : Type 0} (came : List (Arrival R W)) (next : Arrival R W) → is_lost came ≡ false
     → is_lost (came ++ next ∷ []) ≡ is_lost (next ∷ [])

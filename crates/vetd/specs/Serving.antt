@@ -9,8 +9,8 @@ use Rattle.vet_requests.specs.declared.io_fault.IoFault.{IoFault}
 use Rattle.vet_http.specs.declared.serve.Connection.{Connection}
 use Rattle.vet_http.specs.declared.serve.Served.{Served}
 use Rattle.vet_register.specs.State.{State}
-use Rattle.vetd.specs.declared.arrivals.Arrival.{Arrival}
-use Rattle.vetd.specs.declared.arrivals.Arrival.TheVariants.{Client, Failed, Lost}
+use Rattle.vetd.specs.declared.clients.arrivals.Arrival.{Arrival}
+use Rattle.vetd.specs.declared.clients.arrivals.Arrival.TheVariants.{Client, Failed, Lost}
 
 -- the line that tells at which port clients may connect
 abbrev pub listening_line : ℕ → Text

@@ -20,17 +20,10 @@
 
 ghost use Rattle.std.specs.Prelude.{◌≡◌, IfOk};
 
-mod applying;
-mod arrivals;
+mod clients;
+mod commands;
 mod databases;
-mod deadline;
-mod making;
 mod program;
-mod serve_lines;
-mod serve_run;
-mod serving;
-mod timed;
-mod viewing;
 
 use crate::databases::{FileDatabases, WaryFile};
 use crate::program::{ProgramCommand, program_run};

@@ -5,11 +5,11 @@ ghost use Rattle.vet_http.specs.Input.{TakesAtMost};
 ghost use Rattle.vetd.specs.Program.{AnswersAs, AsksNoInput, IsUntoldAs, command_of};
 ghost use Rattle.vetd_words.specs.Answer.{IsWritten};
 
-use crate::applying::apply_run;
+use crate::commands::applying::apply_run;
+use crate::commands::making::new_run;
+use crate::commands::serve_run::serve_run;
+use crate::commands::viewing::view_run;
 use crate::databases::{DatabaseRun, Databases};
-use crate::making::new_run;
-use crate::serve_run::serve_run;
-use crate::viewing::view_run;
 use sqlite::Alter;
 use std::alloc::Global;
 use std::convert::AsStr;
