@@ -1,4 +1,7 @@
 -- Reply: what a connection is replied, and the state after it. And connections that are served one by one (ours).
+--
+-- Replies is said of the bytes that were read of a connection, by IsReplyToTold and IsReplyTo. What came of a
+-- connection is IsServed. A target that is no UTF-8, which no head has, has no route.
 use Rattle.std.specs.Prelude.{◌≡◌, List, [], ◌∷◌, Option, Result, Ok, Err, ⊤}
 use Rattle.std.specs.Io.KnownBytes.{Appends, Keeps}
 use Rattle.sqlite.specs.State as sqlite

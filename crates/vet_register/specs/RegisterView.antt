@@ -1,5 +1,19 @@
 -- What a register is seen as, and what was prepared for it (ours). This module alone of the machine's knows of room and
 -- keepers.
+--
+-- A register is seen as its state, its keeper and its rooms. The rooms are those of what is held and of the desk,
+-- and the number of further recorded moves that need no memory (RegisterView, Rooms). Keeper and rooms are no part
+-- of the state. The keeper's standing is that of what is held, and the list of demanded pairs that the register
+-- keeps is its demand (HasKept). What a change makes of a state (changed) has what is held after its edit, and the
+-- desk after what it changes there (desk_edited). It has the change's step and next number. It has the recorded
+-- moves with more behind them, or none and other first counts (moves_by, first_by). A change is prepared for a
+-- command in a register (IsPrepared) if all of this holds. It is the command's step from this state (IsStep). That
+-- is, the verdict accepts the command, and what the change makes of the state is the next one, which is sound. Its
+-- demand, or the one before where it has none, is that of the next state, and so is the planned standing. The
+-- keeper was told what the command touches (touched_by), and the outcome is that of the command. There is room for
+-- its edit and moves (FitsMoves), the desk prepared what changes there (HoldsDesk), and the keeper is ready for the
+-- update. What was prepared stays prepared when another command is prepared in between (KeepsPrepared). An answer
+-- to a command is Already, or a change that is prepared for it (answer_of, IsAnswer).
 use Rattle.std.specs.Prelude.{◌≡◌, ◌⊎◌, ℕ, ◌≤◌, Bool, true, false, List, Option, Some, None, is_some, Result, Ok, Err}
 use Rattle.std.specs.Prelude.{MatchResult}
 use Rattle.vet_base.specs.Day.{DayValue}

@@ -1,4 +1,11 @@
 -- What is checked of a state before its demand and its standing are found (ours): all but that its counts are balanced.
+--
+-- A register is made of a state that was kept elsewhere (Register::restore): of a sound one it is the register of
+-- that state. Any other is refused as 31 NotARegister; and each may meet a want of memory. So does each part of it:
+-- a check (Checks, Faults) passes what holds, and refuses what doesn't. All but the counts is checked before the
+-- demand is found (IsSoundButCounts, AreLimits). Of a peer it isn't asked which content a reader gave. It is asked
+-- whether there are criteria that define the peer's (AreDefinedBy, AreOfPeer): if so, those beside the built-in
+-- ones do. And each entry must be of a kind that a peer's file gives (IsOfPeer).
 use Rattle.std.specs.Prelude.{◌+◌, ◌<◌, ◌≤◌}
 use Rattle.vet_base.specs.declared.limits.TheConstants.{LAST_NUMBER, LAST_STEP, MOST_MOVES}
 use Rattle.vet_register.specs.Sound.{AreInOrder, IsSoundAtDesk, IsSoundHeld}

@@ -1,4 +1,9 @@
 -- What commands make of a state, one after the other (ours).
+--
+-- Of a command that is run, the state after it is the next one where it is accepted, else the same. Turns
+-- (AreTurns): commands are run one after the other. Each is told the verdict, with its outcome, in the state that
+-- those before it left (IsTurn), and leads to the state after it. Or it meets a want of memory, and changes
+-- nothing.
 use Rattle.std.specs.Prelude.{◌≡◌, ◌⊎◌, List, [], ◌∷◌, Result, Ok, Err}
 use Rattle.vet_base.specs.Gives.{Told, ◌>>=◌}
 use Rattle.vet_base.specs.declared.refusal.Refusal.{Refusal}

@@ -1,4 +1,25 @@
 -- What holds of each state that the machine reaches (ours), one record for each thing that is held.
+--
+-- A state is sound (IsSound) if all of this holds:
+-- - the criteria are a table (IsTable). Each criterion that an own entry names or a peer's map leads to is in it
+--   (AreKnown, HasKnownCriteria, HasKnownTargets);
+-- - of each source, one's own or a peer, each entry is of that source, and no two are equal. Their numbers rise
+--   along the list, and each is below the next number (AreEntries);
+-- - no number stands in two sources (AreApart), and at most 100,000 entries are held of all sources;
+-- - the peers are in the order of their names, each once, and at most 64 (ArePeers). What is held of each are the
+--   criteria and entries of some content that a reader can give (IsSoundPeer, IsOfContent);
+-- - the packages with publisher records are in the order of their names, each once and with some. Those of each are
+--   in order, each once, and they are at most 100,000 in all (ArePublishers);
+-- - the next number is at most 2^63 - 1, the step at most 2^63 - 1, and the moves limit 1 to 1,000,000;
+-- - policies are in the order of their keys, none twice, at most 10,000, and name no criteria but those of the
+--   table (ArePolicies);
+-- - projects are in the order of their names, none twice, at most 64 (AreProjects);
+-- - the desk is sound (IsSoundDesk; see Review desk). Reviews that are not closed name no criteria but those of the
+--   table (AreKnownTo). The entry of each finished one has a number below the next one (HaveEntriesGiven), though
+--   it may have been dropped since (IsSoundAtDesk);
+-- - the recorded moves are at most as many as the limit, and none is of a step after the state's. Each is of an
+--   earlier step than those after it, or of the same step and a lesser pair (AreInOrder, ComesBefore);
+-- - the equation of Counts holds for each class (IsBalanced).
 use Rattle.std.specs.Prelude.{◌≡◌, ◌≢◌, ◌⊎◌, ℕ, ◌+◌, ◌<◌, ◌≤◌, true, List, ◌∷◌, length, map}
 use Rattle.std.specs.List.{All, AllPairs, list_any}
 use Rattle.std.specs.Ordering.{nat_cmp}

@@ -1,4 +1,10 @@
 -- The state of the machine, and where it begins (ours).
+--
+-- A state (State) is what is held (HeldValue), the desk (DeskState), the step and the next entry number. Beside
+-- these it is the moves limit, the first counts and the recorded moves. The desk has the next number of a review.
+-- The demand is no part of the state, since what is held gives it (demanded). The first state (start) holds the
+-- built-in criteria alone (nothing_held), and its desk is empty (empty_desk). It has step 0, next number 1, five
+-- zeros and no recorded moves.
 use Rattle.std.specs.Prelude.{ℕ, List, [], map}
 use Rattle.vet_demand.specs.declared.pair.Pair.{Pair}
 use Rattle.vet_desk.specs.Desk.{DeskState, empty_desk}

@@ -1,5 +1,68 @@
 -- What a command is told in a state (ours): the first that holds of: it is held already; a limit; what it refers to is
 -- not held; a rule; its moves do not fit; it is accepted.
+--
+-- "18 step" applies where one step more is past 2^63 - 1, and "18 number" where the next number is past 2^63 - 2
+-- (step_limit, number_limit). What a table of criteria asks is told by its own parts (set_limits, set_references,
+-- set_rules, remove_references, remove_rules). The limit of steps stands between its limits and its references.
+-- - SetCriterion: Already where a criterion of its name is held that is equal to it, and the name is not built in
+--   (is_held). 9 where the name is new and the table full. 18 step. 6 with the least name that it implies and that
+--   is neither in the table nor its own. 7 where its name is built in.
+-- - RemoveCriterion: 18 step. 6 where the table lacks the name. 7 where it is built in. 8 where a criterion of
+--   another name implies it, or something names it (is_used). An own entry or a target of a peer's map may name it
+--   (is_named). So may a list of a policy (policy_names), or a review that is not closed (are_open_for). The words
+--   of peers do not count, nor do closed reviews.
+-- - AddEntry: Already where an entry is held that is equal to it as an own one, with the number of the first of
+--   these (number_of). 18 entries, where with it more than 100,000 are held of all sources (entry_limit). 18 step.
+--   18 number. 6 with the least of its criteria that the table lacks. For a wildcard or trusted entry, 11 where its
+--   last day comes before its first (ends_before_it_begins). For such a one, 12 where its last day comes more than
+--   366 days after the day of the command (ends_too_late). Days are compared by number, so that where the sum is
+--   past 9999-12-31 no day comes too late.
+-- - DropEntry: 18 step; 10 where no own entry has the number.
+-- - SetPeer: Already where a peer of its name is held with equal settings (has_settings). 18 peers, where its name
+--   is new and 64 are held (peer_limit). 18 step. 6 with the least target of its map that the table lacks.
+-- - DropPeer: 18 step; 13 where no peer has the name (held_peer).
+-- - ImportPeer: Already where the peer is held and the content is the one held (has_content). 18 entries, where
+--   those of all other sources (entries_beside) and those of the content are more than 100,000. 18 step. 18 number,
+--   where the numbers of its new entries lead past the last (numbers_given). These ask as if the peer were held,
+--   and of one that is not all entries are new. Then 13 where it is not held.
+-- - SetPublishers: Already where the package has just these records (none, where it has none). 18 publishers, where
+--   with these there would be more than 100,000 in all (publisher_limit). 18 step.
+-- - SetPolicy: Already where the policy of its key is held and equal to it (has_policy). 18 policies, where its key
+--   is new and 10,000 are held (policy_limit). 18 step. 6 with the least name of all its lists (names_in) that the
+--   table lacks.
+-- - DropPolicy: 18 step; 14 where no policy has the key (held_policy).
+-- - LoadProject: Already where the project of its name is held and equal to it (has_project). 18 projects, where
+--   its name is new and 64 are held (project_limit). 18 step.
+-- - DropProject: 18 step; 15 where no project has the name (held_project).
+-- - ReplaceFiles: Already where all that the files hold is held as sets, and nothing else except projects
+--   (has_files). Each criterion is held and there are as many (has_criteria), and the own entries are those held
+--   (same_entries). Each peer of the config file is held with these settings and this content and there are as many
+--   (has_peers). Publisher records, policies and what is said to the tool alone are equal (has_lists). It is never
+--   Already where the imports file has a peer that the config file lacks (each_is_set). 9 where with the built-in
+--   ones there are more than 64 criteria (counted). Then what there would be after it (files_limits). 18 peers, of
+--   the config file. 18 entries, own ones and those of the config file's peers (entries_of_files). 18 publishers;
+--   18 policies; 18 step; 18 number. 6 with the least name that the files' own criteria and the built-in ones lack,
+--   whatever was held (unknown_of_files). The names are of what criteria imply, and of what own entries,
+--   exemptions, policies and targets of maps name. 13 where the imports file has a peer that the config file lacks.
+--   8 where a review that is not closed names a criterion that the files' own and the built-in ones lack
+--   (are_open_beyond). Windows are not judged.
+-- - Desk: the parts of the desk's verdict, by the table of criteria and the demand as they stand, and what the
+--   register asks between them. Already where the desk has what is set or added (desk_held), without a number. 18
+--   members or reviews (desk_limits). 18 step, except for FinishReview (step_before_rules). 18 number of a review
+--   (desk_number). Then 6, 19 and 20 (desk_references). Then 21 to 24 (desk_rules). For FinishReview 18 comes after
+--   all these (limits_after_rules). It is of entries, step and number where its entry is added (entry_limits), and
+--   of the step alone where an equal own one is held.
+-- - ClosePeriod: 18 step, and nothing else; it leaves no moves, so 25 never comes.
+--
+-- After these, for each: 25 where after it more moves would be recorded than the limit (moves_fit, count_after).
+-- Else it is accepted. Group by group these are held_as, limits, references, rules (which alone asks for the day)
+-- and moves_fit. Limits, references and rules together are checked, and with held_as before them judged. That is
+-- what is told before the moves are known. What is told where nothing refuses is an Answer, already or accepted. 29
+-- may come in place of 6, whose name is copied, and of what is told once all checks are passed. It comes in place
+-- of neither Already nor another check (IsExactly). To compare an import or files with what is held takes memory
+-- (wants_memory). Of these two commands alone 29 may come in place of anything (IsExact). To compare the entry of a
+-- finished review takes memory too, once all but the limits after its rules is passed (asked_before). So 29 may
+-- stand in place of 18 there, and in place of nothing that comes before.
 use Rattle.std.specs.Prelude.{ℕ, ◌+◌, ◌&&◌, ◌||◌, not, nat_lt, Bool, true, false, is_none, is_ok, List, Option, Some}
 use Rattle.std.specs.Prelude.{None, Ok, if◌then◌else◌, length, option_map, ◌+ℤ◌, pos}
 use Rattle.std.specs.List.{list_any}
