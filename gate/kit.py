@@ -1,0 +1,40 @@
+"""The kit's own module, `rtlib`, which knows the crates and the files that they are made of; and what this machine
+has for proofs, reckoned as the kit does."""
+
+import os
+import shutil
+import sys
+
+ROOT = os.path.dirname(os.path.dirname(os.path.abspath(__file__)))
+KIT = os.path.dirname(os.path.realpath(shutil.which("rt") or sys.exit("rt is not on the path")))
+sys.dont_write_bytecode = True
+sys.path.insert(0, KIT)
+import rtlib  # noqa: E402
+
+# what a proof is reckoned to take; the largest crates take more, but never all of them at once
+MEMORY_OF_A_PROOF = 6_000_000_000
+
+
+def processors():
+    """The processors that one may use, or fewer by the quota of the control group."""
+    found = len(os.sched_getaffinity(0))
+    for file, period in rtlib.QUOTAS:
+        quota, period = rtlib.number_in(file, r"^(\d+)"), rtlib.number_in(*period)
+        if quota and period:
+            found = min(found, max(quota // period, 1))
+    return found
+
+
+def free():
+    """The free memory in bytes, under the control group's limit too."""
+    found = [1024 * rtlib.number_in("/proc/meminfo", r"MemAvailable:\s+(\d+)")]
+    for limit, held in rtlib.GROUPS:
+        limit, held = rtlib.number_in(limit, r"(\d+)"), rtlib.number_in(*held)
+        if limit and held is not None:
+            found.append(limit - held)
+    return min(found)
+
+
+def lanes():
+    """How many proofs are to run side by side."""
+    return max(min(processors(), free() // MEMORY_OF_A_PROOF), 1)
