@@ -163,11 +163,3 @@ def tests(programs):
         yield from (it for it in load(name, programs).tests() if it[0] not in LEFT_OUT)
     for some in (of_files, at_size, of_projects, of_databases, of_stores, of_requests):
         yield from some(programs)
-
-
-def share_ports(place, count):
-    """This process takes each so manieth of the ports of served/server.py, so that no other is given the same."""
-    from served import server
-
-    own = range(server.DRAWN + place, server.DRAWN + server.PORT_COUNT, count)
-    server.PORTS = itertools.cycle([server.FIRST_PORT + at % server.PORT_COUNT for at in own])

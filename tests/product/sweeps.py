@@ -17,6 +17,8 @@ MOST_ALLOCATIONS = 1 << 20
 # is kept and told; and about how many between
 AT_THE_FRONT, AT_THE_END, BETWEEN = 150, 250, 250
 NO_MEMORY = (1, b"", b"refused 29 NoMemory\n")
+# how many runs of a sweep are made at a time; the sweeps themselves are made side by side
+AT_ONCE = 2
 
 
 class Swept(NamedTuple):
@@ -152,7 +154,7 @@ def sweep(command, files, run):
         raise AssertionError(f"with ample memory: {answer}")
     before, last = runs.begun(), runs.last()
     numbers = numbers_up_to(last)
-    with ThreadPoolExecutor(len(os.sched_getaffinity(0))) as pool:
+    with ThreadPoolExecutor(AT_ONCE) as pool:
         faults = [it for it in pool.map(lambda at: runs.fault_at(at, (answer, rows), before), numbers) if it]
     if faults or not numbers:
         raise AssertionError(f"{len(faults)} of {len(numbers)}, of {last}: {faults[:1]}")

@@ -33,6 +33,13 @@ DRAWN = random.randrange(PORT_COUNT)
 PORTS = itertools.cycle([FIRST_PORT + (DRAWN + at) % PORT_COUNT for at in range(PORT_COUNT)])
 
 
+def share_ports(place, count):
+    """This process takes each so manieth of the ports, so that no other of so many processes is given the same."""
+    global PORTS
+    own = range(DRAWN + place, DRAWN + PORT_COUNT, count)
+    PORTS = itertools.cycle([FIRST_PORT + at % PORT_COUNT for at in own])
+
+
 def compare(what, found, expected):
     if found != expected:
         raise AssertionError(f"{what}: {found!r}, not {expected!r}")

@@ -10,7 +10,7 @@ from typing import NamedTuple
 from models.rows import rows_in
 from product.documents import document, entry, table_of
 from product.register import FOLDER
-from product.sweeps import CONFIG, IMPORTS, MADE, NO_MEMORY, PEER
+from product.sweeps import AT_ONCE, CONFIG, IMPORTS, MADE, NO_MEMORY, PEER
 from served.cases import TABLE
 from served.server import NotListening, Server, compare, head_of, reply_of, request_of
 
@@ -196,7 +196,7 @@ def sweep(request, files, environment):
     if not request.commits():
         compare("what changes nothing", own[1:], unchanged)
     numbers = numbers_up_to(last, request.between)
-    with ThreadPoolExecutor(len(os.sched_getaffinity(0))) as pool:
+    with ThreadPoolExecutor(AT_ONCE) as pool:
         faults = [it for it in pool.map(lambda at: runs.fault_at(at, own, unchanged), numbers) if it]
     if faults or not numbers:
         raise AssertionError(f"{len(faults)} of {len(numbers)}, of {last}: {faults[:1]}")
