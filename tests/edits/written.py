@@ -5,8 +5,11 @@ import dataclasses
 import os
 import re
 
-FUNCTION = re.compile(r"^( *)(?:pub(?:\(\w+\))? )?(?:const )?(?:unsafe )?fn (\w+)", re.M)
-OWNER = re.compile(r"^(?:pub(?:\(\w+\))? )?(?:unsafe )?(impl|trait)\b([^{\n]*)", re.M)
+from . import callees
+from .bodies import FUNCTION, body_of, type_above
+
+# of more functions an edit in the gate is refused: each is proved once more for it. Those by hand may call as many
+MOST_CALLEES = 16
 
 
 class BadEdit(Exception):
@@ -76,30 +79,12 @@ def function_at(crate, change, texts):
     if not above:
         return None
     indent, name = above[-1][1], above[-1][2]
-    # a body begins on a line of its own, or on the first line where the function has no clauses
-    opening = re.compile(rf"^{indent}\{{$|^(?! *(?:requires|ensures|ghost|decreases)\b).*\{{$", re.M)
-    body = opening.search(text, above[-1].start())
-    end = re.compile(rf"^{indent}\}}", re.M).search(text, body.end()) if body else None
-    if not end or not body.end() <= change.start or not change.end <= end.start():
+    body = body_of(text, above[-1])
+    if not body or not body[0] <= change.start or not change.end <= body[1]:
         return None
     kind = type_above(text[: above[-1].start()]) if indent else ""
     path = module_of(kind, change.path, texts)
     return "::".join(it for it in (crate, path, kind and "".join(kind), name) if it)
-
-
-def type_above(text):
-    """The type of the `impl` or trait in whose items a text ends, and the trait that the `impl` is of."""
-    heads = list(OWNER.finditer(text))
-    if not heads:
-        return ""
-    head = heads[-1][2]
-    if heads[-1][1] == "trait":
-        return (re.match(r" (\w+)", head)[1], "")
-    while re.search(r"<[^<>]*>", head):
-        head = re.sub(r"<[^<>]*>", "", head)
-    of, _, target = head.partition(" where ")[0].rpartition(" for ")
-    last = [re.search(r"(\w+)\W*$", it) for it in (target, of)]
-    return tuple(it[1] if it else "" for it in last)
 
 
 def module_of(kind, path, texts):
@@ -110,12 +95,23 @@ def module_of(kind, path, texts):
     return "" if inside in ("lib", "main") else inside.replace("/", "::")
 
 
+def check_callees(edit, calls):
+    """Refuses an edit of a function that calls many others, in turn."""
+    for name in sorted(edit.functions):
+        count = calls.below(name.split("::"))
+        if count > MOST_CALLEES:
+            what = f"{name}, which calls {count} functions of its crate, and one in the gate may call {MOST_CALLEES}"
+            raise BadEdit(f"{edit.label}: it changes {what}: turn a leaf of them, or try it by hand")
+
+
 def edits_of(crate, files, texts):
     """The edits that the files say, and what is wrong with each of those that are none."""
-    edits, wrong = [], []
+    edits, wrong, calls = [], [], callees.Calls(texts)
     for file in files:
         try:
             edit = Edit(crate, file, texts)
+            if os.path.basename(os.path.dirname(file)) != "by-hand":
+                check_callees(edit, calls)
             same = next((it.label for it in edits if it.changes == edit.changes), None)
             if same:
                 raise BadEdit(f"{edit.label}: it is the same edit as {same}")
