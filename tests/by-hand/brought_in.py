@@ -150,7 +150,7 @@ def of_stores(programs):
 
 
 def of_requests(programs):
-    """Requests to `vetd serve`, and to the program that serves slices and itself."""
+    """Requests to `vetd serve`, and to the program of trials, which serves slices and itself."""
     yield from (it for it in load("served/run_serve", programs).named() if it[0] not in UNSERVED)
     yield from load("served/run_exchanges", programs).named()
 

@@ -13,11 +13,16 @@
 //! `policies` and `projects`. Where memory is wanting, the run ends with that refusal and what the register holds then,
 //! and with status 1. So it does where no register is made or opened. At other words, an input that can't be read, or a
 //! line that isn't understood, a message goes to standard error, with status 2.
+//!
+//! Behind the words `times`, `exchanges` and `toml` it does something else, which the modules `times`, `exchanges` and
+//! `toml_only` tell: it times commands, serves requests, or has a TOML document read. These are one program, since each
+//! loads all libraries before its first line is proved.
 #![tactic(auto)]
 
 mod commands;
 mod days;
 mod demands;
+mod exchanges;
 mod fault;
 mod files;
 mod held;
@@ -44,13 +49,16 @@ mod setting;
 mod steps;
 mod stored;
 mod tables;
+mod times;
 mod together;
+mod toml_only;
 mod values;
 mod versions;
 mod words;
 mod workspace;
 mod written;
 
+use exchanges::run_exchanges;
 use fault::Fault;
 use input::{Input, read_input};
 use relay::RelayKeeper;
@@ -58,11 +66,13 @@ use run::{Contents, Ending, refused, run};
 use std::io;
 use std::process::ExitCode;
 use stored::{Way, run_stored};
+use times::run_times;
 use together::run_together;
+use toml_only::read_toml;
 use vet_base::refusal::Refusal;
 use vet_graph::keeper::Keeper;
 use vet_graph::plain::PlainKeeper;
-use words::{Words, read_words};
+use words::{Lines, Words, read_words};
 use workspace::run_workspace;
 
 /// The status of a run of something that isn't understood.
@@ -73,7 +83,19 @@ const TAKEN_WORDS: &str =
     "trials takes no words but --contents, --relay, --together, --demand, or --db, --db-together, --db-open PATH";
 
 fn main(rt: HostRuntime) -> io::Result<ExitCode> {
-    match run_whole(&rt)? {
+    match read_words(&rt) {
+        Words::Times => Ok(run_times(&rt)),
+        Words::Exchanges => Ok(run_exchanges(&rt)),
+        Words::Toml => Ok(read_toml(&rt)),
+        Words::Lines(lines) => ended(&rt, run_whole(&rt, lines)?),
+        Words::Other => ended(&rt, Ending::Words),
+        Words::NoMemory => ended(&rt, ended_for_memory(&rt)?),
+    }
+}
+
+// The status of a run that ended so, and what it says to standard error.
+fn ended(rt: &HostRuntime, ending: Ending) -> io::Result<ExitCode> {
+    match ending {
         Ending::Whole => Ok(ExitCode::SUCCESS),
         Ending::Refused => Ok(ExitCode::FAILURE),
         Ending::Line(number) => {
@@ -91,15 +113,13 @@ fn main(rt: HostRuntime) -> io::Result<ExitCode> {
     }
 }
 
-fn run_whole(rt: &HostRuntime) -> io::Result<Ending> {
-    match read_words(rt) {
-        Words::Contents(contents) => run_input::<PlainKeeper>(rt, contents),
-        Words::Relay => run_input::<RelayKeeper>(rt, Contents::AtEnd),
-        Words::Together => run_input_together(rt),
-        Words::Demand => run_input_workspace(rt),
-        Words::Stored(way, path) => run_input_stored(rt, path.as_str(), way),
-        Words::Other => Ok(Ending::Words),
-        Words::NoMemory => ended_for_memory(rt),
+fn run_whole(rt: &HostRuntime, lines: Lines) -> io::Result<Ending> {
+    match lines {
+        Lines::Contents(contents) => run_input::<PlainKeeper>(rt, contents),
+        Lines::Relay => run_input::<RelayKeeper>(rt, Contents::AtEnd),
+        Lines::Together => run_input_together(rt),
+        Lines::Demand => run_input_workspace(rt),
+        Lines::Stored(way, path) => run_input_stored(rt, path.as_str(), way),
     }
 }
 

@@ -1,0 +1,60 @@
+//! Requests to a register in memory.
+//!
+//! The word `exchanges` stands first. The word behind it says how the requests are served that the other words are,
+//! each whole. With `slices` one call of `serve_slices` serves all of them. With `loopback` each is sent over a
+//! connection to this machine, which the same thread accepts and has `serve_one` serve. The replies go to standard
+//! output one behind the other, and nothing else. The status is 2 where the second word is none of these, and 1 where
+//! something failed.
+use crate::exchanges::fault::Fault;
+use crate::exchanges::loopback::serve_over_loopback;
+use crate::exchanges::slices::serve_together;
+use std::process::ExitCode;
+use std::{env, io};
+use vet_base::day::Day;
+use vet_base::limits::MOST_MOVES;
+use vet_graph::plain::PlainKeeper;
+use vet_store::memory::run_in_memory_files;
+
+mod fault;
+mod loopback;
+mod slices;
+
+/// The status of a run of words that aren't understood.
+const NOT_UNDERSTOOD: u8 = 2;
+
+/// The day on which all requests are served.
+const DAY: &str = "2024-05-01";
+
+/// Serves the requests that the words are.
+pub fn run_exchanges(rt: &HostRuntime) -> ExitCode {
+    match &run_whole(rt) {
+        Ok(()) => ExitCode::SUCCESS,
+        Err(Fault::Words) => ExitCode::from(NOT_UNDERSTOOD),
+        Err(_) => ExitCode::FAILURE,
+    }
+}
+
+fn run_whole(rt: &HostRuntime) -> Result<(), Fault> {
+    let mut words = env::args(rt)?;
+    let _name = words.next();
+    let _room = words.next();
+    let Some(how) = words.next() else {
+        return Err(Fault::Words);
+    };
+    let requests: Vec<String> = words.collect(rt.alloc())?;
+    serve_requests(rt, how.as_str(), requests.as_slice())
+}
+
+// Serves the requests by a new register, in one of the two ways.
+fn serve_requests(rt: &HostRuntime, how: &str, requests: &[String]) -> Result<(), Fault> {
+    let day = Day::parse(DAY)?;
+    let mut first = run_in_memory_files::<PlainKeeper>(rt.alloc(), MOST_MOVES, &[])?;
+    let mut writer = io::writer(rt);
+    if how == "slices" {
+        return serve_together(rt.alloc(), &mut first.store, day, requests, &mut writer);
+    }
+    if how == "loopback" {
+        return serve_over_loopback(rt, &mut first.store, day, requests, &mut writer);
+    }
+    Err(Fault::Words)
+}

@@ -1,0 +1,138 @@
+//! The words of the command line and the files on standard input.
+
+use crate::times::fault::Fault;
+use std::alloc::Global;
+use std::env;
+use std::io::Read;
+use vet_entries::peer_content::PeerContent;
+use vet_files::imports_file::read_peer;
+
+/// What stands between two files.
+pub const BETWEEN_FILES: &str = "\n---\n";
+
+/// What is to be timed, and how much of it.
+#[derive(Clone, Copy)]
+pub enum Task {
+    /// So many rounds of imports.
+    Imports(Sizes),
+    /// So many rounds of replacements.
+    Replacements(usize),
+    /// So many rounds of commands to the review desk.
+    Desk(Reviews),
+    /// So many rounds of finding a demand.
+    Demands(usize),
+    /// So many rounds of commands to a register in a file.
+    Stored(Stored),
+    /// The opening of a register in a file.
+    Opened,
+    /// The parts of that.
+    Parts,
+    /// So many rounds of commands to a register in memory.
+    Memory(usize),
+}
+
+/// How much is to be timed of imports.
+#[derive(Clone, Copy)]
+pub struct Sizes {
+    /// How many rounds.
+    pub rounds: usize,
+    /// How many own entries, and how many demanded pairs.
+    pub own: usize,
+}
+
+/// How much is to be timed of the review desk.
+#[derive(Clone, Copy)]
+pub struct Reviews {
+    /// How many reviews there are in the end.
+    pub count: usize,
+    /// How many rounds.
+    pub rounds: usize,
+}
+
+/// How much is to be timed of a register in a file.
+#[derive(Clone, Copy)]
+pub struct Stored {
+    /// How many demanded pairs.
+    pub demanded: usize,
+    /// How many rounds.
+    pub rounds: usize,
+}
+
+/// What the words behind `times` say.
+pub fn read_task(rt: &HostRuntime) -> Result<Task, Fault> {
+    let mut words = env::args(rt)?;
+    let _name = words.next();
+    let _room = words.next();
+    let Some(task) = words.next() else {
+        return Err(Fault::Words);
+    };
+    let (first, second, third) = (words.next(), words.next(), words.next());
+    task_of(task.as_str(), &first, &second, &third)
+}
+
+fn task_of(
+    task: &str,
+    first: &Option<String>,
+    second: &Option<String>,
+    third: &Option<String>,
+) -> Result<Task, Fault> {
+    match task {
+        "imports" => Ok(Task::Imports(Sizes {
+            rounds: number(first)?,
+            own: number(second)?,
+        })),
+        "replace" => Ok(Task::Replacements(number(first)?)),
+        "desk" => Ok(Task::Desk(Reviews {
+            count: number(first)?,
+            rounds: number(second)?,
+        })),
+        "demand" => Ok(Task::Demands(number(first)?)),
+        "store" => Ok(Task::Stored(Stored {
+            demanded: number(second)?,
+            rounds: number(third)?,
+        })),
+        "open" => Ok(Task::Opened),
+        "parts" => Ok(Task::Parts),
+        "memory" => Ok(Task::Memory(number(first)?)),
+        _ => Err(Fault::Words),
+    }
+}
+
+fn number(word: &Option<String>) -> Result<usize, Fault> {
+    let Some(word) = word else {
+        return Err(Fault::Words);
+    };
+    match word.as_str().parse::<usize>() {
+        Ok(number) => Ok(number),
+        Err(_) => Err(Fault::Words),
+    }
+}
+
+/// The path behind the task.
+pub fn read_path(rt: &HostRuntime) -> Result<String, Fault> {
+    let mut words = env::args(rt)?;
+    match words.nth(3) {
+        Some(path) => Ok(path),
+        None => Err(Fault::Words),
+    }
+}
+
+/// All of standard input.
+pub fn read_text(rt: &HostRuntime) -> Result<String, Fault> {
+    let mut text = String::new(rt.alloc());
+    rt.reader().read_to_string(&mut text)?;
+    Ok(text)
+}
+
+/// What the files of a text hold, in their order.
+pub fn contents_of(alloc: Global, text: &str) -> Result<Vec<PeerContent>, Fault> {
+    let mut contents = Vec::new(alloc);
+    for file in text.split(BETWEEN_FILES) {
+        contents.push(content_of(alloc, file)?)?;
+    }
+    Ok(contents)
+}
+
+fn content_of(alloc: Global, file: &str) -> Result<PeerContent, Fault> {
+    Ok(read_peer(alloc, file.as_bytes())?.content)
+}

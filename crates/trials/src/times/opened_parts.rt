@@ -1,0 +1,71 @@
+//! The parts of opening a register in a file.
+
+use crate::times::commands::set_other_peer;
+use crate::times::fault::Fault;
+use crate::times::stored_rounds::connected;
+use sqlite::{Alter, Connection};
+use std::time::Instant;
+use vet_base::refusal::Refusal;
+use vet_graph::plain::PlainKeeper;
+use vet_register::register::Register;
+use vet_rows::rows::Rows;
+use vet_rows::rows_of::rows_of;
+use vet_rows::state_of::state_of;
+use vet_store::find::has_tables;
+use vet_store::read::read_rows;
+
+/// Opens the register in a file by the calls of which a store's opening consists, except that the rows are not compared
+/// with those that were read. Then it finds every class anew. Prints of each part what it is and its nanoseconds.
+pub fn run_parts(rt: &HostRuntime, path: &str) -> Result<(), Fault> {
+    let begun = Instant::now(rt)?;
+    let mut conn = connected(rt, path)?;
+    print_part(rt, "connect", &begun)?;
+    let rows = rows_in(rt, &mut conn)?;
+    let mut register = register_of(rt, &rows)?;
+    print_plan(rt, &mut register)
+}
+
+// Prints what a part took.
+fn print_part(rt: &HostRuntime, what: &str, begun: &Instant) -> Result<(), Fault> {
+    let nanos = begun.elapsed(rt)?.as_nanos();
+    println!(rt; "{what} {nanos}")?;
+    Ok(())
+}
+
+// The rows of the tables.
+fn rows_in<S: Alter>(rt: &HostRuntime, conn: &mut Connection<S>) -> Result<Rows, Fault> {
+    let begun = Instant::now(rt)?;
+    if !has_tables(conn.schema()) {
+        return Err(Fault::Refused(Refusal::NotARegister));
+    }
+    match read_rows(rt.alloc(), conn) {
+        Ok(Some(rows)) => {
+            print_part(rt, "read", &begun)?;
+            Ok(rows)
+        }
+        Ok(None) => Err(Fault::Refused(Refusal::NotARegister)),
+        Err(_) => Err(Fault::Refused(Refusal::StoreRefused)),
+    }
+}
+
+// The register of these rows, and its rows again.
+fn register_of(rt: &HostRuntime, rows: &Rows) -> Result<Register<PlainKeeper>, Fault> {
+    let begun = Instant::now(rt)?;
+    let state = state_of(rt.alloc(), rows)?;
+    print_part(rt, "state", &begun)?;
+    let begun = Instant::now(rt)?;
+    let register = Register::restore(rt.alloc(), state)?;
+    print_part(rt, "restore", &begun)?;
+    let begun = Instant::now(rt)?;
+    let _again = rows_of(rt.alloc(), &register)?;
+    print_part(rt, "rows", &begun)?;
+    Ok(register)
+}
+
+// Finds every class anew, which is what setting another peer takes.
+fn print_plan(rt: &HostRuntime, register: &mut Register<PlainKeeper>) -> Result<(), Fault> {
+    let peer = set_other_peer(rt.alloc(), 0, 0)?;
+    let begun = Instant::now(rt)?;
+    let _change = register.prepare(rt.alloc(), &peer)?;
+    print_part(rt, "plan", &begun)
+}

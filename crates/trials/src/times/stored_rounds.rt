@@ -1,0 +1,160 @@
+//! Commands to a register in a file, whose parts are timed; and the register that is opened again.
+
+use crate::times::commands::{add_other, drop_entry, import_peer, load_project, set_peer};
+use crate::times::fault::Fault;
+use crate::times::input::{Stored, contents_of};
+use crate::times::written::run_written;
+use sqlite::{Alter, Connection, FileFrom, FileStore, Wary};
+use std::alloc::Global;
+use std::time::Instant;
+use vet_base::limits::MOST_MOVES;
+use vet_base::refusal::Refusal;
+use vet_graph::plain::PlainKeeper;
+use vet_register::command::{Command, Outcome};
+use vet_register::register::Register;
+use vet_store::refused::Refused;
+use vet_store::store::Store;
+
+/// A file and its log, opened as the product opens them.
+pub type WaryFile = FileStore<FileFrom<Wary>>;
+
+/// Makes a register in a file, imports each file of a text, and adds an entry and drops it in each round. Prints of
+/// each command what it is, the nanoseconds of its parts and how many rows it writes.
+pub fn run_stored(rt: &HostRuntime, sizes: Stored, path: &str, text: &str) -> Result<(), Fault> {
+    let imports = imports_of(rt.alloc(), text)?;
+    let mut conn = made(rt.alloc(), connected(rt, path)?)?;
+    run_commands(rt, &mut conn, sizes, imports.as_slice())?;
+    match conn.close() {
+        Ok(()) => Ok(()),
+        Err(_) => Err(Fault::Refused(Refusal::StoreRefused)),
+    }
+}
+
+/// The commands that import the files of a text.
+pub fn imports_of(alloc: Global, text: &str) -> Result<Vec<Command>, Fault> {
+    let mut imports = Vec::new(alloc);
+    for content in contents_of(alloc, text)? {
+        imports.push(import_peer(alloc, content)?)?;
+    }
+    Ok(imports)
+}
+
+/// The database in a file, opened as the product opens it.
+pub fn connected(rt: &HostRuntime, path: &str) -> Result<Connection<WaryFile>, Fault> {
+    match Connection::open_from(rt, path, false, Wary) {
+        Ok(conn) => Ok(conn),
+        Err(_) => Err(Fault::Refused(Refusal::StoreRefused)),
+    }
+}
+
+// The tables of a register that holds nothing.
+fn made<S: Alter + Drop>(alloc: Global, conn: Connection<S>) -> Result<Connection<S>, Fault> {
+    if !conn.is_autocommit() {
+        return Err(Fault::Words);
+    }
+    match Store::<S, PlainKeeper>::create(alloc, conn, MOST_MOVES) {
+        Ok(store) => Ok(store.close()),
+        Err(refused) => Err(fault_of(refused)),
+    }
+}
+
+fn fault_of<S: Alter + Drop>(refused: Refused<S>) -> Fault {
+    let (refusal, _conn) = refused.into_parts();
+    Fault::Refused(refusal)
+}
+
+fn run_commands<S: Alter>(
+    rt: &HostRuntime,
+    conn: &mut Connection<S>,
+    sizes: Stored,
+    imports: &[Command],
+) -> Result<(), Fault> {
+    let mut register = Register::new(rt.alloc(), MOST_MOVES)?;
+    if sizes.demanded > 0 {
+        let load = load_project(rt.alloc(), sizes.demanded)?;
+        run_one(rt, conn, &mut register, "load-project", &load)?;
+    }
+    let peer = set_peer(rt.alloc())?;
+    run_one(rt, conn, &mut register, "set-peer", &peer)?;
+    for import in imports {
+        run_one(rt, conn, &mut register, "import", import)?;
+    }
+    for round in 0..sizes.rounds {
+        run_round(rt, conn, &mut register, round)?;
+    }
+    Ok(())
+}
+
+// An entry is added and dropped.
+fn run_round<S: Alter>(
+    rt: &HostRuntime,
+    conn: &mut Connection<S>,
+    register: &mut Register<PlainKeeper>,
+    round: usize,
+) -> Result<(), Fault> {
+    let add = add_other(rt.alloc(), round)?;
+    let outcome = run_one(rt, conn, register, "add-entry", &add)?;
+    let drop = drop_entry(number_of(outcome)?)?;
+    run_one(rt, conn, register, "drop-entry", &drop)?;
+    Ok(())
+}
+
+/// The number that a command gave to an entry.
+pub fn number_of(outcome: Outcome) -> Result<u64, Fault> {
+    match outcome {
+        Outcome::Done {
+            number: Some(number),
+            ..
+        } => Ok(number),
+        _ => Err(Fault::Words),
+    }
+}
+
+// Runs a command and prints what its parts took.
+fn run_one<S: Alter>(
+    rt: &HostRuntime,
+    conn: &mut Connection<S>,
+    register: &mut Register<PlainKeeper>,
+    what: &str,
+    command: &Command,
+) -> Result<Outcome, Fault> {
+    if !conn.is_autocommit() {
+        return Err(Fault::Words);
+    }
+    run_written(rt, conn, register, what, command)
+}
+
+/// Opens the register in a file, and prints the nanoseconds until the database was opened, and from there until the
+/// register was, and how many entries it holds.
+pub fn run_opened(rt: &HostRuntime, path: &str) -> Result<(), Fault> {
+    let begun = Instant::now(rt)?;
+    let conn = connected(rt, path)?;
+    let connecting = begun.elapsed(rt)?.as_nanos();
+    let begun = Instant::now(rt)?;
+    let store = opened(rt.alloc(), conn)?;
+    let opening = begun.elapsed(rt)?.as_nanos();
+    let count = entries_held(store.register());
+    println!(rt; "open {connecting} {opening} {count}")?;
+    Ok(())
+}
+
+fn entries_held(register: &Register<PlainKeeper>) -> usize {
+    let mut count = register.entries().len();
+    for peer in register.peers() {
+        count = count.saturating_add(peer.content.entries().len());
+    }
+    count
+}
+
+fn opened<S: Alter + Drop>(
+    alloc: Global,
+    conn: Connection<S>,
+) -> Result<Store<S, PlainKeeper>, Fault> {
+    if !conn.is_autocommit() {
+        return Err(Fault::Words);
+    }
+    match Store::open(alloc, conn) {
+        Ok(store) => Ok(store),
+        Err(refused) => Err(fault_of(refused)),
+    }
+}

@@ -1,0 +1,99 @@
+//! A command whose rows are written, each part timed.
+ghost use Rattle.std.specs.Prelude.{◌≡◌, false};
+ghost use Rattle.vet_register.specs.Machine.{CommandValue};
+ghost use Rattle.vet_register.specs.RegisterView.{IsPrepared};
+
+use crate::times::fault::Fault;
+use sqlite::{Alter, Connection};
+use std::time::Instant;
+use vet_base::refusal::Refusal;
+use vet_graph::keeper::Keeper;
+use vet_register::change::{Change, Prepared};
+use vet_register::command::{Command, Outcome};
+use vet_register::register::Register;
+use vet_rows::row_changes::row_changes;
+use vet_store::change::commit_changes;
+
+/// The nanoseconds of a command's parts: until it is prepared, until the rows are known that change, and until these
+/// are committed; and how many they are.
+#[derive(Clone, Copy)]
+pub struct Parts {
+    prepare: u128,
+    rows: u128,
+    write: u128,
+    count: usize,
+}
+
+/// Runs a command as a store does: it is prepared, its rows are written and then it is installed. Prints what it is,
+/// the nanoseconds of its parts and of all of it, and how many rows it wrote.
+pub fn run_written<S: Alter, K: Keeper>(
+    rt: &HostRuntime,
+    conn: &mut Connection<S>,
+    register: &mut Register<K>,
+    what: &str,
+    command: &Command,
+) -> Result<Outcome, Fault>
+    requires { conn.old.in_transaction ≡ false }
+{
+    let begun = Instant::now(rt)?;
+    let (outcome, parts) = written(rt, conn, register, command, &begun)?;
+    let whole = begun.elapsed(rt)?.as_nanos();
+    let Parts {
+        prepare,
+        rows,
+        write,
+        count,
+    } = parts;
+    println!(rt; "{what} {prepare} {rows} {write} {whole} {count}")?;
+    Ok(outcome)
+}
+
+fn written<S: Alter, K: Keeper>(
+    rt: &HostRuntime,
+    conn: &mut Connection<S>,
+    register: &mut Register<K>,
+    command: &Command,
+    begun: &Instant,
+) -> Result<(Outcome, Parts), Fault>
+    requires { conn.old.in_transaction ≡ false }
+{
+    match register.prepare(rt.alloc(), command) {
+        Err(refusal) => Err(Fault::Refused(refusal)),
+        Ok(Prepared::Already(_)) => Err(Fault::Words),
+        Ok(Prepared::Change(change)) => match write(rt, conn, register, &change, begun) {
+            Err(fault) => Err(fault),
+            Ok(parts) => {
+                let outcome = change.outcome();
+                register.install(change);
+                Ok((outcome, parts))
+            }
+        },
+    }
+}
+
+// Writes the rows of a change that is prepared.
+fn write<S: Alter, K: Keeper>(
+    rt: &HostRuntime,
+    conn: &mut Connection<S>,
+    register: &Register<K>,
+    change: &Change<K>,
+    begun: &Instant,
+) -> Result<Parts, Fault>
+    requires prepared { (command : CommandValue) × IsPrepared K.keeping register.now command change.now }
+    requires autocommit { conn.old.in_transaction ≡ false }
+{
+    let prepare = begun.elapsed(rt)?.as_nanos();
+    let begun = Instant::now(rt)?;
+    let changes = row_changes(rt.alloc(), register, change)?;
+    let rows = begun.elapsed(rt)?.as_nanos();
+    let begun = Instant::now(rt)?;
+    match commit_changes(conn, changes.as_slice()) {
+        Ok(()) => Ok(Parts {
+            prepare,
+            rows,
+            write: begun.elapsed(rt)?.as_nanos(),
+            count: changes.len(),
+        }),
+        Err(_) => Err(Fault::Refused(Refusal::StoreRefused)),
+    }
+}
