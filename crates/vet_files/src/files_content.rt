@@ -9,6 +9,7 @@ ghost use Rattle.std.specs.Cmp.Lexicographic.{slice_cmp};
 ghost use Rattle.std.specs.Prelude.{◌≡◌, ◌++◌, [], IfErr, IfOk, nat_lt};
 ghost use Rattle.vet_base.specs.Keyed.{all_set, item_of};
 ghost use Rattle.vet_entries.specs.Distinct.{distinct};
+ghost use Rattle.vet_entries.specs.PeerSettings.{settings_name};
 ghost use Rattle.vet_entries.specs.PublisherRecords.{package_of, records_total};
 ghost use Rattle.vet_files.specs.FilesContent.{IsFiles, each_is_set, files_of, is_set};
 ghost use Rattle.vet_files.specs.Imports.{imported_name};
@@ -22,7 +23,7 @@ use crate::listed::Listed;
 use std::alloc::{AllocError, Global};
 use std::marker::Model;
 use vet_base::criterion::Criterion;
-use vet_base::keyed::Keyed;
+use vet_base::keyed::{HasKey, Keyed};
 use vet_base::name::Name;
 use vet_base::names::Names;
 use vet_base::refusal::Refusal;
@@ -112,9 +113,6 @@ impl FilesContent {
         ensures ok { IfOk result (λ f. f ≡ files_of audits config imports) }
         ensures memory { IfErr result (λ e. e ≡ Refusal.NoMemory) }
     {
-        let ImportsContent { publishers, peers } = imports;
-        let contents = Keyed::of(alloc, peers.into_vec())?;
-        let publishers = Keyed::of(alloc, publishers.into_vec())?;
         let AuditsContent { criteria, entries } = audits;
         let ConfigContent {
             vet_version,
@@ -123,11 +121,17 @@ impl FilesContent {
             policies,
             exemptions,
         } = config;
-        let entries = all_once(alloc, entries, exemptions)?;
+        let lists = lists_of(alloc, entries, exemptions, peers, imports)?;
+        let Lists {
+            entries,
+            settings,
+            contents,
+            publishers,
+        } = lists;
         Ok(FilesContent {
-            settings: Keyed::of(alloc, peers.into_vec())?,
             criteria: criteria.into_vec(),
             entries,
+            settings,
             contents,
             publishers,
             policies,
@@ -219,6 +223,64 @@ impl FilesContent {
     {
         has_more_records(self.publishers.items(), most)
     }
+}
+
+// The lists of the files that are put in order, or looked through for doubles: all that takes memory.
+#[derive(Drop)]
+struct Lists {
+    entries: Vec<Entry>,
+    settings: Keyed<PeerSettings>,
+    contents: Keyed<ImportedPeer>,
+    publishers: Keyed<PackagePublishers>,
+}
+
+fn lists_of(
+    alloc: Global,
+    entries: Listed<Entry>,
+    exemptions: Listed<Entry>,
+    peers: Listed<PeerSettings>,
+    imports: ImportsContent,
+) -> Result<Lists, AllocError>
+    ensures entries { IfOk result (λ l. l.entries.items ≡ distinct (entries ++ exemptions)) }
+    ensures settings { IfOk result (λ l. l.settings.items ≡ all_set (slice_cmp nat_cmp) settings_name [] peers) }
+    ensures contents { IfOk result (λ l.
+        l.contents.items ≡ all_set (slice_cmp nat_cmp) imported_name [] imports.peers) }
+    ensures publishers { IfOk result (λ l.
+        l.publishers.items ≡ all_set (slice_cmp nat_cmp) package_of [] imports.publishers) }
+{
+    let ImportsContent {
+        publishers,
+        peers: imported,
+    } = imports;
+    let (contents, publishers) = both_by_key(alloc, imported, publishers)?;
+    let entries = all_once(alloc, entries, exemptions)?;
+    let settings = by_key(alloc, peers)?;
+    Ok(Lists {
+        entries,
+        settings,
+        contents,
+        publishers,
+    })
+}
+
+fn both_by_key<A: HasKey, B: HasKey>(
+    alloc: Global,
+    first: Listed<A>,
+    second: Listed<B>,
+) -> Result<(Keyed<A>, Keyed<B>), AllocError>
+    ensures first { IfOk result (λ both. both.0.items ≡ all_set A.Key.cmp A.key_of [] first) }
+    ensures second { IfOk result (λ both. both.1.items ≡ all_set B.Key.cmp B.key_of [] second) }
+{
+    let first = by_key(alloc, first)?;
+    let second = by_key(alloc, second)?;
+    Ok((first, second))
+}
+
+// The items of a list, in the order of their keys.
+fn by_key<T: HasKey>(alloc: Global, items: Listed<T>) -> Result<Keyed<T>, AllocError>
+    ensures { IfOk result (λ k. k.items ≡ all_set T.Key.cmp T.key_of [] items) }
+{
+    Keyed::of(alloc, items.into_vec())
 }
 
 /// These entries and then the others, each once.
