@@ -3,6 +3,7 @@ has for proofs, reckoned as the kit does."""
 
 import os
 import shutil
+import signal
 import sys
 import threading
 
@@ -33,6 +34,13 @@ def stamp_once(crate, made=rtlib.Crate.stamp):
 
 
 rtlib.Crate.stamp = stamp_once
+
+
+def begin():
+    """To be called before any thread runs: what is begun then ends with this run, however that ends. At Ctrl-C Python
+    would wait for what its threads have begun."""
+    rtlib.guarded()
+    signal.signal(signal.SIGINT, signal.SIG_DFL)
 
 
 def processors():
