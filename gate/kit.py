@@ -3,7 +3,9 @@ has for proofs, reckoned as the kit does."""
 
 import os
 import shutil
+import signal
 import sys
+import threading
 
 ROOT = os.path.dirname(os.path.dirname(os.path.abspath(__file__)))
 KIT = os.path.dirname(os.path.realpath(shutil.which("rt") or sys.exit("rt is not on the path")))
@@ -13,6 +15,32 @@ import rtlib  # noqa: E402
 
 # what a proof is reckoned to take; the largest crates take more, but never all of them at once
 MEMORY_OF_A_PROOF = 6_000_000_000
+# the stamps that one call asks for, by thread
+STAMPS = threading.local()
+
+
+def stamp_once(crate, made=rtlib.Crate.stamp):
+    """A crate's stamp, with each library below read once. By itself the module reads one for each way that leads to it:
+    that of the program took half a minute."""
+    if getattr(STAMPS, "seen", None) is None:
+        STAMPS.seen = {}
+        try:
+            return stamp_once(crate)
+        finally:
+            STAMPS.seen = None
+    if crate not in STAMPS.seen:
+        STAMPS.seen[crate] = made(crate)
+    return STAMPS.seen[crate]
+
+
+rtlib.Crate.stamp = stamp_once
+
+
+def begin():
+    """To be called before any thread runs: what is begun then ends with this run, however that ends. At Ctrl-C Python
+    would wait for what its threads have begun."""
+    rtlib.guarded()
+    signal.signal(signal.SIGINT, signal.SIG_DFL)
 
 
 def processors():

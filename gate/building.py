@@ -1,0 +1,139 @@
+"""The building of the libraries from the lowest up, each proved over kept work once those below it are built. One that
+was built from the same sources over the same contracts stays, whatever bodies below it have changed. `rt all` and
+`rt run` would read all sources anew before, which takes minutes."""
+
+import concurrent.futures
+import hashlib
+import os
+import re
+import time
+
+import kit
+from kit import ROOT, rtlib
+
+# where what each step says is kept
+KEPT = os.path.join(ROOT, "out", "kept")
+PROVED = re.compile(r"(fn|struct|enum|impl) \S+: proved$")
+# the most jobs of a proof, and what each further one takes of memory, as a part of the first
+MOST_JOBS, MORE_MEMORY = 4, 0.6
+
+
+def files_below(folder, leave=()):
+    """The files of a folder and of the folders in it, but for those of the names to leave."""
+    for at, folders, names in os.walk(folder):
+        folders[:] = sorted(set(folders) - set(leave))
+        yield from (os.path.join(at, name) for name in sorted(names))
+
+
+def sum_of(files):
+    """A sum of the files' places and contents."""
+    sums = hashlib.sha256()
+    for file in files:
+        with open(file, "rb") as it:
+            content = it.read()
+        sums.update(f"{os.path.relpath(file, ROOT)} {len(content)}\n".encode() + content)
+    return sums.hexdigest()
+
+
+def contracts(crate):
+    """The files that say what the crate promises: definitions, lemmas, and its code without the bodies, as its
+    built library has it. A program has no library, so its code stands for it."""
+    proofs = os.path.join(crate.folder, "proofs")
+    yield from files_below(os.path.join(crate.folder, "specs"))
+    yield from (file for file in files_below(proofs) if os.path.dirname(file) == proofs)
+    yield from files_below(os.path.join(crate.folder, "src") if crate.is_program else f"{crate.rlib}/lang/src")
+
+
+def basis(crate):
+    """A sum of what a library's proofs rest on: its own files, and what the libraries below it promise."""
+    own = [os.path.join(rtlib.KIT, "WHAT"), os.path.join(ROOT, "crates.txt"), *rtlib.files_of(crate.folder)]
+    return sum_of([*own, *(file for it in crate.below() for file in contracts(it))])
+
+
+def stays(crate):
+    """Whether a library was built on this basis: then a body below it has changed at most, which it does not read,
+    and `rt` is told that it is as its sources are now."""
+    place = os.path.dirname(crate.rlib)
+    if not crate.is_built() and rtlib.text_of(f"{place}/basis") == basis(crate):
+        with open(f"{place}/stamp", "w", encoding="utf-8") as it:
+            it.write(crate.stamp())
+    return crate.is_built()
+
+
+def note_basis(crate):
+    """Writes down on what a library was built, where that is what stands here now."""
+    on = basis(crate)
+    if crate.is_built():
+        with open(os.path.join(os.path.dirname(crate.rlib), "basis"), "w", encoding="utf-8") as it:
+            it.write(on)
+
+
+def unproved(said):
+    """The lines of what a step said, without those of what is proved."""
+    return [line for line in said.split("\n") if line and not PROVED.match(line)]
+
+
+def jobs_of(idle, others, memory=kit.MEMORY_OF_A_PROOF):
+    """How many jobs a proof has: the processors that no other waits for, as far as memory goes."""
+    by_memory = 1 + int(max(kit.free() / memory - 1, 0) / MORE_MEMORY)
+    return max(1, min(idle // others, by_memory, MOST_JOBS))
+
+
+class Built:
+    """What came of a library: whether it is built, what was said, and how many seconds it took."""
+
+    def __init__(self, crate, jobs):
+        begun = time.monotonic()
+        os.makedirs(os.path.join(crate.folder, "out"), exist_ok=True)
+        with open(os.path.join(KEPT, f"{crate.name}.log"), "w+", encoding="utf-8", errors="replace") as crate.out:
+            self.stayed = stays(crate)
+            self.is_well = self.stayed or crate.build_rlib(["--jobs", str(jobs)], anew=False) == 0
+            crate.out.seek(0)
+            self.said = crate.out.read()
+        note_basis(crate)
+        self.seconds = time.monotonic() - begun
+
+
+class Building:
+    """Libraries that are built side by side. Who looks on is told of each as it begins and as it ends."""
+
+    def __init__(self, libraries, onlooker):
+        self.onlooker = onlooker
+        self.left = sorted(libraries, key=lambda it: -self.lines_above(it, libraries))
+        self.running, self.built = {}, set()
+
+    @staticmethod
+    def lines_above(crate, libraries):
+        """The lines of the longest chain of crates from this one up, which the chain takes time by."""
+        above = [it for it in libraries if crate in it.deps]
+        return crate.count(rb"\n") + max((Building.lines_above(it, libraries) for it in above), default=0)
+
+    def run(self):
+        """Whether all were built."""
+        os.makedirs(KEPT, exist_ok=True)
+        held, lanes = rtlib.lock(self.left), kit.lanes()
+        with concurrent.futures.ThreadPoolExecutor(lanes) as pool:
+            self.begin(pool, lanes)
+            while self.running:
+                done, _ = concurrent.futures.wait(self.running, return_when=concurrent.futures.FIRST_COMPLETED)
+                for it in done:
+                    crate, _ = self.running.pop(it)
+                    self.onlooker.ended(crate, it.result())
+                    self.built |= {crate} if it.result().is_well else set()
+                self.begin(pool, lanes)
+        for it in held:
+            os.close(it)
+        return not self.left and self.onlooker.is_well
+
+    def begin(self, pool, lanes):
+        """Begins those that are ready, as many as there are lanes."""
+        ready = [it for it in self.left if self.built.issuperset(it.deps)]
+        for at, crate in enumerate(ready):
+            idle = lanes - sum(jobs for _, jobs in self.running.values())
+            if idle < 1:
+                break
+            jobs = jobs_of(idle, len(ready) - at)
+            self.left.remove(crate)
+            self.onlooker.begins(crate, jobs)
+            self.running[pool.submit(Built, crate, jobs)] = crate, jobs
+        self.onlooker.goes_on()
