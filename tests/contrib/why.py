@@ -410,7 +410,7 @@ def no_answers(server, program):
 # ---- at size
 
 MANY = 4000
-# far more than it takes, and far less than what grows by the square
+# of the processor: far more than it takes, and far less than what grows by the square
 MOST_SECONDS = 60
 
 
@@ -425,13 +425,13 @@ def thousands_of_entries():
     records = [{"version": f"2.{at}.9", "user-id": 5, "when": day} for at, day in enumerate(days)]
     own, dice = {"audits": {"a": audits}, "wildcard-audits": {"a": windows}}, random.Random(0)
     imports = {"publisher": {"a": records}, "audits": {}}
-    files, began = script().Files([toml_text(it, dice) for it in (own, {}, imports)]), time.monotonic()
+    files, began = script().Files([toml_text(it, dice) for it in (own, {}, imports)]), time.process_time()
     judged = [script().explain(files, "a", it, "safe-to-run") for it in (versions[-1], "2.7.9", "2.7.6")]
     for at in range(MANY):
         judged.append(script().explain(files, "a", f"2.{at}.8", "safe-to-run"))
     compare("classes", [word for word, _ in judged[:4]], ["full", "full", "unvetted", "unvetted"])
     compare("chain and cuts", ([len(lines) for _, lines in judged[:3]]), [MANY, 1, 3])
-    compare("in time", time.monotonic() - began < MOST_SECONDS, True)
+    compare("in time", time.process_time() - began < MOST_SECONDS, True)
 
 
 def tests_by_hand(server, program):
