@@ -1,21 +1,43 @@
 //! Changes that a register prepared.
 ghost use Rattle.std.specs.Option.{option_copied};
-ghost use Rattle.std.specs.Prelude.{◌≡◌};
+ghost use Rattle.std.specs.Prelude.{◌≡◌, Some};
+ghost use Rattle.vet_register.specs.Changes.{desk_edited};
+ghost use Rattle.vet_register.specs.RegisterView.{IsDeskEdit};
 
 use crate::command::Outcome;
 use crate::held::HeldEdit;
 use crate::moves::Recording;
 use vet_demand::demand::Demand;
 use vet_desk::change::DeskChange;
+use vet_desk::desk::Desk;
 use vet_graph::keeper::Keeper;
 use vet_graph::touched::Touched;
 
 /// What an accepted command changes at the desk.
-#[derive(Drop)]
 pub struct DeskEdit {
     pub change: DeskChange,
     /// The number of the entry of a review that is finished.
     pub entry: Option<u64>,
+}
+
+impl Drop for DeskEdit {
+    fn drop(self) {
+        let DeskEdit {
+            change: _,
+            entry: _,
+        } = self;
+    }
+}
+
+impl DeskEdit {
+    /// Makes the edit, which the desk prepared. Takes no memory.
+    pub(crate) fn made_at(self, desk: &mut Desk)
+        requires { IsDeskEdit desk.old self }
+        ensures { desk.new.content ≡ desk_edited (Some self) desk.old.content }
+    {
+        let DeskEdit { change, entry } = self;
+        desk.install(change, entry);
+    }
 }
 
 /// What an accepted command changes: the register that prepared it installs it.

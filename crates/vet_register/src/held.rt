@@ -37,7 +37,6 @@ impl Drop for Held {
 }
 
 /// A change of what is held, which takes no memory.
-#[derive(Drop)]
 pub enum HeldEdit {
     /// Nothing changes.
     Nothing,
@@ -49,6 +48,18 @@ pub enum HeldEdit {
     Projects(KeyedEdit<NamedProject>),
     /// All that files hold is exchanged.
     Files(FilesHeld),
+}
+
+impl Drop for HeldEdit {
+    fn drop(self) {
+        match self {
+            HeldEdit::Nothing => {}
+            HeldEdit::Facts(_) => {}
+            HeldEdit::Policies(_) => {}
+            HeldEdit::Projects(_) => {}
+            HeldEdit::Files(_) => {}
+        }
+    }
 }
 
 /// All that files hold: what is held but for the projects.
@@ -71,6 +82,24 @@ impl HeldEdit {
             HeldEdit::Projects(_) => false,
             HeldEdit::Files(_) => false,
             HeldEdit::Nothing => true,
+        }
+    }
+
+    // Makes the edit, which fits, and answers the one that undoes it. Takes no memory.
+    fn made_in(self, held: &mut Held) -> HeldEdit
+        requires { Fits self held.old }
+        ensures content { content_of held.new ≡ edited self (content_of held.old) }
+        ensures fits { Fits result held.new }
+        ensures back { edited result (content_of held.new) ≡ content_of held.old }
+        ensures undone { room_after result (room_of held.new) ≡ room_of held.old }
+        ensures room { room_of held.new ≡ room_after self (room_of held.old) }
+    {
+        match self {
+            HeldEdit::Facts(edit) => HeldEdit::Facts(held.facts.apply(edit)),
+            HeldEdit::Policies(edit) => HeldEdit::Policies(held.policies.apply(edit)),
+            HeldEdit::Projects(edit) => HeldEdit::Projects(held.projects.apply(edit)),
+            HeldEdit::Files(files) => HeldEdit::Files(held.exchange(files)),
+            HeldEdit::Nothing => HeldEdit::Nothing,
         }
     }
 }
@@ -161,13 +190,7 @@ impl Held {
         ensures undone { room_after result (room_of self.new) ≡ room_of self.old }
         ensures room { room_of self.new ≡ room_after edit (room_of self.old) }
     {
-        match edit {
-            HeldEdit::Facts(edit) => HeldEdit::Facts(self.facts.apply(edit)),
-            HeldEdit::Policies(edit) => HeldEdit::Policies(self.policies.apply(edit)),
-            HeldEdit::Projects(edit) => HeldEdit::Projects(self.projects.apply(edit)),
-            HeldEdit::Files(files) => HeldEdit::Files(self.exchange(files)),
-            HeldEdit::Nothing => HeldEdit::Nothing,
-        }
+        edit.made_in(self)
     }
 
     // Puts what files hold in place of what is held so, and answers that. Takes no memory.

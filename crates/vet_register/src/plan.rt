@@ -18,6 +18,7 @@ ghost use Rattle.vet_register.specs.RegisterView.{KeepsReady, KeepsRoom, held_ro
 ghost use Rattle.vet_register.specs.Sound.{IsSoundHeld};
 ghost use Rattle.vet_register.specs.State.{demanded, standing};
 ghost use Rattle.vet_register.specs.Verdict.{moves_fit, step_limit};
+ghost use Rattle.vet_register.specs.declared.command.Outcome.TheVariants as outcome;
 
 use crate::change::{Change, DeskEdit};
 use crate::command::{Command, Outcome};
@@ -41,11 +42,64 @@ struct Found<K: Keeper> {
 }
 
 /// An edit of what is held, another demand, unless it stays, and the update of the standing that goes with both.
-#[derive(Drop)]
 pub(crate) struct Planned<K: Keeper> {
     edit: HeldEdit,
     demand: Option<Demand>,
     update: K::Update,
+}
+
+impl<K: Keeper> Drop for Planned<K> {
+    fn drop(self) {
+        let Planned {
+            edit: _,
+            demand: _,
+            update: _,
+        } = self;
+    }
+}
+
+impl<K: Keeper> Planned<K> {
+    // The change by this step, which leaves this next number and is told this one.
+    fn changed(
+        self,
+        step: u64,
+        number: Option<u64>,
+        next_entry: u64,
+        desk: Option<DeskEdit>,
+        recording: Recording,
+    ) -> Change<K>
+        ensures { result ≡ record {
+          edit = self.edit;
+          desk = desk;
+          demand = self.demand;
+          update = self.update;
+          recording = recording;
+          step = step;
+          next_entry = next_entry;
+          outcome = outcome.Done step number (length (K.keeping.moves_of self.update));
+        } }
+    {
+        let moves = K::moves(&self.update).len() as u64;
+        let Planned {
+            edit,
+            demand,
+            update,
+        } = self;
+        Change {
+            edit,
+            desk,
+            demand,
+            update,
+            recording,
+            step,
+            next_entry,
+            outcome: Outcome::Done {
+                step,
+                number,
+                moves,
+            },
+        }
+    }
 }
 
 impl<K: Keeper> Register<K> {
@@ -130,28 +184,9 @@ impl<K: Keeper> Register<K> {
         ensures held_room { self.new.room.held ≡ self.old.room.held }
         ensures room_stays { KeepsRoom self.old self.new }
     {
-        let moves = K::moves(&planned.update).len() as u64;
         let recording = self.recording(alloc, command, K::moves(&planned.update))?;
         let step = self.step + 1;
-        let Planned {
-            edit,
-            demand,
-            update,
-        } = planned;
-        Ok(Change {
-            outcome: Outcome::Done {
-                step,
-                number,
-                moves,
-            },
-            next_entry,
-            edit,
-            desk,
-            demand,
-            update,
-            recording,
-            step,
-        })
+        Ok(planned.changed(step, number, next_entry, desk, recording))
     }
 
     // What becomes of the recorded moves: a command's come behind them, and there is room for these; where it ends the

@@ -448,8 +448,7 @@ fn change_desk(desk: &mut Desk, edit: Option<DeskEdit>)
     ensures { desk.new.content ≡ desk_edited edit desk.old.content }
 {
     if let Some(edit) = edit {
-        let DeskEdit { change, entry } = edit;
-        desk.install(change, entry);
+        edit.made_at(desk);
     }
 }
 
