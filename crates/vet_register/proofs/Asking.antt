@@ -1,6 +1,7 @@
 -- The answer to an action: what is judged of it, or its effect.
 use Rattle.std.proofs.Common.{◌≡◌, ◌⊎◌, ℕ, ◌<◌, ◌^◌, Bool, true, false, cond, Option, Some, None, List, [], Result, Ok}
 use Rattle.std.proofs.Common.{Err, refl, sym, ap, subst, ◌∙◌, inl, inr, arith}
+use Rattle.std.specs.Prelude.{nat_lt}
 use Rattle.std.proofs.lemmas.Bool.{ltb-false}
 use Rattle.vet_base.specs.declared.criterion.Criterion.{Criterion}
 use Rattle.vet_base.specs.declared.limits.TheConstants.{MOST_PUBLISHERS}
@@ -8,11 +9,12 @@ use Rattle.vet_base.specs.declared.refusal.Limit.TheVariants as limit
 use Rattle.vet_base.specs.declared.refusal.Refusal.{Refusal}
 use Rattle.vet_base.specs.declared.refusal.Refusal.TheVariants.{CriterionInUse, NoMemory, TooLarge, UnknownCriterion}
 use Rattle.vet_base.specs.Criteria.{IsTable}
-use Rattle.vet_base.specs.CriteriaChanges.{remove_rules, remove_verdict, set_limits, set_references, set_rules}
-use Rattle.vet_base.specs.CriteriaChanges.{set_verdict}
+use Rattle.vet_base.specs.CriteriaChanges.{remove_references, remove_rules, remove_verdict, set_limits, set_references}
+use Rattle.vet_base.specs.CriteriaChanges.{set_rules, set_verdict}
 use Rattle.vet_base.specs.Day.{DayValue}
 use Rattle.vet_base.specs.Gives.{Answers, Told, refuse_if, ◌>>=◌}
-use Rattle.vet_base.proofs.Telling.{answered, never_refuses, not_refused, refuses_too, then_told}
+use Rattle.vet_base.proofs.Telling.{never_refuses, not_refused, refuses_too, then_told}
+use Rattle.vet_desk.specs.Desk.{DeskState}
 use Rattle.vet_entries.specs.declared.publisher.Publisher.{Publisher}
 use Rattle.vet_entries.specs.declared.facts.Edit.{Edit}
 use Rattle.vet_entries.specs.Facts as facts
@@ -20,6 +22,7 @@ use Rattle.vet_entries.specs.PublisherRecords.{IsByName, records_of, records_tot
 use Rattle.vet_entries.specs.Publishers as Publishers
 use Rattle.vet_entries.specs.Publishers.{publishers_eq}
 use Rattle.vet_entries.specs.PublishersLaws.{publishers_eq-Decides}
+use Rattle.vet_register.specs.declared.change.DeskEdit.{DeskEdit}
 use Rattle.vet_register.specs.declared.change.Prepared.{Prepared}
 use Rattle.vet_register.specs.declared.command.Action.{Action}
 use Rattle.vet_register.specs.declared.command.Action.TheVariants.{RemoveCriterion, SetCriterion, SetPublishers}
@@ -29,15 +32,15 @@ use Rattle.vet_register.specs.declared.edits.Effect.{Effect}
 use Rattle.vet_register.specs.declared.verdict.Answer.{Answer}
 use Rattle.vet_register.specs.declared.verdict.Answer.TheVariants.{Already, Accepted}
 use Rattle.vet_register.specs.declared.held.HeldEdit.TheVariants as edit
-use Rattle.vet_register.specs.Held.{Fits, edited}
+use Rattle.vet_register.specs.Held.{Fits, edited, held_with}
 use Rattle.vet_register.specs.Changes.{desk_edited}
 use Rattle.vet_register.specs.Machine.{desk_by, facts_after, held_after, number_after, number_given, policies_by}
 use Rattle.vet_register.specs.Machine.{projects_by, settings_by}
-use Rattle.vet_register.specs.RegisterView.{Asks, AsksBy, AsksExactly, HoldsDesk, IsEffect, IsExact, IsExactly}
+use Rattle.vet_register.specs.RegisterView.{AsksBy, AsksExactly, HoldsDesk, IsEffect, IsExact, IsExactly}
 use Rattle.vet_register.specs.RegisterView.{RegisterView, desk_room, held_room}
 use Rattle.vet_register.specs.Sound.{ArePublishers, IsSound, IsSoundHeld}
 use Rattle.vet_register.specs.State.{State}
-use Rattle.vet_register.specs.Verdict.{is_used, judged, publisher_limit, step_limit, wants_memory}
+use Rattle.vet_register.specs.Verdict.{is_used, judged, publisher_limit, step_limit}
 use Rattle.vet_register.proofs.Effects.{IsGivenContent, passed}
 use Rattle.vet_register.proofs.HeldEffects.{sound_held}
 use Rattle.vet_register.proofs.Publishing.{are_publishers}
@@ -45,9 +48,9 @@ use Rattle.vet_register.proofs.Publishing.{are_publishers}
 -- ---- answers
 
 -- of what is accepted nothing is asked before its moves are known
-pub accepted_exact : {K U : Type 0} (s : State) (a : Action) (t : Told Answer)
-    (answer : Result (Prepared K U) Refusal) → t ≡ Ok Accepted → IsExact (wants_memory s a) t answer
-accepted_exact {K} {U} s a t answer told = by (wants_memory s a)
+pub accepted_exact : {K U : Type 0} (wants : Bool) (t : Told Answer) (answer : Result (Prepared K U) Refusal)
+    → t ≡ Ok Accepted → IsExact wants t answer
+accepted_exact {K} {U} wants t answer told = by wants
   where
     accepted_so : IsExactly t answer
     accepted_so = rw told tt
@@ -56,14 +59,17 @@ accepted_exact {K} {U} s a t answer told = by (wants_memory s a)
     by true = inr accepted_so
     by false = accepted_so
 
+-- the desk stays where nothing is edited there. Lemmas that combine paths have variables for all that a command makes
+-- of a state: antt writes out what it finds for an implicit argument, and there that is a case for each command.
+desk_stays : (o : Option DeskEdit) (desk after : DeskState) → o ≡ None → after ≡ desk → desk_edited o desk ≡ after
+desk_stays o desk after none stays = ap (λ x. desk_edited x desk) none ∙ sym stays
+
 module _ {K : Type 0} (r : RegisterView K) (day : DayValue) (a : Action) where
   -- what is answered exactly may be answered
-  pub exactly : (s : State) (t : Told Answer) (x : Result Asked Refusal) → AsksExactly r day a t x → Asks s r day a t x
-  exactly s t x h = by (wants_memory s a)
-    where
-      by : (wants : Bool) → AsksBy wants r day a t x
-      by true = inr h
-      by false = h
+  pub exactly : (wants : Bool) (t : Told Answer) (x : Result Asked Refusal) → AsksExactly r day a t x
+      → AsksBy wants r day a t x
+  exactly true t x h = inr h
+  exactly false t x h = h
 
   -- a refusal is passed on
   pub refused : (t : Told Answer) (f : Refusal) → Answers t (Err f) → AsksExactly r day a t (Err f)
@@ -86,14 +92,11 @@ module _ {K : Type 0} (r : RegisterView K) (day : DayValue) (a : Action) where
   accepted_exactly (Ok Accepted) e h = (refl, h)
 
   -- what has an effect was accepted
-  pub accepted : (s : State) (t : Told Answer) (e : Effect) → Asks s r day a t (Ok (asked.Effect e)) →
-      (t ≡ Ok Accepted) × IsEffect r day a e
-  accepted s t e h = by (wants_memory s a) h
-    where
-      by : (wants : Bool) → AsksBy wants r day a t (Ok (asked.Effect e)) → (t ≡ Ok Accepted) × IsEffect r day a e
-      by true (inl lacks) = cc lacks
-      by true (inr h) = accepted_exactly t e h
-      by false h = accepted_exactly t e h
+  pub accepted : (wants : Bool) (t : Told Answer) (e : Effect) → AsksBy wants r day a t (Ok (asked.Effect e))
+      → (t ≡ Ok Accepted) × IsEffect r day a e
+  accepted true t e (inl lacks) = cc lacks
+  accepted true t e (inr h) = accepted_exactly t e h
+  accepted false t e h = accepted_exactly t e h
 
   told_exactly : {B : Type 0} (t : Told Answer) (then : Answer → Told B) (f : Refusal) → AsksExactly r day a t (Err f)
       → (f ≡ NoMemory) ⊎ ((t >>= then) ≡ Err f)
@@ -104,14 +107,11 @@ module _ {K : Type 0} (r : RegisterView K) (day : DayValue) (a : Action) where
   told_exactly (Ok Accepted) then f h = inl h
 
   -- what is refused was refused by the verdict, or for want of memory
-  pub refusal_told : {B : Type 0} (s : State) (t : Told Answer) (then : Answer → Told B) (f : Refusal) → Asks s r day
-      a t (Err f) → (f ≡ NoMemory) ⊎ ((t >>= then) ≡ Err f)
-  refusal_told {B} s t then f h = by (wants_memory s a) h
-    where
-      by : (wants : Bool) → AsksBy wants r day a t (Err f) → (f ≡ NoMemory) ⊎ ((t >>= then) ≡ Err f)
-      by true (inl lacks) = inl (cc lacks)
-      by true (inr h) = told_exactly t then f h
-      by false h = told_exactly t then f h
+  pub refusal_told : {B : Type 0} (wants : Bool) (t : Told Answer) (then : Answer → Told B) (f : Refusal)
+      → AsksBy wants r day a t (Err f) → (f ≡ NoMemory) ⊎ ((t >>= then) ≡ Err f)
+  refusal_told true t then f (inl lacks) = inl (cc lacks)
+  refusal_told true t then f (inr h) = told_exactly t then f h
+  refusal_told false t then f h = told_exactly t then f h
 
   exact_exactly : (U : Type 0) (t : Told Answer) (f : Refusal) → AsksExactly r day a t (Err f) → IsExactly {K = K}
       {U = U} t (Err f)
@@ -120,14 +120,11 @@ module _ {K : Type 0} (r : RegisterView K) (day : DayValue) (a : Action) where
   exact_exactly U (Ok Accepted) f h = tt
 
   -- and before moves are known, exactly so
-  pub refusal_exact : (s : State) (U : Type 0) (t : Told Answer) (f : Refusal) → Asks s r day a t (Err f) → IsExact
-      {K = K} {U = U} (wants_memory s a) t (Err f)
-  refusal_exact s U t f h = by (wants_memory s a) h
-    where
-      by : (wants : Bool) → AsksBy wants r day a t (Err f) → IsExact {K = K} {U = U} wants t (Err f)
-      by true (inl lacks) = inl (ap Err (cc lacks))
-      by true (inr h) = inr (exact_exactly U t f h)
-      by false h = exact_exactly U t f h
+  pub refusal_exact : (wants : Bool) (U : Type 0) (t : Told Answer) (f : Refusal) → AsksBy wants r day a t (Err f)
+      → IsExact {K = K} {U = U} wants t (Err f)
+  refusal_exact true U t f (inl lacks) = inl (ap Err (cc lacks))
+  refusal_exact true U t f (inr h) = inr (exact_exactly U t f h)
+  refusal_exact false U t f h = exact_exactly U t f h
 
   -- the effect of what is accepted in a state that stays, if what is held after it is sound
   pub effect_is : (s : State) (e : Effect) → r.state ≡ s → edited e.edit s.held ≡ held_after s a
@@ -135,44 +132,38 @@ module _ {K : Type 0} (r : RegisterView K) (day : DayValue) (a : Action) where
       → Fits e.edit (held_room r) → HoldsDesk e.desk (desk_room r) → IsSoundHeld (held_after s a) (number_after s a) →
       IsEffect r day a e
   effect_is s e stays held desk number next fits holds sound =
-      let same : s ≡ r.state = sym stays in
-      record {
-        held = subst (λ (t : State). edited e.edit t.held ≡ held_after t a) same held;
-        desk = subst (λ (t : State). desk_edited e.desk t.desk ≡ desk_by t day a) same desk;
-        number = subst (λ (t : State). e.number ≡ number_given t a) same number;
-        next_entry = subst (λ (t : State). e.next_entry ≡ number_after t a) same next;
-        sound = subst (λ (t : State). IsSoundHeld (held_after t a) (number_after t a)) same sound;
-        fits = fits;
-        holds = holds;
-      }
+      subst (λ (t : State). IsEffect (record { state = t; keeper = r.keeper; room = r.room }) day a e) (sym stays)
+      (record {
+        held = held;
+        desk = desk;
+        number = number;
+        next_entry = next;
+        sound = sound;
+        fits = subst (λ (t : State). Fits e.edit (held_with t.held r.room.held)) stays fits;
+        holds = subst (λ (t : State). HoldsDesk e.desk (record { content = t.desk; room = r.room.desk })) stays holds;
+      })
 
   -- that of an edit of what is held, where the desk stays
   pub held_effect : (s : State) (e : Effect) → r.state ≡ s → edited e.edit s.held ≡ held_after s a
       → e.desk ≡ None → desk_by s day a ≡ s.desk → e.number ≡ number_given s a → e.next_entry ≡ number_after s a
       → Fits e.edit (held_room r) → IsSoundHeld (held_after s a) (number_after s a) → IsEffect r day a e
   held_effect s e stays held none desk number next fits sound =
-      effect_is s e stays held (ap (λ o. desk_edited o s.desk) none ∙ sym desk) number next fits
+      effect_is s e stays held (desk_stays e.desk s.desk (desk_by s day a) none desk) number next fits
       (subst (λ o. HoldsDesk o (desk_room r)) (sym none) tt) sound
 
   -- that of an edit of facts, where all else stays, if criteria and publisher records are sound after it
   pub facts_effect : (s : State) (change : Edit) (number : Option ℕ) (next : ℕ) → r.state ≡ s → IsSound s → judged s
       day a ≡ Ok Accepted
-      → IsGivenContent a → facts.edited change s.held.facts ≡ facts_after s a → policies_by a s.held.policies ≡
-      s.held.policies
-      → projects_by a s.held.projects ≡ s.held.projects → settings_by a s.held.settings ≡ s.held.settings → desk_by s
-      day a ≡ s.desk → number ≡ number_given s a → next ≡ number_after s a → facts.Fits change (held_room r).facts
+      → IsGivenContent a → facts.edited change s.held.facts ≡ facts_after s a
+      → s.held.policies ≡ policies_by a s.held.policies → s.held.projects ≡ projects_by a s.held.projects
+      → s.held.settings ≡ settings_by a s.held.settings → desk_by s day a ≡ s.desk → number ≡ number_given s a → next ≡ number_after s a → facts.Fits change (held_room r).facts
       → IsTable (facts_after s a).criteria → ArePublishers (facts_after s a).publishers
       → IsEffect r day a (record { edit = edit.Facts change; desk = None; number = number; next_entry = next })
   facts_effect s change number next stays sound told given becomes policies projects settings desk numbered follows
       fits is are =
       held_effect s (record { edit = edit.Facts change; desk = None; number = number; next_entry = next }) stays
-      (λ i. record {
-        facts = becomes i;
-        policies = sym policies i;
-        projects = sym projects i;
-        settings = sym settings
-            i;
-      }) refl desk numbered follows fits
+      (λ i. record { facts = becomes i; policies = policies i; projects = projects i; settings = settings i }) refl
+      desk numbered follows fits
       (sound_held s day a told sound given is are)
 
 -- ---- what was passed
@@ -181,14 +172,22 @@ module _ {K : Type 0} (r : RegisterView K) (day : DayValue) (a : Action) where
 pub some_day : DayValue
 some_day = record { year = 0; month = 1; day = 1 }
 
+-- what is told in parts, each of which refuses nothing
+both_told : (t u : Told (Unit {0})) → t ≡ Ok tt → u ≡ Ok tt → (t >>= λ _. u) ≡ Ok tt
+both_told t u first last = ap (λ x. x >>= λ _. u) first ∙ last
+
+all_told : (t u v : Told (Unit {0})) → t ≡ Ok tt → u ≡ Ok tt → v ≡ Ok tt → (t >>= λ _. u >>= λ _. v) ≡ Ok tt
+all_told t u v first second last =
+    ap (λ x. x >>= λ _. u >>= λ _. v) first ∙ ap (λ x. x >>= λ _. v) second ∙ last
+
 -- a criterion that is set passes all that the table asks
 pub set_passed : (s : State) (day : DayValue) (c : Criterion) → judged s day (SetCriterion c) ≡ Ok Accepted →
     set_verdict s.held.facts.criteria c ≡ Ok tt
 set_passed s day c told =
     let p = passed s day (SetCriterion c) told in
     let l = then_told (set_limits s.held.facts.criteria c.name) (λ _. step_limit s) tt p.limits in
-    ap (λ t. t >>= λ _. set_references s.held.facts.criteria c >>= λ _. set_rules c.name) l.0 ∙ ap
-    (λ t. t >>= λ _. set_rules c.name) p.references ∙ p.rules
+    all_told (set_limits s.held.facts.criteria c.name) (set_references s.held.facts.criteria c) (set_rules c.name) l.0
+    p.references p.rules
 
 -- so does the name of one that is removed
 pub remove_passed : (s : State) (day : DayValue) (n : List ℕ) → judged s day (RemoveCriterion n) ≡ Ok Accepted →
@@ -196,7 +195,24 @@ pub remove_passed : (s : State) (day : DayValue) (n : List ℕ) → judged s day
 remove_passed s day n told =
     let p = passed s day (RemoveCriterion n) told in
     let u = then_told (remove_rules s.held.facts.criteria n) (λ _. refuse_if (is_used s n) CriterionInUse) tt p.rules in
-    ap (λ t. t >>= λ _. remove_rules s.held.facts.criteria n) p.references ∙ u.0
+    both_told (remove_references s.held.facts.criteria n) (remove_rules s.held.facts.criteria n) p.references u.0
+
+abbrev nothing : Option (Option ℕ)
+nothing = None
+
+-- records that are set are not as those held where both are none
+differ : (held records : List Publisher) → held ≡ [] → records ≡ []
+    → cond (publishers_eq held records) (Some None) nothing ≡ nothing → ⊥
+differ held records none no_new h = by (publishers_eq held records) ((publishers_eq-Decides held records).1
+    (none ∙ sym no_new)) h
+  where
+    by : (b : Bool) → b ≡ true → cond b (Some None) nothing ≡ nothing → ⊥
+    by true e h = cc h
+    by false e h = cc e
+
+-- what is within the limit of publisher records can be counted
+counted : (n : ℕ) → nat_lt MOST_PUBLISHERS n ≡ false → n < 2 ^ 64
+counted n few = omega (arith, ltb-false MOST_PUBLISHERS n few)
 
 module _ (s : State) (day : DayValue) (name : List ℕ) (records : List Publisher)
     (told : judged s day (SetPublishers name records) ≡ Ok Accepted) where
@@ -206,11 +222,9 @@ module _ (s : State) (day : DayValue) (name : List ℕ) (records : List Publishe
 
   -- publisher records that are set can be counted
   pub records_counted : records_total (with_records name records s.held.facts.publishers) < 2 ^ 64
-  records_counted = omega (
-    arith,
-    ltb-false MOST_PUBLISHERS (records_total (with_records name records s.held.facts.publishers))
-        (not_refused _ (TooLarge limit.Publishers) limited),
-  )
+  records_counted = counted (records_total (with_records name records s.held.facts.publishers))
+      (not_refused (nat_lt MOST_PUBLISHERS (records_total (with_records name records s.held.facts.publishers)))
+      (TooLarge limit.Publishers) limited)
 
   -- they are sound
   pub records_sound : ArePublishers s.held.facts.publishers → Publishers.IsInOrder records → IsByName
@@ -220,13 +234,5 @@ module _ (s : State) (day : DayValue) (name : List ℕ) (records : List Publishe
 
   -- and others than those held
   pub records_differ : records_of s.held.facts.publishers name ≡ [] → records ≡ [] → ⊥
-  records_differ none no_new =
-      differs (publishers_eq (records_of s.held.facts.publishers name) records)
-      ((publishers_eq-Decides _ _).1 (none ∙ sym no_new)) (passed s day (SetPublishers name records) told).held
-    where
-      nothing : Option (Option ℕ)
-      nothing = None
-
-      differs : (b : Bool) → b ≡ true → cond b (Some None) nothing ≡ nothing → ⊥
-      differs true e h = cc h
-      differs false e h = cc e
+  records_differ none no_new = differ (records_of s.held.facts.publishers name) records none no_new
+      (passed s day (SetPublishers name records) told).held

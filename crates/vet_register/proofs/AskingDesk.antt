@@ -25,7 +25,7 @@ use Rattle.vet_register.specs.RegisterView.{desk_room}
 use Rattle.vet_register.specs.Sound.{ArePublishers, IsSound}
 use Rattle.vet_register.specs.State.{State, demanded}
 use Rattle.vet_register.specs.Verdict.{asked_before, checked, entry_limits, held_or, judged, limits, limits_after_rules}
-use Rattle.vet_register.specs.Verdict.{references, step_before_rules}
+use Rattle.vet_register.specs.Verdict.{references, step_before_rules, wants_memory}
 use Rattle.vet_register.proofs.Asking.{exactly, no_memory, refused}
 use Rattle.vet_register.proofs.Effects.{passes_desk}
 use Rattle.vet_register.proofs.HeldEffects.{same_criteria, same_publishers, sound_held}
@@ -109,7 +109,7 @@ module _ {K : Type 0} (r : RegisterView K) (s : State) (day : DayValue) (command
   refused_before f h =
       let told = refused_first (asked_before s command >>= λ _. limits_after_rules s command) (λ _. Ok Accepted) f
       (refused_first (asked_before s command) (λ _. limits_after_rules s command) f h) in
-      exactly r day (Desk command) s (judged s day (Desk command)) (Err f)
+      exactly r day (Desk command) (wants_memory s (Desk command)) (judged s day (Desk command)) (Err f)
       (refused r day (Desk command) (judged s day (Desk command)) f
       (subst (λ (t : Told Answer). Answers t (Err f)) (sym (judged_in_turn s command day new)) told))
 
@@ -134,7 +134,7 @@ module _ {K : Type 0} (r : RegisterView K) (s : State) (day : DayValue) (command
     refused_last f (inr told) =
         let is : judged s day (Desk command) ≡ Err f = judged_after s command day new passed ∙ ap
         (λ t. t >>= λ _. Ok Accepted) told in
-        exactly r day (Desk command) s (judged s day (Desk command)) (Err f)
+        exactly r day (Desk command) (wants_memory s (Desk command)) (judged s day (Desk command)) (Err f)
         (refused r day (Desk command) (judged s day (Desk command)) f
         (answers_itself (judged s day (Desk command)) (Err f) (sym is)))
 

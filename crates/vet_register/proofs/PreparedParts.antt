@@ -1,15 +1,17 @@
 -- What the parts of a preparation leave, one after the other.
-use Rattle.std.proofs.Common.{◌≡◌, ap, subst, ◌∙◌, Ok}
+use Rattle.std.proofs.Common.{◌≡◌, Bool, subst, ◌∙◌, Ok}
+use Rattle.vet_base.specs.Gives.{Told}
 use Rattle.vet_graph.specs.Keeping.{Keeping}
 use Rattle.vet_register.specs.declared.command.Command.{Command}
 use Rattle.vet_register.specs.declared.edits.Asked.{Asked}
 use Rattle.vet_register.specs.declared.edits.Asked.TheVariants as asked
 use Rattle.vet_register.specs.declared.edits.Effect.{Effect}
+use Rattle.vet_register.specs.declared.verdict.Answer.{Answer}
 use Rattle.vet_register.specs.declared.verdict.Answer.TheVariants.{Accepted}
 use Rattle.vet_register.specs.Held.{HeldEditsFit}
-use Rattle.vet_register.specs.RegisterView.{Asks, IsEffect, KeepsPrepared, KeepsReady, KeepsRoom, RegisterView}
+use Rattle.vet_register.specs.RegisterView.{Asks, AsksBy, IsEffect, KeepsPrepared, KeepsReady, KeepsRoom, RegisterView}
 use Rattle.vet_register.specs.State.{State}
-use Rattle.vet_register.specs.Verdict.{judged}
+use Rattle.vet_register.specs.Verdict.{judged, wants_memory}
 use Rattle.vet_register.proofs.Asking.{accepted}
 use Rattle.vet_register.proofs.AskingDesk.{room_onward}
 use Rattle.vet_register.proofs.Prepared.{prepared_stays, same_keeper}
@@ -18,9 +20,12 @@ use Rattle.vet_register.proofs.Prepared.{prepared_stays, same_keeper}
 pub effect_of : {K : Type 0} {r : RegisterView K} (s : State) (c : Command) {x : Asked} {e : Effect}
     → x ≡ asked.Effect e → Asks s r c.day c.action (judged s c.day c.action) (Ok x)
     → (judged s c.day c.action ≡ Ok Accepted) × IsEffect r c.day c.action e
-effect_of {r = r} s c {x = x} {e = e} is asks =
-    accepted r c.day c.action s (judged s c.day c.action) e
-    (subst (Asks s r c.day c.action (judged s c.day c.action)) (ap Ok is) asks)
+effect_of {r = r} s c {x = x} {e = e} is asks = by (wants_memory s c.action) (judged s c.day c.action) asks
+  where
+    by : (wants : Bool) (t : Told Answer) → AsksBy wants r c.day c.action t (Ok x)
+        → (t ≡ Ok Accepted) × IsEffect r c.day c.action e
+    by wants t asks =
+        accepted r c.day c.action wants t e (subst (λ (y : Asked). AsksBy wants r c.day c.action t (Ok y)) is asks)
 
 -- no room is lost by three things, one after another, that each lose none
 pub rooms_onward : {K : Type 0} (a b c d : RegisterView K) → KeepsRoom a b → KeepsRoom b c → KeepsRoom c d

@@ -2,8 +2,8 @@ use Rattle.std.proofs.Common.{◌∙◌, ◌++◌, ◌∷◌, ◌<◌, [], refl,
 use Rattle.std.specs.List.{All}
 use Rattle.std.proofs.lemmas.Result.{err_from_is_err_and}
 use Rattle.vet_register.specs.declared.command.Action.TheVariants as action
-use Rattle.vet_register.proofs.Asking.{no_memory}
-use Rattle.vet_register.proofs.AskingEdits.{accepts, facts_asks, passed_on}
+use Rattle.vet_register.proofs.Asking.{effective, no_memory}
+use Rattle.vet_register.proofs.AskingEdits.{accepts, of_facts_is, passed_on}
 use Rattle.vet_register.proofs.register.Register.add_entry.Goals as goal
 
 pub returns-in_err-number-clause-asked : goal.returns-in_err-number-clause-asked
@@ -21,11 +21,12 @@ returns-clause-asked g c =
     let was = c.self.inside.held.facts.content in
     let sound = c.self.invariant.1.held.facts in
     let added = c.in_ok-edit_adding.ensures in
-    facts_asks c.self.view_is c.self.invariant.1 c.args.day (action.AddEntry c.args.entry.now) tt
-    (accepts c.in_ok-number.ensures c.in_default.is) refl _
+    let asks = action.AddEntry c.args.entry.now in
+    let told = accepts c.in_ok-number.ensures c.in_default.is in
+    effective _ c.args.day asks _ _ told (of_facts_is c.self.view_is c.self.invariant.1 c.args.day asks tt told refl _
     (added.edit ∙ (λ i. record was {
       entries = was.entries ++ (record { number = c.self.inside.next_entry; entry = c.in_ok-own.ensures i }) ∷ [];
-    })) sound.criteria sound.publishers _ _ _ _ _ added.content refl refl refl added.fits
+    })) sound.criteria sound.publishers _ _ _ _ _ added.content refl refl refl added.fits)
 
 pub edit_adding-requires : goal.edit_adding-requires
 edit_adding-requires g c = c.self.invariant.1.held.facts.entries.numbers_given

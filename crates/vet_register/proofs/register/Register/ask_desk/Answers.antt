@@ -7,7 +7,7 @@ use Rattle.vet_register.specs.declared.verdict.Answer.TheVariants.{Accepted}
 use Rattle.vet_register.specs.RegisterView.{RegisterView, desk_room}
 use Rattle.vet_register.specs.Sound.{IsSound}
 use Rattle.vet_register.specs.State.{State}
-use Rattle.vet_register.specs.Verdict.{asked_before, judged, limits_after_rules}
+use Rattle.vet_register.specs.Verdict.{asked_before, judged, limits_after_rules, wants_memory}
 use Rattle.vet_base.proofs.Telling.{answered}
 use Rattle.vet_register.proofs.Asking.{effective, exactly}
 use Rattle.vet_register.proofs.AskingDesk.{accepted_after, desk_effective, refused_before, refused_last, room_onward}
@@ -57,7 +57,7 @@ returns-clause-asked g c =
     c.desk_effect.ensures.room_stays.1.1 c.args.day command c.in_ok-change.change c.in_ok-change.ensures.change in
     let is = desk_effective c.desk_effect.new.self state c.args.day command c.in_ok-change.change c.in_ok-effect.effect
     (c.desk_effect.ensures.state ∙ c.desk_change.ensures.state) sound told prepared c.in_ok-effect.ensures.effect in
-    exactly _ _ _ state _ _ (effective _ _ _ _ _ told is)
+    exactly _ _ _ (wants_memory state (action.Desk command)) _ _ (effective _ _ _ _ _ told is)
 
 pub returns-clause-room_stays : goal.returns-clause-room_stays
 returns-clause-room_stays g c = room_onward c.args.self.now c.desk_change.new.self c.desk_effect.new.self

@@ -2,8 +2,8 @@ use Rattle.std.proofs.Common.{ap, refl, None}
 use Rattle.vet_register.specs.declared.command.Action.TheVariants as action
 use Rattle.vet_register.specs.Verdict.{held_or}
 use Rattle.vet_base.proofs.Telling.{answered}
-use Rattle.vet_register.proofs.Asking.{some_day}
-use Rattle.vet_register.proofs.AskingEdits.{facts_asks_still, none_given, state_before, told_before}
+use Rattle.vet_register.proofs.Asking.{effective, some_day}
+use Rattle.vet_register.proofs.AskingEdits.{none_given, of_facts_is_still, state_before, told_before}
 use Rattle.vet_register.proofs.Imports.{drop_held}
 use Rattle.vet_register.proofs.register.Register.drop_peer.Goals as goal
 
@@ -11,9 +11,10 @@ pub returns-clause-asked : goal.returns-clause-asked
 returns-clause-asked g c day =
     let sound = c.self.invariant.1.held.facts in
     let made = c.edit_dropping_peer.ensures in
-    facts_asks_still c.self.view_is c.self.invariant.1 day (action.DropPeer c.args.name.now) tt
-    (ap (held_or None) (answered _ _ (c.in_ok-judge_peer_drop.ensures day))) refl _ made.edit sound.criteria
-    sound.publishers _ _ refl refl (none_given refl) made.fits
+    let asks = action.DropPeer c.args.name.now in
+    let told = ap (held_or None) (answered _ _ (c.in_ok-judge_peer_drop.ensures day)) in
+    effective _ day asks _ _ told (of_facts_is_still c.self.view_is c.self.invariant.1 day asks tt told refl _ made.edit
+    sound.criteria sound.publishers _ _ refl refl (none_given refl) made.fits)
 
 pub edit_dropping_peer-requires : goal.edit_dropping_peer-requires
 edit_dropping_peer-requires g c =

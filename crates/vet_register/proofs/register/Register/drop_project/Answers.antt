@@ -2,16 +2,17 @@ use Rattle.std.proofs.Common.{ap, refl, None}
 use Rattle.vet_register.specs.declared.command.Action.TheVariants as action
 use Rattle.vet_register.specs.Verdict.{held_or}
 use Rattle.vet_base.proofs.Telling.{answered}
-use Rattle.vet_register.proofs.Asking.{some_day}
-use Rattle.vet_register.proofs.AskingEdits.{plain_asks_still, state_before, told_before}
+use Rattle.vet_register.proofs.Asking.{effective, some_day}
+use Rattle.vet_register.proofs.AskingEdits.{plain_is_still, state_before, told_before}
 use Rattle.vet_register.proofs.HeldEffects.{project_held}
 use Rattle.vet_register.proofs.register.Register.drop_project.Goals as goal
 
 pub returns-clause-asked : goal.returns-clause-asked
 returns-clause-asked g c day =
-    plain_asks_still c.self.view_is c.self.invariant.1 day (action.DropProject c.args.name.now) tt
-    (ap (held_or None) (answered _ _ (c.in_ok-judge_project_drop.ensures day))) _ refl
-    c.edit_dropping_project.ensures.edit c.edit_dropping_project.ensures.fits
+    let asks = action.DropProject c.args.name.now in
+    let told = ap (held_or None) (answered _ _ (c.in_ok-judge_project_drop.ensures day)) in
+    effective _ day asks _ _ told (plain_is_still c.self.view_is c.self.invariant.1 day asks tt told _ refl
+    c.edit_dropping_project.ensures.edit c.edit_dropping_project.ensures.fits)
 
 pub edit_dropping_project-requires : goal.edit_dropping_project-requires
 edit_dropping_project-requires g c =

@@ -9,7 +9,7 @@ use Rattle.vet_register.specs.RegisterView.{HoldsDesk, IsStep, desk_room, held_r
 use Rattle.vet_graph.specs.Moves.{moves_between}
 use Rattle.vet_register.specs.State.{State, demanded, standing}
 use Rattle.vet_register.specs.Sound.{IsSoundHeld}
-use Rattle.vet_register.specs.Verdict.{judged, step_limit}
+use Rattle.vet_register.specs.Verdict.{judged, step_limit, wants_memory}
 use Rattle.vet_register.proofs.Asking.{accepted_exact, refusal_exact, refusal_told}
 use Rattle.vet_register.proofs.AskingDesk.{room_onward}
 use Rattle.vet_register.proofs.Effects.{passed, step_passed}
@@ -21,12 +21,14 @@ use Rattle.vet_register.proofs.register.Register.prepare.Goals as goal
 pub returns-in_err-number-clause-told : goal.returns-in_err-number-clause-told
 returns-in_err-number-clause-told g c =
     let passed = err_from_is_err_and c.from_residual.result c.from_residual.ensures.1 in
-    rw (passed.1, passed.2) (refusal_told _ _ _ c.args.self.now.state _ _ _ c.in_err-number.ensures.asked)
+    rw (passed.1, passed.2) (refusal_told _ _ _
+    (wants_memory c.args.self.now.state c.args.command.now.action) _ _ _ c.in_err-number.ensures.asked)
 
 pub returns-in_err-number-clause-exact : goal.returns-in_err-number-clause-exact
 returns-in_err-number-clause-exact g c =
     let passed = err_from_is_err_and c.from_residual.result c.from_residual.ensures.1 in
-    rw (passed.1, passed.2) (refusal_exact _ _ _ c.args.self.now.state _ _ _ c.in_err-number.ensures.asked)
+    rw (passed.1, passed.2) (refusal_exact _ _ _
+    (wants_memory c.args.self.now.state c.args.command.now.action) _ _ _ c.in_err-number.ensures.asked)
 
 pub change-requires-clause-step : goal.change-requires-clause-step
 change-requires-clause-step g c =
@@ -58,7 +60,8 @@ returns-in_err-change-in-Effect-clause-told g c =
     (c.plan.ensures.state ∙ c.asked_by.ensures.state) asks.0 c.in_err-change-in-Effect.ensures.told)
 
 pub returns-in_err-change-in-Effect-clause-exact : goal.returns-in_err-change-in-Effect-clause-exact
-returns-in_err-change-in-Effect-clause-exact g c = accepted_exact c.args.self.now.state c.args.command.now.action _
+returns-in_err-change-in-Effect-clause-exact g c = accepted_exact
+    (wants_memory c.args.self.now.state c.args.command.now.action) _
     c.from_residual-in_err-change-in-Effect.result
     (effect_of c.args.self.now.state c.args.command.now c.in-Effect.is c.in_ok-number.ensures.asked).0
 
@@ -70,7 +73,8 @@ returns-in_ok-change-in-Effect-clause-told g c =
     c.in_ok-change-in-Effect.ensures.told
 
 pub returns-in_ok-change-in-Effect-clause-exact : goal.returns-in_ok-change-in-Effect-clause-exact
-returns-in_ok-change-in-Effect-clause-exact g c = accepted_exact c.args.self.now.state c.args.command.now.action _ _
+returns-in_ok-change-in-Effect-clause-exact g c = accepted_exact
+    (wants_memory c.args.self.now.state c.args.command.now.action) _ _
     (effect_of c.args.self.now.state c.args.command.now c.in-Effect.is c.in_ok-number.ensures.asked).0
 
 pub returns-in_ok-change-in-Effect-clause-prepared : goal.returns-in_ok-change-in-Effect-clause-prepared

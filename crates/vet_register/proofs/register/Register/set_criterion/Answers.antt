@@ -3,8 +3,8 @@ use Rattle.std.specs.FinMap as map
 use Rattle.vet_base.specs.Criteria.{IsTable}
 use Rattle.vet_base.specs.CriteriaChanges.{set_verdict}
 use Rattle.vet_register.specs.declared.command.Action.TheVariants as action
-use Rattle.vet_register.proofs.Asking.{some_day, set_passed}
-use Rattle.vet_register.proofs.AskingEdits.{accepts, facts_asks_still, none_given, passed_on, state_before, told_before}
+use Rattle.vet_register.proofs.Asking.{effective, some_day, set_passed}
+use Rattle.vet_register.proofs.AskingEdits.{accepts, none_given, of_facts_is_still, passed_on, state_before, told_before}
 use Rattle.vet_register.proofs.register.Register.set_criterion.Goals as goal
 
 pub returns-in_err-number-clause-asked : goal.returns-in_err-number-clause-asked
@@ -25,7 +25,8 @@ returns-clause-asked g c day =
     let facts = c.self.inside.held.facts.content in
     let made = c.edit_of_criteria.ensures in
     let table = c.in_ok-table.ensures.ok ∙ ap (λ t. map.insert t criterion.name criterion) c.criteria.ensures.value in
-    facts_asks_still c.self.view_is c.self.invariant.1 day (action.SetCriterion criterion) tt
-    (accepts (c.in_ok-number.ensures day) c.in_default.is) refl _ (made.edit ∙ λ i. record facts { criteria = table i })
-    (subst IsTable table c.in_ok-table.ensures.table) c.self.invariant.1.held.facts.publishers
-    _ _ refl refl (none_given refl) made.fits
+    let asks = action.SetCriterion criterion in
+    let told = accepts (c.in_ok-number.ensures day) c.in_default.is in
+    effective _ day asks _ _ told (of_facts_is_still c.self.view_is c.self.invariant.1 day asks tt told refl _
+    (made.edit ∙ λ i. record facts { criteria = table i }) (subst IsTable table c.in_ok-table.ensures.table)
+    c.self.invariant.1.held.facts.publishers _ _ refl refl (none_given refl) made.fits)

@@ -1,7 +1,8 @@
 use Rattle.std.proofs.Common.{◌∙◌, ap, refl}
 use Rattle.vet_entries.specs.HeldPeer.{with_settings}
 use Rattle.vet_register.specs.declared.command.Action.TheVariants as action
-use Rattle.vet_register.proofs.AskingEdits.{accepts, facts_asks, none_given, passed_on}
+use Rattle.vet_register.proofs.Asking.{effective}
+use Rattle.vet_register.proofs.AskingEdits.{accepts, none_given, of_facts_is, passed_on}
 use Rattle.vet_register.proofs.register.Register.set_peer.Goals as goal
 
 pub returns-in_err-number-clause-asked : goal.returns-in_err-number-clause-asked
@@ -13,7 +14,8 @@ returns-clause-asked g c day =
     let was = c.self.inside.held.facts.content in
     let sound = c.self.invariant.1.held.facts in
     let set = c.in_ok-edit_of_settings.ensures in
-    facts_asks c.self.view_is c.self.invariant.1 day (action.SetPeer c.args.settings.now) tt
-    (accepts (c.in_ok-number.ensures day) c.in_default.is) refl _
+    let asks = action.SetPeer c.args.settings.now in
+    let told = accepts (c.in_ok-number.ensures day) c.in_default.is in
+    effective _ day asks _ _ told (of_facts_is c.self.view_is c.self.invariant.1 day asks tt told refl _
     (set.edit ∙ (λ i. record was { peers = with_settings (c.in_ok-copy.ensures.cases i) was.peers }))
-    sound.criteria sound.publishers _ _ _ _ _ set.content refl refl (none_given refl) set.fits
+    sound.criteria sound.publishers _ _ _ _ _ set.content refl refl (none_given refl) set.fits)

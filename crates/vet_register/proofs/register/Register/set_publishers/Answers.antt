@@ -1,8 +1,8 @@
 use Rattle.std.proofs.Common.{refl, subst}
 use Rattle.vet_entries.specs.PublisherRecords.{IsByName, with_records}
 use Rattle.vet_register.specs.declared.command.Action.TheVariants as action
-use Rattle.vet_register.proofs.Asking.{some_day, records_counted, records_differ, records_sound}
-use Rattle.vet_register.proofs.AskingEdits.{accepts, facts_asks, none_given, state_before, told_before}
+use Rattle.vet_register.proofs.Asking.{effective, some_day, records_counted, records_differ, records_sound}
+use Rattle.vet_register.proofs.AskingEdits.{accepts, none_given, of_facts_is, state_before, told_before}
 use Rattle.vet_register.proofs.register.Register.set_publishers.Goals as goal
 
 pub publishers_edit-requires-clause-some : goal.publishers_edit-requires-clause-some
@@ -27,5 +27,5 @@ returns-clause-asked g c day =
     let are = records_sound (state_before c.self.view_is) day c.args.«package».now c.args.publishers.now
     (told_before c.self.view_is day asks told) sound.publishers ordered.in_order ordered.by_name in
     let set = c.in_ok-publishers_edit.ensures in
-    facts_asks c.self.view_is c.self.invariant.1 day asks tt told refl _ set.edit sound.criteria are _ _ _ _ _
-    set.content refl refl (none_given refl) set.fits
+    effective _ day asks _ _ told (of_facts_is c.self.view_is c.self.invariant.1 day asks tt told refl _ set.edit
+    sound.criteria are _ _ _ _ _ set.content refl refl (none_given refl) set.fits)
