@@ -283,9 +283,8 @@ impl<K: Keeper> Register<K> {
         if let Answer::Already(number) = self.judge_policy(policy)? {
             return Ok(Asked::Already(number));
         }
-        let copy = policy.clone()?;
         Ok(Asked::Effect(Effect {
-            edit: self.held.edit_of_policy(copy)?,
+            edit: self.held.edit_of_policy(policy)?,
             desk: None,
             number: None,
             next_entry: self.next_entry,

@@ -120,10 +120,10 @@ impl Held {
         })
     }
 
-    /// The edit that sets the policy of its key, and room for it. Refused: `NoMemory`, and never where the key is held.
-    pub(crate) fn edit_of_policy(&mut self, policy: KeyedPolicy) -> Result<HeldEdit, Refusal>
+    /// The edit that sets a copy of a policy under its key, and room for it. Refused: `NoMemory`.
+    pub(crate) fn edit_of_policy(&mut self, policy: &KeyedPolicy) -> Result<HeldEdit, Refusal>
         ensures edit { IfOk result (λ e. edited e (content_of self.old) ≡ record (content_of self.old) {
-          policies = with_policy policy (content_of self.old).policies;
+          policies = with_policy policy.now (content_of self.old).policies;
         }) }
         ensures fits { IfOk result (λ e. Fits e self.new) }
         ensures content { content_of self.new ≡ content_of self.old }
@@ -133,7 +133,8 @@ impl Held {
         if !self.policies.has(&policy.key) {
             self.policies.reserve()?;
         }
-        Ok(HeldEdit::Policies(self.policies.edit_setting(policy)))
+        let copy = policy.clone()?;
+        Ok(HeldEdit::Policies(self.policies.edit_setting(copy)))
     }
 
     /// The edit by which the policy of a key goes. Asks that it is held. Takes no memory.

@@ -1,7 +1,5 @@
-use Rattle.std.proofs.Common.{◌∙◌, ap, refl}
-use Rattle.vet_demand.specs.declared.policies.KeyedPolicy.{KeyedPolicy}
+use Rattle.std.proofs.Common.{refl}
 use Rattle.vet_register.specs.declared.command.Action.TheVariants as action
-use Rattle.vet_register.specs.Held.{HeldValue, content_of, with_policy}
 use Rattle.vet_register.proofs.Asking.{effective}
 use Rattle.vet_register.proofs.AskingEdits.{accepts, passed_on, plain_is}
 use Rattle.vet_register.proofs.register.Register.set_policy.Goals as goal
@@ -11,11 +9,8 @@ returns-clause-asked g c day =
     let asks = action.SetPolicy c.args.policy.now in
     let told = accepts (c.in_ok-number.ensures day) c.in_default.is in
     let set = c.in_ok-edit_of_policy.ensures in
-    let held : HeldValue = content_of c.self.inside.held in
-    let copied = ap (λ (p : KeyedPolicy). record held { policies = with_policy p held.policies })
-    c.in_ok-copy.ensures.cases in
     effective _ day asks _ _ told (plain_is c.self.view_is c.self.invariant.1 day asks tt told _ refl
-    (set.edit ∙ copied) _ _ _ set.content set.fits)
+    set.edit _ _ _ set.content set.fits)
 
 pub returns-in_err-number-clause-asked : goal.returns-in_err-number-clause-asked
 returns-in_err-number-clause-asked g c day = passed_on _ _ _ _ _ _ c.from_residual.ensures.1
