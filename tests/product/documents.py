@@ -1,4 +1,4 @@
-"""Command documents: of a word with its keys, and of a line as `trials` takes it."""
+"""Command documents: of a word with its keys, and of a line of an example."""
 
 import json
 from typing import NamedTuple
