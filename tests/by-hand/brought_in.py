@@ -15,8 +15,10 @@ import planted
 TESTS = os.path.dirname(os.path.dirname(os.path.abspath(__file__)))
 # scripts with a generator `tests` of names and calls, all of which are taken
 SCRIPTS = ("machine/run_trials", "files/run_files", "files/run_written")
-# 8 MB, for which a planted program takes over a minute
-LEFT_OUT = ("the largest file",)
+# 8 and 32 MB, for which a planted program takes over a minute
+LEFT_OUT = ("the largest file", "the_largest_input", "one_byte_more")
+# a test with another keeper meets no place of the product that the same with the plain one does not
+OTHER_KEEPER = ", relay"
 # how far apart those stand that are taken: batches of run_chains and of run_demand, dependency tables in a batch, lists
 # of run_store, and forms of tables of run_opened
 CHAINS_APART = 40
@@ -143,7 +145,7 @@ def of_databases(programs):
 def of_stores(programs):
     """Commands to registers in files, and the files of what is held."""
     store, held = load("store/run_store", programs), load("files/run_held_files", programs)
-    given = (it for it in store.tests() if not it[0].endswith("command by command"))
+    given = (it for it in store.tests() if not it[0].endswith("command by command") and OTHER_KEEPER not in it[0])
     yield from itertools.islice(given, None, None, STORED_APART)
     held.LISTS = LISTS
     yield from held.tests()
@@ -160,6 +162,8 @@ def tests(programs):
     os.environ["VETD"] = programs["vetd"]
     sys.path.insert(0, TESTS)
     for name in SCRIPTS:
-        yield from (it for it in load(name, programs).tests() if it[0] not in LEFT_OUT)
+        for named, call in load(name, programs).tests():
+            if named not in LEFT_OUT and OTHER_KEEPER not in named:
+                yield named, call
     for some in (of_files, at_size, of_projects, of_databases, of_stores, of_requests):
         yield from some(programs)

@@ -121,7 +121,7 @@ def table_in_disorder():
 
 
 LONG_NAME, LONG_VERSION, MARKS = "package-with-a-name-longer-than-24", "1.0.0-alpha.of-many-parts", 'read,"twice"'
-LONG_TABLE = table_of(LONG_VERSION).replace("serde", LONG_NAME)
+LONG_TABLE = table_of(LONG_VERSION, package=LONG_NAME)
 RUN = {"criteria": "safe-to-run"}
 OPENED = {"package": "serde", "version": "1.0.1"}
 

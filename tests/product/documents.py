@@ -1,4 +1,4 @@
-"""Command documents: of a word with its keys, and of a line as `trials` takes it."""
+"""Command documents: of a word with its keys, and of a line of an example."""
 
 import json
 from typing import NamedTuple
@@ -52,10 +52,10 @@ def entry(kind, package="serde", criteria="safe-to-deploy", **keys):
     return document("add-entry", package=package, kind=kind, criteria=criteria, **keys)
 
 
-def table_of(*versions, kind="normal"):
-    """A dependency table by which a root demands these versions of serde."""
+def table_of(*versions, kind="normal", package="serde"):
+    """A dependency table by which a root demands these versions of a package."""
     lines = ["what,n,p,q,r", "node,0,app,0.1.0,root"]
-    lines += [f"node,{at},serde,{version},third" for at, version in enumerate(versions, 1)]
+    lines += [f"node,{at},{package},{version},third" for at, version in enumerate(versions, 1)]
     lines += [f"edge,0,{at},{kind}," for at, _ in enumerate(versions, 1)]
     return "".join(f"{line}\n" for line in lines)
 
@@ -122,6 +122,12 @@ def set_policy(words):
     return "set-policy", {"policy": key} | told
 
 
+def demand(words):
+    """The project whose root demands versions of a package."""
+    package, *versions = words
+    return "load-project", {"project": "app", "csv": table_of(*versions, package=package)}
+
+
 def set_peer(words):
     name, urls, excluded, items = words
     keys = {"peer": name, "url": listed(urls), "exclude": listed(excluded), "criteria-map": mapped(items)}
@@ -166,6 +172,7 @@ LINES = {
     "drop-peer": plain("drop-peer", "peer"),
     "import-peer": plain("import-peer", "peer", "audits"),
     "set-publishers": set_publishers,
+    "demand": demand,
     "load-project": plain("load-project", "project", "csv"),
     "drop-project": plain("drop-project", "project"),
     "replace-files": plain("replace-files", "audits", "config", "imports"),

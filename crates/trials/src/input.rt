@@ -4,13 +4,13 @@ use std::alloc::Global;
 use std::io::{ErrorKind, Read};
 
 /// The most bytes of an input.
-pub const MOST_EXAMPLE_BYTES: usize = 8_388_608;
+pub const MOST_BYTES: usize = 33_554_432;
 
 /// What stands on the input.
 pub enum Input {
     /// This text.
     Text(String),
-    /// More than 8,388,608 bytes, or bytes that are no text or can't be read.
+    /// More than 33,554,432 bytes, or bytes that are no text or can't be read.
     Other,
     /// There was no memory to read it.
     NoMemory,
@@ -19,12 +19,9 @@ pub enum Input {
 /// Reads the input to its end.
 pub fn read_input<R: Read>(alloc: Global, reader: &mut R) -> Input {
     let mut text = String::new(alloc);
-    match reader
-        .take(MOST_EXAMPLE_BYTES as u64 + 1)
-        .read_to_string(&mut text)
-    {
+    match reader.take(MOST_BYTES as u64 + 1).read_to_string(&mut text) {
         Ok(_) => {
-            if text.len() > MOST_EXAMPLE_BYTES {
+            if text.len() > MOST_BYTES {
                 return Input::Other;
             }
             Input::Text(text)

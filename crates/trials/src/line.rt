@@ -13,8 +13,8 @@ pub fn is_remark(line: &str) -> bool {
     line.is_empty() || line.starts_with('#')
 }
 
-/// Whether a line gives a command: it begins with a digit, as the day of a command does.
-pub fn is_command(line: &str) -> bool {
+/// Whether a document is to stand behind a line: it begins with a digit, as the day of a command does.
+pub fn is_framing(line: &str) -> bool {
     match line.as_bytes().first() {
         Some(byte) => byte.is_ascii_digit(),
         None => false,

@@ -1,27 +1,25 @@
-//! Runs a worked example through the libraries, and prints its answers: a program of tests, no part
-//! of the product.
+//! The program of tests and benches, no part of the product. Its first word says what it does.
 //!
-//! `trials` reads an example on standard input, gives its lines in their order, and prints each
-//! answer and, where there is a command, in the end what the register holds.
-//! `trials --contents` prints also before each command what it holds. `trials --relay` does as
-//! `trials`, with a keeper that hands all on to the plain one, and `trials --together` gives the commands as
-//! lists. What lines there are stands in `line`, `setting`, `commands`, `demands`, `peers`, `replaced`, `reviews`,
-//! `values`, `steps`, `versions`, `days`, `files`, `projects`, `written`, `held_texts`, `lists` and `tables`.
-//! `trials --db PATH` gives the commands to a register that it makes in a database file, `trials --db-together PATH`
-//! does so by lists, and `trials --db-open PATH` gives them to the register that stands in such a file.
-//! `trials --demand` has no register, asks what projects demand, and has the lines of `workspace`, with the words of
-//! `policies` and `projects`. Where memory is wanting, the run ends with that refusal and what the register holds then,
-//! and with status 1. So it does where no register is made or opened. At other words, an input that can't be read, or a
-//! line that isn't understood, a message goes to standard error, with status 2.
+//! A keeper of the classes, `plain` or `relay`, has what stands on standard input given to a register that it makes
+//! with this keeper: in their order lines, and command documents as `vetd apply` takes them, each behind a line that
+//! tells its day, how many bytes it has, and its member (`items`). The answers are printed, and where there is a
+//! document, in the end what the register holds. The first line may set a limit (`setting`). The others ask for values
+//! (`values` and the modules that it names), for reports (`reports`) and for files of what is held (`held_texts`).
+//! Behind the keeper may stand `--contents`, which prints also before each document what is held, or `--together`,
+//! which gives the commands as lists. Last may stand `--db PATH`, for a register that it makes in a database file, or
+//! `--db-open PATH`, for the one that is in such a file.
 //!
-//! Behind the words `times`, `exchanges` and `toml` it does something else, which the modules `times`, `exchanges` and
-//! `toml_only` tell: it times commands, serves requests, or has a TOML document read. These are one program, since each
-//! loads all libraries before its first line is proved.
+//! `demand` has no register, asks what projects demand, and has the lines of `workspace`, with the words of `policies`
+//! and `projects`. Where memory is wanting, the run ends with that refusal and what the register holds then, and with
+//! status 1. So it does where no register is made or opened. At other words, an input that can't be read, or a line
+//! that isn't understood, a message goes to standard error, with status 2.
+//!
+//! `times` times commands, `exchanges` serves requests, and `toml` has a TOML document read. The modules `times`,
+//! `exchanges` and `toml_only` tell what they take and print. These are one program, since each loads all libraries
+//! before its first line is proved.
 #![tactic(auto)]
 
-mod commands;
 mod days;
-mod demands;
 mod exchanges;
 mod fault;
 mod files;
@@ -31,18 +29,17 @@ mod held_projects;
 mod held_settings;
 mod held_texts;
 mod input;
+mod items;
 mod known;
 mod line;
 mod lists;
-mod one_text;
+mod name_lists;
 mod packed;
-mod peers;
 mod policies;
 mod print;
 mod projects;
 mod relay;
-mod replaced;
-mod reviews;
+mod reports;
 mod run;
 mod runs;
 mod setting;
@@ -50,7 +47,6 @@ mod steps;
 mod stored;
 mod tables;
 mod times;
-mod together;
 mod toml_only;
 mod values;
 mod versions;
@@ -61,35 +57,48 @@ mod written;
 use exchanges::run_exchanges;
 use fault::Fault;
 use input::{Input, read_input};
+use items::{Numbered, items_of};
 use relay::RelayKeeper;
-use run::{Contents, Ending, refused, run};
+use run::{Ending, How, refused, run_in_memory};
 use std::io;
+use std::io::ErrorKind;
 use std::process::ExitCode;
 use stored::{Way, run_stored};
 use times::run_times;
-use together::run_together;
 use toml_only::read_toml;
 use vet_base::refusal::Refusal;
 use vet_graph::keeper::Keeper;
 use vet_graph::plain::PlainKeeper;
-use words::{Lines, Words, read_words};
+use words::{KeeperWord, Words, meaning, read_words};
 use workspace::run_workspace;
 
 /// The status of a run of something that isn't understood.
 const NOT_UNDERSTOOD: u8 = 2;
 
 /// What is told where the words are not understood.
-const TAKEN_WORDS: &str =
-    "trials takes no words but --contents, --relay, --together, --demand, or --db, --db-together, --db-open PATH";
+const TAKEN_WORDS: &str = "trials takes the words (plain | relay) [--contents | --together] \
+    [(--db | --db-open) PATH], demand, times .., exchanges .., or toml";
 
 fn main(rt: HostRuntime) -> io::Result<ExitCode> {
     match read_words(&rt) {
-        Words::Times => Ok(run_times(&rt)),
-        Words::Exchanges => Ok(run_exchanges(&rt)),
-        Words::Toml => Ok(read_toml(&rt)),
-        Words::Lines(lines) => ended(&rt, run_whole(&rt, lines)?),
-        Words::Other => ended(&rt, Ending::Words),
-        Words::NoMemory => ended(&rt, ended_for_memory(&rt)?),
+        Ok(words) => run_words(&rt, meaning(words.as_slice())),
+        Err(error) => {
+            if error.kind() == ErrorKind::OutOfMemory {
+                return ended(&rt, ended_for_memory(&rt)?);
+            }
+            ended(&rt, Ending::Words)
+        }
+    }
+}
+
+fn run_words(rt: &HostRuntime, words: Words<'_>) -> io::Result<ExitCode> {
+    match words {
+        Words::Times => Ok(run_times(rt)),
+        Words::Exchanges => Ok(run_exchanges(rt)),
+        Words::Toml => Ok(read_toml(rt)),
+        Words::Demand => ended(rt, run_input_workspace(rt)?),
+        Words::Register(keeper, how, file) => ended(rt, run_input(rt, keeper, how, file)?),
+        Words::Other => ended(rt, Ending::Words),
     }
 }
 
@@ -113,24 +122,6 @@ fn ended(rt: &HostRuntime, ending: Ending) -> io::Result<ExitCode> {
     }
 }
 
-fn run_whole(rt: &HostRuntime, lines: Lines) -> io::Result<Ending> {
-    match lines {
-        Lines::Contents(contents) => run_input::<PlainKeeper>(rt, contents),
-        Lines::Relay => run_input::<RelayKeeper>(rt, Contents::AtEnd),
-        Lines::Together => run_input_together(rt),
-        Lines::Demand => run_input_workspace(rt),
-        Lines::Stored(way, path) => run_input_stored(rt, path.as_str(), way),
-    }
-}
-
-fn run_input_together(rt: &HostRuntime) -> io::Result<Ending> {
-    match read_input(rt.alloc(), &mut rt.reader()) {
-        Input::Text(text) => run_together::<PlainKeeper>(rt, rt.alloc(), text.as_str()),
-        Input::Other => Ok(Ending::Input),
-        Input::NoMemory => ended_for_memory(rt),
-    }
-}
-
 fn run_input_workspace(rt: &HostRuntime) -> io::Result<Ending> {
     match read_input(rt.alloc(), &mut rt.reader()) {
         Input::Text(text) => run_workspace(rt, rt.alloc(), text.as_str()),
@@ -139,19 +130,54 @@ fn run_input_workspace(rt: &HostRuntime) -> io::Result<Ending> {
     }
 }
 
-fn run_input_stored(rt: &HostRuntime, path: &str, way: Way) -> io::Result<Ending> {
+fn run_input(
+    rt: &HostRuntime,
+    keeper: KeeperWord,
+    how: How,
+    file: Option<(Way, &str)>,
+) -> io::Result<Ending> {
     match read_input(rt.alloc(), &mut rt.reader()) {
-        Input::Text(text) => run_stored(rt, path, text.as_str(), way),
+        Input::Text(text) => run_text(rt, keeper, text.as_str(), how, file),
         Input::Other => Ok(Ending::Input),
         Input::NoMemory => ended_for_memory(rt),
     }
 }
 
-fn run_input<K: Keeper>(rt: &HostRuntime, contents: Contents) -> io::Result<Ending> {
-    match read_input(rt.alloc(), &mut rt.reader()) {
-        Input::Text(text) => run::<K>(rt, rt.alloc(), text.as_str(), contents),
-        Input::Other => Ok(Ending::Input),
-        Input::NoMemory => ended_for_memory(rt),
+// A further keeper is a row here, and its word in `words`.
+fn run_text(
+    rt: &HostRuntime,
+    keeper: KeeperWord,
+    text: &str,
+    how: How,
+    file: Option<(Way, &str)>,
+) -> io::Result<Ending> {
+    match keeper {
+        KeeperWord::Plain => run_kept::<PlainKeeper>(rt, text, how, file),
+        KeeperWord::Relay => run_kept::<RelayKeeper>(rt, text, how, file),
+    }
+}
+
+fn run_kept<K: Keeper>(
+    rt: &HostRuntime,
+    text: &str,
+    how: How,
+    file: Option<(Way, &str)>,
+) -> io::Result<Ending> {
+    match items_of(rt.alloc(), text) {
+        Ok(items) => run_items::<K>(rt, items.as_slice(), how, file),
+        Err(fault) => refused(rt, &fault),
+    }
+}
+
+fn run_items<K: Keeper>(
+    rt: &HostRuntime,
+    items: &[Numbered<'_>],
+    how: How,
+    file: Option<(Way, &str)>,
+) -> io::Result<Ending> {
+    match file {
+        Some((way, path)) => run_stored::<K>(rt, path, items, how, way),
+        None => run_in_memory::<K>(rt, rt.alloc(), items, how),
     }
 }
 

@@ -2,9 +2,9 @@
 //! items of a packed list, each in brackets, or that the text is none. `packed-names`, `packed-packages`,
 //! `unpacked-names` and `unpacked-packages` do the same with sets of names.
 
-use crate::commands::names;
 use crate::fault::Fault;
 use crate::lists::{in_brackets, packages, push_in_brackets};
+use crate::name_lists::names;
 use std::alloc::Global;
 use vet_base::package_names::PackageNames;
 use vet_rows::packed::{push_item, read_items};

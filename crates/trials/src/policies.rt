@@ -5,8 +5,8 @@
 //! nothing stands behind the equals sign, which differs from no word at all. MAP is a list of `PACKAGE=LIST` with
 //! semicolons between them.
 
-use crate::commands::names_between_commas;
 use crate::fault::Fault;
+use crate::name_lists::names_between_commas;
 use std::alloc::Global;
 use vet_base::name::PackageName;
 use vet_base::refusal::Refusal;

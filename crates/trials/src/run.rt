@@ -1,32 +1,38 @@
-//! A run of an example.
+//! A run of what stands on the input, over what runs commands.
 
-use crate::commands::answer;
 use crate::fault::Fault;
 use crate::held_texts::line_told;
-use crate::line::{is_command, is_remark};
+use crate::items::{Document, Item, Numbered, has_documents};
 use crate::print::{print_contents, print_outcome, print_refusal};
-use crate::setting::{is_setting, register_of};
+use crate::reports::{report, report_word};
+use crate::runs::Runs;
+use crate::setting::{behind_setting, limit_of};
 use std::alloc::Global;
 use std::io;
+use vet_base::day::Day;
 use vet_base::refusal::Refusal;
+use vet_documents::command_document::read_command;
 use vet_graph::keeper::Keeper;
+use vet_register::command::{Command, Outcome};
 use vet_register::register::Register;
 
-/// When a run prints what the register holds.
+/// How commands are given.
 #[derive(Clone, Copy, PartialEq, Eq)]
-pub enum Contents {
-    /// After the last line.
-    AtEnd,
-    /// Before each command, too.
-    RoundEach,
+pub enum How {
+    /// One by one.
+    Singly,
+    /// One by one, and before each is printed what the register holds.
+    Shown,
+    /// As lists, each as long as no document between its commands is refused, and no line is given.
+    Together,
 }
 
 /// How a run ended.
 #[derive(Clone, Copy)]
 pub enum Ending {
-    /// Each line was given.
+    /// Each item was given.
     Whole,
-    /// A line was refused for want of memory, and none was given after it.
+    /// Something was refused for want of memory, and nothing was given after it.
     Refused,
     /// The line of this number, counted from 1, was not understood.
     Line(usize),
@@ -36,10 +42,10 @@ pub enum Ending {
     Input,
 }
 
-/// What came of a line.
+/// What came of an item.
 #[derive(Clone, Copy)]
 pub enum Told {
-    /// It was answered.
+    /// It was answered, or is one of a list that was not given yet.
     Answer,
     /// Memory was wanting.
     NoMemory,
@@ -47,77 +53,194 @@ pub enum Told {
     Nothing,
 }
 
-/// Gives an example's lines in their order, up to one that is refused for want of memory, and prints the
-/// answers and, where it has a command, what the register holds.
-pub fn run<K: Keeper>(
+/// Gives items in their order to a register in memory, up to one that is refused for want of memory, and prints the
+/// answers and, where there is a command, what the register holds in the end.
+pub fn run_in_memory<K: Keeper>(
     rt: &impl Print,
     alloc: Global,
-    text: &str,
-    contents: Contents,
+    items: &[Numbered<'_>],
+    how: How,
 ) -> io::Result<Ending> {
-    match register_of::<K>(alloc, text) {
-        Ok(mut register) => run_on(rt, alloc, &mut register, text, contents),
-        Err(fault) => refused(rt, &fault),
+    match Register::<K>::new(alloc, limit_of(items)) {
+        Ok(mut register) => {
+            let ending = give_all::<K, Register<K>>(rt, alloc, &mut register, items, how)?;
+            print_end(rt, &register, has_documents(items), ending)
+        }
+        Err(refusal) => refused(rt, &Fault::Refused(refusal)),
     }
 }
 
-// A run of an example on its register.
-fn run_on<K: Keeper>(
+/// Prints what is held at the end of a run, if it is shown and all items were understood.
+pub fn print_end<K: Keeper>(
     rt: &impl Print,
-    alloc: Global,
-    register: &mut Register<K>,
-    text: &str,
-    contents: Contents,
+    register: &Register<K>,
+    is_shown: bool,
+    ending: Ending,
 ) -> io::Result<Ending> {
-    let ending = give_all(rt, alloc, register, text, contents)?;
     if let Ending::Line(_) = ending {
         return Ok(ending);
     }
-    if has_commands(text) {
+    if is_shown {
         print_contents(rt, register)?;
     }
     Ok(ending)
 }
 
-fn has_commands(text: &str) -> bool {
-    text.lines().any(|line| is_command(line))
-}
-
-fn give_all<K: Keeper>(
+/// Gives items in their order, up to one that is refused for want of memory or not understood, and prints the answers.
+pub fn give_all<K: Keeper, R: Runs<K>>(
     rt: &impl Print,
     alloc: Global,
-    register: &mut Register<K>,
-    text: &str,
-    contents: Contents,
+    runs: &mut R,
+    items: &[Numbered<'_>],
+    how: How,
 ) -> io::Result<Ending> {
-    let mut begun = false;
-    for (place, line) in text.lines().enumerate() {
-        if !is_passed_over(line, begun) {
-            begun = true;
-            match give(rt, alloc, register, line, contents)? {
-                Told::Answer => {}
-                Told::NoMemory => return Ok(Ending::Refused),
-                Told::Nothing => return Ok(Ending::Line(place.saturating_add(1))),
-            }
+    let mut list = Vec::new(alloc);
+    for numbered in behind_setting(items) {
+        match give::<K, R>(rt, alloc, runs, &mut list, numbered.item, how)? {
+            Told::Answer => {}
+            Told::NoMemory => return Ok(Ending::Refused),
+            Told::Nothing => return Ok(Ending::Line(numbered.number)),
         }
     }
-    Ok(Ending::Whole)
+    match give_list::<K, R>(rt, alloc, runs, &mut list)? {
+        Told::Answer => Ok(Ending::Whole),
+        _ => Ok(Ending::Refused),
+    }
 }
 
-// Whether a line has no answer; a setting has one where it comes after what has been given.
-fn is_passed_over(line: &str, begun: bool) -> bool {
-    is_remark(line) || !begun && is_setting(line)
-}
-
-fn give<K: Keeper>(
+fn give<K: Keeper, R: Runs<K>>(
     rt: &impl Print,
     alloc: Global,
-    register: &mut Register<K>,
-    line: &str,
-    contents: Contents,
+    runs: &mut R,
+    list: &mut Vec<Command>,
+    item: Item<'_>,
+    how: How,
 ) -> io::Result<Told> {
-    if is_command(line) {
-        return give_command(rt, alloc, register, line, contents);
+    match item {
+        Item::Document(document) => give_document::<K, R>(rt, alloc, runs, list, document, how),
+        Item::Line(line) => give_line::<K, R>(rt, alloc, runs, list, line),
+        Item::Unframed => Ok(Told::Nothing),
+    }
+}
+
+fn give_document<K: Keeper, R: Runs<K>>(
+    rt: &impl Print,
+    alloc: Global,
+    runs: &mut R,
+    list: &mut Vec<Command>,
+    document: Document<'_>,
+    how: How,
+) -> io::Result<Told> {
+    if how == How::Shown {
+        print_contents(rt, runs.shown())?;
+    }
+    match command_of(alloc, document) {
+        Ok(command) => {
+            if how == How::Together {
+                return Ok(listed(list, command));
+            }
+            give_command::<K, R>(rt, alloc, runs, &command)
+        }
+        Err(refusal) => give_before::<K, R>(rt, alloc, runs, list, &Fault::Refused(refusal)),
+    }
+}
+
+// The command of a document. Refused: as `vetd apply` refuses it, the day first.
+fn command_of(alloc: Global, document: Document<'_>) -> Result<Command, Refusal> {
+    let day = Day::parse(document.day)?;
+    let member = match document.member {
+        Some(member) => Some(member.as_bytes()),
+        None => None,
+    };
+    read_command(alloc, document.bytes, day, member)
+}
+
+fn listed(list: &mut Vec<Command>, command: Command) -> Told {
+    match list.push(command) {
+        Ok(()) => Told::Answer,
+        Err(_) => Told::NoMemory,
+    }
+}
+
+fn give_command<K: Keeper, R: Runs<K>>(
+    rt: &impl Print,
+    alloc: Global,
+    runs: &mut R,
+    command: &Command,
+) -> io::Result<Told> {
+    match runs.run_command(alloc, command) {
+        Ok(outcome) => {
+            print_outcome(rt, outcome)?;
+            Ok(Told::Answer)
+        }
+        Err(refusal) => tell_fault(rt, &Fault::Refused(refusal)),
+    }
+}
+
+// Gives the list, and then tells the fault of what stands behind it.
+fn give_before<K: Keeper, R: Runs<K>>(
+    rt: &impl Print,
+    alloc: Global,
+    runs: &mut R,
+    list: &mut Vec<Command>,
+    fault: &Fault,
+) -> io::Result<Told> {
+    match give_list::<K, R>(rt, alloc, runs, list)? {
+        Told::Answer => tell_fault(rt, fault),
+        told => Ok(told),
+    }
+}
+
+// Gives the commands of a list, which has none behind that.
+fn give_list<K: Keeper, R: Runs<K>>(
+    rt: &impl Print,
+    alloc: Global,
+    runs: &mut R,
+    list: &mut Vec<Command>,
+) -> io::Result<Told> {
+    if list.is_empty() {
+        return Ok(Told::Answer);
+    }
+    let answers = runs.run_commands(alloc, list.as_slice());
+    list.clear();
+    match answers {
+        Ok(answers) => print_answers(rt, answers.as_slice()),
+        Err(refusal) => tell_fault(rt, &Fault::Refused(refusal)),
+    }
+}
+
+fn print_answers(rt: &impl Print, answers: &[Result<Outcome, Refusal>]) -> io::Result<Told> {
+    for answer in answers {
+        match answer {
+            Ok(outcome) => print_outcome(rt, *outcome)?,
+            Err(refusal) => print_refusal(rt, refusal)?,
+        }
+    }
+    Ok(Told::Answer)
+}
+
+// Gives the list, and then answers the line behind it.
+fn give_line<K: Keeper, R: Runs<K>>(
+    rt: &impl Print,
+    alloc: Global,
+    runs: &mut R,
+    list: &mut Vec<Command>,
+    line: &str,
+) -> io::Result<Told> {
+    match give_list::<K, R>(rt, alloc, runs, list)? {
+        Told::Answer => tell_line(rt, alloc, runs.shown(), line),
+        told => Ok(told),
+    }
+}
+
+fn tell_line<K: Keeper>(
+    rt: &impl Print,
+    alloc: Global,
+    register: &Register<K>,
+    line: &str,
+) -> io::Result<Told> {
+    if let Some(kind) = report_word(line) {
+        return tell_report(rt, alloc, register, kind);
     }
     match line_told(alloc, register, line) {
         Ok(told) => {
@@ -128,19 +251,15 @@ fn give<K: Keeper>(
     }
 }
 
-fn give_command<K: Keeper>(
+fn tell_report<K: Keeper>(
     rt: &impl Print,
     alloc: Global,
-    register: &mut Register<K>,
-    line: &str,
-    contents: Contents,
+    register: &Register<K>,
+    kind: &str,
 ) -> io::Result<Told> {
-    if contents == Contents::RoundEach {
-        print_contents(rt, register)?;
-    }
-    match answer(alloc, register, line) {
-        Ok(outcome) => {
-            print_outcome(rt, outcome)?;
+    match report(alloc, register, kind) {
+        Ok(text) => {
+            print!(rt; "{text}")?;
             Ok(Told::Answer)
         }
         Err(fault) => tell_fault(rt, &fault),
@@ -153,7 +272,7 @@ pub fn refused(rt: &impl Print, fault: &Fault) -> io::Result<Ending> {
     Ok(Ending::Refused)
 }
 
-/// Prints a refusal; of a line that is not understood nothing.
+/// Prints a refusal; of what is not understood nothing.
 pub fn tell_fault(rt: &impl Print, fault: &Fault) -> io::Result<Told> {
     match fault {
         Fault::NotUnderstood => Ok(Told::Nothing),

@@ -3,32 +3,44 @@
 ghost use Rattle.std.specs.Prelude.{◌<◌, ◌≤◌, IfSome};
 ghost use Rattle.vet_base.specs.declared.limits.TheConstants.{MOST_MOVES};
 
-use crate::fault::Fault;
-use std::alloc::Global;
+use crate::items::{Item, Numbered};
 use vet_base::limits::MOST_MOVES;
-use vet_graph::keeper::Keeper;
-use vet_register::register::Register;
 
-/// Whether a line is a setting.
-pub fn is_setting(line: &str) -> bool {
-    limit(line).is_some()
+/// The items behind a setting, if one stands first.
+pub fn behind_setting<'i, 't>(items: &'i [Numbered<'t>]) -> &'i [Numbered<'t>] {
+    match items {
+        [first, others @ ..] => {
+            if limit_at(first.item).is_some() {
+                others
+            } else {
+                items
+            }
+        }
+        [] => items,
+    }
 }
 
-/// The register with which an example begins. Refused: `NoMemory`.
-pub fn register_of<K: Keeper>(alloc: Global, text: &str) -> Result<Register<K>, Fault> {
-    Ok(Register::new(alloc, limit_of(text))?)
-}
-
-/// How many moves the register of an example may record.
-pub fn limit_of(text: &str) -> usize
+/// How many moves the register may record that is given some items.
+pub fn limit_of(items: &[Numbered<'_>]) -> usize
     ensures { (0 < result) × (result ≤ MOST_MOVES) }
 {
-    for line in text.lines() {
-        if let Some(limit) = limit(line) {
-            return limit;
-        }
+    match items {
+        [first, ..] => match limit_at(first.item) {
+            Some(limit) => limit,
+            None => MOST_MOVES,
+        },
+        [] => MOST_MOVES,
     }
-    MOST_MOVES
+}
+
+// The limit that an item sets, if it sets one.
+fn limit_at(item: Item<'_>) -> Option<usize>
+    ensures { IfSome result (λ n. (0 < n) × (n ≤ MOST_MOVES)) }
+{
+    match item {
+        Item::Line(line) => limit(line),
+        _ => None,
+    }
 }
 
 // The limit that a line sets, if it sets one.

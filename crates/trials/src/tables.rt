@@ -5,10 +5,10 @@
 //! `moves BEFORE AFTER` tells the moves from one standing to the other. Of these each is a list of
 //! `PACKAGE,VERSION,CRITERION,CLASS` with a `;` behind each, in the order of the pairs.
 
-use crate::commands::names_between_commas;
 use crate::fault::Fault;
 use crate::line::two;
 use crate::lists::push_in_brackets;
+use crate::name_lists::names_between_commas;
 use crate::print::class_word;
 use std::alloc::Global;
 use vet_base::criteria_table::CriteriaTable;

@@ -6,12 +6,12 @@
 //! closure in the register's table. Lines of other values stand in the other modules, and of these `steps` asks for
 //! what the register holds, too.
 
-use crate::commands::names;
 use crate::days::{day_number, day_of_parts, day_order, plus};
 use crate::fault::Fault;
 use crate::files::peer_file;
 use crate::line::{one, words_of};
 use crate::lists::{edited, names_of, packages_of, push_in_brackets, texts_of, touched};
+use crate::name_lists::names;
 use crate::packed::{packed, unpacked, unpacked_names, unpacked_packages};
 use crate::projects::{project, table_word};
 use crate::steps::{condemned_criteria, steps, told_criteria};

@@ -1,98 +1,94 @@
 //! The words of the command line.
 
-use crate::run::Contents;
+use crate::run::How;
 use crate::stored::Way;
-use std::env;
-use std::env::{Args, Env};
-use std::io::ErrorKind;
+use std::env::Env;
+use std::{env, io};
 
 /// What the words ask for.
-pub enum Words {
+#[derive(Clone, Copy)]
+pub enum Words<'w> {
     /// Commands, timed.
     Times,
     /// Requests, served.
     Exchanges,
     /// The reading of a TOML document.
     Toml,
-    /// A run of lines.
-    Lines(Lines),
+    /// What projects demand.
+    Demand,
+    /// A register, in memory or come by in a database file in this way, with this keeper of the classes.
+    Register(KeeperWord, How, Option<(Way, &'w str)>),
     /// Anything else.
     Other,
-    /// There was no memory to read them.
-    NoMemory,
 }
 
-/// How lines are run.
-pub enum Lines {
-    /// A run that prints what the register holds at these times.
-    Contents(Contents),
-    /// A run with another keeper of the classes, that prints in the end what the register holds.
+/// The keeper of the classes.
+#[derive(Clone, Copy)]
+pub enum KeeperWord {
+    /// That of the product.
+    Plain,
+    /// One that hands all on to it.
     Relay,
-    /// A run that gives the commands as lists.
-    Together,
-    /// A run that asks what projects demand.
-    Demand,
-    /// A run on a register in the database file of this path, come by in this way.
-    Stored(Way, String),
 }
 
-/// What the words of the command line ask for.
-pub fn read_words(rt: &(impl Env + AllocGlobal)) -> Words {
-    match env::args(rt) {
-        Ok(words) => meaning(words),
-        Err(error) => {
-            if error.kind() == ErrorKind::OutOfMemory {
-                return Words::NoMemory;
-            }
-            Words::Other
-        }
-    }
+/// The words behind the program's own name. Refused: `OutOfMemory`, and what is no text.
+pub fn read_words(rt: &(impl Env + AllocGlobal)) -> io::Result<Vec<String>> {
+    let mut words = env::args(rt)?;
+    let _name = words.next();
+    Ok(words.collect(rt.alloc())?)
 }
 
-// What the words ask for, of which the first is the program's name.
-fn meaning(words: Args) -> Words {
-    let mut words = words.skip(1);
-    match (words.next(), words.next(), words.next()) {
-        (None, _, _) => Words::Lines(Lines::Contents(Contents::AtEnd)),
-        (Some(first), second, third) => meaning_of(first.as_str(), second, third),
-    }
-}
-
-fn meaning_of(first: &str, second: Option<String>, third: Option<String>) -> Words {
-    match first {
+/// What the words ask for.
+pub fn meaning(words: &[String]) -> Words<'_> {
+    let [first, others @ ..] = words else {
+        return Words::Other;
+    };
+    match first.as_str() {
         "times" => Words::Times,
         "exchanges" => Words::Exchanges,
         "toml" => Words::Toml,
-        _ => match lines_of(first, second, third) {
-            Some(lines) => Words::Lines(lines),
-            None => Words::Other,
-        },
+        "demand" => alone(others, Words::Demand),
+        "plain" => of_register(KeeperWord::Plain, others),
+        "relay" => of_register(KeeperWord::Relay, others),
+        _ => Words::Other,
     }
 }
 
-fn lines_of(flag: &str, second: Option<String>, third: Option<String>) -> Option<Lines> {
-    match (second, third) {
-        (None, _) => lines_alone(flag),
-        (Some(path), None) => lines_at(flag, path),
-        _ => None,
+// What a word asks for behind which none stands.
+fn alone<'w>(others: &'w [String], asked: Words<'w>) -> Words<'w> {
+    if others.is_empty() {
+        asked
+    } else {
+        Words::Other
     }
 }
 
-fn lines_alone(flag: &str) -> Option<Lines> {
+// What the words behind that of a keeper ask for.
+fn of_register(keeper: KeeperWord, words: &[String]) -> Words<'_> {
+    let (how, words) = way_of(words);
+    match words {
+        [] => Words::Register(keeper, how, None),
+        [flag, path] => of_file(keeper, how, flag.as_str(), path.as_str()),
+        _ => Words::Other,
+    }
+}
+
+// How the commands are given, by the first word or without one, and the other words.
+fn way_of(words: &[String]) -> (How, &[String]) {
+    let [first, others @ ..] = words else {
+        return (How::Singly, words);
+    };
+    match first.as_str() {
+        "--contents" => (How::Shown, others),
+        "--together" => (How::Together, others),
+        _ => (How::Singly, words),
+    }
+}
+
+fn of_file<'w>(keeper: KeeperWord, how: How, flag: &str, path: &'w str) -> Words<'w> {
     match flag {
-        "--contents" => Some(Lines::Contents(Contents::RoundEach)),
-        "--relay" => Some(Lines::Relay),
-        "--together" => Some(Lines::Together),
-        "--demand" => Some(Lines::Demand),
-        _ => None,
-    }
-}
-
-fn lines_at(flag: &str, path: String) -> Option<Lines> {
-    match flag {
-        "--db" => Some(Lines::Stored(Way::Made, path)),
-        "--db-together" => Some(Lines::Stored(Way::MadeTogether, path)),
-        "--db-open" => Some(Lines::Stored(Way::Opened, path)),
-        _ => None,
+        "--db" => Words::Register(keeper, how, Some((Way::Made, path))),
+        "--db-open" => Words::Register(keeper, how, Some((Way::Opened, path))),
+        _ => Words::Other,
     }
 }

@@ -8,10 +8,10 @@
 //!
 //! Only `demand` and what is refused tell anything.
 
-use crate::commands::names;
 use crate::fault::Fault;
 use crate::known::check_policies;
 use crate::line::{is_remark, one, words_of};
+use crate::name_lists::names;
 use crate::policies::keyed_policy;
 use crate::projects::named_project;
 use crate::run::{Ending, Told, refused, tell_fault};
