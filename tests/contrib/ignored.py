@@ -11,7 +11,7 @@ import subprocess
 import tempfile
 import tomllib
 
-from contrib.scripts import CONTRIB, EXAMPLES, TESTS, compare, printed, read, refused
+from contrib.scripts import CONTRIB, EXAMPLES, TESTS, bad_words, compare, printed, read, refused
 from models.drawn import Drawn
 from models.words import text_of
 from models.written import toml_text
@@ -127,7 +127,8 @@ def spoil(file, dice):
     entries = lists_of_entries(file)
     of_rows = [file, *(it for listed in entries for it in listed), *file.get("policy", {}).values()]
     if not entries or dice.random() < 0.4:
-        dice.choice(of_rows)[dice.choice(("extra", "violaton", "unpublished", "importable_"))] = dice.choice((1, {}, "x"))
+        key = dice.choice(("extra", "violaton", "unpublished", "importable_"))
+        dice.choice(of_rows)[key] = dice.choice((1, {}, "x"))
         return
     listed = dice.choice(entries)
     entry = dict(dice.choice(listed))
@@ -192,5 +193,7 @@ def tests(program):
         yield f"ignored: {test.__name__}", lambda test=test: test(program)
     for place in places():
         yield f"ignored: places in a file of {place[0]}", lambda place=place: places_are_printed(program, *place)
+    for words in ((), ("audits",), ("audits.toml", "--kind", "audit")):
+        yield f"ignored: no words: {words}", lambda words=words: bad_words("ignored", *words)
     for fault in FAULTS:
         yield f"ignored: {fault[2]}", lambda fault=fault: a_file_that_is_not_read(*fault)

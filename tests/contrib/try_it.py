@@ -31,7 +31,7 @@ PRINTED = [b"done 3 number 1284 moves 1\n", b"full\n", b"unvetted    full\n"]
 
 
 class Attempt:
-    """The script, with a program in place of `rt`, a port, and a folder for temporary files that is empty in the end."""
+    """The script with a program in place of `rt`, a port, and a folder for temporary files that is empty in the end."""
 
     def __init__(self, rt):
         self.folder, self.port = tempfile.TemporaryDirectory(), free_port()
@@ -141,7 +141,8 @@ def a_port_in_use(_):
 
 
 def tests(program):
-    named = {test.__name__: test for test in (the_examples_are_served, a_compiler_that_ends, no_compiler, a_port_in_use)}
+    alone = (the_examples_are_served, a_compiler_that_ends, no_compiler, a_port_in_use)
+    named = {test.__name__: test for test in alone}
     for number in (signal.SIGINT, signal.SIGTERM, signal.SIGHUP):
         for wait in (0, 1):
             named[f"given up by {number.name} after {wait} s"] = partial(given_up, number, wait)
