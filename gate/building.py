@@ -74,9 +74,10 @@ def unproved(said):
 
 
 def jobs_of(idle, others, memory=kit.MEMORY_OF_A_PROOF):
-    """How many jobs a proof has: the processors that no other waits for, as far as memory goes."""
+    """How many jobs a proof has: its share of the idle processors among those that are ready, it and the others, which
+    is rounded up as the first is of the longest chain; as far as memory goes."""
     by_memory = 1 + int(max(kit.free() / memory - 1, 0) / MORE_MEMORY)
-    return max(1, min(idle // others, by_memory, MOST_JOBS))
+    return max(1, min(-(-idle // others), by_memory, MOST_JOBS))
 
 
 class Built:
@@ -126,8 +127,9 @@ class Building:
         return not self.left and self.onlooker.is_well
 
     def begin(self, pool, lanes):
-        """Begins those that are ready, as many as there are lanes."""
+        """Begins those that are ready, as many as there are lanes. One alone may have all processors."""
         ready = [it for it in self.left if self.built.issuperset(it.deps)]
+        lanes = kit.processors() if len(ready) == 1 and not self.running else lanes
         for at, crate in enumerate(ready):
             idle = lanes - sum(jobs for _, jobs in self.running.values())
             if idle < 1:

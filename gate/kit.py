@@ -13,8 +13,9 @@ sys.dont_write_bytecode = True
 sys.path.insert(0, KIT)
 import rtlib  # noqa: E402
 
-# what a proof is reckoned to take; the largest crates take more, but never all of them at once
-MEMORY_OF_A_PROOF = 6_000_000_000
+# what a proof is reckoned to take, in bytes: the largest crates take more, but never all of them at once. With 24 GB
+# that is three, so that there is room for the trials of edits too
+MEMORY_OF_A_PROOF = 6 << 30
 # the stamps that one call asks for, by thread
 STAMPS = threading.local()
 

@@ -9,7 +9,7 @@ from . import callees
 from .bodies import FUNCTION, body_of, type_above
 
 # of more functions an edit in the gate is refused: each is proved once more for it. Those by hand may call as many
-MOST_CALLEES = 16
+MOST_CALLEES = 15
 
 
 class BadEdit(Exception):
