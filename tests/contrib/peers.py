@@ -15,7 +15,8 @@ from product.register import FOLDER, Register
 from served.server import Server, request_of
 
 SCRIPT, DAY = "sync-peers", "2024-05-01"
-LIMIT = 2_000
+# so long that no other file takes it on a busy machine
+LIMIT, SECONDS = 2_000, 5
 FULL = '[[audits.serde]]\ncriteria = "{}"\nversion = "{}"\n'
 REVIEWED = '[criteria.reviewed]\ndescription = "Read."\nimplies = "safe-to-deploy"\naggregated-from = "{}"\n'
 DEPLOY, RUN = (FULL.format(criterion, "1.0.0") for criterion in ("safe-to-deploy", "safe-to-run"))
@@ -28,7 +29,7 @@ NOT_FETCHED = {
     "/none": "404",
     "/long": f"has more than {LIMIT} bytes",
     "/endless": f"has more than {LIMIT} bytes",
-    "/slow": "takes more than 1 seconds",
+    "/slow": f"takes more than {SECONDS} seconds",
     "/cut": "cut short",
     "/to-a-file": "not allowed",
     "/to-ftp": "unknown url type",
@@ -185,7 +186,7 @@ def others_are_imported_nevertheless(kind, program):
         it.give(set_peer("d", "file:///etc/passwd"), f"done {count + 4} moves 0")
         names = ["a", *(f"b{place}" for place in range(count)), "c", "d"]
         errors = [*NOT_FETCHED.values(), "no url", "is not an address of http"]
-        words = [*it.words, "--limit", str(LIMIT), "--seconds", "1"]
+        words = [*it.words, "--limit", str(LIMIT), "--seconds", str(SECONDS)]
         printed = synced(*words, *names, status=1, errors=errors)
         full = [move(count + 5, criterion, "unvetted", "full") for criterion in ("safe-to-deploy", "safe-to-run")]
         compare("output", printed, "".join([f"a: done {count + 5} moves 2\n", *full]))
