@@ -25,7 +25,7 @@ class ServedRegister(Server):
     def ask(self, method, target, body=None):
         """The body of a reply with the status 200."""
         head, _, text = self.exchange(request_of(method, target, body)).partition(b"\r\n\r\n")
-        compare(f"{method} {target}: {text!a}", head.split(b" ")[1], b"200")
+        compare(f"{method} {target}: {text!a}", head.split(b" ")[1:2], [b"200"])
         return text.decode()
 
     def give(self, command, **keys):

@@ -7,10 +7,12 @@ import importlib.util
 import os
 import random
 import re
+import shutil
 import tempfile
 import time
 
 from contrib.drawn_registers import DrawnRegister
+from contrib.requirements import registers
 from contrib.scripts import CONTRIB, EXAMPLES, compare, printed, read, run
 from contrib.served_register import FILES, ServedRegister, in_order, sampled
 from models.written import toml_text
@@ -108,13 +110,17 @@ def a_drawn_register(server, seed):
         each_review_helps(server, pair, found[pair])
 
 
-def hold_examples(server):
-    texts = [read(os.path.join(EXAMPLES, it)).decode() for it in [*FILES.values(), "table.csv"]]
-    server.hold(texts[:3], texts[3])
+def each_requirement(server):
+    found = set()
+    for files, table in registers():
+        server.hold(files, table)
+        found |= {*explained(server)[1].values()}
+    compare("classes", found, {"conflicting", "full"})
 
 
 def the_examples(server):
-    hold_examples(server)
+    texts = [read(os.path.join(EXAMPLES, it)).decode() for it in [*FILES.values(), "table.csv"]]
+    server.hold(texts[:3], texts[3])
     found, standing = explained(server)
     compare("pairs", len(standing), 368)
     for pair, word in standing.items():
@@ -345,7 +351,7 @@ def a_register_file(program):
         before = register.report("counts")
         demanded, text = PRINTED[0]
         for words, expected in ((demanded, text), (["1.3.0"], NOT_DEMANDED)):
-            found = printed(SCRIPT, register.path, "a", *words, f"--vetd={program}", timeout=600)
+            found = printed(SCRIPT, register.path, f"--vetd={program}", "a", *words, timeout=600)
             compare("text", found, expected)
         compare("counts", register.report("counts"), before)
 
@@ -368,8 +374,10 @@ def a_folder(program):
 
 
 def without_the_program(server):
-    """The register alone has no class for what no project demands."""
-    text = printed(SCRIPT, server.url(), "a", "1.3.0", env={"PATH": ""})
+    """The script alone, without a program: the register has no class for what no project demands."""
+    with tempfile.TemporaryDirectory() as folder:
+        alone = shutil.copy(os.path.join(CONTRIB, SCRIPT), folder)
+        text = printed(alone, server.url(), "a", "1.3.0", env={"PATH": ""})
     told = "no project demands it, so the register has no class for it"
     compare("text", text, NOT_DEMANDED.replace("no project demands it", told))
 
@@ -452,7 +460,8 @@ def all_tests(program):
     with ServedRegister(program) as server:
         for seed in range(DRAWN):
             yield f"drawn register {seed}", lambda seed=seed: a_drawn_register(server, seed)
-        yield "the examples", lambda: the_examples(server)
+        for test in (each_requirement, the_examples):
+            yield test.__name__, lambda test=test: test(server)
         yield from tests_by_hand(server, program)
 
 
