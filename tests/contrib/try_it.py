@@ -26,6 +26,7 @@ wait
 ENDS = "#!/bin/sh\necho an error of the compiler\nexit 1\n"
 NEVER_ENDS = "#!/bin/sh\nsetsid sleep 1000 & echo $! >\"$TMPDIR/../../process\"; wait\n"
 COUNTS = "unvetted             0       161         0       161\n"
+REASON = "serde 1.0.1 safe-to-deploy: unvetted\n    vetted for safe-to-run (full)\n"
 # a review is added, the class is asked, and the last move shown
 PRINTED = [b"done 3 number 1284 moves 1\n", b"full\n", b"unvetted    full\n"]
 
@@ -94,10 +95,11 @@ def shell(command):
 def the_examples_are_served(program):
     with Attempt(RUNS_THE_PROGRAM.format(program=os.path.abspath(program))) as it:
         printed = it.ends(0)
-        *commands, last = [line.strip() for line in printed.splitlines() if line.startswith("    ")]
+        said, _, after = printed.partition("Add the missing review")
+        *commands, last = [line.strip() for line in after.splitlines() if line.startswith("    ")]
         try:
-            for text in (": done 1 moves 0\n", ": done 2 moves 368\n", COUNTS, "serde 1.0.1"):
-                compare(f"{text} in {printed}", text in printed, True)
+            for text in (": done 1 moves 0\n", ": done 2 moves 368\n", COUNTS, REASON):
+                compare(f"{text} in {said}", text in said, True)
             compare("commands", len(commands), len(PRINTED))
             for command, expected in zip(commands, PRINTED):
                 compare(command, shell(command)[-len(expected) :], expected)
