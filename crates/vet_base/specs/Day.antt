@@ -1,4 +1,6 @@
 -- Which texts are days, and how days are numbered (ours: `YYYY-MM-DD`, of the proleptic Gregorian calendar).
+--
+-- Days are the same where year, month and day are (same_day).
 use Rattle.std.specs.Prelude.{ℕ, ◌+◌, ◌-◌, ◌*◌, ◌/◌, ◌%◌, ◌==◌, ◌&&◌, nat_le, Bool, [], ◌∷◌, ◌++◌, Option, Some, None}
 use Rattle.std.specs.Prelude.{length, slice_index, if◌then◌else◌, option_and_then, option_map, ℤ, pos}
 use Rattle.std.specs.Char.{is_ascii_digit}

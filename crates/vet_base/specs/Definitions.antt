@@ -1,4 +1,8 @@
 -- Criteria by their names, how they are kept, and when they are the same (ours).
+--
+-- Two definitions are equal where they have equal criteria under the same names (criteria_eq, criteria_eq-Decides).
+-- Of criteria without doubles and built-in names this is to have the same criteria, in whatever order
+-- (SameDefinitions).
 use Rattle.std.specs.Prelude.{◌≡◌, ◌≤◌, ◌↔◌, ◌&&◌, Bool, false, List, length, map as mapped}
 use Rattle.std.specs.List.{All}
 use Rattle.std.specs.Cmp.Lexicographic.{pointwise}

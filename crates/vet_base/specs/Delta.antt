@@ -1,4 +1,7 @@
 -- Which texts are deltas, from one version to another (The Cargo Vet Book: audit entries), and how they are printed.
+--
+-- A delta is found at its only > (ends_of, read_delta), and is printed as FROM -> TO (delta_text), which is read
+-- again as that delta. Only a delta itself is equal to it (delta_eq).
 use Rattle.std.specs.Prelude.{ℕ, ◌==◌, ◌-◌, ◌&&◌, Bool, ◌++◌, length, slice_index, codes, Option, Some, None}
 use Rattle.std.specs.Prelude.{if◌then◌else◌, option_map, take, drop}
 use Rattle.std.specs.List.{prefix_len, suffix_len, position_or_len, before_first, after_first}

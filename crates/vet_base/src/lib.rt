@@ -6,6 +6,9 @@
 //! holds them and what they imply.**
 //!
 //! Scope of this crate: values alone. What an entry, a project or a class is stands in the crates above.
+//!
+//! For example, `1.0.0---> 1.1.0` is a delta from `1.0.0--` to `1.1.0`, and `1.0.0--> 1.1.0` is refused as 5 BadDelta.
+//! The closure of `safe-to-deploy` is that and `safe-to-run`.
 #![tactic(auto)]
 
 pub mod closures;

@@ -5,6 +5,9 @@
 //!
 //! Scope of this crate: pairs and demands, policies with their keys, projects, and the reader and the writer of
 //! dependency tables.
+//!
+//! For example, a root `app` with a normal edge to a third-party `serde 1.0.0` demands that version for
+//! `safe-to-deploy` and for `safe-to-run`, and with a dev edge for `safe-to-run` alone.
 #![tactic(auto)]
 
 mod audited;

@@ -7,6 +7,9 @@
 //! Scope of this crate: members, and reviews from their opening to their end. Entries and their numbers are the
 //! register's, and so is the step that stands between the desk's limits: therefore the verdict can be asked for in
 //! parts.
+//!
+//! For example, a review can be opened only of a pair that is demanded (24 NotDemanded), and be assigned only to a
+//! member (19 UnknownMember).
 #![tactic(auto)]
 
 pub mod change;

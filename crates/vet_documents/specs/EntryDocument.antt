@@ -4,8 +4,8 @@ use Rattle.toml.specs.Data.{Members}
 use Rattle.vet_base.specs.Gives.{Told, found_or, ◌>>=◌}
 use Rattle.vet_base.specs.Words.{Key, Name}
 use Rattle.vet_documents.specs.CommandWord.{beside, kinds}
-use Rattle.vet_documents.specs.DocumentField.{a_day, a_delta, a_number, a_package, a_requirement, a_version, any_text, names}
-use Rattle.vet_documents.specs.DocumentField.{only}
+use Rattle.vet_documents.specs.DocumentField.{a_day, a_delta, a_number, a_package, a_requirement, a_version}
+use Rattle.vet_documents.specs.DocumentField.{any_text, names, only}
 use Rattle.vet_documents.specs.DocumentKeys.{COMMAND, KIND, NUMBER, PACKAGE}
 use Rattle.vet_documents.specs.declared.command_word.KindWord.{KindWord}
 use Rattle.vet_documents.specs.declared.command_word.KindWord.TheVariants as kind

@@ -3,10 +3,11 @@ ghost use Rattle.std.specs.Prelude.{◌≡◌};
 ghost use Rattle.toml.specs.View.{table_view};
 ghost use Rattle.vet_base.specs.Gives.{Gives};
 ghost use Rattle.vet_documents.specs.DocumentField.{only};
-ghost use Rattle.vet_documents.specs.EntryDocument.{add_entry_told, audited_told, audit_keys, delta_told, drop_entry_told};
-ghost use Rattle.vet_documents.specs.EntryDocument.{entry_keys, entry_of, exemption_keys, exemption_told, full_told};
-ghost use Rattle.vet_documents.specs.EntryDocument.{kind_told, stated_told, trusted_keys, trusted_told, violation_told};
-ghost use Rattle.vet_documents.specs.EntryDocument.{wildcard_keys, wildcard_of, wildcard_told, window_told};
+ghost use Rattle.vet_documents.specs.EntryDocument.{add_entry_told, audited_told, audit_keys, delta_told};
+ghost use Rattle.vet_documents.specs.EntryDocument.{drop_entry_told, entry_keys, entry_of, exemption_keys};
+ghost use Rattle.vet_documents.specs.EntryDocument.{exemption_told, full_told, kind_told, stated_told, trusted_keys};
+ghost use Rattle.vet_documents.specs.EntryDocument.{trusted_told, violation_told, wildcard_keys, wildcard_of};
+ghost use Rattle.vet_documents.specs.EntryDocument.{wildcard_told, window_told};
 
 use crate::command_word::KindWord;
 use crate::document_field::{day_at, number_at, text_at, word_at};

@@ -6,6 +6,9 @@
 //! Scope of this crate: the words and keys of command documents, and which file of a register is written by its name.
 //! What entries and files within a document mean is told by the readers of `vet_files` and `vet_demand`. `vet_http`
 //! gives the public names of this crate on.
+//!
+//! For example, `command = "add-member"` and `member = "ann"` is the command that adds a member, and `command = 5` is
+//! refused as 28 FieldRefused, which names `command command`.
 #![tactic(auto)]
 
 pub mod command_document;

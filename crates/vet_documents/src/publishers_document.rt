@@ -2,8 +2,8 @@
 ghost use Rattle.std.specs.Prelude.{◌≡◌, IfErr, IfOk, string_bytes};
 ghost use Rattle.toml.specs.View.{table_view, view};
 ghost use Rattle.vet_base.specs.Gives.{Gives};
-ghost use Rattle.vet_documents.specs.PublishersDocument.{next_record, record_at, record_path, record_told, records_told};
-ghost use Rattle.vet_documents.specs.PublishersDocument.{set_publishers_told};
+ghost use Rattle.vet_documents.specs.PublishersDocument.{next_record, record_at, record_path, record_told};
+ghost use Rattle.vet_documents.specs.PublishersDocument.{records_told, set_publishers_told};
 ghost use Rattle.vet_files.specs.Field.{required};
 ghost use Rattle.vet_files.specs.Publishers.{in_order};
 

@@ -1,4 +1,10 @@
 -- For which criteria a version is condemned (The Cargo Vet Book, audit entries; the exact form is ours).
+--
+-- A version is condemned where is_condemned says so, by violates and condemns. What an own violation names is as it
+-- says, and what a peer's names is what the map gives, closed by neither table (violated_names, violated). The
+-- violations of a package can be found once, each with the criteria that lead to those that it names (violations_of).
+-- Then each version can be judged by them (condemned_by). A law says that this condemns just the same
+-- (ViolationsCondemn).
 use Rattle.std.specs.Prelude.{ℕ, ◌≡◌, ◌&&◌, Bool, false, List, [], ◌∷◌}
 use Rattle.std.specs.List.{flat_map, list_any}
 use Rattle.vet_base.specs.Criteria.{Criteria, leading_to, leads_to, placed}

@@ -1,4 +1,13 @@
 -- When two entries are the same, and whose an entry is (The Cargo Vet Book, audit entries).
+--
+-- An entry has a source, package, kind, criteria and perhaps notes (Entry). The kind holds what goes with it and
+-- nothing else (Kind). Full, delta and violation hold a version, a delta or a requirement, and who and perhaps
+-- importable (Audit). Wildcard holds a user, a first and a last day (Window), and who and perhaps renew (Grant).
+-- Trusted holds a window alone. Exemption holds a version and perhaps suggest.
+--
+-- Two entries are equal where source, package, kind with all that it holds, criteria and notes are. That is, only an
+-- entry itself is equal to it (entry_eq, kind_eq, entry_eq-Decides). An entry as an own one, or as one of a peer, is
+-- the same except for its source (own, of_source).
 use Rattle.std.specs.Prelude.{◌&&◌, Bool, true, false}
 use Rattle.std.specs.Option.{option_eq}
 use Rattle.std.specs.Str.{bytes_eq}

@@ -1,4 +1,11 @@
 -- What is held of packages (ours): a table of criteria, one's own entries, peers with theirs, and publisher records.
+--
+-- The facts are a table of criteria, own entries of all six kinds, peers with what is held of each, and publisher
+-- records (Facts).
+--
+-- entries_total is how many entries there are of all sources.
+--
+-- No facts are the built-in criteria, no entries, no peers and no publisher records (no_facts).
 use Rattle.std.specs.Prelude.{ℕ, ◌≡◌, ◌<◌, ◌≤◌, ◌+◌, ◌-◌, ◌||◌, Bool, false, true, List, [], length, insert, is_some}
 use Rattle.std.specs.Prelude.{remove}
 use Rattle.std.specs.List.{list_any, sum_by}

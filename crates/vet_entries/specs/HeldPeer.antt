@@ -1,4 +1,15 @@
 -- Peers as they are held (ours): how each is imported, and what was imported from it, in its own words.
+--
+-- A peer that is held (HeldPeer) is its settings and its content: the peer's criteria, with the built-in two, and its
+-- entries with numbers (HoldingValue). The peers stand in the order of their names, each once (peer_of). To set the
+-- settings of a peer leaves its content, and a new one has none (with_settings, no_holding).
+--
+-- An import (imported) leaves of a peer the content that is given, and its settings as they are. Entries that come
+-- again (comes_again) keep their numbers and stand first. Those that are new (is_new, new_entries) get the next
+-- numbers in the order of reading. Each is held as the peer's (as_peers), and what does not come goes
+-- (entries_after_import). Of the criteria the definitions are held (defined). Laws say what this leaves: the
+-- content's criteria and entries and nothing else, each entry once. Numbers rise, and each is the old one or a new
+-- one (ImportHoldsItsContent, ImportHoldsEachOnce, ImportKeepsOrder, ImportKeepsNumbers, ImportTakesEntries).
 use Rattle.std.specs.Prelude.{ℕ, List, Option, Some, None}
 use Rattle.std.specs.Ordering.{nat_cmp}
 use Rattle.std.specs.Cmp.Lexicographic.{slice_cmp}

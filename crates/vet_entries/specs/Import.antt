@@ -1,4 +1,9 @@
 -- How the content of a peer stands to what is held of it, and some entries to one's own (ours).
+--
+-- A content is the one held of a peer (same_content) by three things. Each held entry comes again, each that comes is
+-- held, and the definitions are equal. A law says that this is to have the same criteria and the same entries, in
+-- whatever order (SameItemsAreSame). compared tells which held entries come again, which of those that come are new
+-- and how many, and whether the content is the one held.
 use Rattle.std.specs.Prelude.{ℕ, ◌&&◌, Bool, List, length, map}
 use Rattle.std.specs.List.{list_all}
 use Rattle.vet_base.specs.Defined.{defined}

@@ -1,4 +1,6 @@
 -- What the words of each source are in one's own table, as it is found once for many entries (ours).
+--
+-- Local criteria are found once for many entries (LocalCriteria, AreLocal).
 use Rattle.std.specs.Prelude.{ℕ, ◌≡◌, ◌<◌, List, [], ◌∷◌, Some, if◌then◌else◌, length, slice_index_or}
 use Rattle.std.specs.FinMap as map
 use Rattle.std.specs.FinSet as set

@@ -1,4 +1,8 @@
 -- Entries by their numbers (ours).
+--
+-- Own entries are a list in the order of their numbers, and so are those of each peer (AreByNumber). Entries that are
+-- given without numbers get those from 1 on (numbered). An own entry is found by its number at its place in the list
+-- (place_of).
 use Rattle.std.specs.Prelude.{ℕ, ◌<◌, ◌+◌, ◌==◌, Bool, List, [], ◌∷◌, Option, find, option_map}
 use Rattle.std.specs.List.{AllPairs, position}
 use Rattle.vet_entries.specs.declared.entry.Entry.{Entry}

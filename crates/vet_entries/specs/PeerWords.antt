@@ -1,5 +1,11 @@
 -- What the words of a peer are in one's own (The Cargo Vet Book, importing audits, `criteria-map`; the exact form is
 -- ours).
+--
+-- Local criteria are local_names, and as places in the table local_criteria. Of an own entry it is one closure, in
+-- one's own table. Of a peer's it is the closure by the peer's definitions, then the map, then the closure in one's
+-- own table. A name stands for what the map lists for it, else a built-in one for itself and any other for nothing
+-- (mapped_name, unlisted, mapped). A name that the peer uses and does not define belongs to its closure, and the map
+-- applies to it too. All that a map lists are its targets (targets). A name that one's own table lacks adds nothing.
 use Rattle.std.specs.Prelude.{Option, Some, None}
 use Rattle.vet_base.specs.CriteriaSet.{Places}
 use Rattle.vet_base.specs.Criteria.{Criteria, closure_of, placed}

@@ -1,4 +1,8 @@
 -- The order of publisher records (ours).
+--
+-- A publisher record (Publisher) has a version, user, day, and perhaps login and name; its package is told by what
+-- holds it. Records are ordered by version, day, user, login and name, where an absent text comes before any other.
+-- Only a record itself ties with it (publisher_cmp, publisher_cmp-IsAntisymmetric).
 use Rattle.std.specs.Prelude.{Bool, Option}
 use Rattle.std.specs.Option.{option_cmp}
 use Rattle.std.specs.Ordering.{nat_cmp, on, then_cmp, eq_by_cmp}

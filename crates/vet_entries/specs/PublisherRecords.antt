@@ -1,4 +1,9 @@
 -- The publisher records of all packages (ours): those with records, in the order of their names.
+--
+-- The records of a package that has any are held in this order, each once, and the packages in the order of their
+-- names (IsInOrder, IsByName). records_of are those of a package, none where it is not held; records_total is the
+-- number of all. To set the records of a package leaves those of all others; with none, the package is held no more
+-- (with_records).
 use Rattle.std.specs.Prelude.{ℕ, ◌<◌, ◌^◌, ◌&&◌, Bool, List, [], ◌∷◌, Option, Some, None, IsTrue, is_some, length}
 use Rattle.std.specs.List.{All, sum_by}
 use Rattle.std.specs.Ordering.{nat_cmp}

@@ -1,4 +1,9 @@
 -- The steps of a package (The Cargo Vet Book, audit entries, wildcard audits, trusted publishers and exemptions).
+--
+-- The rows are first_step, delta_step, window_steps, kind_steps, entry_steps and steps_of. The entries of a package
+-- are one's own, and those of each peer that does not exclude it (SourcedEntry, entries_of). Those of all sources
+-- stand by their numbers (by_number). A window covers a record of its user and of a day from its first to its last
+-- (is_covered). Nothing is asked of the facts: what a table lacks has no place in it.
 use Rattle.std.specs.Prelude.{ℕ, ◌≡◌, ◌&&◌, ◌==◌, Bool, true, false, List, Option, Some, None, filter, if◌then◌else◌}
 use Rattle.std.specs.Prelude.{map, nat_lt, [], ◌∷◌, ◌++◌}
 use Rattle.std.specs.FinSet as set

@@ -5,6 +5,9 @@
 //!
 //! Scope of this crate: what is vouched for, and for which criteria. Where chains of steps lead stands in
 //! `vet_graph`; what projects ask for, in `vet_demand`.
+//!
+//! For example, a wildcard entry of user 5 from 2023-01-01 to 2023-12-31 gives a step to each version that this user
+//! published from the first of these days to the last, both included.
 #![tactic(auto)]
 
 mod by_package;

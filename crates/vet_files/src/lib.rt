@@ -7,6 +7,9 @@
 //!
 //! Scope of this crate: from bytes to values, from the values of three files to one, and from values to texts. What
 //! is held of them, and which criteria they may name, is for the crates above.
+//!
+//! For example, a delta in `audits.toml` with an unknown key `aggregated-from` is read, and the key is counted; one
+//! whose `criteria` is a number is a fault of its field (28).
 #![tactic(auto)]
 
 pub mod audits_file;

@@ -156,7 +156,8 @@ module _ {K : Type 0} (r : RegisterView K) (day : DayValue) (a : Action) where
       day a ≡ Ok Accepted
       → IsGivenContent a → facts.edited change s.held.facts ≡ facts_after s a
       → s.held.policies ≡ policies_by a s.held.policies → s.held.projects ≡ projects_by a s.held.projects
-      → s.held.settings ≡ settings_by a s.held.settings → desk_by s day a ≡ s.desk → number ≡ number_given s a → next ≡ number_after s a → facts.Fits change (held_room r).facts
+      → s.held.settings ≡ settings_by a s.held.settings → desk_by s day a ≡ s.desk → number ≡ number_given s a
+      → next ≡ number_after s a → facts.Fits change (held_room r).facts
       → IsTable (facts_after s a).criteria → ArePublishers (facts_after s a).publishers
       → IsEffect r day a (record { edit = edit.Facts change; desk = None; number = number; next_entry = next })
   facts_effect s change number next stays sound told given becomes policies projects settings desk numbered follows

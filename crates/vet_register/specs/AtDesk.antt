@@ -1,4 +1,9 @@
 -- What the register adds to a command to its desk (ours): the own entry that finishes a review, and its number.
+--
+-- A command to the desk has its effect there (desk_by; see Review desk). On the facts only FinishReview has one.
+-- Where no own entry is held that is equal to the review's, that entry is added as by AddEntry (added_by,
+-- with_entry). The finished review has its number, else that of the first entry that is equal (entry_number).
+-- ClosePeriod leaves the facts and the desk.
 use Rattle.std.specs.Prelude.{ℕ, Bool, true, false, Option, Some, None, option_map}
 use Rattle.std.specs.Option.{unwrap_or}
 use Rattle.vet_entries.specs.declared.entry.Entry.{Entry}

@@ -1,5 +1,9 @@
 -- All that classes and the demand depend on (ours): facts of packages, policies and projects, and edits of them. Beside
 -- these stands what a config file says to the tool alone.
+--
+-- Beside the facts of packages are held the policies and the projects (HeldValue, Held). Policies stand in the order
+-- of their keys, and projects in the order of their names. Each edit of all that is held takes no memory, and there
+-- is one that undoes it (HeldEdit).
 use Rattle.std.specs.Prelude.{ℕ, ◌≤◌, Bool, true, false, List, [], Option}
 use Rattle.std.specs.Cmp.Lexicographic.{slice_cmp}
 use Rattle.std.specs.Ordering.{nat_cmp}

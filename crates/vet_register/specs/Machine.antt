@@ -1,17 +1,26 @@
 -- One step of the machine: what an accepted command makes of a state (ours).
 --
--- A step (next) is that of the definitions, by held_after, desk_by, number_after, first_after and moves_after; it leaves the
--- limit. Only ClosePeriod ends a period (ends_period): after it the first counts are the present ones, and no move
--- is recorded. After each other command the first counts are as before, and its moves (records_of) come behind
--- those recorded. An import gives as many numbers of entries as it has new entries, and so do files. FinishReview
--- gives one where its entry is added, and none where an equal one is held (numbers_given). A recorded move
--- (RecordedMove) is the move with the step and the day of its command.
+-- A step (next) is that of the definitions, by held_after, desk_by, number_after, first_after and moves_after; it
+-- leaves the limit. Only ClosePeriod ends a period (ends_period): after it the first counts are the present ones, and
+-- no move is recorded. After each other command the first counts are as before, and its moves (records_of) come
+-- behind those recorded. An import gives as many numbers of entries as it has new entries, and so do files.
+-- FinishReview gives one where its entry is added, and none where an equal one is held (numbers_given). A recorded
+-- move (RecordedMove) is the move with the step and the day of its command.
 --
 -- The outcome of an accepted command (outcome_of) is its step, perhaps a number, and how many pairs it moved. The
 -- number (number_given, number_told) is that of the entry that AddEntry made, or of the review that OpenReview
 -- opened. For FinishReview it is that of the review's entry, be it new or held before. All others tell none.
 --
 -- The first counts are zeros (no_counts) until a period ends, and then the present ones of that time (first_after).
+--
+-- A command is a day and an action (Command, Action). The actions are SetCriterion, RemoveCriterion, AddEntry,
+-- DropEntry, SetPeer, DropPeer, ImportPeer, SetPublishers, SetPolicy, DropPolicy, LoadProject, DropProject,
+-- ReplaceFiles, Desk and ClosePeriod. Desk holds a command to the review desk. AddEntry puts its entry at the end of
+-- the list under the next number, as an own one whatever source it names. DropEntry takes out the own entry of its
+-- number. SetPeer sets the settings of a peer. DropPeer takes the peer out with all that is held of it. ImportPeer
+-- imports its content, as the peer's whatever source the entries name. SetPublishers sets the records of its package
+-- (effect). SetPolicy and LoadProject put a policy or a project where its key or name belongs, in place of the one
+-- that is there. DropPolicy and DropProject take it out (policies_by, projects_by, held_after).
 use Rattle.std.specs.Prelude.{ℕ, ◌+◌, ◌++◌, not, Bool, true, false, List, [], ◌∷◌, Option, Some, None, if◌then◌else◌}
 use Rattle.std.specs.Prelude.{length, filter, map}
 use Rattle.std.specs.Option.{option_map_or}

@@ -1,4 +1,11 @@
 -- When files are told that what they hold is held already (ours).
+--
+-- Files say what is held (SayWhatIsHeld) where all of this holds. Their criteria are those held beside the built-in
+-- ones, and their entries the own ones, each in any order. The peers of the config file are those held, with these
+-- settings. The imports file says of each what is held of it and of no other peer anything (SaysWhatIsHeld,
+-- each_is_set). Publisher records, policies and what is said to the tool alone are equal. Of two sets of three files
+-- this may hold of one as of the other, and their imports files may have the same peers. Then they say the same
+-- (SayTheSame).
 use Rattle.std.specs.Prelude.{◌≡◌, ◌↔◌, true, List, Ok, map}
 use Rattle.std.specs.List.{All}
 use Rattle.vet_base.specs.Day.{DayValue}

@@ -1,4 +1,11 @@
 -- What three files put in place of what is held (ours).
+--
+-- ReplaceFiles puts the content of three files (FilesValue) in place of all that is held but projects
+-- (facts_of_files, tool_of_files). Own entries are those of the audits file and then the exemptions, each once. A
+-- peer is held for each of the config file, with what the imports file says of it. That is nothing if it is not there
+-- (peers_after, content_for). Of each source, entries that come again keep their numbers and stand first
+-- (entries_after). The new ones get the next numbers in the order of reading. One's own come first, and then peer by
+-- peer in the order of their names (new_of_files). The desk stays.
 use Rattle.std.specs.Prelude.{ℕ, ◌+◌, List, [], ◌∷◌, length}
 use Rattle.std.specs.List.{sum_by}
 use Rattle.vet_base.specs.Defined.{defined}

@@ -6,6 +6,9 @@
 //! Scope of this crate: the machine with its commands, those to the review desk among them, over whatever keeps the
 //! classes, and the class of one pair from an audits file. Its signatures have types of the lower crates, which callers
 //! name there.
+//!
+//! For example, a project that demands `serde 1.0.1` is loaded with the outcome `done 1 moves 2`; a full entry for
+//! that version then has the outcome `done 2 number 1 moves 2`, and the same entry again `already 1`.
 #![tactic(auto)]
 
 mod at_desk;

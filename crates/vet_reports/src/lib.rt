@@ -5,6 +5,9 @@
 //!
 //! Scope of this crate: the texts alone. Where they go, and how they are asked for, is told above. Definitions stand in
 //! `specs/`, built of columns: `left_in` and `right_in` lay one out, and `line` joins them.
+//!
+//! For example, what came of the first command that adds an entry, which moved two pairs, is the line `done 1 number 1
+//! moves 2`.
 #![tactic(auto)]
 
 mod columns;

@@ -7,6 +7,8 @@
 //! Scope of this crate: heads, fields and bodies of requests, their parameters, routes, statuses, replies, counted
 //! reads and whole writes. It knows no register: what is answered of one is told in `vet_http`, which gives all names
 //! of this crate on.
+//!
+//! For example, of a body that is a byte shorter than its `Content-Length` nothing is answered but 400 `bad request`.
 #![tactic(auto)]
 
 mod body;

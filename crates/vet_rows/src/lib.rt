@@ -8,6 +8,9 @@
 //! state, the changes of rows that a prepared change of the register makes, and the state of rows; that a register's
 //! state can be held in rows; packed lists, in which a column keeps many values, and sets of names and texts as such
 //! lists.
+//!
+//! For example, the rows of a state with one demanded pair have one row in `standing`. Rows with another class there
+//! are those of no state.
 #![tactic(auto)]
 
 pub mod column;

@@ -5,6 +5,9 @@
 //!
 //! Scope of this crate: the twelve tables, their statements and transactions, what stands in them, and the store,
 //! which is made with the tables of a register that holds nothing, or opened from the tables of one, and runs commands.
+//!
+//! For example, a file in which one class in `standing` was changed by hand is refused as 31 NotARegister, and stays
+//! as it is.
 #![tactic(auto)]
 
 pub mod apply;

@@ -6,6 +6,9 @@
 //!
 //! Scope of this crate: the words of every command with their help, the line of a class, the counts of a file, and
 //! which text a command shows of a register. Registers in database files and clients are those of `vetd`.
+//!
+//! For example, `vetd class serde 1.0.0 safe-to-deploy` prints `full` where standard input has a full entry of that
+//! version for `safe-to-deploy`.
 #![tactic(auto)]
 
 pub mod answer;

@@ -7,8 +7,8 @@ ghost use Rattle.vetd_words.specs.NewWords.{limit_rule, new_app, option_rule};
 ghost use Rattle.vetd_words.specs.ServeWords.{number_rule, serve_app};
 ghost use Rattle.vetd_words.specs.Words.{IsApp, IsRule, asked_of, bare_app, begins_with, class_alone_app, class_app};
 ghost use Rattle.vetd_words.specs.Words.{changed_app, class_given, exported_app, file_app, kind_from, made_app};
-ghost use Rattle.vetd_words.specs.Words.{read_app, read_given, reported_app, rows_given, rows_if_named, top_app, view_app};
-ghost use Rattle.vetd_words.specs.Words.{with_kind, word_rule, words_from};
+ghost use Rattle.vetd_words.specs.Words.{read_app, read_given, reported_app, rows_given, rows_if_named};
+ghost use Rattle.vetd_words.specs.Words.{top_app, view_app, with_kind, word_rule, words_from};
 
 use crate::file_word::file_of_word;
 use crate::help::{

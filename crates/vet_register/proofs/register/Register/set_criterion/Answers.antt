@@ -4,7 +4,8 @@ use Rattle.vet_base.specs.Criteria.{IsTable}
 use Rattle.vet_base.specs.CriteriaChanges.{set_verdict}
 use Rattle.vet_register.specs.declared.command.Action.TheVariants as action
 use Rattle.vet_register.proofs.Asking.{effective, some_day, set_passed}
-use Rattle.vet_register.proofs.AskingEdits.{accepts, none_given, of_facts_is_still, passed_on, state_before, told_before}
+use Rattle.vet_register.proofs.AskingEdits.{accepts, none_given, of_facts_is_still, passed_on, state_before}
+use Rattle.vet_register.proofs.AskingEdits.{told_before}
 use Rattle.vet_register.proofs.register.Register.set_criterion.Goals as goal
 
 pub returns-in_err-number-clause-asked : goal.returns-in_err-number-clause-asked
