@@ -127,14 +127,14 @@ class Building:
         return not self.left and self.onlooker.is_well
 
     def begin(self, pool, lanes):
-        """Begins those that are ready, as many as there are lanes. One alone may have all processors."""
+        """Begins those that are ready, as many as there are lanes, and shares the processors among them."""
         ready = [it for it in self.left if self.built.issuperset(it.deps)]
-        lanes = kit.processors() if len(ready) == 1 and not self.running else lanes
         for at, crate in enumerate(ready):
-            idle = lanes - sum(jobs for _, jobs in self.running.values())
-            if idle < 1:
+            idle = kit.processors() - sum(jobs for _, jobs in self.running.values())
+            free_lanes = lanes - len(self.running)
+            if idle < 1 or free_lanes < 1:
                 break
-            jobs = jobs_of(idle, len(ready) - at)
+            jobs = jobs_of(idle, min(len(ready) - at, free_lanes))
             self.left.remove(crate)
             self.onlooker.begins(crate, jobs)
             self.running[pool.submit(Built, crate, jobs)] = crate, jobs
