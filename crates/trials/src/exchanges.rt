@@ -5,17 +5,17 @@
 //! connection to this machine, which the same thread accepts and has `serve_one` serve. The replies go to standard
 //! output one behind the other, and nothing else. The status is 2 where the second word is none of these, and 1 where
 //! something failed.
-use crate::exchanges::fault::Fault;
 use crate::exchanges::loopback::serve_over_loopback;
 use crate::exchanges::slices::serve_together;
 use std::process::ExitCode;
 use std::{env, io};
+use trial_values::fault::Fault;
 use vet_base::day::Day;
 use vet_base::limits::MOST_MOVES;
 use vet_graph::plain::PlainKeeper;
+use vet_http::io_fault::IoFault;
 use vet_store::memory::run_in_memory_files;
 
-mod fault;
 mod loopback;
 mod slices;
 
@@ -29,7 +29,7 @@ const DAY: &str = "2024-05-01";
 pub fn run_exchanges(rt: &HostRuntime) -> ExitCode {
     match &run_whole(rt) {
         Ok(()) => ExitCode::SUCCESS,
-        Err(Fault::Words) => ExitCode::from(NOT_UNDERSTOOD),
+        Err(Fault::NotUnderstood) => ExitCode::from(NOT_UNDERSTOOD),
         Err(_) => ExitCode::FAILURE,
     }
 }
@@ -39,7 +39,7 @@ fn run_whole(rt: &HostRuntime) -> Result<(), Fault> {
     let _name = words.next();
     let _room = words.next();
     let Some(how) = words.next() else {
-        return Err(Fault::Words);
+        return Err(Fault::NotUnderstood);
     };
     let requests: Vec<String> = words.collect(rt.alloc())?;
     serve_requests(rt, how.as_str(), requests.as_slice())
@@ -56,5 +56,13 @@ fn serve_requests(rt: &HostRuntime, how: &str, requests: &[String]) -> Result<()
     if how == "loopback" {
         return serve_over_loopback(rt, &mut first.store, day, requests, &mut writer);
     }
-    Err(Fault::Words)
+    Err(Fault::NotUnderstood)
+}
+
+/// What was served or written, or that it failed.
+pub fn served<T: Drop>(came: Result<T, IoFault>) -> Result<T, Fault> {
+    match came {
+        Ok(served) => Ok(served),
+        Err(_) => Err(Fault::Stream),
+    }
 }

@@ -19,58 +19,30 @@
 //! before its first line is proved.
 #![tactic(auto)]
 
-mod days;
 mod exchanges;
-mod fault;
-mod files;
-mod held;
-mod held_desk;
-mod held_projects;
-mod held_settings;
-mod held_texts;
-mod input;
-mod items;
-mod known;
-mod line;
-mod lists;
-mod name_lists;
-mod packed;
-mod policies;
-mod print;
-mod projects;
-mod relay;
-mod reports;
-mod run;
-mod runs;
-mod setting;
-mod steps;
 mod stored;
-mod tables;
 mod times;
 mod toml_only;
-mod values;
-mod versions;
 mod words;
-mod workspace;
-mod written;
 
 use exchanges::run_exchanges;
-use fault::Fault;
-use input::{Input, read_input};
-use items::{Numbered, items_of};
-use relay::RelayKeeper;
-use run::{Ending, How, refused, run_in_memory};
 use std::io;
 use std::io::ErrorKind;
 use std::process::ExitCode;
 use stored::{Way, run_stored};
 use times::run_times;
 use toml_only::read_toml;
+use trial_registers::input::{Input, read_input};
+use trial_registers::items::{Numbered, items_of};
+use trial_registers::relay::RelayKeeper;
+use trial_registers::run::{How, run_in_memory};
+use trial_values::ending::{Ending, refused};
+use trial_values::fault::Fault;
+use trial_values::workspace::run_workspace;
 use vet_base::refusal::Refusal;
 use vet_graph::keeper::Keeper;
 use vet_graph::plain::PlainKeeper;
 use words::{KeeperWord, Words, meaning, read_words};
-use workspace::run_workspace;
 
 /// The status of a run of something that isn't understood.
 const NOT_UNDERSTOOD: u8 = 2;

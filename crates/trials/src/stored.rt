@@ -1,14 +1,19 @@
 //! A run on a register in a database file.
 ghost use Rattle.std.specs.Prelude.{◌≡◌, false};
 
-use crate::fault::Fault;
-use crate::items::Numbered;
-use crate::run::{Ending, How, give_all, print_end, refused};
-use crate::setting::limit_of;
 use sqlite::{Alter, Connection, Error, Wary};
 use std::alloc::Global;
 use std::io;
+use trial_registers::items::Numbered;
+use trial_registers::run::{How, give_all, print_end};
+use trial_registers::runs::Runs;
+use trial_registers::setting::limit_of;
+use trial_values::ending::{Ending, refused};
+use trial_values::fault::Fault;
+use vet_base::refusal::Refusal;
 use vet_graph::keeper::Keeper;
+use vet_register::command::{Command, Outcome};
+use vet_register::register::Register;
 use vet_store::refused::{Refused, refusal_of};
 use vet_store::store::Store;
 
@@ -19,6 +24,30 @@ pub enum Way {
     Made,
     /// It is opened.
     Opened,
+}
+
+// A store whose commands a run gives.
+#[derive(Drop)]
+struct Stored<S: Alter + Drop, K: Keeper> {
+    store: Store<S, K>,
+}
+
+impl<S: Alter + Drop, K: Keeper> Runs<K> for Stored<S, K> {
+    fn run_command(&mut self, alloc: Global, command: &Command) -> Result<Outcome, Refusal> {
+        self.store.run(alloc, command)
+    }
+
+    fn run_commands(
+        &mut self,
+        alloc: Global,
+        commands: &[Command],
+    ) -> Result<Vec<Result<Outcome, Refusal>>, Refusal> {
+        self.store.run_all(alloc, commands)
+    }
+
+    fn shown(&self) -> &Register<K> {
+        self.store.register()
+    }
 }
 
 /// Makes or opens a register in the database file of this path, gives it items, prints the answers and what the
@@ -67,10 +96,10 @@ fn run_connected<S: Alter + Drop, K: Keeper>(
 {
     match store_of::<S, K>(alloc, conn, items, way) {
         Ok(store) => {
-            let mut store = store;
-            let ending = give_all::<K, Store<S, K>>(rt, alloc, &mut store, items, how)?;
-            let ending = print_end(rt, store.register(), true, ending)?;
-            Ok((ending, Some(store.close())))
+            let mut stored = Stored { store };
+            let ending = give_all::<K, Stored<S, K>>(rt, alloc, &mut stored, items, how)?;
+            let ending = print_end(rt, stored.shown(), true, ending)?;
+            Ok((ending, Some(stored.store.close())))
         }
         Err(refused_store) => {
             let (refusal, _conn) = refused_store.into_parts();

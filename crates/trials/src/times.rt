@@ -38,32 +38,21 @@
 //!
 //! Of each other command of a round a line is printed of what it is, its nanoseconds and its outcome. The status is 1
 //! where anything is refused or fails, and 2 where the words or the parts are not understood.
-use crate::times::demand_rounds::run_demands;
-use crate::times::desk_rounds::run_reviews;
-use crate::times::fault::Fault;
-use crate::times::import_rounds::run_imports;
 use crate::times::input::{Task, read_path, read_task, read_text};
 use crate::times::memory_rounds::run_memory;
 use crate::times::opened_parts::run_parts;
-use crate::times::replacements::run_replacements;
 use crate::times::stored_rounds::{run_opened, run_stored};
 use std::process::ExitCode;
+use trial_times::demand_rounds::run_demands;
+use trial_times::desk_rounds::run_reviews;
+use trial_times::import_rounds::run_imports;
+use trial_times::replacements::run_replacements;
+use trial_values::fault::Fault;
 
-mod clock;
-mod commands;
-mod demand_rounds;
-mod desk_rounds;
-mod fault;
-mod files;
-mod import_rounds;
 mod input;
 mod memory_rounds;
 mod opened_parts;
-mod project;
-mod replacements;
-mod reviews;
 mod stored_rounds;
-mod workspace;
 mod written;
 
 /// The status of a run of words that aren't understood.
@@ -73,7 +62,7 @@ const NOT_UNDERSTOOD: u8 = 2;
 pub fn run_times(rt: &HostRuntime) -> ExitCode {
     match &run_whole(rt) {
         Ok(()) => ExitCode::SUCCESS,
-        Err(Fault::Words) => ExitCode::from(NOT_UNDERSTOOD),
+        Err(Fault::NotUnderstood) => ExitCode::from(NOT_UNDERSTOOD),
         Err(_) => ExitCode::FAILURE,
     }
 }

@@ -1,9 +1,9 @@
 //! The words of the command line.
 
-use crate::run::How;
 use crate::stored::Way;
 use std::env::Env;
 use std::{env, io};
+use trial_registers::run::How;
 
 /// What the words ask for.
 #[derive(Clone, Copy)]

@@ -1,9 +1,10 @@
 //! Requests that come over the network of this machine, each sent, served and replied to by one thread.
 
-use crate::exchanges::fault::Fault;
+use crate::exchanges::served;
 use sqlite::Alter;
 use std::io::{Read, Write};
 use std::net::{Ipv4Addr, Shutdown, TcpListener, TcpStream};
+use trial_values::fault::Fault;
 use vet_base::day::Day;
 use vet_graph::plain::PlainKeeper;
 use vet_http::input::CountedReader;
@@ -28,7 +29,7 @@ pub fn serve_over_loopback<S: Alter, W: Write>(
         serve_next(rt, store, day, &listener)?;
         let mut reply = Vec::new(rt.alloc());
         client.read_to_end(&mut reply)?;
-        write_whole(writer, reply.as_slice())?;
+        served(write_whole(writer, reply.as_slice()))?;
     }
     Ok(())
 }
@@ -44,7 +45,7 @@ fn serve_next<S: Alter>(
     let mut rest = stream.try_clone()?;
     let mut writer = stream.try_clone()?;
     let mut reader = CountedReader::new(stream);
-    serve_one(rt.alloc(), store, day, &mut reader, &mut writer)?;
+    served(serve_one(rt.alloc(), store, day, &mut reader, &mut writer))?;
     let mut left = Vec::new(rt.alloc());
     rest.read_to_end(&mut left)?;
     Ok(())

@@ -1,9 +1,10 @@
 //! Requests that are at hand, served by one call.
 
-use crate::exchanges::fault::Fault;
+use crate::exchanges::served;
 use sqlite::Alter;
 use std::alloc::Global;
 use std::io::Write;
+use trial_values::fault::Fault;
 use vet_base::day::Day;
 use vet_graph::plain::PlainKeeper;
 use vet_http::input::CountedReader;
@@ -33,7 +34,7 @@ pub fn serve_together<S: Alter, W: Write>(
         check_served(answer)?;
     }
     for connection in connections.iter() {
-        write_whole(writer, connection.writer.as_slice())?;
+        served(write_whole(writer, connection.writer.as_slice()))?;
     }
     Ok(())
 }
@@ -42,6 +43,6 @@ pub fn serve_together<S: Alter, W: Write>(
 fn check_served(answer: &Result<Served, IoFault>) -> Result<(), Fault> {
     match answer {
         Ok(_) => Ok(()),
-        Err(fault) => Err(Fault::Served(*fault)),
+        Err(_) => Err(Fault::Stream),
     }
 }

@@ -1,14 +1,10 @@
-//! The words of the command line and the files on standard input.
+//! The words of the command line, and the text on standard input.
 
-use crate::times::fault::Fault;
-use std::alloc::Global;
 use std::env;
 use std::io::Read;
-use vet_entries::peer_content::PeerContent;
-use vet_files::imports_file::read_peer;
-
-/// What stands between two files.
-pub const BETWEEN_FILES: &str = "\n---\n";
+use trial_times::desk_rounds::Reviews;
+use trial_times::import_rounds::Sizes;
+use trial_values::fault::Fault;
 
 /// What is to be timed, and how much of it.
 #[derive(Clone, Copy)]
@@ -31,24 +27,6 @@ pub enum Task {
     Memory(usize),
 }
 
-/// How much is to be timed of imports.
-#[derive(Clone, Copy)]
-pub struct Sizes {
-    /// How many rounds.
-    pub rounds: usize,
-    /// How many own entries, and how many demanded pairs.
-    pub own: usize,
-}
-
-/// How much is to be timed of the review desk.
-#[derive(Clone, Copy)]
-pub struct Reviews {
-    /// How many reviews there are in the end.
-    pub count: usize,
-    /// How many rounds.
-    pub rounds: usize,
-}
-
 /// How much is to be timed of a register in a file.
 #[derive(Clone, Copy)]
 pub struct Stored {
@@ -64,7 +42,7 @@ pub fn read_task(rt: &HostRuntime) -> Result<Task, Fault> {
     let _name = words.next();
     let _room = words.next();
     let Some(task) = words.next() else {
-        return Err(Fault::Words);
+        return Err(Fault::NotUnderstood);
     };
     let (first, second, third) = (words.next(), words.next(), words.next());
     task_of(task.as_str(), &first, &second, &third)
@@ -94,17 +72,17 @@ fn task_of(
         "open" => Ok(Task::Opened),
         "parts" => Ok(Task::Parts),
         "memory" => Ok(Task::Memory(number(first)?)),
-        _ => Err(Fault::Words),
+        _ => Err(Fault::NotUnderstood),
     }
 }
 
 fn number(word: &Option<String>) -> Result<usize, Fault> {
     let Some(word) = word else {
-        return Err(Fault::Words);
+        return Err(Fault::NotUnderstood);
     };
     match word.as_str().parse::<usize>() {
         Ok(number) => Ok(number),
-        Err(_) => Err(Fault::Words),
+        Err(_) => Err(Fault::NotUnderstood),
     }
 }
 
@@ -113,7 +91,7 @@ pub fn read_path(rt: &HostRuntime) -> Result<String, Fault> {
     let mut words = env::args(rt)?;
     match words.nth(3) {
         Some(path) => Ok(path),
-        None => Err(Fault::Words),
+        None => Err(Fault::NotUnderstood),
     }
 }
 
@@ -122,17 +100,4 @@ pub fn read_text(rt: &HostRuntime) -> Result<String, Fault> {
     let mut text = String::new(rt.alloc());
     rt.reader().read_to_string(&mut text)?;
     Ok(text)
-}
-
-/// What the files of a text hold, in their order.
-pub fn contents_of(alloc: Global, text: &str) -> Result<Vec<PeerContent>, Fault> {
-    let mut contents = Vec::new(alloc);
-    for file in text.split(BETWEEN_FILES) {
-        contents.push(content_of(alloc, file)?)?;
-    }
-    Ok(contents)
-}
-
-fn content_of(alloc: Global, file: &str) -> Result<PeerContent, Fault> {
-    Ok(read_peer(alloc, file.as_bytes())?.content)
 }

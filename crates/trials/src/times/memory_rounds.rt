@@ -1,10 +1,10 @@
 //! Commands to a register in files in memory.
 
-use crate::times::commands::{add_other, drop_entry, set_peer};
-use crate::times::fault::Fault;
 use crate::times::stored_rounds::{imports_of, number_of};
 use sqlite::Alter;
 use std::time::Instant;
+use trial_times::commands::{add_other, drop_entry, set_peer};
+use trial_values::fault::Fault;
 use vet_base::limits::MOST_MOVES;
 use vet_graph::plain::PlainKeeper;
 use vet_register::command::{Command, Outcome};

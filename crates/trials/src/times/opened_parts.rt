@@ -1,10 +1,10 @@
 //! The parts of opening a register in a file.
 
-use crate::times::commands::set_other_peer;
-use crate::times::fault::Fault;
 use crate::times::stored_rounds::connected;
 use sqlite::{Alter, Connection};
 use std::time::Instant;
+use trial_times::commands::set_other_peer;
+use trial_values::fault::Fault;
 use vet_base::refusal::Refusal;
 use vet_graph::plain::PlainKeeper;
 use vet_register::register::Register;

@@ -1,12 +1,13 @@
 //! Commands to a register in a file, whose parts are timed; and the register that is opened again.
 
-use crate::times::commands::{add_other, drop_entry, import_peer, load_project, set_peer};
-use crate::times::fault::Fault;
-use crate::times::input::{Stored, contents_of};
+use crate::times::input::Stored;
 use crate::times::written::run_written;
 use sqlite::{Alter, Connection, FileFrom, FileStore, Wary};
 use std::alloc::Global;
 use std::time::Instant;
+use trial_times::commands::{add_other, drop_entry, import_peer, load_project, set_peer};
+use trial_times::contents::contents_of;
+use trial_values::fault::Fault;
 use vet_base::limits::MOST_MOVES;
 use vet_base::refusal::Refusal;
 use vet_graph::plain::PlainKeeper;
@@ -50,7 +51,7 @@ pub fn connected(rt: &HostRuntime, path: &str) -> Result<Connection<WaryFile>, F
 // The tables of a register that holds nothing.
 fn made<S: Alter + Drop>(alloc: Global, conn: Connection<S>) -> Result<Connection<S>, Fault> {
     if !conn.is_autocommit() {
-        return Err(Fault::Words);
+        return Err(Fault::NotUnderstood);
     }
     match Store::<S, PlainKeeper>::create(alloc, conn, MOST_MOVES) {
         Ok(store) => Ok(store.close()),
@@ -106,7 +107,7 @@ pub fn number_of(outcome: Outcome) -> Result<u64, Fault> {
             number: Some(number),
             ..
         } => Ok(number),
-        _ => Err(Fault::Words),
+        _ => Err(Fault::NotUnderstood),
     }
 }
 
@@ -119,7 +120,7 @@ fn run_one<S: Alter>(
     command: &Command,
 ) -> Result<Outcome, Fault> {
     if !conn.is_autocommit() {
-        return Err(Fault::Words);
+        return Err(Fault::NotUnderstood);
     }
     run_written(rt, conn, register, what, command)
 }
@@ -151,7 +152,7 @@ fn opened<S: Alter + Drop>(
     conn: Connection<S>,
 ) -> Result<Store<S, PlainKeeper>, Fault> {
     if !conn.is_autocommit() {
-        return Err(Fault::Words);
+        return Err(Fault::NotUnderstood);
     }
     match Store::open(alloc, conn) {
         Ok(store) => Ok(store),

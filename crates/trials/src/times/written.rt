@@ -3,9 +3,9 @@ ghost use Rattle.std.specs.Prelude.{◌≡◌, false};
 ghost use Rattle.vet_register.specs.Machine.{CommandValue};
 ghost use Rattle.vet_register.specs.RegisterView.{IsPrepared};
 
-use crate::times::fault::Fault;
 use sqlite::{Alter, Connection};
 use std::time::Instant;
+use trial_values::fault::Fault;
 use vet_base::refusal::Refusal;
 use vet_graph::keeper::Keeper;
 use vet_register::change::{Change, Prepared};
@@ -59,7 +59,7 @@ fn written<S: Alter, K: Keeper>(
 {
     match register.prepare(rt.alloc(), command) {
         Err(refusal) => Err(Fault::Refused(refusal)),
-        Ok(Prepared::Already(_)) => Err(Fault::Words),
+        Ok(Prepared::Already(_)) => Err(Fault::NotUnderstood),
         Ok(Prepared::Change(change)) => match write(rt, conn, register, &change, begun) {
             Err(fault) => Err(fault),
             Ok(parts) => {

@@ -1,0 +1,242 @@
+//! A run of what stands on the input, over what runs commands.
+
+use crate::held_texts::line_told;
+use crate::items::{Document, Item, Numbered, has_documents};
+use crate::print::{print_contents, print_outcome};
+use crate::reports::{report, report_word};
+use crate::runs::Runs;
+use crate::setting::{behind_setting, limit_of};
+use std::alloc::Global;
+use std::io;
+use trial_values::ending::{Ending, Given, print_fault, print_refusal, refused};
+use trial_values::fault::Fault;
+use vet_base::day::Day;
+use vet_base::refusal::Refusal;
+use vet_documents::command_document::read_command;
+use vet_graph::keeper::Keeper;
+use vet_register::command::{Command, Outcome};
+use vet_register::register::Register;
+
+/// How commands are given.
+#[derive(Clone, Copy, PartialEq, Eq)]
+pub enum How {
+    /// One by one.
+    Singly,
+    /// One by one, and before each is printed what the register holds.
+    Shown,
+    /// As lists, each as long as no document between its commands is refused, and no line is given.
+    Together,
+}
+
+/// Gives items in their order to a register in memory, up to one that is refused for want of memory, and prints the
+/// answers and, where there is a command, what the register holds in the end.
+pub fn run_in_memory<K: Keeper>(
+    rt: &impl Print,
+    alloc: Global,
+    items: &[Numbered<'_>],
+    how: How,
+) -> io::Result<Ending> {
+    match Register::<K>::new(alloc, limit_of(items)) {
+        Ok(mut register) => {
+            let ending = give_all::<K, Register<K>>(rt, alloc, &mut register, items, how)?;
+            print_end(rt, &register, has_documents(items), ending)
+        }
+        Err(refusal) => refused(rt, &Fault::Refused(refusal)),
+    }
+}
+
+/// Prints what is held at the end of a run, if it is shown and all items were understood.
+pub fn print_end<K: Keeper>(
+    rt: &impl Print,
+    register: &Register<K>,
+    is_shown: bool,
+    ending: Ending,
+) -> io::Result<Ending> {
+    if let Ending::Line(_) = ending {
+        return Ok(ending);
+    }
+    if is_shown {
+        print_contents(rt, register)?;
+    }
+    Ok(ending)
+}
+
+/// Gives items in their order, up to one that is refused for want of memory or not understood, and prints the answers.
+pub fn give_all<K: Keeper, R: Runs<K>>(
+    rt: &impl Print,
+    alloc: Global,
+    runs: &mut R,
+    items: &[Numbered<'_>],
+    how: How,
+) -> io::Result<Ending> {
+    let mut list = Vec::new(alloc);
+    for numbered in behind_setting(items) {
+        match give::<K, R>(rt, alloc, runs, &mut list, numbered.item, how)? {
+            Given::Answered => {}
+            Given::NoMemory => return Ok(Ending::Refused),
+            Given::NotUnderstood => return Ok(Ending::Line(numbered.number)),
+        }
+    }
+    match give_list::<K, R>(rt, alloc, runs, &mut list)? {
+        Given::Answered => Ok(Ending::Whole),
+        _ => Ok(Ending::Refused),
+    }
+}
+
+fn give<K: Keeper, R: Runs<K>>(
+    rt: &impl Print,
+    alloc: Global,
+    runs: &mut R,
+    list: &mut Vec<Command>,
+    item: Item<'_>,
+    how: How,
+) -> io::Result<Given> {
+    match item {
+        Item::Document(document) => give_document::<K, R>(rt, alloc, runs, list, document, how),
+        Item::Line(line) => give_line::<K, R>(rt, alloc, runs, list, line),
+        Item::Unframed => Ok(Given::NotUnderstood),
+    }
+}
+
+fn give_document<K: Keeper, R: Runs<K>>(
+    rt: &impl Print,
+    alloc: Global,
+    runs: &mut R,
+    list: &mut Vec<Command>,
+    document: Document<'_>,
+    how: How,
+) -> io::Result<Given> {
+    if how == How::Shown {
+        print_contents(rt, runs.shown())?;
+    }
+    match command_of(alloc, document) {
+        Ok(command) => {
+            if how == How::Together {
+                return Ok(listed(list, command));
+            }
+            give_command::<K, R>(rt, alloc, runs, &command)
+        }
+        Err(refusal) => give_before::<K, R>(rt, alloc, runs, list, &Fault::Refused(refusal)),
+    }
+}
+
+// The command of a document. Refused: as `vetd apply` refuses it, the day first.
+fn command_of(alloc: Global, document: Document<'_>) -> Result<Command, Refusal> {
+    let day = Day::parse(document.day)?;
+    let member = match document.member {
+        Some(member) => Some(member.as_bytes()),
+        None => None,
+    };
+    read_command(alloc, document.bytes, day, member)
+}
+
+fn listed(list: &mut Vec<Command>, command: Command) -> Given {
+    match list.push(command) {
+        Ok(()) => Given::Answered,
+        Err(_) => Given::NoMemory,
+    }
+}
+
+fn give_command<K: Keeper, R: Runs<K>>(
+    rt: &impl Print,
+    alloc: Global,
+    runs: &mut R,
+    command: &Command,
+) -> io::Result<Given> {
+    match runs.run_command(alloc, command) {
+        Ok(outcome) => {
+            print_outcome(rt, outcome)?;
+            Ok(Given::Answered)
+        }
+        Err(refusal) => print_fault(rt, &Fault::Refused(refusal)),
+    }
+}
+
+// Gives the list, and then tells the fault of what stands behind it.
+fn give_before<K: Keeper, R: Runs<K>>(
+    rt: &impl Print,
+    alloc: Global,
+    runs: &mut R,
+    list: &mut Vec<Command>,
+    fault: &Fault,
+) -> io::Result<Given> {
+    match give_list::<K, R>(rt, alloc, runs, list)? {
+        Given::Answered => print_fault(rt, fault),
+        told => Ok(told),
+    }
+}
+
+// Gives the commands of a list, which has none behind that.
+fn give_list<K: Keeper, R: Runs<K>>(
+    rt: &impl Print,
+    alloc: Global,
+    runs: &mut R,
+    list: &mut Vec<Command>,
+) -> io::Result<Given> {
+    if list.is_empty() {
+        return Ok(Given::Answered);
+    }
+    let answers = runs.run_commands(alloc, list.as_slice());
+    list.clear();
+    match answers {
+        Ok(answers) => print_answers(rt, answers.as_slice()),
+        Err(refusal) => print_fault(rt, &Fault::Refused(refusal)),
+    }
+}
+
+fn print_answers(rt: &impl Print, answers: &[Result<Outcome, Refusal>]) -> io::Result<Given> {
+    for answer in answers {
+        match answer {
+            Ok(outcome) => print_outcome(rt, *outcome)?,
+            Err(refusal) => print_refusal(rt, refusal)?,
+        }
+    }
+    Ok(Given::Answered)
+}
+
+// Gives the list, and then answers the line behind it.
+fn give_line<K: Keeper, R: Runs<K>>(
+    rt: &impl Print,
+    alloc: Global,
+    runs: &mut R,
+    list: &mut Vec<Command>,
+    line: &str,
+) -> io::Result<Given> {
+    match give_list::<K, R>(rt, alloc, runs, list)? {
+        Given::Answered => tell_line(rt, alloc, runs.shown(), line),
+        told => Ok(told),
+    }
+}
+
+fn tell_line<K: Keeper>(
+    rt: &impl Print,
+    alloc: Global,
+    register: &Register<K>,
+    line: &str,
+) -> io::Result<Given> {
+    if let Some(kind) = report_word(line) {
+        return tell_report(rt, alloc, register, kind);
+    }
+    match line_told(alloc, register, line) {
+        Ok(told) => {
+            println!(rt; "{told}")?;
+            Ok(Given::Answered)
+        }
+        Err(fault) => print_fault(rt, &fault),
+    }
+}
+
+fn tell_report<K: Keeper>(
+    rt: &impl Print,
+    alloc: Global,
+    register: &Register<K>,
+    kind: &str,
+) -> io::Result<Given> {
+    match report(alloc, register, kind) {
+        Ok(text) => {
+            print!(rt; "{text}")?;
+            Ok(Given::Answered)
+        }
+        Err(fault) => print_fault(rt, &fault),
+    }
+}

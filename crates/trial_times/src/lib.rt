@@ -1,0 +1,16 @@
+//! Times of commands to a register in memory, by the clock, for the benches.
+//!
+//! It is no part of the product. The program `trials` has the words that ask for them, and what is printed.
+#![tactic(auto)]
+
+mod clock;
+pub mod commands;
+pub mod contents;
+pub mod demand_rounds;
+pub mod desk_rounds;
+mod files;
+pub mod import_rounds;
+mod project;
+pub mod replacements;
+mod reviews;
+mod workspace;

@@ -1,0 +1,70 @@
+//! How a run ends, and what it prints of a refusal. Printing takes no memory.
+
+use crate::fault::Fault;
+use std::io;
+use vet_base::refusal::Refusal;
+
+/// How a run ended.
+#[derive(Clone, Copy)]
+pub enum Ending {
+    /// Each item was given.
+    Whole,
+    /// Something was refused for want of memory, and nothing was given after it.
+    Refused,
+    /// The line of this number, counted from 1, was not understood.
+    Line(usize),
+    /// The words of the command line were not understood.
+    Words,
+    /// The input was no text, or too long.
+    Input,
+}
+
+/// What came of an item.
+#[derive(Clone, Copy)]
+pub enum Given {
+    /// It was answered, or is one of a list that was not given yet.
+    Answered,
+    /// Memory was wanting.
+    NoMemory,
+    /// It was not understood.
+    NotUnderstood,
+}
+
+/// Prints the refusal with which a run ends.
+pub fn refused(rt: &impl Print, fault: &Fault) -> io::Result<Ending> {
+    print_fault(rt, fault)?;
+    Ok(Ending::Refused)
+}
+
+/// Prints a refusal; of what is not understood nothing.
+pub fn print_fault(rt: &impl Print, fault: &Fault) -> io::Result<Given> {
+    match fault {
+        Fault::NotUnderstood | Fault::Stream => Ok(Given::NotUnderstood),
+        Fault::Refused(refusal) => {
+            print_refusal(rt, refusal)?;
+            if let Refusal::NoMemory = refusal {
+                return Ok(Given::NoMemory);
+            }
+            Ok(Given::Answered)
+        }
+    }
+}
+
+/// Prints a refusal: its number, its name, and what it tells beside.
+pub fn print_refusal(rt: &impl Print, refusal: &Refusal) -> io::Result<()> {
+    print!(rt; "refused {} {}", refusal.number(), refusal.name())?;
+    print_details(rt, refusal)?;
+    println!(rt; "")
+}
+
+// What a refusal tells beside its number and its name.
+fn print_details(rt: &impl Print, refusal: &Refusal) -> io::Result<()> {
+    match refusal {
+        Refusal::UnknownCriterion(criterion) => print!(rt; " {criterion}"),
+        Refusal::UnknownNode(record) | Refusal::TwoParties(record) | Refusal::CsvRefused(record) =>
+            print!(rt; " {record}"),
+        Refusal::TooLarge(limit) => print!(rt; " {}", limit.word()),
+        Refusal::FieldRefused(table, key) => print!(rt; " {table} {key}"),
+        _ => Ok(()),
+    }
+}

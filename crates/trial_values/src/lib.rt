@@ -1,0 +1,22 @@
+//! What the program of tests answers without a register: a line for a value, and what projects demand.
+//!
+//! It is no part of the product. `values` tells the lines that ask for a value, `line` how their words are written,
+//! and `workspace` the lines of a run that asks what projects demand.
+#![tactic(auto)]
+
+mod days;
+pub mod ending;
+pub mod fault;
+mod files;
+mod known;
+pub mod line;
+pub mod lists;
+pub mod name_lists;
+mod policies;
+pub mod projects;
+mod steps;
+pub mod tables;
+pub mod values;
+mod versions;
+pub mod workspace;
+mod written;
