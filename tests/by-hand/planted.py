@@ -23,7 +23,7 @@ LIMITS = {
 # where connections are made: files, texts, and what stands there in a planted program
 FEWER = [
     ("vet_store/src/memory_file.rt", r"Options::new\(0\)", r"crate::few_pages::fewer(\g<0>)"),
-    ("vetd/src/databases.rt", r"Connection::open_from\(", "vet_store::few_pages::open_from("),
+    ("vetd/src/file_databases.rt", r"Connection::open_from\(", "vet_store::few_pages::open_from("),
     ("trials/src/stored.rt", r"Connection::open_from\(", "vet_store::few_pages::open_from("),
 ]
 PLANTED = """//! Whether a function is to give up, as C says.

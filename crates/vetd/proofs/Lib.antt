@@ -1,7 +1,3 @@
-mod MakingLemmas
-mod Applied
-mod Opened
-mod Viewed
 mod ServingLemmas
 mod Fronts
 mod Sitting

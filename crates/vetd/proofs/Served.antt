@@ -18,13 +18,13 @@ use Rattle.vet_rows.specs.RowsOf.{rows_of}
 use Rattle.vet_store.specs.Runs.{IsOfStore}
 use Rattle.vet_store.specs.Tied.{IsTied}
 use Rattle.vetd_words.specs.Answer.{Answer, Explains, IsWritten, Prints, Refuses, Says, Serves, Stops}
-use Rattle.vetd.specs.Making.{Giving}
-use Rattle.vetd.specs.Opening.{IsNotOpened, IsOpenedAs}
+use Rattle.vetd_commands.specs.Making.{Giving}
+use Rattle.vetd_commands.specs.Opening.{IsNotOpened, IsOpenedAs}
 use Rattle.vetd_words.specs.ServeAsked.{AsksServe, ServeAsked}
 use Rattle.vetd.specs.ServeRun.{Answered, AnswersServe, IsAnswerToServe, IsServeAt, IsServeInMemory, IsServeOn}
 use Rattle.vetd.specs.ServeRun.{IsServeOver, IsServeWhere, IsSitting, IsSittingOf, IsUnserved, IsUnservedAt}
 use Rattle.vetd.specs.ServeRun.{IsUnservedOver, day_told, on_day}
-use Rattle.vetd.specs.declared.commands.serve_run.Service.{Service}
+use Rattle.vetd.specs.declared.serve_run.Service.{Service}
 use Rattle.vetd_words.proofs.Answered.{told_written, was_untold, written_as}
 
 -- an answer was written that is one

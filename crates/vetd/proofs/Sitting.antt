@@ -14,7 +14,7 @@ use Rattle.vetd_words.specs.Answer.{IsWritten, Says, Serves, Stops, network_line
 use Rattle.vetd.specs.ServeRun.{Answered, HasHeadline, IsPrinted, IsSitting, IsSittingOf}
 use Rattle.vetd.specs.Serving.{AreServed, listening_line, replied, served_line}
 use Rattle.vetd_words.specs.declared.answer.TheConstants.{PRINTED, REFUSED}
-use Rattle.vetd.specs.declared.commands.serve_run.Service.{Service}
+use Rattle.vetd.specs.declared.serve_run.Service.{Service}
 use Rattle.vetd_words.proofs.Answered.{told_written}
 use Rattle.vetd.proofs.Fronts.{front_behind, front_of_both}
 

@@ -4,10 +4,10 @@ use Rattle.clap.specs.Walk.{Text}
 use Rattle.sqlite.specs.Held.{Held}
 use Rattle.sqlite_trees.specs.declared.store.Store.{Ghosts}
 use Rattle.vet_base.specs.Words.{Bytes}
-use Rattle.vetd.specs.Applying.{AnswersApply, IsUnapplied, day_given}
-use Rattle.vetd.specs.Making.{AnswersNew, Giving, IsUnmade}
+use Rattle.vetd_commands.specs.Applying.{AnswersApply, IsUnapplied, day_given}
+use Rattle.vetd_commands.specs.Making.{AnswersNew, Giving, IsUnmade}
 use Rattle.vetd.specs.ServeRun.{AnswersServe, IsUnserved}
-use Rattle.vetd.specs.Viewing.{AnswersView, IsUntold}
+use Rattle.vetd_commands.specs.Viewing.{AnswersView, IsUntold}
 use Rattle.vetd.specs.declared.program.ProgramCommand.{ProgramCommand}
 use Rattle.vetd.specs.declared.program.ProgramCommand.TheVariants.{Apply, File, New, Serve, Show}
 use Rattle.vetd_words.specs.Answer.{Answer, Answers}

@@ -14,10 +14,10 @@ use Rattle.vet_rows.specs.RowsOf.{rows_of}
 use Rattle.vet_store.specs.Classes.{AddsUp, HasClassesOfChains}
 use Rattle.vet_store.specs.Runs.{IsOfStore}
 use Rattle.vet_store.specs.Tied.{IsTied}
-use Rattle.vetd.specs.Making.{Giving}
-use Rattle.vetd.specs.Opening.{IsNotOpened, IsOpenedAs}
+use Rattle.vetd_commands.specs.Making.{Giving}
+use Rattle.vetd_commands.specs.Opening.{IsNotOpened, IsOpenedAs}
 use Rattle.vetd.specs.Serving.{AreServed, Turn, listening_line, replied, served_line}
-use Rattle.vetd.specs.declared.commands.serve_run.Service.{Service}
+use Rattle.vetd.specs.declared.serve_run.Service.{Service}
 use Rattle.vetd_words.specs.Answer.{Answer, Explains, Refuses, Serves}
 use Rattle.vetd_words.specs.ServeAsked.{AsksServe, ServeAsked}
 

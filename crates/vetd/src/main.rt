@@ -21,11 +21,12 @@
 ghost use Rattle.std.specs.Prelude.{◌≡◌, IfOk};
 
 mod clients;
-mod commands;
-mod databases;
+mod file_databases;
 mod program;
+mod serve_lines;
+mod serve_run;
 
-use crate::databases::{FileDatabases, WaryFile};
+use crate::file_databases::{FileDatabases, WaryFile};
 use crate::program::{ProgramCommand, program_run};
 use std::alloc::Global;
 use std::io::Write;

@@ -1,0 +1,66 @@
+-- What was printed as clients were served, from what each step wrote.
+use Rattle.std.proofs.Common.{◌≡◌, ◌∙◌, [], ap}
+use Rattle.std.proofs.KnownBytes.{Appends-nil}
+use Rattle.vetd.specs.Serving.{served_line}
+use Rattle.vetd.proofs.Sitting.{headline_of, lost_in_between, lost_written, no_port, sat_in_part, sat_whole, unheard}
+use Rattle.vetd.proofs.serve_run.serve_at_port.Goals as goal
+
+pub returns-in-Err-clause-written : goal.returns-in-Err-clause-written
+returns-in-Err-clause-written g c =
+    let held = c.headline_holds.ensures in
+    let headline = headline_of c.args.store.now.register.state held.classes held.adds_up held.balance in
+    let store = c.args.store.now in
+    let s = store.register.state in
+    let out = g.W.Write.contents c.args.writer.now in
+    let told = c.tell_network.ensures in
+    lost_written c.args.service s s (store ≡ store) [] out out _ _ (no_port c.args.service s headline)
+    c.tell_network.result (Appends-nil out) told.status told.told told.part told.faults
+
+pub returns-in_err-write_whole-clause-written : goal.returns-in_err-write_whole-clause-written
+returns-in_err-write_whole-clause-written g c =
+    let held = c.headline_holds.ensures in
+    let headline = headline_of c.args.store.now.register.state held.classes held.adds_up held.balance in
+    let store = c.args.store.now in
+    let written = c.in_err-write_whole.ensures in
+    unheard c.args.service store.register.state headline (store ≡ store) c.from_residual-in_err-write_whole.result
+    c.in_err-write_whole.field-0.0 c.as_bytes.result.now _ _ _
+    (c.as_bytes.ensures.value ∙ c.in_ok-lines.ensures.listening) c.from_residual-in_err-write_whole.ensures.1
+    written.faults written.part
+
+pub returns-then-sitting-clause-written : goal.returns-then-sitting-clause-written
+returns-then-sitting-clause-written g c =
+    let first = c.args.store.now in
+    let last = c.serve_clients-sitting.new.store in
+    let held = c.serve_clients-sitting.ensures in
+    let headline = headline_of last.register.state held.classes held.adds_up held.balance in
+    let told = c.tell_network-then-sitting.ensures in
+    lost_in_between c.args.service first.register.state last.register.state headline
+    c.serve_clients-sitting.ensures.served.0 (last ≡ first) c.as_bytes.result.now c.tell_network-then-sitting.result
+    _ _ _ _ (c.as_bytes.ensures.value ∙ c.in_ok-lines.ensures.listening) c.in_ok-write_whole.ensures.whole
+    told.status told.told told.part told.faults
+
+pub returns-in_err-write_whole-2-clause-written : goal.returns-in_err-write_whole-2-clause-written
+returns-in_err-write_whole-2-clause-written g c =
+    let first = c.args.store.now in
+    let last = c.serve_clients-sitting.new.store in
+    let held = c.serve_clients-sitting.ensures in
+    let headline = headline_of last.register.state held.classes held.adds_up held.balance in
+    let served = c.serve_clients-sitting.ensures.served in
+    let written = c.in_err-write_whole-2.ensures in
+    sat_in_part c.args.service first.register.state last.register.state headline served.0 (last ≡ first)
+    c.as_bytes.result.now c.as_bytes-2.result.now (c.as_bytes.ensures.value ∙ c.in_ok-lines.ensures.listening)
+    (c.as_bytes-2.ensures.value ∙ c.served.ensures ∙ ap served_line served.1)
+    c.from_residual-in_err-write_whole-2.result c.in_err-write_whole-2.field-0.0 _ _ _ _
+    c.from_residual-in_err-write_whole-2.ensures.1 written.faults c.in_ok-write_whole.ensures.whole written.part
+
+pub returns-clause-written : goal.returns-clause-written
+returns-clause-written g c =
+    let first = c.args.store.now in
+    let last = c.serve_clients-sitting.new.store in
+    let held = c.serve_clients-sitting.ensures in
+    let headline = headline_of last.register.state held.classes held.adds_up held.balance in
+    let served = c.serve_clients-sitting.ensures.served in
+    sat_whole c.args.service first.register.state last.register.state headline served.0 (last ≡ first)
+    c.as_bytes.result.now c.as_bytes-2.result.now (c.as_bytes.ensures.value ∙ c.in_ok-lines.ensures.listening)
+    (c.as_bytes-2.ensures.value ∙ c.served.ensures ∙ ap served_line served.1) _ _ _ _
+    c.in_ok-write_whole.ensures.whole c.in_ok-write_whole-2.ensures.whole

@@ -1,0 +1,89 @@
+//! Databases in the files of this machine.
+ghost use Rattle.std.specs.Prelude.{◌≡◌, ◌⊎◌, IfErr, IfOk};
+ghost use Rattle.sqlite.specs.Held.{IsNew};
+ghost use Rattle.vet_store.specs.Runs.{IsOfStore};
+
+use sqlite::{Connection, Wary};
+use sqlite_disk::Start;
+use sqlite_std_file::FileFrom;
+use sqlite_store::FileStore;
+use std::{fs, io};
+use vet_base::refusal::Refusal;
+use vet_store::refused::refusal_of;
+use vetd_commands::databases::Databases;
+
+/// A file and its log, of which a torn write may leave anything.
+pub type WaryFile = FileStore<FileFrom<Wary>>;
+
+/// The most bytes that a file has in which no database stands.
+const MOST_BYTES_OF_NONE: u64 = 1;
+
+/// Databases in the files of this machine. A file is opened without sums of its pages, so that another program may
+/// change it.
+#[derive(Drop)]
+pub struct FileDatabases<'a> {
+    rt: &'a HostRuntime,
+}
+
+impl<'a> FileDatabases<'a> {
+    /// The databases of this machine.
+    pub fn new(rt: &'a HostRuntime) -> FileDatabases<'a> {
+        FileDatabases { rt }
+    }
+}
+
+impl Databases<WaryFile> for FileDatabases<'_> {
+    ghost may_give = { λ _ _ given. IfOk given IsNew };
+
+    ghost may_find = { λ _ _ given. IfOk given IsNew };
+
+    fn connect(&mut self, path: &str) -> Result<Connection<WaryFile>, Refusal> {
+        connect_as(self.rt, path, Wary)
+    }
+
+    fn find(&mut self, path: &str) -> Result<Connection<WaryFile>, Refusal> {
+        check_file(self.rt, path)?;
+        connect_as(self.rt, path, Wary)
+    }
+}
+
+/// Refuses a path at which no database can stand: without a file, or with one of at most a byte.
+fn check_file(rt: &HostRuntime, path: &str) -> Result<(), Refusal>
+    ensures refused { IfErr result (λ e. IsOfStore e ⊎ (e ≡ Refusal.NotARegister)) }
+{
+    match fs::metadata(rt, path) {
+        Ok(found) => {
+            if found.is_file() && found.len() <= MOST_BYTES_OF_NONE {
+                return Err(Refusal::NotARegister);
+            }
+            Ok(())
+        }
+        Err(error) => Err(refusal_of_path(error.kind())),
+    }
+}
+
+/// What is told of a path of which nothing can be learned.
+fn refusal_of_path(kind: io::ErrorKind) -> Refusal
+    ensures { IsOfStore result ⊎ (result ≡ Refusal.NotARegister) }
+{
+    match kind {
+        io::ErrorKind::NotFound | io::ErrorKind::NotADirectory => Refusal::NotARegister,
+        io::ErrorKind::OutOfMemory => Refusal::NoMemory,
+        _ => Refusal::StoreRefused,
+    }
+}
+
+/// A connection to the database in a file, of which a crash may leave what the start says.
+fn connect_as<F: Start>(
+    rt: &HostRuntime,
+    path: &str,
+    start: F,
+) -> Result<Connection<FileStore<FileFrom<F>>>, Refusal>
+    ensures new { IfOk result IsNew }
+    ensures refused { IfErr result IsOfStore }
+{
+    match Connection::open_from(rt, path, false, start) {
+        Ok(conn) => Ok(conn),
+        Err((error, _left)) => Err(refusal_of(error)),
+    }
+}

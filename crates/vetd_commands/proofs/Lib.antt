@@ -1,0 +1,4 @@
+mod MakingLemmas
+mod Applied
+pub mod Opened
+mod Viewed

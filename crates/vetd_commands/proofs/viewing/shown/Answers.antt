@@ -1,0 +1,24 @@
+-- What was shown of a store that was opened, of the connection that is given back.
+use Rattle.std.proofs.Common.{IfOk, string_bytes}
+use Rattle.vetd_words.specs.View.{Shows}
+use Rattle.vetd_commands.proofs.Opened.{is_not_shown, is_opened, is_shown, stays}
+use Rattle.vetd_commands.proofs.viewing.shown.Goals as goal
+
+pub returns-in-Ok-clause-shown : goal.returns-in-Ok-clause-shown
+returns-in-Ok-clause-shown g c =
+    let conn = c.in-Ok.store.conn in
+    let register = c.in-Ok.store.register.state in
+    let shows : IfOk c.text-shown.result (λ text. Shows c.args.view register (string_bytes text)) =
+    rw c.register.ensures at c.text-shown.ensures.shows in
+    is_shown g.S.Store c.args.conn c.args.view string_bytes conn c.close.result register c.text-shown.result
+    c.close.ensures.conn
+    (is_opened g.S.Store c.args.conn conn register c.in-Ok.ensures.sound c.in-Ok.ensures.held c.in-Ok.ensures.found
+    c.in-Ok.ensures.only c.in-Ok.ensures.unchanged c.in-Ok.ensures.crash) shows
+
+pub returns-in-Ok-clause-refused : goal.returns-in-Ok-clause-refused
+returns-in-Ok-clause-refused g c =
+    let conn = c.in-Ok.store.conn in
+    is_not_shown g.S.Store c.args.conn conn c.close.result c.text-shown.result c.close.ensures.conn
+    (stays g.S.Store c.args.conn conn c.in-Ok.store.shut c.in-Ok.store.register.state c.in-Ok.ensures.tables.1
+    c.in-Ok.ensures.unchanged c.in-Ok.ensures.crash)
+    c.text-shown.ensures.memory

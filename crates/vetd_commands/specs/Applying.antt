@@ -1,0 +1,108 @@
+-- What applying a command document to a register in a database comes to, and is answered (ours).
+use Rattle.std.specs.Prelude.{◌≡◌, ◌⊎◌, Bool, IsTrue, Option, Some, None, Ok, Err, option_and_then, ⊤}
+use Rattle.clap.specs.Walk.{Text}
+use Rattle.sqlite.specs.Held.{Held, state}
+use Rattle.sqlite.specs.State.{HasCleanDisk, Survives}
+use Rattle.sqlite_trees.specs.declared.store.Store.{Ghosts}
+use Rattle.vet_base.specs.Day.{DayValue, read_day}
+use Rattle.vet_base.specs.Gives.{Told}
+use Rattle.vet_base.specs.Words.{Bytes}
+use Rattle.vet_base.specs.declared.refusal.Refusal.{Refusal}
+use Rattle.vet_base.specs.declared.refusal.Refusal.TheVariants.{BadDay, NoMemory}
+use Rattle.vet_documents.specs.CommandDocument.{command_told}
+use Rattle.vet_register.specs.Machine.{next}
+use Rattle.vet_register.specs.State.{State}
+use Rattle.vet_register.specs.declared.command.Command.{Command}
+use Rattle.vet_register.specs.declared.command.Outcome.{Outcome}
+use Rattle.vet_reports.specs.OutcomeText.{outcome_text}
+use Rattle.vet_rows.specs.RowsOf.{rows_of}
+use Rattle.vet_store.specs.Committed.{AreTreesBeside}
+use Rattle.vet_store.specs.Crash.{LeavesEither}
+use Rattle.vet_store.specs.Runs.{IsTurn}
+use Rattle.vet_store.specs.Tied.{IsTied}
+use Rattle.vetd_commands.specs.Making.{Giving}
+use Rattle.vetd_commands.specs.Opening.{IsNotOpened, IsOpenedAs}
+use Rattle.vetd_words.specs.Answer.{Answer, Explains, IsInput, Prints, Refuses, Serves, input_read}
+use Rattle.vetd_words.specs.ApplyWords.{ApplyAsked}
+
+-- A command was run on a register that stood in the tables of an open connection: it was told its verdict, or memory
+-- was wanting or the store refused. The tables have the rows of the state that is left. A crash leaves these, or those
+-- of the state after the command beside all else that stood there.
+pub record IsRunOf {S : Type 0} (g : Ghosts S) (opened : Held S) (register : State) (command : Command)
+    (answer : Told Outcome) (after : Held S) : Type 0 where
+  pub end : State
+  pub turn : IsTurn register command answer end
+  pub shut : Bool
+  pub tables : IsTied (state g after) shut (rows_of end)
+  pub crash : IsTrue (state g opened).is_open → Survives (state g opened) (state g after)
+      (AreTreesBeside (state g opened).now (rows_of (next register command)))
+  pub leaves : HasCleanDisk (state g after) → LeavesEither (state g after) register command
+
+module _ {S : Type 0} (g : Ghosts S) (document : Bytes) (day : DayValue) (giver : Option Bytes) where
+  -- the document's command was run
+  pub record IsGiven (opened : Held S) (register : State) (answer : Told Outcome) (after : Held S) : Type 0 where
+    pub command : Command
+    pub told : command_told document day giver ≡ Ok command
+    pub run : IsRunOf g opened register command answer after
+
+  -- The answer to a document over an open register: the line of an outcome; or the document is no command or memory was
+  -- wanting, and nothing was done; or its command was refused.
+  abbrev pub IsDocumentAnswer : Held S → State → Answer → Held S → Type 0
+  IsDocumentAnswer opened register (Prints text) after =
+      (outcome : Outcome) × ((text ≡ outcome_text outcome) × IsGiven opened register (Ok outcome) after)
+  IsDocumentAnswer opened register (Refuses refusal) after =
+      (((refusal ≡ NoMemory) ⊎ (command_told document day giver ≡ Err refusal)) × (after ≡ opened))
+      ⊎ IsGiven opened register (Err refusal) after
+  IsDocumentAnswer opened register Explains after = ⊥
+  IsDocumentAnswer opened register (Serves text lost) after = ⊥
+
+  -- a register was opened, and this is the answer over it
+  pub record IsApplied (before : Held S) (answer : Answer) (after : Held S) : Type 0 where
+    pub opened : Held S
+    pub register : State
+    pub opens : IsOpenedAs g before register opened
+    pub answers : IsDocumentAnswer opened register answer after
+
+  -- the answer over a connection: no register was opened, or a document was applied to it
+  abbrev pub IsApplyAnswer : Held S → Answer → Held S → Type 0
+  IsApplyAnswer before (Prints text) after = IsApplied before (Prints text) after
+  IsApplyAnswer before (Refuses refusal) after =
+      IsNotOpened g before refusal after ⊎ IsApplied before (Refuses refusal) after
+  IsApplyAnswer before Explains after = ⊥
+  IsApplyAnswer before (Serves text lost) after = ⊥
+
+-- the day that words give, if they ask for something and their text is a day
+abbrev pub day_given : Option ApplyAsked → Option DayValue
+day_given asked = option_and_then (λ a. read_day a.day) asked
+
+module _ {S : Type 0} (g : Ghosts S) (Gives : Giving S) where
+  -- The answer to a document that is given on a day, and the connection that is left: the path gave none, or the answer
+  -- is that over the one that it gave.
+  abbrev pub IsApplyFor : Text → Option Bytes → DayValue → Bytes → Answer → Option (Held S) → Type 0
+  IsApplyFor path giver day document answer (Some after) = (before : Held S) × (Gives path (Ok before)
+      × IsApplyAnswer g document day giver before answer after)
+  IsApplyFor path giver day document (Refuses refusal) None = (refusal ≡ NoMemory) ⊎ Gives path (Err refusal)
+  IsApplyFor path giver day document _ None = ⊥
+
+  -- the same where the day is still a text: a bad one goes before all else
+  abbrev pub IsApplyOn : Text → Option Bytes → Option DayValue → Bytes → Answer → Option (Held S) → Type 0
+  IsApplyOn path giver (Some day) document answer left = IsApplyFor path giver day document answer left
+  IsApplyOn path giver None document answer left = (answer ≡ Refuses BadDay) × (left ≡ None)
+
+  -- the same of what words ask for: they are explained where they ask for nothing
+  abbrev pub IsAnswerToApply : Option ApplyAsked → Bytes → Answer → Option (Held S) → Type 0
+  IsAnswerToApply (Some asked) document answer left =
+      IsApplyOn asked.path asked.member (read_day asked.day) document answer left
+  IsAnswerToApply None document Explains left = left ≡ None
+  IsAnswerToApply None document _ left = ⊥
+
+  -- this holds of the answer to what the words ask for and the input, of which at most a byte too many is read
+  abbrev pub AnswersApply : Option Bytes → Option ApplyAsked → Option (Held S) → (Answer → Type 0) → Type 0
+  AnswersApply known asked left Holds = (input : Bytes) × (IsInput known input
+      × ((answer : Answer) × (IsAnswerToApply asked (input_read input) answer left × Holds answer)))
+
+  -- a run that told nothing printed no outcome: no command was done
+  abbrev pub IsUnapplied : Option Bytes → Option ApplyAsked → Option (Held S) → Type 0
+  IsUnapplied known asked None = ⊤
+  IsUnapplied known asked (Some after) = (input : Bytes) × (IsInput known input
+      × ((refusal : Refusal) × IsAnswerToApply asked (input_read input) (Refuses refusal) (Some after)))

@@ -1,0 +1,4 @@
+pub mod Applying
+pub mod Making
+pub mod Opening
+pub mod Viewing

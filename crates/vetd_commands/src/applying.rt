@@ -1,0 +1,243 @@
+//! A command document is applied to a register in a database, by the words of an apply command.
+ghost use Rattle.std.specs.Prelude.{◌≡◌, ◌≢◌, ◌⊎◌, ◌+◌, ◌≤◌, IfErr, IfOk, None, false, map, string_bytes};
+ghost use Rattle.std.specs.Prelude.{[], IsOkAnd, Some, option_map, string_capacity};
+ghost use Rattle.std.specs.Option.{option_copied};
+ghost use Rattle.vet_base.specs.Day.{read_day};
+ghost use Rattle.vet_base.specs.declared.limits.TheConstants.{MOST_READS};
+ghost use Rattle.vet_reports.specs.OutcomeText.{outcome_text};
+ghost use Rattle.vet_reports.specs.declared.outcome_text.TheConstants.{MOST_OUTCOME_BYTES};
+ghost use Rattle.vetd_words.specs.Answer.{IsWritten, answer_for};
+ghost use Rattle.vetd_words.specs.ApplyGiven.{apply_given};
+ghost use Rattle.vetd_words.specs.ApplyWords.{apply_asked};
+ghost use Rattle.vetd_commands.specs.Applying.{AnswersApply, IsApplyAnswer, IsApplyFor, IsDocumentAnswer};
+ghost use Rattle.vetd_commands.specs.Applying.{IsUnapplied, day_given};
+ghost use Rattle.vet_requests.specs.Input.{TakesAtMost};
+
+use crate::databases::{DatabaseRun, Databases};
+use sqlite::{Alter, Connection};
+use std::alloc::Global;
+use std::convert::AsStr;
+use std::io::{Read, Write};
+use vet_base::day::Day;
+use vet_base::limits::MOST_INPUT_BYTES;
+use vet_base::refusal::Refusal;
+use vet_documents::command_document::read_command;
+use vet_graph::keeper::Keeper;
+use vet_register::command::Outcome;
+use vet_reports::outcome_text::{MOST_OUTCOME_BYTES, write_outcome};
+use vet_requests::input::CountedReader;
+use vet_requests::io_fault::IoFault;
+use vet_store::store::Store;
+use vetd_words::answer::{explain, report};
+use vetd_words::apply_words::{ApplyWords, apply_words};
+
+/// Answers the words of an apply command, which come without the program's own name, by the document that the reader
+/// gives: the line of the outcome goes to `writer`, and a refusal or clap's text to `errors`. At most 8,388,609 bytes
+/// are read, by at most 10,000,000 reads.
+///
+/// **What is printed is the outcome of the document's command in the one register whose rows stand in the tables of the
+/// database at the path, and the tables then have the rows of the state after it.** Refused, as told to its user, the
+/// first that holds: `BadDay` of the text of the day, before anything is read; `NotARegister` where no file stands at
+/// the path or the tables have the rows of no register, and `StoreRefused` where no database can be opened or read
+/// there; what `read_command` refuses of the document; what the machine refuses of the command, and `StoreRefused`
+/// where the database refuses to keep it. Faults: `Input`, `Endless` and `NoMemory`, where nothing was written, and
+/// `Output`, where the front of the answer was.
+pub fn apply_run<
+    T: AsStr,
+    S: Alter + Drop,
+    K: Keeper,
+    D: Databases<S>,
+    R: Read,
+    W: Write,
+    E: Write,
+>(
+    alloc: Global,
+    words: &[T],
+    reader: &mut CountedReader<R>,
+    databases: &mut D,
+    writer: &mut W,
+    errors: &mut E,
+) -> DatabaseRun<S>
+    ensures written { IsWritten (AnswersApply S.Store (D.may_find databases.old) (R.remaining reader.old.source)
+        (apply_given (map T.text words.now)) result.conn)
+        (IsUnapplied S.Store (D.may_find databases.old) (R.remaining reader.old.source)
+        (apply_given (map T.text words.now)) result.conn)
+        result.status (W.contents writer.old) (W.contents writer.new)
+        (E.contents errors.old) (E.contents errors.new) }
+
+    // No more is read, and nothing where the words are no apply command or the day is none.
+    ensures bounded { TakesAtMost (MOST_INPUT_BYTES + 1)
+        (R.remaining reader.old.source) (R.remaining reader.new.source) }
+    ensures unread { day_given (apply_given (map T.text words.now)) ≡ None → reader.new ≡ reader.old }
+    ensures unfailing { day_given (apply_given (map T.text words.now)) ≡ None
+        → IfErr result.status (λ fault. (fault ≢ IoFault.Input) × (fault ≢ IoFault.Endless)) }
+
+    // `Endless` comes when the reads are spent, and where they are, no document is answered.
+    ensures endless { result.status ≡ Err IoFault.Endless → reader.new.made ≡ MOST_READS }
+    ensures spent { reader.old.made ≡ MOST_READS → day_given (apply_given (map T.text words.now)) ≢ None
+        → (result.status ≡ Err IoFault.Endless) ⊎ (result.status ≡ Err IoFault.NoMemory) }
+{
+    match apply_words(alloc, words) {
+        Ok(asked) => apply_on::<S, K, D, R, W, E>(alloc, asked, reader, databases, writer, errors),
+        Err(error) => DatabaseRun {
+            status: explain(alloc, &error, errors),
+            conn: None,
+        },
+    }
+}
+
+/// Applies the document that the reader gives, as it is asked.
+fn apply_on<S: Alter + Drop, K: Keeper, D: Databases<S>, R: Read, W: Write, E: Write>(
+    alloc: Global,
+    asked: ApplyWords<'_>,
+    reader: &mut CountedReader<R>,
+    databases: &mut D,
+    writer: &mut W,
+    errors: &mut E,
+) -> DatabaseRun<S>
+    ensures written { IsWritten (AnswersApply S.Store (D.may_find databases.old) (R.remaining reader.old.source)
+        (Some (apply_asked asked.entry)) result.conn)
+        (IsUnapplied S.Store (D.may_find databases.old) (R.remaining reader.old.source)
+        (Some (apply_asked asked.entry)) result.conn)
+        result.status (W.contents writer.old) (W.contents writer.new)
+        (E.contents errors.old) (E.contents errors.new) }
+    ensures bounded { TakesAtMost (MOST_INPUT_BYTES + 1)
+        (R.remaining reader.old.source) (R.remaining reader.new.source) }
+    ensures unread { read_day asked.entry.day.now ≡ None → reader.new ≡ reader.old }
+    ensures unfailing { read_day asked.entry.day.now ≡ None
+        → IfErr result.status (λ fault. (fault ≢ IoFault.Input) × (fault ≢ IoFault.Endless)) }
+    ensures endless { result.status ≡ Err IoFault.Endless → reader.new.made ≡ MOST_READS }
+    ensures spent { reader.old.made ≡ MOST_READS → read_day asked.entry.day.now ≢ None
+        → result.status ≡ Err IoFault.Endless }
+{
+    let day = match Day::parse(asked.day) {
+        Ok(day) => day,
+        Err(refusal) => {
+            return DatabaseRun {
+                status: report(alloc, &Err(refusal), writer, errors),
+                conn: None,
+            };
+        }
+    };
+    let input = match reader.read_at_most(alloc, MOST_INPUT_BYTES + 1) {
+        Ok(input) => input,
+        Err(fault) => {
+            return DatabaseRun {
+                status: Err(fault),
+                conn: None,
+            };
+        }
+    };
+    let (told, conn) = apply_at::<S, K, D>(
+        alloc,
+        databases,
+        asked.path,
+        input.as_slice(),
+        day,
+        bytes_of(asked.member),
+    );
+    let status = report(alloc, &told, writer, errors);
+    DatabaseRun { status, conn }
+}
+
+/// The bytes of a text, where there is one.
+fn bytes_of(text: Option<&str>) -> Option<&[u8]>
+    ensures { option_copied result ≡ option_map (λ t. t.now) text.entry }
+{
+    match text {
+        Some(text) => Some(text.as_bytes()),
+        None => None,
+    }
+}
+
+/// Applies a document to the register at a path. Room for the line of the outcome is taken first, since it is told
+/// once the command is kept.
+fn apply_at<S: Alter + Drop, K: Keeper, D: Databases<S>>(
+    alloc: Global,
+    databases: &mut D,
+    path: &str,
+    document: &[u8],
+    day: Day,
+    giver: Option<&[u8]>,
+) -> (Result<String, Refusal>, Option<Connection<S>>)
+    ensures { IsApplyFor S.Store (D.may_find databases.old) path.now (option_copied giver.entry) day document.now
+        (answer_for string_bytes result.0) result.1 }
+{
+    let line = match String::with_capacity(alloc, MOST_OUTCOME_BYTES) {
+        Ok(line) => line,
+        Err(_) => return (Err(Refusal::NoMemory), None),
+    };
+    let conn = match databases.find(path) {
+        Ok(conn) => conn,
+        Err(refusal) => return (Err(refusal), None),
+    };
+    let (told, conn) = applied::<S, K>(alloc, conn, document, day, giver, line);
+    (told, Some(conn))
+}
+
+/// Applies a document to the register in the tables of a connection, which is given back.
+fn applied<S: Alter + Drop, K: Keeper>(
+    alloc: Global,
+    conn: Connection<S>,
+    document: &[u8],
+    day: Day,
+    giver: Option<&[u8]>,
+    line: String,
+) -> (Result<String, Refusal>, Connection<S>)
+    requires outside { conn.in_transaction ≡ false }
+    requires empty { string_bytes line ≡ [] }
+    requires room { MOST_OUTCOME_BYTES ≤ string_capacity line }
+    ensures { IsApplyAnswer S.Store document.now day (option_copied giver.entry) conn
+        (answer_for string_bytes result.0) result.1 }
+{
+    let store = match Store::<S, K>::open(alloc, conn) {
+        Ok(store) => store,
+        Err(refused) => {
+            let (refusal, conn) = refused.into_parts();
+            return (Err(refusal), conn);
+        }
+    };
+    run_document(alloc, store, document, day, giver, line)
+}
+
+/// Runs the command of a document on an open register, and gives the connection back.
+fn run_document<S: Alter + Drop, K: Keeper>(
+    alloc: Global,
+    store: Store<S, K>,
+    document: &[u8],
+    day: Day,
+    giver: Option<&[u8]>,
+    line: String,
+) -> (Result<String, Refusal>, Connection<S>)
+    requires served { store.shut ≡ false }
+    requires empty { string_bytes line ≡ [] }
+    requires room { MOST_OUTCOME_BYTES ≤ string_capacity line }
+    ensures { IsDocumentAnswer S.Store document.now day (option_copied giver.entry) store.conn store.register.state
+        (answer_for string_bytes result.0) result.1 }
+{
+    let mut store = store;
+    match read_command(alloc, document, day, giver) {
+        Ok(command) => {
+            let answer = store.run(alloc, &command);
+            (outcome_line(answer, line), store.close())
+        }
+        Err(refusal) => (Err(refusal), store.close()),
+    }
+}
+
+/// The line of an outcome in a text that has room for it, unless there is a refusal. Takes no memory.
+fn outcome_line(answer: Result<Outcome, Refusal>, line: String) -> Result<String, Refusal>
+    requires empty { string_bytes line ≡ [] }
+    requires room { MOST_OUTCOME_BYTES ≤ string_capacity line }
+    ensures done { IfOk answer (λ outcome. IsOkAnd result (λ text. string_bytes text ≡ outcome_text outcome)) }
+    ensures refused { IfErr answer (λ refusal. result ≡ Err refusal) }
+{
+    match answer {
+        Ok(outcome) => {
+            let mut line = line;
+            write_outcome(&mut line, &outcome);
+            Ok(line)
+        }
+        Err(refusal) => Err(refusal),
+    }
+}

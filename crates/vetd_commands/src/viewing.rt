@@ -1,0 +1,94 @@
+//! Something is shown of a register in a database, by the words of a command.
+ghost use Rattle.std.specs.Prelude.{◌≡◌, ◌≢◌, IfErr, IfOk, false, map, string_bytes};
+ghost use Rattle.vetd_words.specs.Answer.{IsWritten, answer_for};
+ghost use Rattle.vetd_words.specs.ViewWords.{view_asked, view_given};
+ghost use Rattle.vetd_commands.specs.Opening.{IsNotOpened};
+ghost use Rattle.vetd_commands.specs.Viewing.{AnswersView, IsShown, IsUntold, IsViewFor};
+
+use crate::databases::{DatabaseRun, Databases};
+use sqlite::{Alter, Connection};
+use std::alloc::Global;
+use std::convert::AsStr;
+use std::io::Write;
+use vet_base::refusal::Refusal;
+use vet_graph::keeper::Keeper;
+use vet_requests::io_fault::IoFault;
+use vet_store::store::Store;
+use vetd_words::answer::{explain, report};
+use vetd_words::view::View;
+use vetd_words::view_words::{ViewCommand, ViewWords, view_words};
+
+/// Answers the words of a command that shows something of a register, which come without the program's own name: the
+/// text goes to `writer`, and a refusal or clap's text to `errors`.
+///
+/// **What is printed shows the one register whose rows stand in the tables of the database at the path. Nothing is
+/// written there.** Refused, as told to its user: `NotARegister` where no file stands at the path, or the tables have
+/// the rows of no register, and `StoreRefused` where no database can be opened or read there. Faults: `NoMemory`, where
+/// nothing was written, and `Output`, where the front of the answer was.
+pub fn view_run<T: AsStr, S: Alter + Drop, K: Keeper, D: Databases<S>, W: Write, E: Write>(
+    alloc: Global,
+    command: ViewCommand,
+    words: &[T],
+    databases: &mut D,
+    writer: &mut W,
+    errors: &mut E,
+) -> DatabaseRun<S>
+    ensures written { IsWritten
+        (AnswersView S.Store (D.may_find databases.old) (view_given command (map T.text words.now)) result.conn)
+        (IsUntold S.Store (D.may_find databases.old) (view_given command (map T.text words.now)) result.conn)
+        result.status (W.contents writer.old) (W.contents writer.new)
+        (E.contents errors.old) (E.contents errors.new) }
+    ensures faults { IfErr result.status (λ fault. (fault ≢ IoFault.Input) × (fault ≢ IoFault.Endless)) }
+{
+    match view_words(alloc, command, words) {
+        Ok(asked) => {
+            let (told, conn) = view_at::<S, K, D>(alloc, databases, asked);
+            let status = report(alloc, &told, writer, errors);
+            DatabaseRun { status, conn }
+        }
+        Err(error) => DatabaseRun {
+            status: explain(alloc, &error, errors),
+            conn: None,
+        },
+    }
+}
+
+/// Shows something of the register at a path.
+fn view_at<S: Alter + Drop, K: Keeper, D: Databases<S>>(
+    alloc: Global,
+    databases: &mut D,
+    asked: ViewWords<'_>,
+) -> (Result<String, Refusal>, Option<Connection<S>>)
+    ensures { IsViewFor S.Store (D.may_find databases.old) (view_asked asked.entry)
+        (answer_for string_bytes result.0) result.1 }
+{
+    match databases.find(asked.path) {
+        Ok(conn) => {
+            let (shown, conn) = shown::<S, K>(alloc, conn, asked.view);
+            (shown, Some(conn))
+        }
+        Err(refusal) => (Err(refusal), None),
+    }
+}
+
+/// Shows something of the register in the tables of a connection, which is given back.
+fn shown<S: Alter + Drop, K: Keeper>(
+    alloc: Global,
+    conn: Connection<S>,
+    view: View,
+) -> (Result<String, Refusal>, Connection<S>)
+    requires { conn.in_transaction ≡ false }
+    ensures shown { IfOk result.0 (λ text. IsShown S.Store conn view (string_bytes text) result.1) }
+    ensures refused { IfErr result.0 (λ refusal. IsNotOpened S.Store conn refusal result.1) }
+{
+    match Store::<S, K>::open(alloc, conn) {
+        Ok(store) => {
+            let shown = view.text(alloc, store.register());
+            (shown, store.close())
+        }
+        Err(refused) => {
+            let (refusal, conn) = refused.into_parts();
+            (Err(refusal), conn)
+        }
+    }
+}
