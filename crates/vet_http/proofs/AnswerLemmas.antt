@@ -26,7 +26,7 @@ use Rattle.vet_register.specs.declared.verdict.Answer.TheVariants.{Accepted, Alr
 use Rattle.vet_requests.specs.Reply.{not_allowed, plain_reply}
 use Rattle.vet_requests.specs.Request.{RequestValue}
 use Rattle.vet_requests.specs.Route.{asked_at, asked_by, told_methods}
-use Rattle.vet_requests.specs.RouteTable.{route_at, route_of}
+use Rattle.vet_requests.specs.Path.{route_at, route_of}
 use Rattle.vet_requests.specs.declared.reply.Reply.{Reply}
 use Rattle.vet_requests.specs.declared.route.Asked.{Asked}
 use Rattle.vet_requests.specs.declared.route.Asked.TheVariants.{Runs, Shows}

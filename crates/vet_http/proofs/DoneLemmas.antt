@@ -1,7 +1,6 @@
 -- What a connection changes is what the command changes that it asks for.
 use Rattle.std.proofs.Common.{◌≡◌, ◌⊎◌, List, [], ◌∷◌, Option, Some, None, Result, Ok, Err, IsTrue, inl, inr}
 use Rattle.std.proofs.Common.{refl, subst, ◌∙◌}
-use Rattle.std.specs.Io.KnownBytes.{Consumes}
 use Rattle.vet_base.specs.Day.{DayValue}
 use Rattle.vet_base.specs.Gives.{Told, ◌>>=◌}
 use Rattle.vet_base.specs.Words.{Bytes}
@@ -18,9 +17,10 @@ use Rattle.vet_register.specs.Verdict.{verdict}
 use Rattle.vet_register.specs.declared.command.Command.{Command}
 use Rattle.vet_register.specs.declared.verdict.Answer.{Answer}
 use Rattle.vet_register.specs.declared.verdict.Answer.TheVariants.{Already, Accepted}
+use Rattle.vet_requests.specs.Input.{Hands, Heard}
+use Rattle.vet_requests.specs.Path.{route_of}
 use Rattle.vet_requests.specs.Request.{RequestValue}
 use Rattle.vet_requests.specs.Route.{asked_at, asked_by}
-use Rattle.vet_requests.specs.RouteTable.{route_of}
 use Rattle.vet_requests.specs.declared.io_fault.IoFault.{IoFault}
 use Rattle.vet_requests.specs.declared.io_fault.IoFault.TheVariants.{Input, Output, Endless, NoMemory}
 use Rattle.vet_requests.specs.declared.reply.Reply.{Reply}
@@ -61,31 +61,32 @@ by_route day r None s end reply h = inl h.1
 by_route day r (Some route) s end reply h = by_asked day r route (asked_by r.method (asked_at route)) s end reply h
 
 -- what one connection changes
-abbrev Gives : DayValue → Option Bytes → Option Bytes → State → State → Type 0
-Gives day known known' s end = (end ≡ s) ⊎ ((c : Command) × (IsAskedBy day known known' c × IsDone s c end))
+abbrev Gives : DayValue → Heard → Heard → State → State → Type 0
+Gives day seen seen' s end = (end ≡ s) ⊎ ((c : Command) × (IsAskedBy day seen seen' c × IsDone s c end))
 
-by_reply : (day : DayValue) (known known' : Option Bytes) (bytes : Bytes) (s end : State) (reply : Reply)
-    → Consumes known known' bytes → Replies day s end reply bytes → Gives day known known' s end
-by_reply day known known' bytes s end reply front (Err fault, (requests, stays)) = inl stays.1
-by_reply day known known' bytes s end reply front (Ok r, (requests, inr (unavailable, same))) = inl same
-by_reply day known known' bytes s end reply front (Ok r, (requests, inl h)) =
+by_reply : (day : DayValue) (seen seen' : Heard) (bytes : Bytes) (s end : State) (reply : Reply)
+    → Hands seen seen' bytes → Replies day s end reply bytes → Gives day seen seen' s end
+by_reply day seen seen' bytes s end reply hands (Err fault, (requests, stays)) = inl stays.1
+by_reply day seen seen' bytes s end reply hands (Ok r, (requests, inr (unavailable, same))) = inl same
+by_reply day seen seen' bytes s end reply hands (Ok r, (requests, inl h)) =
     elim (by_route day r (route_of r.target) s end reply h) [
       | inl same ↦ inl same
       | inr (c, (given, done)) ↦ inr (
         c,
-        (record { bytes = bytes; front = front; request = r; requests = requests; asks = given }, done),
+        (record { bytes = bytes; hands = hands; request = r; requests = requests; asks = given }, done),
       )
     ]
 
-by_served : (day : DayValue) (known known' out out' : Option Bytes) (s end : State) (answer : Result Served IoFault)
-    → IsServed day known known' out out' s answer end → Gives day known known' s end
-by_served day known known' out out' s end (Ok served) h =
-    by_reply day known known' h.read.bytes s end h.reply h.read.front h.read.told
-by_served day known known' out out' s end (Err Output) h =
-    by_reply day known known' h.read.bytes s end h.reply h.read.front h.read.told
-by_served day known known' out out' s end (Err Input) h = inl h.0
-by_served day known known' out out' s end (Err Endless) h = inl h.0
-by_served day known known' out out' s end (Err NoMemory) h = inl h.0
+by_served : (day : DayValue) (seen seen' : Heard) (out out' : Option Bytes) (s end : State)
+    (answer : Result Served IoFault)
+    → IsServed day seen seen' out out' s answer end → Gives day seen seen' s end
+by_served day seen seen' out out' s end (Ok served) h =
+    by_reply day seen seen' h.read.bytes s end h.reply h.read.hands h.read.told
+by_served day seen seen' out out' s end (Err Output) h =
+    by_reply day seen seen' h.read.bytes s end h.reply h.read.hands h.read.told
+by_served day seen seen' out out' s end (Err Input) h = inl h.0
+by_served day seen seen' out out' s end (Err Endless) h = inl h.0
+by_served day seen seen' out out' s end (Err NoMemory) h = inl h.0
 
 module _ {R W : Type 0} (remaining : R → Option Bytes) (contents : W → Option Bytes) where
   -- a connection in front that changed nothing

@@ -6,7 +6,7 @@ use Rattle.vet_http.specs.Given.{given_told}
 use Rattle.vet_register.specs.declared.command.Command.{Command}
 use Rattle.vet_requests.specs.Request.{RequestValue}
 use Rattle.vet_requests.specs.Route.{asked_at, asked_by}
-use Rattle.vet_requests.specs.RouteTable.{route_of}
+use Rattle.vet_requests.specs.Path.{route_of}
 use Rattle.vet_requests.specs.declared.route.Asked.{Asked}
 use Rattle.vet_requests.specs.declared.route.Asked.TheVariants.{Runs, Shows}
 use Rattle.vet_requests.specs.declared.route.Route.{Route}

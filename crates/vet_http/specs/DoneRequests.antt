@@ -1,10 +1,10 @@
 -- The commands that connections ask for, and which of them the machine has done (ours).
 use Rattle.std.specs.Prelude.{◌≡◌, ◌⊎◌, List, [], ◌∷◌, Option, Some, Ok, IsTrue}
-use Rattle.std.specs.Io.KnownBytes.{Consumes}
 use Rattle.sqlite.specs.State as sqlite
 use Rattle.vet_base.specs.Day.{DayValue}
 use Rattle.vet_base.specs.Words.{Bytes}
 use Rattle.vet_http.specs.AskedFor.{asked_for}
+use Rattle.vet_requests.specs.Input.{Hands, Heard, heard}
 use Rattle.vet_requests.specs.Request.{RequestValue, Requests}
 use Rattle.vet_http.specs.declared.serve.Connection.{Connection}
 use Rattle.vet_register.specs.Runs.{after, told}
@@ -14,9 +14,9 @@ use Rattle.vet_store.specs.Crash.{LeavesEither}
 use Rattle.vet_store.specs.Runs.{is_done, machine}
 
 -- what was read of a connection asks for this command
-pub record IsAskedBy (day : DayValue) (known known' : Option Bytes) (command : Command) : Type 0 where
+pub record IsAskedBy (day : DayValue) (seen seen' : Heard) (command : Command) : Type 0 where
   pub bytes : Bytes
-  pub front : Consumes known known' bytes
+  pub hands : Hands seen seen' bytes
   pub request : RequestValue
   pub requests : Requests bytes (Ok request)
   pub asks : asked_for day request ≡ Some command
@@ -28,7 +28,7 @@ IsDone s command end = IsTrue (is_done (told s command)) × (end ≡ after s com
 module _ {R W : Type 0} (remaining : R → Option Bytes) where
   abbrev pub IsAskedAt : Connection R W → Connection R W → Command → Type 0
   IsAskedAt was left command =
-      IsAskedBy was.day (remaining was.reader.source) (remaining left.reader.source) command
+      IsAskedBy was.day (heard remaining was.reader) (heard remaining left.reader) command
 
   -- connections led from a state to the last by these commands, each asked for and done in its turn
   abbrev pub AreDone : State → List (Connection R W) → List (Connection R W) → List Command → State → Type 0

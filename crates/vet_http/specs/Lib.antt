@@ -23,6 +23,7 @@ pub use Rattle.vet_requests.specs.Request
 pub use Rattle.vet_requests.specs.RequestFault
 pub use Rattle.vet_requests.specs.RequestLaws
 pub use Rattle.vet_requests.specs.Route
+pub use Rattle.vet_requests.specs.Path
 pub use Rattle.vet_requests.specs.RouteTable
 pub use Rattle.vet_requests.specs.Status
 pub use Rattle.vet_documents.specs.CommandDocument

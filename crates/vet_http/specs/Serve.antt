@@ -1,6 +1,6 @@
 -- Reply: what a connection is replied, and the state after it. And connections that are served one by one (ours).
 --
--- Replies is said of the bytes that were read of a connection, by IsReplyToTold and IsReplyTo. What came of a
+-- Replies is said of the bytes that a connection handed over, by IsReplyToTold and IsReplyTo. What came of a
 -- connection is IsServed. A target that is no UTF-8, which no head has, has no route.
 use Rattle.std.specs.Prelude.{◌≡◌, List, [], ◌∷◌, Option, Result, Ok, Err, ⊤}
 use Rattle.std.specs.Io.KnownBytes.{Appends, Keeps}
@@ -11,7 +11,7 @@ use Rattle.vet_http.specs.Answer.{IsReplyTo, Stays}
 use Rattle.vet_http.specs.AskedFor.{asked_for}
 use Rattle.vet_http.specs.ShutStore.{IsToldCutOff, IsToldRefused}
 use Rattle.vet_http.specs.HeldAsked.{RepeatsStay}
-use Rattle.vet_requests.specs.Input.{IsReadFrom}
+use Rattle.vet_requests.specs.Input.{Heard, IsReadFrom, heard}
 use Rattle.vet_requests.specs.Output.{AppendsPart}
 use Rattle.vet_requests.specs.Reply.{plain_reply}
 use Rattle.vet_requests.specs.Request.{RequestValue, Requests}
@@ -38,34 +38,34 @@ Replies day s end reply bytes =
 -- ---- a connection
 
 -- what was read of a connection, and its reply, of which this holds; of the reply this was written
-pub record Exchanges (known known' : Option Bytes) (Holds : Reply → Bytes → Type 0) (Writes : Reply → Type 0)
+pub record Exchanges (seen seen' : Heard) (Holds : Reply → Bytes → Type 0) (Writes : Reply → Type 0)
     : Type 0 where
   pub reply : Reply
-  pub read : IsReadFrom known known' (Holds reply)
+  pub read : IsReadFrom seen seen' (Holds reply)
   pub written : Writes reply
 
 -- what came of a connection: it was replied to, whole or in part, and this holds of the reply and of what was read; or
 -- it ended in a fault with which nothing was written, and that holds
 abbrev pub IsServedBy : (Reply → Bytes → Type 0) → Type 0
-    → Option Bytes → Option Bytes → Option Bytes → Option Bytes → Result Served IoFault → Type 0
-IsServedBy Holds Else known known' out out' (Ok served) =
-    Exchanges known known' Holds (λ reply. (served.status ≡ reply.status) × Appends out out' reply.bytes)
-IsServedBy Holds Else known known' out out' (Err Output) =
-    Exchanges known known' Holds (λ reply. AppendsPart out out' reply.bytes)
-IsServedBy Holds Else known known' out out' (Err Input) = Else × Keeps out out'
-IsServedBy Holds Else known known' out out' (Err Endless) = Else × Keeps out out'
-IsServedBy Holds Else known known' out out' (Err NoMemory) = Else × Keeps out out'
+    → Heard → Heard → Option Bytes → Option Bytes → Result Served IoFault → Type 0
+IsServedBy Holds Else seen seen' out out' (Ok served) =
+    Exchanges seen seen' Holds (λ reply. (served.status ≡ reply.status) × Appends out out' reply.bytes)
+IsServedBy Holds Else seen seen' out out' (Err Output) =
+    Exchanges seen seen' Holds (λ reply. AppendsPart out out' reply.bytes)
+IsServedBy Holds Else seen seen' out out' (Err Input) = Else × Keeps out out'
+IsServedBy Holds Else seen seen' out out' (Err Endless) = Else × Keeps out out'
+IsServedBy Holds Else seen seen' out out' (Err NoMemory) = Else × Keeps out out'
 
 -- what came of a connection in a state, and the state after it; with a fault other than of the write it is the same
-abbrev pub IsServed : DayValue → Option Bytes → Option Bytes → Option Bytes → Option Bytes
+abbrev pub IsServed : DayValue → Heard → Heard → Option Bytes → Option Bytes
     → State → Result Served IoFault → State → Type 0
-IsServed day known known' out out' s answer end = IsServedBy (Replies day s end) (end ≡ s) known known' out out' answer
+IsServed day seen seen' out out' s answer end = IsServedBy (Replies day s end) (end ≡ s) seen seen' out out' answer
 
 -- the same, of a connection as it was and as it was left
 abbrev pub IsTurn : {R W : Type 0} → (R → Option Bytes) → (W → Option Bytes)
     → State → Connection R W → Connection R W → Result Served IoFault → State → Type 0
 IsTurn remaining contents s was left answer end =
-    IsServed was.day (remaining was.reader.source) (remaining left.reader.source)
+    IsServed was.day (heard remaining was.reader) (heard remaining left.reader)
     (contents was.writer) (contents left.writer) s answer end
 
 -- ---- what is held
@@ -81,15 +81,15 @@ RepliesWithRepeats day s end reply bytes =
     (told : ToldOf RequestValue)
     × (Requests bytes told × (IsReplyToTold day told s reply end × RepeatsStayTold day told s reply end))
 
-abbrev pub IsServedWithRepeats : DayValue → Option Bytes → Option Bytes → Option Bytes → Option Bytes
+abbrev pub IsServedWithRepeats : DayValue → Heard → Heard → Option Bytes → Option Bytes
     → State → Result Served IoFault → State → Type 0
-IsServedWithRepeats day known known' out out' s answer end =
-    IsServedBy (RepliesWithRepeats day s end) (end ≡ s) known known' out out' answer
+IsServedWithRepeats day seen seen' out out' s answer end =
+    IsServedBy (RepliesWithRepeats day s end) (end ≡ s) seen seen' out out' answer
 
 abbrev pub IsTurnWithRepeats : {R W : Type 0} → (R → Option Bytes) → (W → Option Bytes)
     → State → Connection R W → Connection R W → Result Served IoFault → State → Type 0
 IsTurnWithRepeats remaining contents s was left answer end =
-    IsServedWithRepeats was.day (remaining was.reader.source) (remaining left.reader.source)
+    IsServedWithRepeats was.day (heard remaining was.reader) (heard remaining left.reader)
     (contents was.writer) (contents left.writer) s answer end
 
 -- ---- a store that is shut
@@ -105,7 +105,7 @@ IsRefusedBy day reply bytes = (told : ToldOf RequestValue) × (Requests bytes to
 abbrev pub IsTurnOfShut : {R W : Type 0} → (R → Option Bytes) → (W → Option Bytes)
     → State → Connection R W → Connection R W → Result Served IoFault → State → Type 0
 IsTurnOfShut remaining contents s was left answer end =
-    IsServedBy (IsRefusedBy was.day) (end ≡ s) (remaining was.reader.source) (remaining left.reader.source)
+    IsServedBy (IsRefusedBy was.day) (end ≡ s) (heard remaining was.reader) (heard remaining left.reader)
     (contents was.writer) (contents left.writer) answer
 
 -- ---- a commit that failed

@@ -14,7 +14,7 @@ ghost use Rattle.vet_http.specs.HeldAsked.{HeldStays, RepeatsStay};
 ghost use Rattle.vet_requests.specs.Reply.{not_allowed, plain_reply};
 ghost use Rattle.vet_http.specs.ReplyRoom.{HasRoom};
 ghost use Rattle.vet_requests.specs.Route.{asked_at, asked_by, told_methods};
-ghost use Rattle.vet_requests.specs.RouteTable.{route_at, route_of};
+ghost use Rattle.vet_requests.specs.Path.{route_at, route_of};
 ghost use Rattle.vet_http.specs.Shown.{IsShown};
 ghost use Rattle.vet_http.specs.Told.{refusal_reply};
 ghost use Rattle.vet_rows.specs.RowsOf.{rows_of};
@@ -35,7 +35,7 @@ use vet_register::command::{Command, Outcome};
 use vet_register::register::Register;
 use vet_requests::reply::Reply;
 use vet_requests::request::Request;
-use vet_requests::route::{Asked, Given, Route, Shown, find_route};
+use vet_requests::route::{Asked, Given, Route, Routes, Shown};
 use vet_requests::status::Status;
 use vet_store::store::Store;
 
@@ -68,8 +68,34 @@ pub fn answer<S: Alter, K: Keeper>(
         IsToldCutOff (asked_for day request.now) store.new.register.state (state S.Store store.new.conn) reply) }
 {
     store.tables_are_of_register();
+    let routes = Routes::new(alloc)?;
+    answer_by(alloc, &routes, store, day, request)
+}
+
+/// The reply to a request on a day, as `answer` gives it, by routes that are made once for many.
+pub fn answer_by<S: Alter, K: Keeper>(
+    alloc: Global,
+    routes: &Routes,
+    store: &mut Store<S, K>,
+    day: Day,
+    request: &Request,
+) -> Result<Reply, Refusal>
+    ensures reply { IfOk result (λ reply.
+        IsReplyTo day request.now store.old.register.state reply store.new.register.state) }
+    ensures repeats { IfOk result (λ reply.
+        RepeatsStay (asked_for day request.now) store.old.register.state reply store.new.register.state) }
+    ensures memory { IfErr result (λ e. e ≡ Refusal.NoMemory) }
+    ensures err { OnErr result (store.new ≡ store.old) }
+    ensures tables { IsTied (state S.Store store.new.conn) store.new.shut (rows_of store.new.register.state) }
+    ensures closed { IsTrue store.old.shut → store.new ≡ store.old }
+    ensures refuses { IsTrue store.old.shut → IfOk result (λ reply.
+        IsToldRefused (asked_for day request.now) reply) }
+    ensures shuts { store.old.shut ≡ false → IsTrue store.new.shut → IfOk result (λ reply.
+        IsToldCutOff (asked_for day request.now) store.new.register.state (state S.Store store.new.conn) reply) }
+{
+    store.tables_are_of_register();
     let room = ReplyRoom::take(alloc)?;
-    let answered = answer_by_route(alloc, store, day, request);
+    let answered = answer_by_route(alloc, routes, store, day, request);
     store.tables_are_of_register();
     Ok(tell(alloc, room, answered))
 }
@@ -89,6 +115,7 @@ fn tell(alloc: Global, room: ReplyRoom, answered: Result<Answered, Refusal>) -> 
 // The answer at the route of the target. A target that is no text has none.
 fn answer_by_route<S: Alter, K: Keeper>(
     alloc: Global,
+    routes: &Routes,
     store: &mut Store<S, K>,
     day: Day,
     request: &Request,
@@ -109,7 +136,7 @@ fn answer_by_route<S: Alter, K: Keeper>(
         (state S.Store store.new.conn) result }
 {
     match str::from_utf8(request.target()) {
-        Ok(target) => answer_at(alloc, store, day, request, target),
+        Ok(target) => answer_at(alloc, routes, store, day, request, target),
         Err(_) => not_found(alloc),
     }
 }
@@ -117,6 +144,7 @@ fn answer_by_route<S: Alter, K: Keeper>(
 // The answer at the route of a target.
 fn answer_at<S: Alter, K: Keeper>(
     alloc: Global,
+    routes: &Routes,
     store: &mut Store<S, K>,
     day: Day,
     request: &Request,
@@ -138,7 +166,7 @@ fn answer_at<S: Alter, K: Keeper>(
         → IsCutOff (given_at day request.now (route_at target.now)) store.new.register.state
         (state S.Store store.new.conn) result }
 {
-    match find_route(alloc, target)? {
+    match routes.find(target) {
         Some(route) => answer_by_method(alloc, store, day, request, target, route),
         None => not_found(alloc),
     }

@@ -14,6 +14,7 @@
 pub mod answer;
 mod given;
 pub mod serve;
+pub mod serve_room;
 mod shown;
 pub mod told;
 

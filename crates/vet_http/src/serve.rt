@@ -10,7 +10,7 @@ ghost use Rattle.sqlite.specs.Held.{state};
 ghost use Rattle.sqlite.specs.State.{HasCleanDisk};
 ghost use Rattle.vet_base.specs.declared.limits.TheConstants.{MOST_INPUT_BYTES, MOST_READS};
 ghost use Rattle.vet_http.specs.DoneRequests.{IsOfDone, LeavesAmong};
-ghost use Rattle.vet_requests.specs.Input.{TakesAtMost};
+ghost use Rattle.vet_requests.specs.Input.{TakesAtMost, heard};
 ghost use Rattle.vet_requests.specs.Output.{AppendsPart};
 ghost use Rattle.vet_http.specs.Serve.{Each, IsCutOffBy, IsCutOffTold, IsRefusedBy, IsRefusedTold, IsReplyToTold};
 ghost use Rattle.vet_http.specs.Serve.{IsServed, IsServedBy, IsServedWithRepeats, IsTurn, IsTurnOfShut};
@@ -22,7 +22,8 @@ ghost use Rattle.vet_rows.specs.RowsOf.{rows_of};
 ghost use Rattle.vet_store.specs.Classes.{AddsUp, HasClassesOfChains};
 ghost use Rattle.vet_store.specs.Tied.{IsTied};
 
-use crate::answer::answer;
+use crate::answer::answer_by;
+use crate::serve_room::ServeRoom;
 use sqlite::Alter;
 use std::alloc::Global;
 use std::io::{Read, Write};
@@ -33,8 +34,9 @@ use vet_requests::input::CountedReader;
 use vet_requests::io_fault::IoFault;
 use vet_requests::output::write_whole;
 use vet_requests::reply::Reply;
-use vet_requests::request::{Request, read_request};
+use vet_requests::request::{Request, read_request_in};
 use vet_requests::request_fault::RequestFault;
+use vet_requests::route::Routes;
 use vet_requests::status::Status;
 use vet_store::laws::classes_are_of_chains;
 use vet_store::store::Store;
@@ -62,27 +64,59 @@ pub fn serve_one<S: Alter, K: Keeper, R: Read, W: Write>(
     reader: &mut CountedReader<R>,
     writer: &mut W,
 ) -> Result<Served, IoFault>
-    ensures served { IsServed day (R.remaining reader.old.source) (R.remaining reader.new.source)
+    ensures served { IsServed day (heard R.remaining reader.old) (heard R.remaining reader.new)
         (W.contents writer.old) (W.contents writer.new) store.old.register.state result store.new.register.state }
-    ensures repeats { IsServedWithRepeats day (R.remaining reader.old.source) (R.remaining reader.new.source)
+    ensures repeats { IsServedWithRepeats day (heard R.remaining reader.old) (heard R.remaining reader.new)
         (W.contents writer.old) (W.contents writer.new) store.old.register.state result store.new.register.state }
     ensures unchanged { IfErr result (λ fault. fault ≢ IoFault.Output → store.new ≡ store.old) }
     ensures tables { IsTied (state S.Store store.new.conn) store.new.shut (rows_of store.new.register.state) }
     ensures closed { IsTrue store.old.shut → store.new ≡ store.old }
     ensures refuses { IsTrue store.old.shut → IsServedBy (IsRefusedBy day)
-        (store.new.register.state ≡ store.old.register.state) (R.remaining reader.old.source)
-        (R.remaining reader.new.source) (W.contents writer.old) (W.contents writer.new) result }
+        (store.new.register.state ≡ store.old.register.state) (heard R.remaining reader.old)
+        (heard R.remaining reader.new) (W.contents writer.old) (W.contents writer.new) result }
     ensures shuts { store.old.shut ≡ false → IsTrue store.new.shut
         → IsServedBy (IsCutOffBy day store.new.register.state (state S.Store store.new.conn)) ⊥
-        (R.remaining reader.old.source) (R.remaining reader.new.source) (W.contents writer.old) (W.contents writer.new)
+        (heard R.remaining reader.old) (heard R.remaining reader.new) (W.contents writer.old) (W.contents writer.new)
         result }
     ensures bounded { TakesAtMost (MOST_HEAD_BYTES + 1 + MOST_INPUT_BYTES)
-        (R.remaining reader.old.source) (R.remaining reader.new.source) }
+        (heard R.remaining reader.old) (heard R.remaining reader.new) }
     ensures endless { result ≡ Err IoFault.Endless → reader.new.made ≡ MOST_READS }
 {
     store.tables_are_of_register();
-    match read_request(alloc, reader) {
-        Ok(told) => match reply_to(alloc, store, day, told) {
+    let mut room = ServeRoom::new(alloc)?;
+    serve_in(alloc, &mut room, store, day, reader, writer)
+}
+
+/// Reads one request and writes its reply as `serve_one` does, in room that is made once for many.
+pub fn serve_in<S: Alter, K: Keeper, R: Read, W: Write>(
+    alloc: Global,
+    room: &mut ServeRoom,
+    store: &mut Store<S, K>,
+    day: Day,
+    reader: &mut CountedReader<R>,
+    writer: &mut W,
+) -> Result<Served, IoFault>
+    ensures served { IsServed day (heard R.remaining reader.old) (heard R.remaining reader.new)
+        (W.contents writer.old) (W.contents writer.new) store.old.register.state result store.new.register.state }
+    ensures repeats { IsServedWithRepeats day (heard R.remaining reader.old) (heard R.remaining reader.new)
+        (W.contents writer.old) (W.contents writer.new) store.old.register.state result store.new.register.state }
+    ensures unchanged { IfErr result (λ fault. fault ≢ IoFault.Output → store.new ≡ store.old) }
+    ensures tables { IsTied (state S.Store store.new.conn) store.new.shut (rows_of store.new.register.state) }
+    ensures closed { IsTrue store.old.shut → store.new ≡ store.old }
+    ensures refuses { IsTrue store.old.shut → IsServedBy (IsRefusedBy day)
+        (store.new.register.state ≡ store.old.register.state) (heard R.remaining reader.old)
+        (heard R.remaining reader.new) (W.contents writer.old) (W.contents writer.new) result }
+    ensures shuts { store.old.shut ≡ false → IsTrue store.new.shut
+        → IsServedBy (IsCutOffBy day store.new.register.state (state S.Store store.new.conn)) ⊥
+        (heard R.remaining reader.old) (heard R.remaining reader.new) (W.contents writer.old) (W.contents writer.new)
+        result }
+    ensures bounded { TakesAtMost (MOST_HEAD_BYTES + 1 + MOST_INPUT_BYTES)
+        (heard R.remaining reader.old) (heard R.remaining reader.new) }
+    ensures endless { result ≡ Err IoFault.Endless → reader.new.made ≡ MOST_READS }
+{
+    store.tables_are_of_register();
+    match read_request_in(alloc, reader, &mut room.fields) {
+        Ok(told) => match reply_to(alloc, &room.routes, store, day, told) {
             Ok(reply) => write_reply(writer, &reply),
             Err(fault) => Err(fault),
         },
@@ -106,6 +140,7 @@ fn write_reply<W: Write>(writer: &mut W, reply: &Reply) -> Result<Served, IoFaul
 /// The reply to what is told of a connection's bytes. Refused, with nothing changed: `NoMemory`.
 fn reply_to<S: Alter, K: Keeper>(
     alloc: Global,
+    routes: &Routes,
     store: &mut Store<S, K>,
     day: Day,
     told: Result<Request, RequestFault>,
@@ -124,7 +159,7 @@ fn reply_to<S: Alter, K: Keeper>(
 {
     store.tables_are_of_register();
     match told {
-        Ok(request) => match answer(alloc, store, day, &request) {
+        Ok(request) => match answer_by(alloc, routes, store, day, &request) {
             Ok(reply) => Ok(reply),
             Err(_) => Err(IoFault::NoMemory),
         },
@@ -179,8 +214,18 @@ pub fn serve_slices<S: Alter, K: Keeper>(
     ensures classes { HasClassesOfChains store.new.register.state }
     ensures adds_up { AddsUp store.new.register.state }
     ensures balance { IsBalanced store.new.register.state }
+    ensures repeats { IfOk result (λ answers. Each (IsTurnWithRepeats (λ r. Some r.now) (λ w. Some w.items))
+        store.old.register.state connections.old connections.new answers.items store.new.register.state) }
     ensures memory { IfErr result (λ e. e ≡ Refusal.NoMemory) }
     ensures err { OnErr result ((store.new ≡ store.old) × (connections.new ≡ connections.old)) }
+    ensures tables { IsTied (state S.Store store.new.conn) store.new.shut (rows_of store.new.register.state) }
+    ensures closed { IsTrue store.old.shut → store.new ≡ store.old }
+    ensures refuses { IsTrue store.old.shut → IfOk result (λ answers.
+        Each (IsTurnOfShut (λ r. Some r.now) (λ w. Some w.items)) store.old.register.state
+        connections.old connections.new answers.items store.new.register.state) }
+    ensures leaves { store.old.shut ≡ false → IsTrue store.new.shut → HasCleanDisk (state S.Store store.new.conn)
+        → LeavesAmong (λ r. Some r.now) connections.old connections.new store.new.register.state
+        (state S.Store store.new.conn) }
 {
     serve_all(alloc, store, connections)
 }
@@ -205,12 +250,14 @@ fn serve_each<S: Alter, K: Keeper, R: Read, W: Write>(
         (state S.Store store.new.conn) }
 {
     store.tables_are_of_register();
+    let mut room = ServeRoom::new(alloc)?;
     let mut answers = Vec::new(alloc);
     answers.reserve(connections.len())?;
     'connections: for connection in connections.iter_mut() {
         let day = connection.day;
-        let answer = serve_one(
+        let answer = serve_in(
             alloc,
+            &mut room,
             store,
             day,
             &mut connection.reader,

@@ -1,12 +1,11 @@
 -- From a head and what comes after it to the request.
-use Rattle.std.proofs.Common.{◌≡◌, ℕ, ◌≤◌, List, ◌++◌, Option, Result, Ok, Err, IfOk, length, drop, ap, arith}
+use Rattle.std.proofs.Common.{◌≡◌, ℕ, ◌≤◌, List, ◌++◌, Result, Ok, Err, IfOk, length, drop, ap, arith}
 use Rattle.std.proofs.Common.{length-append, sym, subst, ◌∙◌}
 use Rattle.std.proofs.lemmas.List.{drop-append-le, length-take}
-use Rattle.std.specs.Io.KnownBytes.{Consumes}
 use Rattle.httparse.specs.Grammar.{RequestHead, print_request}
 use Rattle.vet_requests.specs.Fields.{AskedValue, head_told}
 use Rattle.vet_requests.specs.Head.{HasHead}
-use Rattle.vet_requests.specs.Input.{IsReadFrom}
+use Rattle.vet_requests.specs.Input.{Hands, Heard, IsReadFrom}
 use Rattle.vet_requests.specs.Request.{RequestValue, Requests, of_head, request_told, rest_told}
 use Rattle.vet_requests.specs.RequestFault.{ToldOf, ◌>>=◌}
 use Rattle.vet_requests.specs.declared.io_fault.IoFault.{IoFault}
@@ -21,14 +20,14 @@ of_rest head asked after told is_asked is_told =
     is_told ∙ sym (ap (λ (t : ToldOf AskedValue). t >>= λ asked. rest_told asked after) is_asked)
 
 -- a head whose first fault is told already
-pub at_fault : (known : Option (List ℕ)) (head : RequestHead) (fault : RequestFault) (begun : List ℕ)
-    → head_told head ≡ Err fault → IsReadFrom known known (λ more. Err fault ≡ request_told head (begun ++ more))
-at_fault known head fault begun is_fault =
-    read_nothing known (λ (more : List ℕ). Err fault ≡ request_told head (begun ++ more)) (λ more.
+pub at_fault : (seen : Heard) (head : RequestHead) (fault : RequestFault) (begun : List ℕ)
+    → head_told head ≡ Err fault → IsReadFrom seen seen (λ more. Err fault ≡ request_told head (begun ++ more))
+at_fault seen head fault begun is_fault =
+    read_nothing seen (λ (more : List ℕ). Err fault ≡ request_told head (begun ++ more)) (λ more.
     sym (ap (λ (t : ToldOf AskedValue). t >>= λ asked. rest_told asked (begun ++ more)) is_fault))
 
 -- a head that asks for something, and its body
-pub with_rest : (known known' : Option (List ℕ)) (head : RequestHead) (asked : AskedValue) (n : ℕ)
+pub with_rest : (known known' : Heard) (head : RequestHead) (asked : AskedValue) (n : ℕ)
     (bytes begun : List ℕ) (result : Result (ToldOf RequestValue) IoFault)
     → head_told head ≡ Ok asked → n ≡ length (print_request head)
     → begun ≡ drop n bytes
@@ -47,8 +46,8 @@ head_fits bytes head (rest, (is_head, splits)) =
     omega (arith, ap length splits, length-append (print_request head) rest, length-take 16384 bytes)
 
 -- a head in what was read, and what was read behind
-pub of_whole : (known between known' : Option (List ℕ)) (bytes : List ℕ) (head : RequestHead)
-    (result : Result (ToldOf RequestValue) IoFault) → Consumes known between bytes → HasHead bytes head
+pub of_whole : (known between known' : Heard) (bytes : List ℕ) (head : RequestHead)
+    (result : Result (ToldOf RequestValue) IoFault) → Hands known between bytes → HasHead bytes head
     → IfOk result (λ told. IsReadFrom between known'
     (λ more. told ≡ request_told head (drop (length (print_request head)) bytes ++ more)))
     → IfOk result (λ told. IsReadFrom known known' (λ all. Requests all told))

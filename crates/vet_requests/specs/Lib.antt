@@ -5,6 +5,7 @@ pub mod Input
 pub mod IoFault
 pub mod Output
 pub mod Parameter
+pub mod Path
 pub mod Reply
 pub mod ReplyByExample
 pub mod Request

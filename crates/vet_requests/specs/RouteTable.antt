@@ -1,13 +1,12 @@
--- The table of routes, as the rows of `matchit` in its order, and the route of a target (ours). In a pattern a
--- parameter is one token; beside it stands the text of the path, and where in that each parameter's name stands.
-use Rattle.std.specs.Prelude.{ℕ, List, [], ◌∷◌, ◌++◌, Option, None, codes, if◌then◌else◌}
+-- The paths as rows of `matchit`, in its order (ours). In a pattern a parameter is one token; beside it stands the text
+-- of the path, and where in that each parameter's name stands.
+use Rattle.std.specs.Prelude.{ℕ, List, [], ◌∷◌, ◌++◌, Option, codes}
 use Rattle.std.specs.Option.{option_map}
-use Rattle.std.specs.Str.{is_utf8}
 use Rattle.matchit.specs.Order.{placed}
 use Rattle.matchit.specs.Router.{RouteOf}
 use Rattle.matchit.specs.Rows.{RowsOf, param_token}
 use Rattle.matchit.specs.Seek.{first}
-use Rattle.vet_base.specs.Words.{Bytes, Text}
+use Rattle.vet_base.specs.Words.{Text}
 use Rattle.vet_requests.specs.declared.route.Route.{Route}
 use Rattle.vet_requests.specs.declared.route.Route.TheVariants.{Counts, Standing, StandingOf, StandingCsv, Moves, Desk}
 use Rattle.vet_requests.specs.declared.route.Route.TheVariants.{Class, File, Project, Peer, Commands}
@@ -45,10 +44,6 @@ table =
     (placed (plain (codes "/standing") Standing)
     (placed (plain (codes "/counts") Counts) []))))))))))
 
--- the route of a target that is a text
-abbrev pub route_at : Text → Option Route
-route_at target = option_map (λ (r : RouteOf Route). r.value) (first table target)
-
--- the route of a target; one that is no text, which no head has, has none
-abbrev pub route_of : Bytes → Option Route
-route_of target = if is_utf8 target then route_at target else None
+-- the route that `matchit` finds of a target by these rows
+abbrev pub routed_at : Text → Option Route
+routed_at target = option_map (λ (r : RouteOf Route). r.value) (first table target)

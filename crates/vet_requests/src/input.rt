@@ -1,8 +1,11 @@
-//! Reads, counted.
-ghost use Rattle.std.specs.Prelude.{◌≡◌, ◌≢◌, ℕ, ◌+◌, ◌≤◌, ◌<◌, List, Option, length, take, vec_len};
-ghost use Rattle.std.specs.Prelude.{IfOk, IfErr, IfSome, OnOk, OnErr};
+//! Reads, counted, and the bytes that came of them.
+//!
+//! Each byte that a reader hands over is kept here, in one place of the code, and what is told of a reader is told of
+//! these bytes. So it holds of readers too that tell nothing of what they have, as sockets.
+ghost use Rattle.std.specs.Prelude.{◌≡◌, ◌≢◌, [], ℕ, ◌+◌, ◌≤◌, ◌<◌, List, drop, length, take};
+ghost use Rattle.std.specs.Prelude.{IfOk, IfErr, IfSome, OnErr};
 ghost use Rattle.std.specs.Io.KnownBytes.{Consumes, IsAtEnd, Keeps};
-ghost use Rattle.vet_requests.specs.Input.{Counted, TakesAtMost};
+ghost use Rattle.vet_requests.specs.Input.{Counted, Hands, TakesAtMost, heard};
 ghost use Rattle.vet_base.specs.declared.limits.TheConstants.{MOST_READS};
 
 use crate::io_fault::IoFault;
@@ -11,104 +14,129 @@ use std::io::{ErrorKind, Read};
 use std::marker::Model;
 use vet_base::limits::MOST_READS;
 
-/// A reader that it alone holds, and how many reads it has made of it: at most as many as a run may make.
+/// A reader that it alone holds, the bytes that came of it, and how many reads it has made of it: at most as many as a
+/// run may make.
 #[derive(Drop)]
 pub struct CountedReader<R> {
     source: R,
+    handed: Vec<u8>,
     made: u32,
 }
 
 impl<R> Model for CountedReader<R> {
     ghost Value = { Counted R };
 
-    ghost view = { λ r. record { source = r.source; made = r.made } };
+    ghost view = { λ r. record { source = r.source; handed = r.handed.items; made = r.made } };
 
     ghost invariant = { λ r. r.made ≤ MOST_READS };
 }
 
-impl<R: Read> CountedReader<R> {
+impl<R> CountedReader<R> {
     /// The reader, of which no read was made.
-    pub fn new(source: R) -> CountedReader<R>
+    pub fn new(alloc: Global, source: R) -> CountedReader<R>
         ensures source { result.source ≡ source }
+        ensures handed { result.handed ≡ [] }
         ensures made { result.made ≡ 0 }
     {
-        CountedReader { source, made: 0 }
+        CountedReader {
+            source,
+            handed: Vec::new(alloc),
+            made: 0,
+        }
     }
 
-    /// The reader's bytes up to its end, or the first `limit` of them. Refused: `Input`, `Endless` where the
+    /// The bytes that it handed over.
+    pub fn handed(&self) -> &[u8]
+        ensures { result.now ≡ self.now.handed }
+    {
+        self.handed.as_slice()
+    }
+
+    /// Those behind the first `start` of them.
+    pub fn handed_from(&self, start: usize) -> &[u8]
+        requires { start ≤ length self.now.handed }
+        ensures { result.now ≡ drop start self.now.handed }
+    {
+        &self.handed.as_slice()[start..]
+    }
+}
+
+impl<R: Read> CountedReader<R> {
+    /// Reads up to the reader's end, or `limit` bytes, and returns how many came. Refused: `Input`, `Endless` where the
     /// reads that a run may make did not reach that far, and `NoMemory`.
-    pub fn read_at_most(&mut self, alloc: Global, limit: usize) -> Result<Vec<u8>, IoFault>
-        ensures value { IfOk result (λ bytes. IfSome (R.remaining self.old.source)
-            (λ input. bytes.items ≡ take limit input)) }
-        ensures bound { IfOk result (λ bytes. length bytes.items ≤ limit) }
-        ensures consumed { IfOk result (λ bytes.
-            Consumes (R.remaining self.old.source) (R.remaining self.new.source) bytes.items) }
-        ensures bounded { TakesAtMost limit (R.remaining self.old.source) (R.remaining self.new.source) }
+    pub fn read_at_most(&mut self, limit: usize) -> Result<usize, IoFault>
+        ensures read { IfOk result (λ n. (bytes : List ℕ)
+            × ((length bytes ≡ n)
+            × (Hands (heard R.remaining self.old) (heard R.remaining self.new) bytes
+            × IfSome (R.remaining self.old.source) (λ input. bytes ≡ take limit input)))) }
+        ensures bound { IfOk result (λ n. n ≤ limit) }
+        ensures bounded { TakesAtMost limit (heard R.remaining self.old) (heard R.remaining self.new) }
         ensures endless { result ≡ Err IoFault.Endless → self.new.made ≡ MOST_READS }
         ensures spent { self.old.made ≡ MOST_READS → 0 < limit
             → (result ≡ Err IoFault.Endless) × (self.new ≡ self.old) }
         ensures faults { IfErr result (λ fault. fault ≢ IoFault.Output) }
     {
-        let mut bytes = Vec::new(alloc);
-        let mut chunk = [0u8; 4096];
-        while bytes.len() < limit {
-            let room = (limit - bytes.len()).min(chunk.len());
-            let n = self.read_some(&mut chunk[..room])?;
+        let mut count = 0usize;
+        while count < limit {
+            let n = self.read_more(limit - count)?;
             if n == 0 {
-                return Ok(bytes);
+                return Ok(count);
             }
-            bytes.extend_from_slice(&chunk[..n])?;
+            count += n;
         }
-        Ok(bytes)
+        Ok(count)
     }
 
-    /// One read of at most `most` bytes that was not interrupted: how many bytes went to the end of `bytes`. It is
-    /// none at the input's end. Refused: `Input`, `Endless` where no read is left, and `NoMemory`.
-    pub(crate) fn read_more(&mut self, bytes: &mut Vec<u8>, most: usize) -> Result<usize, IoFault>
+    /// One read of at most `most` bytes that was not interrupted. Returns how many came, none only at the input's end.
+    /// Refused: `Input`, `Endless` where no read is left, and `NoMemory`, before anything is read.
+    pub(crate) fn read_more(&mut self, most: usize) -> Result<usize, IoFault>
         requires { 0 < most }
-        // What was read before and now went from the front of the input.
-        ensures kept { (input : Option (List ℕ)) → Consumes input (R.remaining self.old.source) bytes.old.items
-            → OnOk result (Consumes input (R.remaining self.new.source) bytes.new.items) }
-        ensures bounded { TakesAtMost most (R.remaining self.old.source) (R.remaining self.new.source) }
-        ensures count { IfOk result (λ n. (n ≤ most) × (vec_len bytes.new ≡ vec_len bytes.old + n)) }
+        ensures read { IfOk result (λ n. (bytes : List ℕ)
+            × ((length bytes ≡ n) × Hands (heard R.remaining self.old) (heard R.remaining self.new) bytes)) }
+        ensures count { IfOk result (λ n. n ≤ most) }
         ensures end { IfOk result (λ n. n ≡ 0 → IsAtEnd (R.remaining self.new.source)) }
-        ensures same { IfOk result (λ n. n ≡ 0 → bytes.new.items ≡ bytes.old.items) }
+        ensures kept { OnErr result (Hands (heard R.remaining self.old) (heard R.remaining self.new) []) }
         ensures endless { result ≡ Err IoFault.Endless → self.new.made ≡ MOST_READS }
+        ensures spent { self.old.made ≡ MOST_READS → (result ≡ Err IoFault.Endless) × (self.new ≡ self.old) }
         ensures faults { IfErr result (λ fault. fault ≢ IoFault.Output) }
     {
+        if self.made == MOST_READS {
+            return Err(IoFault::Endless);
+        }
         let mut chunk = [0u8; 4096];
         let room = most.min(chunk.len());
-        let n = self.read_some(&mut chunk[..room])?;
-        bytes.extend_from_slice(&chunk[..n])?;
-        Ok(n)
+        self.handed.reserve(room)?;
+        let n = read_counted(&mut self.source, &mut self.made, &mut chunk[..room])?;
+        match self.handed.extend_from_slice(&chunk[..n]) {
+            Ok(()) => Ok(n),
+            Err(_) => unreachable!(),
+        }
     }
+}
 
-    /// One read that was not interrupted: how many bytes went to the front of `buf`. Each read is counted,
-    /// the interrupted ones too. Refused: `Input`, and `Endless` where no read is left.
-    fn read_some(&mut self, buf: &mut [u8]) -> Result<usize, IoFault>
-        ensures bound { IfOk result (λ n. n ≤ length buf.new) }
-        ensures counted { IfOk result (λ _. self.old.made + 1 ≤ self.new.made) }
-        ensures bytes { IfOk result (λ n.
-            Consumes (R.remaining self.old.source) (R.remaining self.new.source) (take n buf.new)) }
-        ensures end { IfOk result (λ n. n ≡ 0 → 0 < length buf.old
-            → IsAtEnd (R.remaining self.new.source)) }
-        ensures kept { OnErr result (Keeps (R.remaining self.old.source) (R.remaining self.new.source)) }
-        ensures endless { result ≡ Err IoFault.Endless → self.new.made ≡ MOST_READS }
-        ensures spent { self.old.made ≡ MOST_READS
-            → (result ≡ Err IoFault.Endless) × (self.new ≡ self.old) }
-        ensures faults { IfErr result (λ fault. (fault ≢ IoFault.Output) × (fault ≢ IoFault.NoMemory)) }
-    {
-        while self.made < MOST_READS {
-            self.made += 1;
-            match self.source.read(buf) {
-                Ok(n) => return Ok(n),
-                Err(error) => {
-                    if error.kind() != ErrorKind::Interrupted {
-                        return Err(IoFault::Input);
-                    }
+/// One read that was not interrupted: how many bytes went to the front of `buf`. Each read is counted, the interrupted
+/// ones too. Refused: `Input`, and `Endless` where no read is left.
+fn read_counted<R: Read>(source: &mut R, made: &mut u32, buf: &mut [u8]) -> Result<usize, IoFault>
+    requires { made.old ≤ MOST_READS }
+    ensures bound { IfOk result (λ n. n ≤ length buf.new) }
+    ensures room { length buf.new ≡ length buf.old }
+    ensures within { made.new ≤ MOST_READS }
+    ensures bytes { IfOk result (λ n. Consumes (R.remaining source.old) (R.remaining source.new) (take n buf.new)) }
+    ensures end { IfOk result (λ n. n ≡ 0 → 0 < length buf.old → IsAtEnd (R.remaining source.new)) }
+    ensures kept { OnErr result (Keeps (R.remaining source.old) (R.remaining source.new)) }
+    ensures endless { result ≡ Err IoFault.Endless → made.new ≡ MOST_READS }
+    ensures faults { IfErr result (λ fault. (fault ≢ IoFault.Output) × (fault ≢ IoFault.NoMemory)) }
+{
+    while *made < MOST_READS {
+        *made += 1;
+        match source.read(buf) {
+            Ok(n) => return Ok(n),
+            Err(error) => {
+                if error.kind() != ErrorKind::Interrupted {
+                    return Err(IoFault::Input);
                 }
             }
         }
-        Err(IoFault::Endless)
     }
+    Err(IoFault::Endless)
 }

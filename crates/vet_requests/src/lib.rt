@@ -11,8 +11,8 @@
 //! For example, of a body that is a byte shorter than its `Content-Length` nothing is answered but 400 `bad request`.
 #![tactic(auto)]
 
-mod body;
 pub mod content_type;
+pub mod field_room;
 mod fields;
 mod head;
 pub mod input;

@@ -1,18 +1,18 @@
 //! Requests over HTTP.
 ghost use Rattle.std.specs.Option.{option_map};
-ghost use Rattle.std.specs.Prelude.{◌≡◌, ◌≢◌, ◌+◌, ◌++◌, [], IfErr, IfOk, length, drop};
+ghost use Rattle.std.specs.Prelude.{◌≡◌, ◌≢◌, ◌+◌, ◌≤◌, ◌++◌, IfErr, IfOk, length, drop, take};
 ghost use Rattle.httparse.specs.Grammar.{RequestHead, print_request};
 ghost use Rattle.httparse.specs.Spans.{IsRequestAt, IsRequestWithin};
 ghost use Rattle.vet_base.specs.declared.limits.TheConstants.{MOST_INPUT_BYTES, MOST_READS};
 ghost use Rattle.vet_requests.specs.Fields.{IsAskedWithin, asked_at};
 ghost use Rattle.vet_requests.specs.Head.{front};
-ghost use Rattle.vet_requests.specs.Input.{IsReadFrom, TakesAtMost};
+ghost use Rattle.vet_requests.specs.Input.{IsReadFrom, TakesAtMost, heard};
 ghost use Rattle.vet_requests.specs.Request.{Requests, request_of, request_told, rest_told};
 ghost use Rattle.vet_requests.specs.declared.request_limits.TheConstants.{MOST_HEAD_BYTES};
 
-use crate::body::read_body;
+use crate::field_room::FieldRoom;
 use crate::fields::{Asked, read_asked};
-use crate::head::{FIELD_ROOM, Head, field_room, front_of, read_head};
+use crate::head::{Head, front_of, read_head};
 use crate::input::CountedReader;
 use crate::io_fault::IoFault;
 use crate::request_fault::RequestFault;
@@ -111,61 +111,59 @@ pub fn read_request<R: Read>(
     reader: &mut CountedReader<R>,
 ) -> Result<Result<Request, RequestFault>, IoFault>
     ensures read { IfOk result (λ told.
-        IsReadFrom (R.remaining reader.old.source) (R.remaining reader.new.source) (λ bytes. Requests bytes told)) }
+        IsReadFrom (heard R.remaining reader.old) (heard R.remaining reader.new) (λ bytes. Requests bytes told)) }
     ensures bounded { TakesAtMost (MOST_HEAD_BYTES + 1 + MOST_INPUT_BYTES)
-        (R.remaining reader.old.source) (R.remaining reader.new.source) }
+        (heard R.remaining reader.old) (heard R.remaining reader.new) }
     ensures endless { result ≡ Err IoFault.Endless → reader.new.made ≡ MOST_READS }
     ensures faults { IfErr result (λ fault. fault ≢ IoFault.Output) }
 {
-    let mut fields = field_room(alloc)?;
-    let mut bytes = Vec::new(alloc);
-    read_into(alloc, reader, &mut bytes, fields.as_mut_slice())
+    let mut room = FieldRoom::new(alloc)?;
+    read_request_in(alloc, reader, &mut room)
 }
 
-/// Reads a request whose head goes into these bytes, and the places of its fields into these.
-fn read_into<R: Read>(
+/// Reads a request as `read_request` does, with this room for the fields of its head.
+pub fn read_request_in<R: Read>(
     alloc: Global,
     reader: &mut CountedReader<R>,
-    bytes: &mut Vec<u8>,
-    fields: &mut [HeaderSpan],
+    room: &mut FieldRoom,
 ) -> Result<Result<Request, RequestFault>, IoFault>
-    requires empty { bytes.old.items ≡ [] }
-    requires room { length fields.old ≡ FIELD_ROOM }
     ensures read { IfOk result (λ told.
-        IsReadFrom (R.remaining reader.old.source) (R.remaining reader.new.source) (λ bytes. Requests bytes told)) }
+        IsReadFrom (heard R.remaining reader.old) (heard R.remaining reader.new) (λ bytes. Requests bytes told)) }
     ensures bounded { TakesAtMost (MOST_HEAD_BYTES + 1 + MOST_INPUT_BYTES)
-        (R.remaining reader.old.source) (R.remaining reader.new.source) }
+        (heard R.remaining reader.old) (heard R.remaining reader.new) }
     ensures endless { result ≡ Err IoFault.Endless → reader.new.made ≡ MOST_READS }
     ensures faults { IfErr result (λ fault. fault ≢ IoFault.Output) }
 {
-    match read_head(reader, bytes, fields)? {
+    let start = reader.handed().len();
+    let fields = room.fields.as_mut_slice();
+    match read_head(reader, start, fields)? {
         Head::BadRequest => Ok(Err(RequestFault::BadRequest)),
         Head::TooLarge => Ok(Err(RequestFault::TooLarge)),
-        Head::Whole(spans) => read_behind(alloc, reader, bytes.as_slice(), fields, spans),
+        Head::Whole(spans) => read_behind(alloc, reader, start, fields, spans),
     }
 }
 
-/// Reads what the head asks for that stands in these bytes.
+/// Reads what the head asks for that stands behind `start` of the bytes that the reader handed over.
 fn read_behind<R: Read>(
     alloc: Global,
     reader: &mut CountedReader<R>,
-    bytes: &[u8],
+    start: usize,
     fields: &[HeaderSpan],
     spans: RequestSpans,
 ) -> Result<Result<Request, RequestFault>, IoFault>
-    requires { IsRequestWithin (front bytes.now) fields.now spans }
-    ensures read { (head : RequestHead) → IsRequestAt (front bytes.now) fields.now spans head
+    requires start { start ≤ length reader.old.handed }
+    requires within { IsRequestWithin (front (drop start reader.old.handed)) fields.now spans }
+    ensures read { (head : RequestHead) → IsRequestAt (front (drop start reader.old.handed)) fields.now spans head
         → IfOk result (λ told.
-        IsReadFrom (R.remaining reader.old.source) (R.remaining reader.new.source)
-        (λ more. told ≡ request_told head (drop (length (print_request head)) bytes.now ++ more))) }
-    ensures bounded { TakesAtMost MOST_INPUT_BYTES
-        (R.remaining reader.old.source) (R.remaining reader.new.source) }
+        IsReadFrom (heard R.remaining reader.old) (heard R.remaining reader.new)
+        (λ more. told ≡ request_told head
+        (drop (length (print_request head)) (drop start reader.old.handed) ++ more))) }
+    ensures bounded { TakesAtMost MOST_INPUT_BYTES (heard R.remaining reader.old) (heard R.remaining reader.new) }
     ensures endless { result ≡ Err IoFault.Endless → reader.new.made ≡ MOST_READS }
     ensures faults { IfErr result (λ fault. fault ≢ IoFault.Output) }
 {
-    let front = front_of(bytes);
-    match read_asked(front, fields, spans) {
-        Ok(asked) => read_rest(alloc, reader, front, &bytes[asked.head..], asked),
+    match read_asked(front_of(reader.handed_from(start)), fields, spans) {
+        Ok(asked) => read_rest(alloc, reader, start, asked),
         Err(fault) => Ok(Err(fault)),
     }
 }
@@ -174,40 +172,40 @@ fn read_behind<R: Read>(
 fn read_rest<R: Read>(
     alloc: Global,
     reader: &mut CountedReader<R>,
-    head: &[u8],
-    begun: &[u8],
+    start: usize,
     asked: Asked,
 ) -> Result<Result<Request, RequestFault>, IoFault>
-    requires { IsAskedWithin (length head.now) asked }
+    requires start { start ≤ length reader.old.handed }
+    requires within { IsAskedWithin (length (drop start reader.old.handed)) asked }
     ensures read { IfOk result (λ told.
-        IsReadFrom (R.remaining reader.old.source) (R.remaining reader.new.source)
-        (λ more. told ≡ rest_told (asked_at head.now asked) (begun.now ++ more))) }
-    ensures bounded { TakesAtMost MOST_INPUT_BYTES
-        (R.remaining reader.old.source) (R.remaining reader.new.source) }
+        IsReadFrom (heard R.remaining reader.old) (heard R.remaining reader.new)
+        (λ more. told ≡ rest_told (asked_at (drop start reader.old.handed) asked)
+        (drop asked.head (drop start reader.old.handed) ++ more))) }
+    ensures bounded { TakesAtMost MOST_INPUT_BYTES (heard R.remaining reader.old) (heard R.remaining reader.new) }
     ensures endless { result ≡ Err IoFault.Endless → reader.new.made ≡ MOST_READS }
     ensures faults { IfErr result (λ fault. fault ≢ IoFault.Output) }
 {
-    match read_body(alloc, reader, begun, asked.length)? {
-        Ok(body) => Ok(Ok(request_of(alloc, head, asked, body)?)),
-        Err(fault) => Ok(Err(fault)),
+    let begun = (reader.handed_from(start).len() - asked.head).min(asked.length);
+    let missing = asked.length - begun;
+    if reader.read_at_most(missing)? < missing {
+        return Ok(Err(RequestFault::BadRequest));
     }
+    Ok(Ok(request_of(alloc, reader.handed_from(start), asked)?))
 }
 
-/// What a head asks for that stands in these bytes, with its body.
-fn request_of(
-    alloc: Global,
-    head: &[u8],
-    asked: Asked,
-    body: Vec<u8>,
-) -> Result<Request, AllocError>
-    requires { IsAskedWithin (length head.now) asked }
-    ensures { IfOk result (λ request. request ≡ request_of (asked_at head.now asked) body.items) }
+/// What a head asks for that stands in these bytes, with its body behind it.
+fn request_of(alloc: Global, bytes: &[u8], asked: Asked) -> Result<Request, AllocError>
+    requires within { IsAskedWithin (length bytes.now) asked }
+    requires body { asked.head + asked.length ≤ length bytes.now }
+    ensures { IfOk result (λ request.
+        request ≡ request_of (asked_at bytes.now asked) (take asked.length (drop asked.head bytes.now))) }
 {
-    let method = Vec::from_slice(alloc, asked.method.of(head))?;
-    let target = Vec::from_slice(alloc, asked.target.of(head))?;
+    let method = Vec::from_slice(alloc, asked.method.of(bytes))?;
+    let target = Vec::from_slice(alloc, asked.target.of(bytes))?;
     let member = match asked.member {
-        Some(member) => Some(Vec::from_slice(alloc, member.of(head))?),
+        Some(member) => Some(Vec::from_slice(alloc, member.of(bytes))?),
         None => None,
     };
+    let body = Vec::from_slice(alloc, &bytes[asked.head..asked.head + asked.length])?;
     Ok(Request::new(method, target, member, body))
 }

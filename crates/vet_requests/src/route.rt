@@ -9,11 +9,12 @@ ghost use Rattle.matchit.specs.Seek.{first};
 ghost use Rattle.std.specs.Prelude.{Some, None, if◌then◌else◌};
 ghost use Rattle.std.specs.Str.{bytes_eq};
 ghost use Rattle.vet_requests.specs.Route.{asked_at, asked_by, shown_alone, told_methods};
-ghost use Rattle.vet_requests.specs.RouteTable.{route_at, table};
+ghost use Rattle.vet_requests.specs.Path.{route_at};
+ghost use Rattle.vet_requests.specs.RouteTable.{routed_at, table};
 
 use crate::reply::MOST_ALLOW_BYTES;
 use matchit::{InsertError, Router};
-use std::alloc::Global;
+use std::alloc::{AllocError, Global};
 use vet_base::refusal::Refusal;
 
 /// A route.
@@ -75,15 +76,37 @@ pub enum Asked {
     Runs(Given),
 }
 
+/// The routes, by which targets are found. They are made once for many requests.
+#[derive(Drop)]
+pub struct Routes {
+    router: Router<Route>,
+    ghost whole: { router ≡ table },
+}
+
+impl Routes {
+    /// The paths and their routes.
+    pub fn new(alloc: Global) -> Result<Routes, AllocError> {
+        match router(alloc) {
+            Ok(router) => Ok(Routes { router }),
+            Err(_) => Err(AllocError),
+        }
+    }
+
+    /// The route of a target that is a text, if it has one.
+    pub fn find(&self, target: &str) -> Option<Route>
+        ensures { result ≡ route_at target.now }
+    {
+        routed(&self.router, target)
+    }
+}
+
 /// The route of a target that is a text, if it has one. Refused: `NoMemory`.
 pub fn find_route(alloc: Global, target: &str) -> Result<Option<Route>, Refusal>
     ensures route { IfOk result (λ found. found ≡ route_at target.now) }
     ensures memory { IfErr result (λ e. e ≡ Refusal.NoMemory) }
 {
-    match router(alloc) {
-        Ok(router) => Ok(route_in(&router, target)),
-        Err(_) => Err(Refusal::NoMemory),
-    }
+    let routes = Routes::new(alloc)?;
+    Ok(routes.find(target))
 }
 
 // The paths and their routes.
@@ -105,10 +128,10 @@ fn router(alloc: Global) -> Result<Router<Route>, InsertError>
     Ok(router)
 }
 
-// The route of a target in the table.
-fn route_in(router: &Router<Route>, target: &str) -> Option<Route>
+// The route that the router finds of a target.
+fn routed(router: &Router<Route>, target: &str) -> Option<Route>
     requires { router.now ≡ table }
-    ensures { result ≡ route_at target.now }
+    ensures { result ≡ routed_at target.now }
 {
     match router.at(target) {
         Ok(found) => Some(*found.value),

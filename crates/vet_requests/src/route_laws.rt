@@ -1,9 +1,15 @@
 //! Which targets have which routes: laws of the table, which do nothing.
-ghost use Rattle.std.specs.Prelude.{◌≡◌, ◌<◌, ◌∷◌, ◌++◌, false, ℕ, List, None, Some, codes};
+ghost use Rattle.std.specs.Prelude.{◌≡◌, ◌<◌, ◌∷◌, ◌++◌, false, ℕ, All, List, None, Some, codes};
 ghost use Rattle.matchit.specs.Seek.{has_slash};
-ghost use Rattle.vet_requests.specs.RouteTable.{route_at};
+ghost use Rattle.vet_requests.specs.Path.{route_at};
+ghost use Rattle.vet_requests.specs.RouteTable.{routed_at};
 ghost use Rattle.vet_requests.specs.declared.route.Route.TheVariants.{Counts, Standing, StandingOf, StandingCsv, Moves};
 ghost use Rattle.vet_requests.specs.declared.route.Route.TheVariants.{Desk, Class, File, Project, Peer, Commands};
+
+/// The router finds the route of the definition for every target that is bytes, and none for any other.
+pub fn router_finds_the_paths()
+    ensures { (target : List ℕ) → All (λ b. b < 256) target → routed_at target ≡ route_at target }
+{}
 
 /// Paths without parameters.
 pub fn plain_paths_have_routes()

@@ -10,6 +10,7 @@ use Rattle.vet_http.specs.declared.serve.Connection.{Connection}
 use Rattle.vet_http.specs.declared.serve.Served.{Served}
 use Rattle.vet_register.specs.State.{State}
 use Rattle.vet_requests.specs.declared.io_fault.IoFault.{IoFault}
+use Rattle.vet_requests.specs.Input.{heard}
 use Rattle.vetd.specs.Serving.{AreServed, Arrives, IsOnDay, Serves, Turn, Turns, is_lost, replied, whole}
 use Rattle.vetd.specs.declared.clients.arrivals.Arrival.{Arrival}
 use Rattle.vetd.specs.declared.clients.arrivals.Arrival.TheVariants.{Client, Failed, Lost}
@@ -105,8 +106,8 @@ module _ {R W : Type 0} (remaining : R → Option Bytes) (contents : W → Optio
   turn_of : Connection R W → Connection R W → Result Served IoFault → Turn
   turn_of was left answer = record {
     day = was.day;
-    known = remaining was.reader.source;
-    known' = remaining left.reader.source;
+    seen = heard remaining was.reader;
+    seen' = heard remaining left.reader;
     out = contents was.writer;
     out' = contents left.writer;
     answer = answer;

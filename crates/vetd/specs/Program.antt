@@ -3,7 +3,7 @@ use Rattle.std.specs.Prelude.{◌≡◌, List, Option, None, codes, if◌then◌
 use Rattle.clap.specs.Walk.{Text}
 use Rattle.sqlite.specs.Held.{Held}
 use Rattle.sqlite_trees.specs.declared.store.Store.{Ghosts}
-use Rattle.vet_base.specs.Words.{Bytes}
+use Rattle.vet_requests.specs.Input.{Heard}
 use Rattle.vetd_commands.specs.Applying.{AnswersApply, IsUnapplied, day_given}
 use Rattle.vetd_commands.specs.Making.{AnswersNew, Giving, IsUnmade}
 use Rattle.vetd.specs.ServeRun.{AnswersServe, IsUnserved}
@@ -28,13 +28,13 @@ command_of words =
     else (if begins_with (codes "export") words then Show Export
     else (if begins_with (codes "serve") words then Serve else File Class)))))
 
-module _ {S : Type 0} (g : Ghosts S) (Gives Finds : Giving S) (known : Option Bytes) (words : List Text)
+module _ {S : Type 0} (g : Ghosts S) (Gives Finds : Giving S) (seen seen' : Heard) (words : List Text)
     (left : Option (Held S)) where
   -- this holds of the answer to the words, the input and what a path gives or where one is found
   abbrev pub AnswersAs : ProgramCommand → (Answer → Type 0) → Type 0
-  AnswersAs (File kind) Holds = Answers known (asked_by kind words) Holds
+  AnswersAs (File kind) Holds = Answers seen seen' (asked_by kind words) Holds
   AnswersAs New Holds = AnswersNew g Gives words left Holds
-  AnswersAs Apply Holds = AnswersApply g Finds known (apply_given words) left Holds
+  AnswersAs Apply Holds = AnswersApply g Finds seen seen' (apply_given words) left Holds
   AnswersAs (Show command) Holds = AnswersView g Finds (view_given command words) left Holds
   AnswersAs Serve Holds = AnswersServe g Finds words left Holds
 
@@ -42,7 +42,7 @@ module _ {S : Type 0} (g : Ghosts S) (Gives Finds : Giving S) (known : Option By
   abbrev pub IsUntoldAs : ProgramCommand → Type 0
   IsUntoldAs (File kind) = left ≡ None
   IsUntoldAs New = IsUnmade g Gives words left
-  IsUntoldAs Apply = IsUnapplied g Finds known (apply_given words) left
+  IsUntoldAs Apply = IsUnapplied g Finds seen seen' (apply_given words) left
   IsUntoldAs (Show command) = IsUntold g Finds (view_given command words) left
   IsUntoldAs Serve = IsUnserved g Finds words left
 

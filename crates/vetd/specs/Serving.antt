@@ -5,6 +5,7 @@ use Rattle.std.specs.Fmt.{decimal}
 use Rattle.vet_base.specs.Day.{DayValue}
 use Rattle.vet_base.specs.Words.{Bytes, Text}
 use Rattle.vet_http.specs.Serve.{IsServed, IsTurn}
+use Rattle.vet_requests.specs.Input.{Heard}
 use Rattle.vet_requests.specs.declared.io_fault.IoFault.{IoFault}
 use Rattle.vet_http.specs.declared.serve.Connection.{Connection}
 use Rattle.vet_http.specs.declared.serve.Served.{Served}
@@ -55,11 +56,12 @@ abbrev pub Arrives : {R W : Type 0} → Option DayValue → ℕ → Option (Arri
 Arrives told awaited None awaited' = awaited ≡ 0
 Arrives told awaited (Some arrival) awaited' = IsOnDay told arrival × (awaited ≡ awaited' + 1)
 
--- a connection that was served: its day, what its reader and its writer told before and after, and what came of it
+-- a connection that was served: its day, what was seen of its reader and its writer before and after, and what came of
+-- it
 pub record Turn : Type 0 where
   pub day : DayValue
-  pub known : Option Bytes
-  pub known' : Option Bytes
+  pub seen : Heard
+  pub seen' : Heard
   pub out : Option Bytes
   pub out' : Option Bytes
   pub answer : Result Served IoFault
@@ -69,7 +71,7 @@ pub record Turn : Type 0 where
 abbrev pub Turns : Option DayValue → State → List Turn → State → Type 0
 Turns told s [] end = end ≡ s
 Turns told s (t ∷ ts) end = IfSome told (λ day. t.day ≡ day) × ((mid : State)
-    × (IsServed t.day t.known t.known' t.out t.out' s t.answer mid × Turns told mid ts end))
+    × (IsServed t.day t.seen t.seen' t.out t.out' s t.answer mid × Turns told mid ts end))
 
 -- at most so many connections were served, and left this state
 pub record AreServed (told : Option DayValue) (most : ℕ) (s end : State) : Type 0 where

@@ -6,8 +6,8 @@
 //! `vetd apply --db PATH --day D` has the command of a document run on it, and prints the outcome. `vetd report` and
 //! `vetd export` print what it holds, as a report or as one of the three files. `vetd serve --port N --connections K`
 //! serves a register over HTTP. Each ends with status 0. A refusal goes to standard error as one line, with status 1.
-//! Where the words are no command, or ask for help, clap's text goes to standard error, with status 2, and nothing is
-//! read or made.
+//! Where the words are no command, clap's error goes to standard error, with status 2, and nothing is read or made.
+//! Help and the version go to standard output, with status 2 too.
 //!
 //! **The words and the input alone decide what is written and the status, and with `--db` the words, the input, the
 //! file and what the database answers. With `serve` the clients and the clock do so too. A run that ends with a fault
@@ -27,7 +27,7 @@ mod serve_lines;
 mod serve_run;
 
 use crate::file_databases::{FileDatabases, WaryFile};
-use crate::program::{ProgramCommand, program_run};
+use crate::program::program_run;
 use std::alloc::Global;
 use std::io::Write;
 use std::process::ExitCode;
@@ -50,9 +50,10 @@ fn words_after_name<R: Env + AllocGlobal>(rt: &R) -> io::Result<Vec<String>> {
 }
 
 /// Tells why the words can't be had: there was no memory, or one of them is no text.
-fn explain_no_words<E: Write>(
+fn explain_no_words<W: Write, E: Write>(
     alloc: Global,
     kind: io::ErrorKind,
+    writer: &mut W,
     errors: &mut E,
 ) -> Result<u8, IoFault>
     ensures { IfOk result (λ status. status ≡ EXPLAINED) }
@@ -61,7 +62,7 @@ fn explain_no_words<E: Write>(
         return Err(IoFault::NoMemory);
     }
     let error = not_text(alloc)?;
-    explain(alloc, &error, errors)
+    explain(alloc, &error, writer, errors)
 }
 
 /// Tells a fault. The status stays where even that can't be written.
@@ -77,10 +78,9 @@ fn fault_status<R: Eprint>(rt: &R, fault: IoFault) -> u8
 fn run_words(rt: &HostRuntime, words: &[String]) -> Result<u8, IoFault> {
     let run = program_run::<String, WaryFile, PlainKeeper, FileDatabases<'_>, _, _, _, _>(
         rt.alloc(),
-        ProgramCommand::of_words(words),
         words,
         rt,
-        &mut CountedReader::new(rt.reader()),
+        &mut CountedReader::new(rt.alloc(), rt.reader()),
         &mut FileDatabases::new(rt),
         &mut io::writer(rt),
         &mut rt.stderr(),
@@ -91,7 +91,12 @@ fn run_words(rt: &HostRuntime, words: &[String]) -> Result<u8, IoFault> {
 fn main(rt: HostRuntime) -> ExitCode {
     let run = match words_after_name(&rt) {
         Ok(words) => run_words(&rt, words.as_slice()),
-        Err(error) => explain_no_words(rt.alloc(), error.kind(), &mut rt.stderr()),
+        Err(error) => explain_no_words(
+            rt.alloc(),
+            error.kind(),
+            &mut io::writer(&rt),
+            &mut rt.stderr(),
+        ),
     };
     match run {
         Ok(status) => ExitCode::from(status),

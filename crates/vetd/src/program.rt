@@ -1,7 +1,7 @@
 //! The program's commands: one run, and one table.
 ghost use Rattle.std.specs.Prelude.{◌≡◌, ◌+◌, Err, map};
 ghost use Rattle.vet_base.specs.declared.limits.TheConstants.{MOST_READS};
-ghost use Rattle.vet_http.specs.Input.{TakesAtMost};
+ghost use Rattle.vet_requests.specs.Input.{TakesAtMost, heard};
 ghost use Rattle.vetd.specs.Program.{AnswersAs, AsksNoInput, IsUntoldAs, command_of};
 ghost use Rattle.vetd_words.specs.Answer.{IsWritten};
 
@@ -26,7 +26,7 @@ use vetd_words::view_words::ViewCommand;
 use vetd_words::words::begin_with;
 
 /// A command of the program, as which the words of a whole command line are taken. A further command is a row here, or
-/// in the table of its sort; a row in `of_words` and `program_run`; and the function that answers it.
+/// in the table of its sort; a row in `of_words` and `run_as`; and the function that answers it.
 #[derive(Clone, Copy)]
 pub enum ProgramCommand {
     File(CommandKind),
@@ -61,13 +61,55 @@ impl ProgramCommand {
 }
 
 /// Answers the words of a command, which come without the program's own name, by what the reader gives and what stands
-/// in the database at their path: the answer goes to `writer`, and a refusal or clap's text to `errors`.
+/// in the database at their path. The command is the one that the first word names. The answer goes to `writer`, as
+/// help and the version do, and a refusal or clap's error to `errors`.
 ///
 /// **A status comes with the whole answer to the words, the input and the tables. A run that ends with a fault wrote
 /// nothing, or, where a write failed, the front of that answer. What serves clients does so on the network and by the
 /// clock of `host`, which tells nothing of them.** Faults: `Input`, `Endless` and `NoMemory`, where
 /// nothing was written, and `Output`.
 pub fn program_run<
+    T: AsStr,
+    S: Alter + Drop,
+    K: Keeper,
+    D: Databases<S>,
+    H: Net + Clock,
+    R: Read,
+    W: Write,
+    E: Write,
+>(
+    alloc: Global,
+    words: &[T],
+    host: &H,
+    reader: &mut CountedReader<R>,
+    databases: &mut D,
+    writer: &mut W,
+    errors: &mut E,
+) -> DatabaseRun<S>
+    ensures written { IsWritten
+        (AnswersAs S.Store (D.may_give databases.old) (D.may_find databases.old) (heard R.remaining reader.old)
+        (heard R.remaining reader.new)
+        (map T.text words.now) result.conn (command_of (map T.text words.now)))
+        (IsUntoldAs S.Store (D.may_give databases.old) (D.may_find databases.old) (heard R.remaining reader.old)
+        (heard R.remaining reader.new)
+        (map T.text words.now) result.conn (command_of (map T.text words.now)))
+        result.status (W.contents writer.old) (W.contents writer.new)
+        (E.contents errors.old) (E.contents errors.new) }
+
+    // No more is read, and nothing where nothing of the input is asked for. `Endless` comes when the reads are spent.
+    ensures bounded { TakesAtMost (MOST_INPUT_BYTES + 1)
+        (heard R.remaining reader.old) (heard R.remaining reader.new) }
+    ensures unread { AsksNoInput (command_of (map T.text words.now)) (map T.text words.now) → reader.new ≡ reader.old }
+    ensures endless { result.status ≡ Err IoFault.Endless → reader.new.made ≡ MOST_READS }
+{
+    let command = ProgramCommand::of_words(words);
+    run_as::<T, S, K, D, H, R, W, E>(
+        alloc, command, words, host, reader, databases, writer, errors,
+    )
+}
+
+/// Answers the words as those of a command.
+fn run_as<
     T: AsStr,
     S: Alter + Drop,
     K: Keeper,
@@ -87,16 +129,18 @@ pub fn program_run<
     errors: &mut E,
 ) -> DatabaseRun<S>
     ensures written { IsWritten
-        (AnswersAs S.Store (D.may_give databases.old) (D.may_find databases.old) (R.remaining reader.old.source)
+        (AnswersAs S.Store (D.may_give databases.old) (D.may_find databases.old) (heard R.remaining reader.old)
+        (heard R.remaining reader.new)
         (map T.text words.now) result.conn command)
-        (IsUntoldAs S.Store (D.may_give databases.old) (D.may_find databases.old) (R.remaining reader.old.source)
+        (IsUntoldAs S.Store (D.may_give databases.old) (D.may_find databases.old) (heard R.remaining reader.old)
+        (heard R.remaining reader.new)
         (map T.text words.now) result.conn command)
         result.status (W.contents writer.old) (W.contents writer.new)
         (E.contents errors.old) (E.contents errors.new) }
 
     // No more is read, and nothing where nothing of the input is asked for. `Endless` comes when the reads are spent.
     ensures bounded { TakesAtMost (MOST_INPUT_BYTES + 1)
-        (R.remaining reader.old.source) (R.remaining reader.new.source) }
+        (heard R.remaining reader.old) (heard R.remaining reader.new) }
     ensures unread { AsksNoInput command (map T.text words.now) → reader.new ≡ reader.old }
     ensures endless { result.status ≡ Err IoFault.Endless → reader.new.made ≡ MOST_READS }
 {

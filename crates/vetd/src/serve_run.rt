@@ -31,6 +31,7 @@ use vet_base::refusal::Refusal;
 use vet_graph::keeper::Keeper;
 use vet_http::io_fault::IoFault;
 use vet_http::output::write_whole;
+use vet_http::serve_room::ServeRoom;
 use vet_store::laws::classes_are_of_chains;
 use vet_store::memory_file::{MemoryFiles, connect_in_memory};
 use vet_store::store::Store;
@@ -85,7 +86,7 @@ pub fn serve_run<
     match serve_words(alloc, words) {
         Ok(asked) => serve_on::<S, K, D, H, W, E>(alloc, asked, host, databases, writer, errors),
         Err(error) => DatabaseRun {
-            status: explain(alloc, &error, errors),
+            status: explain(alloc, &error, writer, errors),
             conn: None,
         },
     }
@@ -265,13 +266,14 @@ fn serve_at_port<S: Alter + Drop, K: Keeper, H: Net + Clock, W: Write, E: Write>
 {
     store.tables_are_of_register();
     headline_holds(store);
+    let mut room = ServeRoom::new(alloc)?;
     let mut lines = ServeLines::of_port(alloc, service.port)?;
     let listener = match TcpListener::bind(host, (Ipv4Addr::LOCALHOST, service.port)) {
         Ok(listener) => listener,
         Err(_) => return tell_network(errors),
     };
     write_whole(writer, lines.listening.as_bytes())?;
-    let sitting = serve_clients(alloc, store, service, host, &listener);
+    let sitting = serve_clients(alloc, &mut room, store, service, host, &listener);
     if sitting.lost {
         return tell_network(errors);
     }
@@ -282,6 +284,7 @@ fn serve_at_port<S: Alter + Drop, K: Keeper, H: Net + Clock, W: Write, E: Write>
 /// Serves the clients that connect to a listener.
 fn serve_clients<S: Alter, K: Keeper, H: Net + Clock>(
     alloc: Global,
+    room: &mut ServeRoom,
     store: &mut Store<S, K>,
     service: Service,
     host: &H,
@@ -295,8 +298,8 @@ fn serve_clients<S: Alter, K: Keeper, H: Net + Clock>(
     ensures adds_up { AddsUp store.new.register.state }
     ensures balance { IsBalanced store.new.register.state }
 {
-    let arrivals = Arrivals::new(host, listener, service.day, service.connections);
-    let sitting = serve_each(alloc, store, arrivals);
+    let arrivals = Arrivals::new(alloc, host, listener, service.day, service.connections);
+    let sitting = serve_each(alloc, room, store, arrivals);
     headline_holds(store);
     sitting
 }

@@ -1,5 +1,5 @@
 -- From what the steps of applying a document ensure to the answer over the connection.
-use Rattle.std.proofs.Common.{◌≡◌, ◌≢◌, ◌∙◌, inr, List, [], ℕ, ◌≤◌, ◌+◌, Option, Some, None}
+use Rattle.std.proofs.Common.{◌≡◌, ◌≢◌, ◌∙◌, ◌++◌, inr, List, ℕ, ◌≤◌, ◌+◌, Option, Some, None}
 use Rattle.std.proofs.Common.{Result, Ok, Err, IfOk, IfErr, IfSome, IsOkAnd, ap, length, refl, sym, subst}
 use Rattle.sqlite.specs.Held.{Held}
 use Rattle.sqlite_trees.specs.declared.store.Store.{Ghosts}
@@ -10,19 +10,20 @@ use Rattle.vet_base.specs.declared.limits.TheConstants.{MOST_INPUT_BYTES}
 use Rattle.vet_base.specs.declared.refusal.Refusal.{Refusal}
 use Rattle.vet_base.specs.declared.refusal.Refusal.TheVariants.{BadDay}
 use Rattle.vet_documents.specs.CommandDocument.{command_told}
+use Rattle.vet_requests.specs.Input.{Heard}
 use Rattle.vet_requests.specs.declared.io_fault.IoFault.{IoFault}
 use Rattle.vet_requests.specs.declared.io_fault.IoFault.TheVariants.{Output}
 use Rattle.vet_register.specs.State.{State}
 use Rattle.vet_register.specs.declared.command.Command.{Command}
 use Rattle.vet_register.specs.declared.command.Outcome.{Outcome}
 use Rattle.vet_reports.specs.OutcomeText.{outcome_text}
-use Rattle.vetd_words.specs.Answer.{Answer, Explains, IsInput, Refuses, answer_for, input_read}
+use Rattle.vetd_words.specs.Answer.{Answer, Explains, Refuses, answer_for, input_read}
 use Rattle.vetd_words.specs.ApplyWords.{ApplyAsked}
 use Rattle.vetd_commands.specs.Applying.{AnswersApply, IsAnswerToApply, IsApplyAnswer, IsApplyFor, IsApplyOn}
-use Rattle.vetd_commands.specs.Applying.{IsDocumentAnswer, IsGiven, IsRunOf, IsUnapplied}
+use Rattle.vetd_commands.specs.Applying.{IsDocumentAnswer, IsGiven, IsRunOf, IsUnapplied, day_given}
 use Rattle.vetd_commands.specs.Making.{Giving}
 use Rattle.vetd_commands.specs.Opening.{IsOpenedAs}
-use Rattle.vetd_words.proofs.AnswerLemmas.{some_input}
+use Rattle.vetd_words.proofs.AnswerLemmas.{any_input, some_input}
 
 module _ {S : Type 0} (g : Ghosts S) (document : Bytes) (day : DayValue) (giver : Option Bytes) {T : Type 0}
     (text : T → List ℕ) where
@@ -58,11 +59,6 @@ module _ {S : Type 0} (g : Ghosts S) (document : Bytes) (day : DayValue) (giver 
       (inr (subst (λ (h : Held S). IsGiven g document day giver opened register (Err refusal) h) (sym same)
       record { command = command; told = read; run = run }))
 
--- an input that the reader may hold
-any_input : (known : Option Bytes) → (input : Bytes) × IsInput known input
-any_input None = ([], tt)
-any_input (Some bytes) = (bytes, refl)
-
 module _ {S : Type 0} (g : Ghosts S) (Gives : Giving S) where
   -- where a path gave a connection, the answer is that over it
   pub apply_answer : {T : Type 0} (text : T → List ℕ) (path : List ℕ) (giver : Option Bytes) (day : DayValue)
@@ -72,9 +68,10 @@ module _ {S : Type 0} (g : Ghosts S) (Gives : Giving S) where
   apply_answer text path giver day document (Ok line) before after gives is = (before, (gives, is))
   apply_answer text path giver day document (Err refusal) before after gives is = (before, (gives, is))
 
-  module _ (known : Option Bytes) (asked : ApplyAsked) (day : DayValue) (is_day : read_day asked.day ≡ Some day)
-      (file document : Bytes) (giver : Option Bytes) (read : IfSome known (λ input. file ≡ input_read input))
-      (bound : length file ≤ MOST_INPUT_BYTES + 1) (whole : document ≡ file) (given : giver ≡ asked.member) where
+  module _ (seen seen' : Heard) (asked : ApplyAsked) (day : DayValue) (is_day : read_day asked.day ≡ Some day)
+      (file document : Bytes) (giver : Option Bytes) (read : IfSome seen.left (λ input. file ≡ input_read input))
+      (kept : seen'.handed ≡ seen.handed ++ file) (bound : length file ≤ MOST_INPUT_BYTES + 1)
+      (whole : document ≡ file) (given : giver ≡ asked.member) where
     -- the answer to what was read is that to what is asked and the input
     answer_on : (input : Bytes) → file ≡ input_read input → (answer : Answer) (left : Option (Held S))
         → IsApplyFor g Gives asked.path giver day document answer left
@@ -87,29 +84,29 @@ module _ {S : Type 0} (g : Ghosts S) (Gives : Giving S) where
 
     pub apply_of_input : (answer : Answer) (left : Option (Held S))
         → IsApplyFor g Gives asked.path giver day document answer left
-        → (Holds : Answer → Type 0) → Holds answer → AnswersApply g Gives known (Some asked) left Holds
+        → (Holds : Answer → Type 0) → Holds answer → AnswersApply g Gives seen seen' (Some asked) left Holds
     apply_of_input answer left is = λ Holds holds.
-        let found = some_input known file read bound in
+        let found = some_input seen seen' (day_given (Some asked)) file read kept bound in
         (found.0, (found.1.0, (answer, (answer_on found.0 found.1.1 answer left is, holds))))
 
     -- a text that was told meets no fault but that of a write
     pub apply_untold : {T : Type 0} (text : T → List ℕ) (told : Result T Refusal) (left : Option (Held S))
         (r : Result ℕ IoFault) → IsApplyFor g Gives asked.path giver day document (answer_for text told) left
         → IfOk told (λ _. IfErr r (λ fault. fault ≡ Output))
-        → IfErr r (λ fault. fault ≢ Output → IsUnapplied g Gives known (Some asked) left)
+        → IfErr r (λ fault. fault ≢ Output → IsUnapplied g Gives seen seen' (Some asked) left)
     apply_untold text told left (Ok status) is printed = tt
     apply_untold text (Ok line) left (Err fault) is printed = λ other. absurd (other printed)
     apply_untold text (Err refusal) None (Err fault) is printed = λ other. tt
     apply_untold text (Err refusal) (Some after) (Err fault) is printed = λ other.
-        let found = some_input known file read bound in
+        let found = some_input seen seen' (day_given (Some asked)) file read kept bound in
         (found.0, (found.1.0, (refusal, answer_on found.0 found.1.1 (Refuses refusal) (Some after) is)))
 
-module _ {S : Type 0} (g : Ghosts S) (Gives : Giving S) (known : Option Bytes) where
+module _ {S : Type 0} (g : Ghosts S) (Gives : Giving S) (seen seen' : Heard) where
   -- a text that is no day is told before all else
   pub bad_day : (asked : ApplyAsked) (refusal : Refusal) → read_day asked.day ≡ None → refusal ≡ BadDay
-      → (Holds : Answer → Type 0) → Holds (Refuses refusal) → AnswersApply g Gives known (Some asked) None Holds
+      → (Holds : Answer → Type 0) → Holds (Refuses refusal) → AnswersApply g Gives seen seen' (Some asked) None Holds
   bad_day asked refusal none bad = λ Holds holds.
-      let found = any_input known in
+      let found = any_input seen seen' (day_given (Some asked)) none in
       let first : IsApplyOn g Gives asked.path asked.member (read_day asked.day) (input_read found.0) (Refuses refusal)
       None =
       subst (λ (d : Option DayValue). IsApplyOn g Gives asked.path asked.member d (input_read found.0) (Refuses refusal)
@@ -118,16 +115,16 @@ module _ {S : Type 0} (g : Ghosts S) (Gives : Giving S) (known : Option Bytes) w
 
   -- words that ask for nothing are explained
   pub apply_explained : (meant : Option ApplyAsked) → meant ≡ None → (Holds : Answer → Type 0) → Holds Explains
-      → AnswersApply g Gives known meant None Holds
+      → AnswersApply g Gives seen seen' meant None Holds
   apply_explained meant none Holds holds =
-      let found = any_input known in
+      let found = any_input seen seen' (day_given meant) (ap day_given none) in
       let explained : IsAnswerToApply g Gives meant (input_read found.0) Explains None =
       subst (λ (m : Option ApplyAsked). IsAnswerToApply g Gives m (input_read found.0) Explains None) (sym none) refl in
       (found.0, (found.1, (Explains, (explained, holds))))
 
   -- with no connection nothing was done
   pub apply_undone : (meant : Option ApplyAsked) (r : Result ℕ IoFault)
-      → IfErr r (λ fault. fault ≢ Output → IsUnapplied g Gives known meant None)
+      → IfErr r (λ fault. fault ≢ Output → IsUnapplied g Gives seen seen' meant None)
   apply_undone meant (Ok status) = tt
   apply_undone meant (Err fault) = λ other. tt
 

@@ -15,6 +15,7 @@ use Rattle.vet_register.specs.State.{State}
 use Rattle.vet_register.specs.declared.command.Command.{Command}
 use Rattle.vet_register.specs.declared.command.Outcome.{Outcome}
 use Rattle.vet_reports.specs.OutcomeText.{outcome_text}
+use Rattle.vet_requests.specs.Input.{Heard}
 use Rattle.vet_rows.specs.RowsOf.{rows_of}
 use Rattle.vet_store.specs.Committed.{AreTreesBeside}
 use Rattle.vet_store.specs.Crash.{LeavesEither}
@@ -97,12 +98,12 @@ module _ {S : Type 0} (g : Ghosts S) (Gives : Giving S) where
   IsAnswerToApply None document _ left = ⊥
 
   -- this holds of the answer to what the words ask for and the input, of which at most a byte too many is read
-  abbrev pub AnswersApply : Option Bytes → Option ApplyAsked → Option (Held S) → (Answer → Type 0) → Type 0
-  AnswersApply known asked left Holds = (input : Bytes) × (IsInput known input
+  abbrev pub AnswersApply : Heard → Heard → Option ApplyAsked → Option (Held S) → (Answer → Type 0) → Type 0
+  AnswersApply before after asked left Holds = (input : Bytes) × (IsInput before after (day_given asked) input
       × ((answer : Answer) × (IsAnswerToApply asked (input_read input) answer left × Holds answer)))
 
   -- a run that told nothing printed no outcome: no command was done
-  abbrev pub IsUnapplied : Option Bytes → Option ApplyAsked → Option (Held S) → Type 0
-  IsUnapplied known asked None = ⊤
-  IsUnapplied known asked (Some after) = (input : Bytes) × (IsInput known input
-      × ((refusal : Refusal) × IsAnswerToApply asked (input_read input) (Refuses refusal) (Some after)))
+  abbrev pub IsUnapplied : Heard → Heard → Option ApplyAsked → Option (Held S) → Type 0
+  IsUnapplied before after asked None = ⊤
+  IsUnapplied before after asked (Some conn) = (input : Bytes) × (IsInput before after (day_given asked) input
+      × ((refusal : Refusal) × IsAnswerToApply asked (input_read input) (Refuses refusal) (Some conn)))

@@ -11,7 +11,7 @@ ghost use Rattle.vetd_words.specs.ApplyGiven.{apply_given};
 ghost use Rattle.vetd_words.specs.ApplyWords.{apply_asked};
 ghost use Rattle.vetd_commands.specs.Applying.{AnswersApply, IsApplyAnswer, IsApplyFor, IsDocumentAnswer};
 ghost use Rattle.vetd_commands.specs.Applying.{IsUnapplied, day_given};
-ghost use Rattle.vet_requests.specs.Input.{TakesAtMost};
+ghost use Rattle.vet_requests.specs.Input.{TakesAtMost, heard};
 
 use crate::databases::{DatabaseRun, Databases};
 use sqlite::{Alter, Connection};
@@ -32,8 +32,8 @@ use vetd_words::answer::{explain, report};
 use vetd_words::apply_words::{ApplyWords, apply_words};
 
 /// Answers the words of an apply command, which come without the program's own name, by the document that the reader
-/// gives: the line of the outcome goes to `writer`, and a refusal or clap's text to `errors`. At most 8,388,609 bytes
-/// are read, by at most 10,000,000 reads.
+/// gives. The line of the outcome goes to `writer`, as help does, and a refusal or clap's error to `errors`. At most
+/// 8,388,609 bytes are read, by at most 10,000,000 reads.
 ///
 /// **What is printed is the outcome of the document's command in the one register whose rows stand in the tables of the
 /// database at the path, and the tables then have the rows of the state after it.** Refused, as told to its user, the
@@ -58,16 +58,18 @@ pub fn apply_run<
     writer: &mut W,
     errors: &mut E,
 ) -> DatabaseRun<S>
-    ensures written { IsWritten (AnswersApply S.Store (D.may_find databases.old) (R.remaining reader.old.source)
+    ensures written { IsWritten (AnswersApply S.Store (D.may_find databases.old)
+        (heard R.remaining reader.old) (heard R.remaining reader.new)
         (apply_given (map T.text words.now)) result.conn)
-        (IsUnapplied S.Store (D.may_find databases.old) (R.remaining reader.old.source)
+        (IsUnapplied S.Store (D.may_find databases.old)
+        (heard R.remaining reader.old) (heard R.remaining reader.new)
         (apply_given (map T.text words.now)) result.conn)
         result.status (W.contents writer.old) (W.contents writer.new)
         (E.contents errors.old) (E.contents errors.new) }
 
     // No more is read, and nothing where the words are no apply command or the day is none.
     ensures bounded { TakesAtMost (MOST_INPUT_BYTES + 1)
-        (R.remaining reader.old.source) (R.remaining reader.new.source) }
+        (heard R.remaining reader.old) (heard R.remaining reader.new) }
     ensures unread { day_given (apply_given (map T.text words.now)) ≡ None → reader.new ≡ reader.old }
     ensures unfailing { day_given (apply_given (map T.text words.now)) ≡ None
         → IfErr result.status (λ fault. (fault ≢ IoFault.Input) × (fault ≢ IoFault.Endless)) }
@@ -80,7 +82,7 @@ pub fn apply_run<
     match apply_words(alloc, words) {
         Ok(asked) => apply_on::<S, K, D, R, W, E>(alloc, asked, reader, databases, writer, errors),
         Err(error) => DatabaseRun {
-            status: explain(alloc, &error, errors),
+            status: explain(alloc, &error, writer, errors),
             conn: None,
         },
     }
@@ -95,14 +97,16 @@ fn apply_on<S: Alter + Drop, K: Keeper, D: Databases<S>, R: Read, W: Write, E: W
     writer: &mut W,
     errors: &mut E,
 ) -> DatabaseRun<S>
-    ensures written { IsWritten (AnswersApply S.Store (D.may_find databases.old) (R.remaining reader.old.source)
+    ensures written { IsWritten (AnswersApply S.Store (D.may_find databases.old)
+        (heard R.remaining reader.old) (heard R.remaining reader.new)
         (Some (apply_asked asked.entry)) result.conn)
-        (IsUnapplied S.Store (D.may_find databases.old) (R.remaining reader.old.source)
+        (IsUnapplied S.Store (D.may_find databases.old)
+        (heard R.remaining reader.old) (heard R.remaining reader.new)
         (Some (apply_asked asked.entry)) result.conn)
         result.status (W.contents writer.old) (W.contents writer.new)
         (E.contents errors.old) (E.contents errors.new) }
     ensures bounded { TakesAtMost (MOST_INPUT_BYTES + 1)
-        (R.remaining reader.old.source) (R.remaining reader.new.source) }
+        (heard R.remaining reader.old) (heard R.remaining reader.new) }
     ensures unread { read_day asked.entry.day.now ≡ None → reader.new ≡ reader.old }
     ensures unfailing { read_day asked.entry.day.now ≡ None
         → IfErr result.status (λ fault. (fault ≢ IoFault.Input) × (fault ≢ IoFault.Endless)) }
@@ -119,20 +123,18 @@ fn apply_on<S: Alter + Drop, K: Keeper, D: Databases<S>, R: Read, W: Write, E: W
             };
         }
     };
-    let input = match reader.read_at_most(alloc, MOST_INPUT_BYTES + 1) {
-        Ok(input) => input,
-        Err(fault) => {
-            return DatabaseRun {
-                status: Err(fault),
-                conn: None,
-            };
-        }
-    };
+    let start = reader.handed().len();
+    if let Err(fault) = reader.read_at_most(MOST_INPUT_BYTES + 1) {
+        return DatabaseRun {
+            status: Err(fault),
+            conn: None,
+        };
+    }
     let (told, conn) = apply_at::<S, K, D>(
         alloc,
         databases,
         asked.path,
-        input.as_slice(),
+        reader.handed_from(start),
         day,
         bytes_of(asked.member),
     );

@@ -19,7 +19,7 @@ use vetd_words::answer::{explain, report};
 use vetd_words::new_words::{NewWords, new_words};
 
 /// Answers the words of a new command, which come without the program's own name: makes a register in the database at
-/// their path. `created` goes to `writer`, and a refusal or clap's text to `errors`.
+/// their path. `created` goes to `writer`, as help does, and a refusal or clap's error to `errors`.
 ///
 /// **`created` is told of a register that stands in the tables, and outlasts a crash. After a refusal or a fault for
 /// want of memory the database holds what it held.** Refused, as told to its user: `StoreRefused` where no database
@@ -46,7 +46,7 @@ pub fn new_run<T: AsStr, S: Alter + Drop, K: Keeper, D: Databases<S>, W: Write, 
             DatabaseRun { status, conn }
         }
         Err(error) => DatabaseRun {
-            status: explain(alloc, &error, errors),
+            status: explain(alloc, &error, writer, errors),
             conn: None,
         },
     }

@@ -18,8 +18,8 @@ use vetd_words::answer::{explain, report};
 use vetd_words::view::View;
 use vetd_words::view_words::{ViewCommand, ViewWords, view_words};
 
-/// Answers the words of a command that shows something of a register, which come without the program's own name: the
-/// text goes to `writer`, and a refusal or clap's text to `errors`.
+/// Answers the words of a command that shows something of a register, which come without the program's own name. The
+/// text goes to `writer`, as help does, and a refusal or clap's error to `errors`.
 ///
 /// **What is printed shows the one register whose rows stand in the tables of the database at the path. Nothing is
 /// written there.** Refused, as told to its user: `NotARegister` where no file stands at the path, or the tables have
@@ -47,7 +47,7 @@ pub fn view_run<T: AsStr, S: Alter + Drop, K: Keeper, D: Databases<S>, W: Write,
             DatabaseRun { status, conn }
         }
         Err(error) => DatabaseRun {
-            status: explain(alloc, &error, errors),
+            status: explain(alloc, &error, writer, errors),
             conn: None,
         },
     }

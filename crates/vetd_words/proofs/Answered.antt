@@ -1,12 +1,11 @@
 -- What is told, and what is written of it.
 use Rattle.std.proofs.Common.{◌≡◌, ◌≢◌, ℕ, List, Option, Result, Ok, Err, IfOk, IfErr}
 use Rattle.std.proofs.KnownBytes.{Keeps-refl}
-use Rattle.std.specs.Io.KnownBytes.{Appends, Keeps}
+use Rattle.std.specs.Io.KnownBytes.{Keeps}
 use Rattle.clap.specs.declared.error.kind.ErrorKind.{ErrorKind}
 use Rattle.clap.specs.declared.error.kind.ErrorKind.TheVariants.{OutOfMemory}
-use Rattle.vetd_words.specs.Answer.{Answer, Explains, IsWritten, Says, Stops}
+use Rattle.vetd_words.specs.Answer.{Answer, Explains, IsExplained, IsExplainedInPart, IsWritten, Says, Stops}
 use Rattle.vetd_words.specs.declared.answer.TheConstants.{EXPLAINED}
-use Rattle.vet_requests.specs.Output.{AppendsPart}
 use Rattle.vet_requests.specs.declared.io_fault.IoFault.{IoFault}
 use Rattle.vet_requests.specs.declared.io_fault.IoFault.TheVariants.{Output}
 
@@ -54,39 +53,29 @@ module _ (Answers : (Answer → Type 0) → Type 0) (Untold : Type 0) where
 
   module _ (kind : ErrorKind)
       (answers : kind ≢ OutOfMemory → (Holds : Answer → Type 0) → Holds Explains → Answers Holds) where
-    is_explained : (r : Result ℕ IoFault) (out errors errors' : Option (List ℕ))
-        → IfOk r (λ status. (status ≡ EXPLAINED) × (kind ≢ OutOfMemory)
-        × ((text : List ℕ) × Appends errors errors' text))
-        → IfOk r (λ status. Answers (λ a. Says a status out out errors errors'))
-    is_explained (Err fault) out errors errors' says = tt
-    is_explained (Ok status) out errors errors' says =
-        answers says.1 (λ a. Says a status out out errors errors') (says.0, Keeps-refl out, says.2)
+    is_explained : (r : Result ℕ IoFault) (out out' errors errors' : Option (List ℕ))
+        → IfOk r (λ status. (status ≡ EXPLAINED) × (kind ≢ OutOfMemory) × IsExplained out out' errors errors')
+        → IfOk r (λ status. Answers (λ a. Says a status out out' errors errors'))
+    is_explained (Err fault) out out' errors errors' says = tt
+    is_explained (Ok status) out out' errors errors' says =
+        answers says.1 (λ a. Says a status out out' errors errors') (says.0, says.2)
 
-    is_explained_in_part : (r : Result ℕ IoFault) (out errors errors' : Option (List ℕ))
-        → IfErr r (λ fault. fault ≡ Output → (kind ≢ OutOfMemory)
-        × ((text : List ℕ) × AppendsPart errors errors' text))
-        → IfErr r (λ fault. fault ≡ Output → Answers (λ a. Stops a out out errors errors'))
-    is_explained_in_part (Ok status) out errors errors' stops = tt
-    is_explained_in_part (Err fault) out errors errors' stops = λ output.
-        answers (stops output).0 (λ a. Stops a out out errors errors') (Keeps-refl out, (stops output).1)
-
-    keeps_both : (r : Result ℕ IoFault) (out errors errors' : Option (List ℕ))
-        → IfErr r (λ fault. fault ≢ Output → Keeps errors errors')
-        → IfErr r (λ fault. fault ≢ Output → Keeps out out × Keeps errors errors')
-    keeps_both (Ok status) out errors errors' silent = tt
-    keeps_both (Err fault) out errors errors' silent = λ other. (Keeps-refl out, silent other)
+    is_explained_in_part : (r : Result ℕ IoFault) (out out' errors errors' : Option (List ℕ))
+        → IfErr r (λ fault. fault ≡ Output → (kind ≢ OutOfMemory) × IsExplainedInPart out out' errors errors')
+        → IfErr r (λ fault. fault ≡ Output → Answers (λ a. Stops a out out' errors errors'))
+    is_explained_in_part (Ok status) out out' errors errors' stops = tt
+    is_explained_in_part (Err fault) out out' errors errors' stops = λ output.
+        answers (stops output).0 (λ a. Stops a out out' errors errors') (stops output).1
 
     -- what was written explains the words
-    pub explained_written : (r : Result ℕ IoFault) (out errors errors' : Option (List ℕ))
-        → IfOk r (λ status. (status ≡ EXPLAINED) × (kind ≢ OutOfMemory)
-        × ((text : List ℕ) × Appends errors errors' text))
-        → IfErr r (λ fault. fault ≡ Output → (kind ≢ OutOfMemory)
-        × ((text : List ℕ) × AppendsPart errors errors' text))
-        → IfErr r (λ fault. fault ≢ Output → Keeps errors errors')
-        → Untold → IsWritten Answers Untold r out out errors errors'
-    explained_written r out errors errors' says stops silent untold =
-        is_written r out out errors errors' (is_explained r out errors errors' says)
-        (is_explained_in_part r out errors errors' stops) (keeps_both r out errors errors' silent) untold
+    pub explained_written : (r : Result ℕ IoFault) (out out' errors errors' : Option (List ℕ))
+        → IfOk r (λ status. (status ≡ EXPLAINED) × (kind ≢ OutOfMemory) × IsExplained out out' errors errors')
+        → IfErr r (λ fault. fault ≡ Output → (kind ≢ OutOfMemory) × IsExplainedInPart out out' errors errors')
+        → IfErr r (λ fault. fault ≢ Output → Keeps out out' × Keeps errors errors')
+        → Untold → IsWritten Answers Untold r out out' errors errors'
+    explained_written r out out' errors errors' says stops silent untold =
+        is_written r out out' errors errors' (is_explained r out out' errors errors' says)
+        (is_explained_in_part r out out' errors errors' stops) silent untold
 
   -- with a fault of the input nothing was written
   pub failed_written : (fault : IoFault) (out errors : Option (List ℕ)) → fault ≢ Output → Untold

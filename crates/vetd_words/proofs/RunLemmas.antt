@@ -8,6 +8,7 @@ use Rattle.clap.specs.declared.error.kind.ErrorKind.TheVariants.{OutOfMemory}
 use Rattle.vetd_words.specs.Answer.{Answers, Says, Stops, Telling}
 use Rattle.vetd_words.specs.Asked.{line_told, telling_of}
 use Rattle.vetd_words.specs.declared.asked.Asked.{Asked}
+use Rattle.vet_requests.specs.Input.{Heard}
 use Rattle.vet_requests.specs.declared.io_fault.IoFault.{IoFault}
 use Rattle.vet_requests.specs.declared.io_fault.IoFault.TheVariants.{Input, Output, Endless, NoMemory}
 
@@ -33,29 +34,30 @@ module _ (meant : Option Telling) where
   same_asked (Ok a) r found refused memory other = sym found
   same_asked (Err error) r found refused memory other = sym (refused (λ want. other (memory want)))
 
-  pub says_meant : (known : Option (List ℕ)) (asked : Result Asked Error) (r : Result ℕ IoFault)
+  pub says_meant : (before after : Heard) (asked : Result Asked Error) (r : Result ℕ IoFault)
       (out out' errors errors' : Option (List ℕ))
       → IfOk asked (λ a. meant ≡ Some (line_told a))
       → IfErr asked (λ error. kind_of error ≢ OutOfMemory → meant ≡ None)
       → IfErr asked (λ error. kind_of error ≡ OutOfMemory → r ≡ Err NoMemory)
-      → IfOk r (λ status. Answers known (telling_of asked) (λ answer. Says answer status out out' errors errors'))
-      → IfOk r (λ status. Answers known meant (λ answer. Says answer status out out' errors errors'))
-  says_meant known asked (Err fault) out out' errors errors' found refused memory says = tt
-  says_meant known asked (Ok status) out out' errors errors' found refused memory says =
-      subst (λ (m : Option Telling). Answers known m (λ answer. Says answer status out out' errors errors'))
+      → IfOk r (λ status. Answers before after (telling_of asked)
+      (λ answer. Says answer status out out' errors errors'))
+      → IfOk r (λ status. Answers before after meant (λ answer. Says answer status out out' errors errors'))
+  says_meant before after asked (Err fault) out out' errors errors' found refused memory says = tt
+  says_meant before after asked (Ok status) out out' errors errors' found refused memory says =
+      subst (λ (m : Option Telling). Answers before after m (λ answer. Says answer status out out' errors errors'))
       (same_asked asked (Ok status) found refused memory (λ bad. cc)) says
 
-  pub stops_meant : (known : Option (List ℕ)) (asked : Result Asked Error) (r : Result ℕ IoFault)
+  pub stops_meant : (before after : Heard) (asked : Result Asked Error) (r : Result ℕ IoFault)
       (out out' errors errors' : Option (List ℕ))
       → IfOk asked (λ a. meant ≡ Some (line_told a))
       → IfErr asked (λ error. kind_of error ≢ OutOfMemory → meant ≡ None)
       → IfErr asked (λ error. kind_of error ≡ OutOfMemory → r ≡ Err NoMemory)
       → IfErr r (λ fault. fault ≡ Output
-      → Answers known (telling_of asked) (λ answer. Stops answer out out' errors errors'))
-      → IfErr r (λ fault. fault ≡ Output → Answers known meant (λ answer. Stops answer out out' errors errors'))
-  stops_meant known asked (Ok status) out out' errors errors' found refused memory stops = tt
-  stops_meant known asked (Err fault) out out' errors errors' found refused memory stops = λ output.
-      subst (λ (m : Option Telling). Answers known m (λ answer. Stops answer out out' errors errors'))
+      → Answers before after (telling_of asked) (λ answer. Stops answer out out' errors errors'))
+      → IfErr r (λ fault. fault ≡ Output → Answers before after meant (λ answer. Stops answer out out' errors errors'))
+  stops_meant before after asked (Ok status) out out' errors errors' found refused memory stops = tt
+  stops_meant before after asked (Err fault) out out' errors errors' found refused memory stops = λ output.
+      subst (λ (m : Option Telling). Answers before after m (λ answer. Stops answer out out' errors errors'))
       (same_asked asked (Err fault) found refused memory (λ bad. let two : Output ≡ NoMemory = cc in cc))
       (stops output)
 

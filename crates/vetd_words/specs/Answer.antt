@@ -1,5 +1,5 @@
 -- What a run answers (ours): what it writes, and its status.
-use Rattle.std.specs.Prelude.{◌≡◌, ◌≢◌, ℕ, ◌+◌, Bool, true, false, Option, Some, None, IfErr, IfOk, IfSome}
+use Rattle.std.specs.Prelude.{◌≡◌, ◌≢◌, ◌⊎◌, ℕ, ◌+◌, ◌++◌, Bool, true, false, Option, Some, None, IfErr, IfOk, IfSome}
 use Rattle.std.specs.Prelude.{Result, Ok, Err, codes, take}
 use Rattle.std.specs.Io.KnownBytes.{Appends, Keeps}
 use Rattle.vet_base.specs.Gives.{Told}
@@ -7,6 +7,7 @@ use Rattle.vet_base.specs.Words.{Bytes, Text}
 use Rattle.vet_base.specs.declared.limits.TheConstants.{MOST_INPUT_BYTES}
 use Rattle.vet_base.specs.declared.refusal.Refusal.{Refusal}
 use Rattle.vet_base.specs.declared.refusal.Refusal.TheVariants.{NoMemory}
+use Rattle.vet_requests.specs.Input.{Heard}
 use Rattle.vet_requests.specs.Output.{AppendsPart}
 use Rattle.vet_requests.specs.declared.io_fault.IoFault.{IoFault}
 use Rattle.vet_requests.specs.declared.io_fault.IoFault.TheVariants.{Output}
@@ -43,13 +44,26 @@ abbrev pub answer_of : Option Telling → Bytes → Answer
 answer_of (Some telling) input = answer_for (λ text. text) (telling (input_read input))
 answer_of None input = Explains
 
--- the input is what the reader holds, where the reader tells it
-abbrev pub IsInput : Option Bytes → Bytes → Type 0
-IsInput known input = IfSome known (λ bytes. input ≡ bytes)
+-- The input is what the reader has left, if it tells that. Where something is asked for, what a run reads of the input
+-- is what the reader handed over.
+pub record IsInput {A : Type 0} (before after : Heard) (asked : Option A) (input : Bytes) : Type 0 where
+  pub told : IfSome before.left (λ bytes. input ≡ bytes)
+  pub read : IfSome asked (λ _. after.handed ≡ before.handed ++ input_read input)
 
 -- this holds of the answer to what the words ask for and the input
-abbrev pub Answers : Option Bytes → Option Telling → (Answer → Type 0) → Type 0
-Answers known asked Holds = (input : Bytes) × (IsInput known input × Holds (answer_of asked input))
+abbrev pub Answers : Heard → Heard → Option Telling → (Answer → Type 0) → Type 0
+Answers before after asked Holds =
+    (input : Bytes) × (IsInput before after asked input × Holds (answer_of asked input))
+
+-- clap's text was written: to the output what was asked for, as help, and to the errors what is wrong
+abbrev pub IsExplained : Option Bytes → Option Bytes → Option Bytes → Option Bytes → Type 0
+IsExplained out out' errors errors' = (text : Text)
+    × ((Appends out out' text × Keeps errors errors') ⊎ (Keeps out out' × Appends errors errors' text))
+
+-- the front of it was, where a write failed
+abbrev pub IsExplainedInPart : Option Bytes → Option Bytes → Option Bytes → Option Bytes → Type 0
+IsExplainedInPart out out' errors errors' = (text : Text)
+    × ((AppendsPart out out' text × Keeps errors errors') ⊎ (Keeps out out' × AppendsPart errors errors' text))
 
 -- the status, and what was written to the output and to the errors. Want of memory is never told so.
 abbrev pub Says : Answer → ℕ → Option Bytes → Option Bytes → Option Bytes → Option Bytes → Type 0
@@ -57,7 +71,7 @@ Says (Prints text) status out out' errors errors' = (status ≡ PRINTED) × Appe
 Says (Refuses refusal) status out out' errors errors' =
     (status ≡ REFUSED) × Keeps out out' × Appends errors errors' (refusal_line refusal) × (refusal ≢ NoMemory)
 Says Explains status out out' errors errors' =
-    (status ≡ EXPLAINED) × Keeps out out' × ((text : Text) × Appends errors errors' text)
+    (status ≡ EXPLAINED) × IsExplained out out' errors errors'
 Says (Serves text false) status out out' errors errors' =
     (status ≡ PRINTED) × Appends out out' text × Keeps errors errors'
 Says (Serves text true) status out out' errors errors' =
@@ -68,7 +82,7 @@ abbrev pub Stops : Answer → Option Bytes → Option Bytes → Option Bytes →
 Stops (Prints text) out out' errors errors' = AppendsPart out out' text × Keeps errors errors'
 Stops (Refuses refusal) out out' errors errors' =
     Keeps out out' × AppendsPart errors errors' (refusal_line refusal) × (refusal ≢ NoMemory)
-Stops Explains out out' errors errors' = Keeps out out' × ((text : Text) × AppendsPart errors errors' text)
+Stops Explains out out' errors errors' = IsExplainedInPart out out' errors errors'
 Stops (Serves text false) out out' errors errors' = AppendsPart out out' text × Keeps errors errors'
 Stops (Serves text true) out out' errors errors' =
     Appends out out' text × AppendsPart errors errors' network_line

@@ -2,7 +2,7 @@
 ghost use Rattle.std.specs.Prelude.{◌≡◌, ◌≢◌, ℕ, List, IfOk, IfErr, string_bytes};
 ghost use Rattle.std.specs.Io.KnownBytes.{Appends, Keeps};
 ghost use Rattle.clap.specs.Words.{kind_of};
-ghost use Rattle.vetd_words.specs.Answer.{Says, Stops, answer_for};
+ghost use Rattle.vetd_words.specs.Answer.{IsExplained, IsExplainedInPart, Says, Stops, answer_for};
 ghost use Rattle.vet_requests.specs.Output.{AppendsPart};
 
 use clap::Error;
@@ -23,16 +23,28 @@ pub const REFUSED: u8 = 1;
 /// The status of a run that explained its command line.
 pub const EXPLAINED: u8 = 2;
 
-/// Writes clap's text to the errors.
-pub fn explain<E: Write>(alloc: Global, error: &Error, errors: &mut E) -> Result<u8, IoFault>
-    ensures says { IfOk result (λ status. (status ≡ EXPLAINED)
-        × (kind_of error.now ≢ ErrorKind.OutOfMemory)
-        × ((text : List ℕ) × Appends (E.contents errors.old) (E.contents errors.new) text)) }
-    ensures part { IfErr result (λ fault. fault ≡ IoFault.Output
-        → (kind_of error.now ≢ ErrorKind.OutOfMemory)
-        × ((text : List ℕ) × AppendsPart (E.contents errors.old) (E.contents errors.new) text)) }
+/// Writes clap's text: help and the version, which were asked for, to the output, and what is wrong to the errors.
+pub fn explain<W: Write, E: Write>(
+    alloc: Global,
+    error: &Error,
+    writer: &mut W,
+    errors: &mut E,
+) -> Result<u8, IoFault>
+    ensures says { IfOk result (λ status. (status ≡ EXPLAINED) × (kind_of error.now ≢ ErrorKind.OutOfMemory)
+        × IsExplained (W.contents writer.old) (W.contents writer.new)
+        (E.contents errors.old) (E.contents errors.new)) }
+    ensures part { IfErr result (λ fault. fault ≡ IoFault.Output → (kind_of error.now ≢ ErrorKind.OutOfMemory)
+        × IsExplainedInPart (W.contents writer.old) (W.contents writer.new)
+        (E.contents errors.old) (E.contents errors.new)) }
     ensures silent { IfErr result (λ fault. fault ≢ IoFault.Output
-        → Keeps (E.contents errors.old) (E.contents errors.new)) }
+        → Keeps (W.contents writer.old) (W.contents writer.new)
+        × Keeps (E.contents errors.old) (E.contents errors.new)) }
+    ensures help { kind_of error.now ≡ ErrorKind.DisplayHelp
+        → Keeps (E.contents errors.old) (E.contents errors.new) }
+    ensures version { kind_of error.now ≡ ErrorKind.DisplayVersion
+        → Keeps (E.contents errors.old) (E.contents errors.new) }
+    ensures wrong { kind_of error.now ≢ ErrorKind.DisplayHelp → kind_of error.now ≢ ErrorKind.DisplayVersion
+        → Keeps (W.contents writer.old) (W.contents writer.new) }
     ensures faults { IfErr result (λ fault. (fault ≢ IoFault.Input) × (fault ≢ IoFault.Endless)) }
     ensures memory { kind_of error.now ≡ ErrorKind.OutOfMemory → result ≡ Err IoFault.NoMemory }
 {
@@ -40,7 +52,11 @@ pub fn explain<E: Write>(alloc: Global, error: &Error, errors: &mut E) -> Result
         return Err(IoFault::NoMemory);
     }
     let text = error.to_string(alloc)?;
-    write_whole(errors, text.as_bytes())?;
+    if error.use_stderr() {
+        write_whole(errors, text.as_bytes())?;
+    } else {
+        write_whole(writer, text.as_bytes())?;
+    }
     Ok(EXPLAINED)
 }
 

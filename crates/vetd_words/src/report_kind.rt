@@ -12,6 +12,9 @@ use vet_reports::moves_text::moves_text;
 use vet_reports::standing_csv::standing_csv;
 use vet_reports::standing_text::{Filter, standing_text};
 
+/// The words for the reports, as an error lists them.
+pub(crate) const REPORT_WORDS: &str = "counts, standing, standing-csv, moves, desk";
+
 /// A report of a register.
 #[derive(Clone, Copy)]
 pub enum ReportKind {

@@ -5,7 +5,7 @@ ghost use Rattle.clap.specs.Words.{kind_of};
 ghost use Rattle.vet_base.specs.declared.limits.TheConstants.{MOST_READS};
 ghost use Rattle.vetd_words.specs.Answer.{Answers, Says, Stops};
 ghost use Rattle.vetd_words.specs.Asked.{asked_by, telling_of};
-ghost use Rattle.vet_requests.specs.Input.{TakesAtMost};
+ghost use Rattle.vet_requests.specs.Input.{TakesAtMost, heard};
 
 use crate::answer::{explain, report};
 use crate::asked::{Asked, CommandKind};
@@ -19,10 +19,10 @@ use vet_requests::input::CountedReader;
 use vet_requests::io_fault::IoFault;
 
 /// Answers the words of a command, which come without the program's own name, by the file that the reader
-/// gives: what is told of it goes to `writer`, and a refusal or clap's text to `errors`. What clap's text says
-/// is left open. At most 8,388,609 bytes are read, by at most 10,000,000 reads.
+/// gives. The answer goes to `writer`, as help and the version do, and a refusal or clap's error to `errors`. What
+/// clap's texts say is left open. At most 8,388,609 bytes are read, by at most 10,000,000 reads.
 ///
-/// **A status comes with the whole answer to the words and the input.** Told, the first that holds: clap's
+/// **A status comes with the whole answer to the words and the input.** The first that applies is the answer: clap's
 /// text of words that are no such command, and the command's own refusals. Refused: `Input`, `Endless` and
 /// `NoMemory`, where nothing was written, and `Output`, where the front of the answer was.
 pub fn command_run<S: AsStr, R: Read, W: Write, E: Write>(
@@ -33,12 +33,13 @@ pub fn command_run<S: AsStr, R: Read, W: Write, E: Write>(
     writer: &mut W,
     errors: &mut E,
 ) -> Result<u8, IoFault>
-    ensures says { IfOk result (λ status. Answers (R.remaining reader.old.source)
+    ensures says { IfOk result (λ status. Answers (heard R.remaining reader.old) (heard R.remaining reader.new)
         (asked_by command (map S.text words.now))
         (λ answer. Says answer status (W.contents writer.old) (W.contents writer.new)
         (E.contents errors.old) (E.contents errors.new))) }
     ensures part { IfErr result (λ fault. fault ≡ IoFault.Output
-        → Answers (R.remaining reader.old.source) (asked_by command (map S.text words.now))
+        → Answers (heard R.remaining reader.old) (heard R.remaining reader.new)
+        (asked_by command (map S.text words.now))
         (λ answer. Stops answer (W.contents writer.old) (W.contents writer.new)
         (E.contents errors.old) (E.contents errors.new))) }
     ensures silent { IfErr result (λ fault. fault ≢ IoFault.Output
@@ -47,7 +48,7 @@ pub fn command_run<S: AsStr, R: Read, W: Write, E: Write>(
 
     // No more is read, and nothing where the words are no such command.
     ensures bounded { TakesAtMost (MOST_INPUT_BYTES + 1)
-        (R.remaining reader.old.source) (R.remaining reader.new.source) }
+        (heard R.remaining reader.old) (heard R.remaining reader.new) }
     ensures unread { asked_by command (map S.text words.now) ≡ None → reader.new ≡ reader.old }
     ensures unfailing { asked_by command (map S.text words.now) ≡ None
         → IfErr result (λ fault. (fault ≢ IoFault.Input) × (fault ≢ IoFault.Endless)) }
@@ -61,8 +62,80 @@ pub fn command_run<S: AsStr, R: Read, W: Write, E: Write>(
     run(alloc, asked, reader, writer, errors)
 }
 
-/// Answers what is asked by the file that the reader gives, or explains clap's error: the line goes to
-/// `writer`, and a refusal or clap's text to `errors`.
+/// Answers the words of `vetd class` as `command_run` does: the word of the class that the audits file gives a pair.
+pub fn class_run<S: AsStr, R: Read, W: Write, E: Write>(
+    alloc: Global,
+    words: &[S],
+    reader: &mut CountedReader<R>,
+    writer: &mut W,
+    errors: &mut E,
+) -> Result<u8, IoFault>
+    ensures says { IfOk result (λ status. Answers (heard R.remaining reader.old) (heard R.remaining reader.new)
+        (asked_by CommandKind.Class (map S.text words.now))
+        (λ answer. Says answer status (W.contents writer.old) (W.contents writer.new)
+        (E.contents errors.old) (E.contents errors.new))) }
+    ensures part { IfErr result (λ fault. fault ≡ IoFault.Output
+        → Answers (heard R.remaining reader.old) (heard R.remaining reader.new)
+        (asked_by CommandKind.Class (map S.text words.now))
+        (λ answer. Stops answer (W.contents writer.old) (W.contents writer.new)
+        (E.contents errors.old) (E.contents errors.new))) }
+    ensures silent { IfErr result (λ fault. fault ≢ IoFault.Output
+        → Keeps (W.contents writer.old) (W.contents writer.new)
+        × Keeps (E.contents errors.old) (E.contents errors.new)) }
+
+    // No more is read, and nothing where the words are no such command.
+    ensures bounded { TakesAtMost (MOST_INPUT_BYTES + 1)
+        (heard R.remaining reader.old) (heard R.remaining reader.new) }
+    ensures unread { asked_by CommandKind.Class (map S.text words.now) ≡ None → reader.new ≡ reader.old }
+    ensures unfailing { asked_by CommandKind.Class (map S.text words.now) ≡ None
+        → IfErr result (λ fault. (fault ≢ IoFault.Input) × (fault ≢ IoFault.Endless)) }
+
+    // `Endless` comes when the reads are spent, and where they are, nothing is told of a file.
+    ensures endless { result ≡ Err IoFault.Endless → reader.new.made ≡ MOST_READS }
+    ensures spent { reader.old.made ≡ MOST_READS → asked_by CommandKind.Class (map S.text words.now) ≢ None
+        → (result ≡ Err IoFault.Endless) ⊎ (result ≡ Err IoFault.NoMemory) }
+{
+    command_run(alloc, CommandKind::Class, words, reader, writer, errors)
+}
+
+/// Answers the words of `vetd read` as `command_run` does: the counts of what a file holds.
+pub fn read_run<S: AsStr, R: Read, W: Write, E: Write>(
+    alloc: Global,
+    words: &[S],
+    reader: &mut CountedReader<R>,
+    writer: &mut W,
+    errors: &mut E,
+) -> Result<u8, IoFault>
+    ensures says { IfOk result (λ status. Answers (heard R.remaining reader.old) (heard R.remaining reader.new)
+        (asked_by CommandKind.Read (map S.text words.now))
+        (λ answer. Says answer status (W.contents writer.old) (W.contents writer.new)
+        (E.contents errors.old) (E.contents errors.new))) }
+    ensures part { IfErr result (λ fault. fault ≡ IoFault.Output
+        → Answers (heard R.remaining reader.old) (heard R.remaining reader.new)
+        (asked_by CommandKind.Read (map S.text words.now))
+        (λ answer. Stops answer (W.contents writer.old) (W.contents writer.new)
+        (E.contents errors.old) (E.contents errors.new))) }
+    ensures silent { IfErr result (λ fault. fault ≢ IoFault.Output
+        → Keeps (W.contents writer.old) (W.contents writer.new)
+        × Keeps (E.contents errors.old) (E.contents errors.new)) }
+
+    // No more is read, and nothing where the words are no such command.
+    ensures bounded { TakesAtMost (MOST_INPUT_BYTES + 1)
+        (heard R.remaining reader.old) (heard R.remaining reader.new) }
+    ensures unread { asked_by CommandKind.Read (map S.text words.now) ≡ None → reader.new ≡ reader.old }
+    ensures unfailing { asked_by CommandKind.Read (map S.text words.now) ≡ None
+        → IfErr result (λ fault. (fault ≢ IoFault.Input) × (fault ≢ IoFault.Endless)) }
+
+    // `Endless` comes when the reads are spent, and where they are, nothing is told of a file.
+    ensures endless { result ≡ Err IoFault.Endless → reader.new.made ≡ MOST_READS }
+    ensures spent { reader.old.made ≡ MOST_READS → asked_by CommandKind.Read (map S.text words.now) ≢ None
+        → (result ≡ Err IoFault.Endless) ⊎ (result ≡ Err IoFault.NoMemory) }
+{
+    command_run(alloc, CommandKind::Read, words, reader, writer, errors)
+}
+
+/// Answers what is asked by the file that the reader gives, or explains clap's error, to the writers that
+/// `command_run` takes.
 fn run<R: Read, W: Write, E: Write>(
     alloc: Global,
     asked: Result<Asked<'_>, Error>,
@@ -70,11 +143,11 @@ fn run<R: Read, W: Write, E: Write>(
     writer: &mut W,
     errors: &mut E,
 ) -> Result<u8, IoFault>
-    ensures says { IfOk result (λ status. Answers (R.remaining reader.old.source) (telling_of asked.entry)
-        (λ answer. Says answer status (W.contents writer.old) (W.contents writer.new)
+    ensures says { IfOk result (λ status. Answers (heard R.remaining reader.old) (heard R.remaining reader.new)
+        (telling_of asked.entry) (λ answer. Says answer status (W.contents writer.old) (W.contents writer.new)
         (E.contents errors.old) (E.contents errors.new))) }
     ensures part { IfErr result (λ fault. fault ≡ IoFault.Output
-        → Answers (R.remaining reader.old.source) (telling_of asked.entry)
+        → Answers (heard R.remaining reader.old) (heard R.remaining reader.new) (telling_of asked.entry)
         (λ answer. Stops answer (W.contents writer.old) (W.contents writer.new)
         (E.contents errors.old) (E.contents errors.new))) }
     ensures silent { IfErr result (λ fault. fault ≢ IoFault.Output
@@ -83,7 +156,7 @@ fn run<R: Read, W: Write, E: Write>(
 
     // No more is read, and nothing where there is an error; one for want of memory is told as that.
     ensures bounded { TakesAtMost (MOST_INPUT_BYTES + 1)
-        (R.remaining reader.old.source) (R.remaining reader.new.source) }
+        (heard R.remaining reader.old) (heard R.remaining reader.new) }
     ensures unread { IfErr asked.entry (λ _. reader.new ≡ reader.old) }
     ensures unfailing { IfErr asked.entry (λ _.
         IfErr result (λ fault. (fault ≢ IoFault.Input) × (fault ≢ IoFault.Endless))) }
@@ -97,9 +170,10 @@ fn run<R: Read, W: Write, E: Write>(
 {
     let asked = match asked {
         Ok(asked) => asked,
-        Err(error) => return explain(alloc, &error, errors),
+        Err(error) => return explain(alloc, &error, writer, errors),
     };
-    let input = reader.read_at_most(alloc, MOST_INPUT_BYTES + 1)?;
-    let told = asked.line(alloc, input.as_slice());
+    let start = reader.handed().len();
+    reader.read_at_most(MOST_INPUT_BYTES + 1)?;
+    let told = asked.line(alloc, reader.handed_from(start));
     report(alloc, &told, writer, errors)
 }

@@ -4,10 +4,12 @@ ghost use Rattle.clap.specs.Words.{found_of, kind_of, rows_of, subcommand_rows_o
 ghost use Rattle.vetd_words.specs.ViewWords.{name_of, view_asked, view_from, view_given, view_named};
 ghost use Rattle.vetd_words.specs.Words.{rows_if_named};
 
-use crate::file_word::file_of_word;
-use crate::report_kind::ReportKind;
+use crate::file_word::{FILE_WORDS, file_of_word};
+use crate::report_kind::{REPORT_WORDS, ReportKind};
 use crate::view::View;
-use crate::words::{matches_if_named, matches_of, value, words_error};
+use crate::words::{
+    export_command, invalid_kind, matches_if_named, matches_of, report_command, value,
+};
 use clap::error::ErrorKind;
 use clap::{ArgMatches, Error};
 use std::alloc::{AllocError, Global};
@@ -76,13 +78,17 @@ fn no_kind(
 ) -> Result<Error, AllocError>
     ensures { IfOk result (λ error. kind_of error ≡ ErrorKind.InvalidValue) }
 {
-    let kinds = match command {
-        ViewCommand::Export => "audits, config or imports",
-        ViewCommand::Report => "counts, standing, standing-csv, moves or desk",
-    };
     let word = kind_word(command, matches).unwrap_or("");
-    let message = format!(in alloc; "'{word}' is no kind of what is shown: {kinds}")?;
-    words_error(alloc, ErrorKind::InvalidValue, message.as_str())
+    match command {
+        ViewCommand::Export => {
+            let shown = export_command(alloc)?.bin_name("vetd export")?;
+            invalid_kind(alloc, shown, word, FILE_WORDS)
+        }
+        ViewCommand::Report => {
+            let shown = report_command(alloc)?.bin_name("vetd report")?;
+            invalid_kind(alloc, shown, word, REPORT_WORDS)
+        }
+    }
 }
 
 /// The word that stands for a kind, where the words are such a command.

@@ -10,7 +10,7 @@ ghost use Rattle.vetd_words.specs.Words.{changed_app, class_given, exported_app,
 ghost use Rattle.vetd_words.specs.Words.{read_app, read_given, reported_app, rows_given, rows_if_named};
 ghost use Rattle.vetd_words.specs.Words.{top_app, view_app, with_kind, word_rule, words_from};
 
-use crate::file_word::file_of_word;
+use crate::file_word::{FILE_WORDS, file_of_word};
 use crate::help::{
     APPLY_HELP, CLASS_HELP, EXPORT_HELP, NEW_HELP, PROGRAM_HELP, READ_HELP, REPORT_HELP,
     SERVE_HELP, VERSION,
@@ -69,19 +69,25 @@ pub fn read_words<S: AsStr>(alloc: Global, words: &[S]) -> Result<RegisterFile, 
 fn no_kind(alloc: Global, matches: &ArgMatches<'_>) -> Result<Error, AllocError>
     ensures { IfOk result (λ error. kind_of error ≡ ErrorKind.InvalidValue) }
 {
-    match kind_word(matches) {
-        Some(word) => {
-            let message = format!(in alloc;
-                "'{word}' is no kind of file: audits, config or imports"
-            )?;
-            words_error(alloc, ErrorKind::InvalidValue, message.as_str())
-        }
-        None => words_error(
-            alloc,
-            ErrorKind::InvalidValue,
-            "no audits, config or imports file was asked for",
-        ),
-    }
+    let word = kind_word(matches).unwrap_or("");
+    let command = read_command(alloc)?.bin_name("vetd read")?;
+    invalid_kind(alloc, command, word, FILE_WORDS)
+}
+
+/// The error of a word for KIND that the command doesn't take, in clap's words: those that it takes, and its usage.
+pub(crate) fn invalid_kind(
+    alloc: Global,
+    command: Command<'_>,
+    word: &str,
+    kinds: &str,
+) -> Result<Error, AllocError>
+    ensures { IfOk result (λ error. kind_of error ≡ ErrorKind.InvalidValue) }
+{
+    let mut command = command;
+    let message = format!(in alloc;
+        "invalid value '{word}' for '<KIND>'\n  [possible values: {kinds}]"
+    )?;
+    command.error(ErrorKind::InvalidValue, message.as_str())
 }
 
 /// The word that stands for a kind, where the words are a read command.
@@ -303,7 +309,7 @@ fn apply_command<'a>(alloc: Global) -> Result<Command<'a>, AllocError>
     add(command, member_option(alloc))
 }
 
-fn report_command<'a>(alloc: Global) -> Result<Command<'a>, AllocError>
+pub(crate) fn report_command<'a>(alloc: Global) -> Result<Command<'a>, AllocError>
     ensures { IfOk result (IsApp (view_app (codes "report"))) }
 {
     let command = Command::new(alloc, "report")
@@ -316,7 +322,7 @@ fn report_command<'a>(alloc: Global) -> Result<Command<'a>, AllocError>
     )
 }
 
-fn export_command<'a>(alloc: Global) -> Result<Command<'a>, AllocError>
+pub(crate) fn export_command<'a>(alloc: Global) -> Result<Command<'a>, AllocError>
     ensures { IfOk result (IsApp (view_app (codes "export"))) }
 {
     let command = Command::new(alloc, "export")

@@ -44,7 +44,7 @@ fn serve_next<S: Alter>(
     let (stream, _address) = listener.accept()?;
     let mut rest = stream.try_clone()?;
     let mut writer = stream.try_clone()?;
-    let mut reader = CountedReader::new(stream);
+    let mut reader = CountedReader::new(rt.alloc(), stream);
     served(serve_one(rt.alloc(), store, day, &mut reader, &mut writer))?;
     let mut left = Vec::new(rt.alloc());
     rest.read_to_end(&mut left)?;

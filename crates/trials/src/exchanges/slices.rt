@@ -25,7 +25,7 @@ pub fn serve_together<S: Alter, W: Write>(
     for request in requests {
         connections.push(Connection {
             day,
-            reader: CountedReader::new(request.as_bytes()),
+            reader: CountedReader::new(alloc, request.as_bytes()),
             writer: Vec::new(alloc),
         })?;
     }

@@ -6,6 +6,7 @@ ghost use Rattle.vetd.specs.declared.clients.arrivals.Arrival.TheVariants.{Clien
 
 use crate::clients::deadline::{Deadline, today};
 use crate::clients::timed::{TimedReader, TimedWriter};
+use std::alloc::Global;
 use std::io;
 use std::io::ErrorKind;
 use std::net::{Net, OpenListener, OpenStream};
@@ -27,6 +28,7 @@ pub enum Arrival<R, W> {
 /// The connections at a listener, up to so many, each with its day and its deadline.
 #[derive(Drop)]
 pub struct Arrivals<'a, H: Net + Clock> {
+    alloc: Global,
     host: &'a H,
     listener: &'a H::Listener,
     day: Option<Day>,
@@ -36,6 +38,7 @@ pub struct Arrivals<'a, H: Net + Clock> {
 impl<'a, H: Net + Clock> Arrivals<'a, H> {
     /// Waits for so many connections. Each is served on the day, or on the clock's where none is told.
     pub fn new(
+        alloc: Global,
         host: &'a H,
         listener: &'a H::Listener,
         day: Option<Day>,
@@ -45,6 +48,7 @@ impl<'a, H: Net + Clock> Arrivals<'a, H> {
         ensures day { result.day ≡ day }
     {
         Arrivals {
+            alloc,
             host,
             listener,
             day,
@@ -81,7 +85,7 @@ impl<'a, H: Net + Clock> Arrivals<'a, H> {
         let sending = stream.try_clone()?;
         Ok(Connection {
             day,
-            reader: CountedReader::new(TimedReader::new(self.host, stream, deadline)),
+            reader: CountedReader::new(self.alloc, TimedReader::new(self.host, stream, deadline)),
             writer: TimedWriter::new(self.host, sending, deadline),
         })
     }

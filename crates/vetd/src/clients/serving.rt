@@ -21,7 +21,8 @@ use sqlite::Alter;
 use std::alloc::Global;
 use std::io::Read;
 use vet_graph::keeper::Keeper;
-use vet_http::serve::{Connection, serve_one};
+use vet_http::serve::{Connection, serve_in};
+use vet_http::serve_room::ServeRoom;
 use vet_http::status::Status;
 use vet_store::store::Store;
 
@@ -36,6 +37,7 @@ pub struct Sitting {
 /// lost. Asks for arrivals that end, 1,000,000 at most.
 pub fn serve_each<S: Alter, K: Keeper, R: Read + Drop, W: HangUp + Drop, I>(
     alloc: Global,
+    room: &mut ServeRoom,
     store: &mut Store<S, K>,
     arrivals: I,
 ) -> Sitting
@@ -54,7 +56,7 @@ where
     store.tables_are_of_register();
     let mut served = 0;
     'arrivals: for arrival in arrivals {
-        match serve_arrival(alloc, store, arrival) {
+        match serve_arrival(alloc, room, store, arrival) {
             Some(replied) => served += replied,
             None => return Sitting { served, lost: true },
         }
@@ -68,6 +70,7 @@ where
 /// Serves what came, if it is a client: 1 where it had its whole reply, else 0, and `None` if what listened is lost.
 fn serve_arrival<S: Alter, K: Keeper, R: Read + Drop, W: HangUp + Drop>(
     alloc: Global,
+    room: &mut ServeRoom,
     store: &mut Store<S, K>,
     arrival: Arrival<R, W>,
 ) -> Option<u32>
@@ -82,7 +85,7 @@ fn serve_arrival<S: Alter, K: Keeper, R: Read + Drop, W: HangUp + Drop>(
 {
     store.tables_are_of_register();
     match arrival {
-        Arrival::Client(connection) => Some(serve_client(alloc, store, connection)),
+        Arrival::Client(connection) => Some(serve_client(alloc, room, store, connection)),
         Arrival::Failed => Some(0),
         Arrival::Lost => None,
     }
@@ -91,6 +94,7 @@ fn serve_arrival<S: Alter, K: Keeper, R: Read + Drop, W: HangUp + Drop>(
 /// Serves a client, and hangs up: 1 where it had its whole reply, else 0. One that ends in a fault is let go.
 fn serve_client<S: Alter, K: Keeper, R: Read + Drop, W: HangUp + Drop>(
     alloc: Global,
+    room: &mut ServeRoom,
     store: &mut Store<S, K>,
     connection: Connection<R, W>,
 ) -> u32
@@ -103,8 +107,9 @@ fn serve_client<S: Alter, K: Keeper, R: Read + Drop, W: HangUp + Drop>(
 {
     let mut connection = connection;
     let day = connection.day;
-    match serve_one(
+    match serve_in(
         alloc,
+        room,
         store,
         day,
         &mut connection.reader,

@@ -5,7 +5,7 @@ use Rattle.std.proofs.lemmas.Result.{IfErr-weaker, IfOk-weaker}
 use Rattle.vet_http.specs.Answer.{IsByRoute}
 use Rattle.vet_http.specs.Answered.{reply_of}
 use Rattle.vet_http.specs.AskedFor.{asked_for, given_at}
-use Rattle.vet_requests.specs.RouteTable.{route_at, route_of}
+use Rattle.vet_requests.specs.Path.{route_at, route_of}
 use Rattle.vet_http.specs.Told.{refusal_reply}
 use Rattle.vet_requests.specs.declared.route.Route.{Route}
 use Rattle.vet_http.proofs.AnswerLemmas.{at_none, no_route, same_route}

@@ -1,5 +1,6 @@
 -- The turns lead to the machine's state.
 use Rattle.std.proofs.lemmas.Result.{IfOk-weaker}
+use Rattle.vet_requests.specs.Input.{heard}
 use Rattle.vet_http.specs.Serve.{IsTurn, IsTurnWithRepeats}
 use Rattle.vet_http.proofs.DoneLemmas.{of_turns}
 use Rattle.vet_http.proofs.ServeLemmas.{without_repeats}
@@ -14,7 +15,7 @@ returns-clause-turns g c =
     let last = c.serve_each-answers.new.store.register.state in
     IfOk-weaker c.serve_each-answers.result _ _
     (λ answers h. each_follows (IsTurnWithRepeats remaining contents) (IsTurn remaining contents)
-    (λ s was left answer end. without_repeats was.day (remaining was.reader.source) (remaining left.reader.source)
+    (λ s was left answer end. without_repeats was.day (heard remaining was.reader) (heard remaining left.reader)
     (contents was.writer) (contents left.writer) s end answer) s last c.args.connections.now
     c.serve_each-answers.new.connections answers.items h) c.serve_each-answers.ensures.turns
 

@@ -1,16 +1,18 @@
--- What was read so far went from the front of the reader's bytes.
-use Rattle.std.proofs.Common.{◌≡◌, ◌≤◌, ◌+◌, ◌-◌, length, vec_len}
-use Rattle.std.specs.Io.KnownBytes.{Consumes}
-use Rattle.vet_requests.specs.declared.head.TheConstants.{FIELD_ROOM}
+-- What was read so far stands behind the start, and was handed over behind what came before.
+use Rattle.std.proofs.Common.{◌≡◌, ◌≤◌, ◌+◌, ◌-◌, drop, length}
+use Rattle.vet_requests.specs.Input.{Hands, heard}
+use Rattle.vet_requests.specs.declared.field_room.TheConstants.{FIELD_ROOM}
 use Rattle.vet_requests.specs.declared.request_limits.TheConstants.{MOST_HEAD_BYTES}
 use Rattle.vet_requests.proofs.head.read_head.Given as goal
 
 abbrev pub invariant-reading : goal.invariant-reading
 invariant-reading g l = record {
-  short : vec_len l.bytes ≤ MOST_HEAD_BYTES + 1;
+  start : l.start ≤ length l.reader.handed;
+  short : length l.reader.handed ≤ l.start + (MOST_HEAD_BYTES + 1);
   room : length l.fields ≡ FIELD_ROOM;
-  read : Consumes (g.R.Read.remaining l.initial.reader.source) (g.R.Read.remaining l.reader.source) l.bytes.items;
+  read : Hands (heard g.R.Read.remaining l.initial.reader) (heard g.R.Read.remaining l.reader)
+      (drop l.start l.reader.handed);
 }
 
 abbrev pub decreases-reading : goal.decreases-reading
-decreases-reading g l = MOST_HEAD_BYTES + 1 - vec_len l.bytes
+decreases-reading g l = l.start + (MOST_HEAD_BYTES + 1) - length l.reader.handed

@@ -18,4 +18,4 @@ returns-in-Err-clause-written g c =
     let words = map g.T.AsStr.text c.args.words.now in
     explained_written (AnswersServe g.S.Store finds words None) (IsUnserved g.S.Store finds words None)
     c.in-Err.error.kind (λ other. serve_explained g.S.Store finds words (c.in-Err.ensures.refused other))
-    c.explain.result _ _ _ c.explain.ensures.says c.explain.ensures.part c.explain.ensures.silent tt
+    c.explain.result _ _ _ _ c.explain.ensures.says c.explain.ensures.part c.explain.ensures.silent tt

@@ -1,5 +1,6 @@
 -- The answer to the words, from what was asked and what came of it.
 use Rattle.std.proofs.Common.{◌≡◌, None, Option, ap, inl, inr, map, subst, sym, ◌∙◌}
+use Rattle.vet_requests.specs.Input.{heard}
 use Rattle.vetd_words.specs.Answer.{IsWritten}
 use Rattle.vetd_words.specs.ApplyGiven.{apply_given}
 use Rattle.vetd_words.specs.ApplyWords.{ApplyAsked}
@@ -12,10 +13,11 @@ use Rattle.vetd_commands.proofs.applying.apply_run.Goals as goal
 pub returns-in-Ok-clause-written : goal.returns-in-Ok-clause-written
 returns-in-Ok-clause-written g c =
     let gives = g.D.Databases.may_find c.args.databases.now in
-    let known = g.R.Read.remaining c.args.reader.now.source in
+    let seen = heard g.R.Read.remaining c.args.reader.now in
+    let seen' = heard g.R.Read.remaining c.apply_on.new.reader in
     let left = c.apply_on.result.conn in
-    subst (λ (meant : Option ApplyAsked). IsWritten (AnswersApply g.S.Store gives known meant left)
-    (IsUnapplied g.S.Store gives known meant left) c.apply_on.result.status
+    subst (λ (meant : Option ApplyAsked). IsWritten (AnswersApply g.S.Store gives seen seen' meant left)
+    (IsUnapplied g.S.Store gives seen seen' meant left) c.apply_on.result.status
     (g.W.Write.contents c.args.writer.now) (g.W.Write.contents c.apply_on.new.writer)
     (g.E.Write.contents c.args.errors.now) (g.E.Write.contents c.apply_on.new.errors))
     (sym c.in-Ok.ensures.found) c.apply_on.ensures.written
@@ -35,11 +37,12 @@ returns-in-Ok-clause-spent g c = λ spent some.
 pub returns-in-Err-clause-written : goal.returns-in-Err-clause-written
 returns-in-Err-clause-written g c =
     let gives = g.D.Databases.may_find c.args.databases.now in
-    let known = g.R.Read.remaining c.args.reader.now.source in
+    let seen = heard g.R.Read.remaining c.args.reader.now in
     let meant = apply_given (map g.T.AsStr.text c.args.words.now) in
-    explained_written (AnswersApply g.S.Store gives known meant None) (IsUnapplied g.S.Store gives known meant None)
-    c.in-Err.error.kind (λ other. apply_explained g.S.Store gives known meant (c.in-Err.ensures.refused other))
-    c.explain.result _ _ _ c.explain.ensures.says c.explain.ensures.part c.explain.ensures.silent tt
+    explained_written (AnswersApply g.S.Store gives seen seen meant None)
+    (IsUnapplied g.S.Store gives seen seen meant None)
+    c.in-Err.error.kind (λ other. apply_explained g.S.Store gives seen seen meant (c.in-Err.ensures.refused other))
+    c.explain.result _ _ _ _ c.explain.ensures.says c.explain.ensures.part c.explain.ensures.silent tt
 
 pub returns-in-Err-clause-spent : goal.returns-in-Err-clause-spent
 returns-in-Err-clause-spent g c = λ spent some.

@@ -26,4 +26,4 @@ returns-in-Err-clause-written g c =
     let words = map g.T.AsStr.text c.args.words.now in
     explained_written (AnswersNew g.S.Store gives words None) (IsUnmade g.S.Store gives words None)
     c.in-Err.error.kind (λ other. new_explained g.S.Store gives words (c.in-Err.ensures.refused other))
-    c.explain.result _ _ _ c.explain.ensures.says c.explain.ensures.part c.explain.ensures.silent tt
+    c.explain.result _ _ _ _ c.explain.ensures.says c.explain.ensures.part c.explain.ensures.silent tt

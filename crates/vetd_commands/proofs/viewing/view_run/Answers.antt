@@ -26,4 +26,4 @@ returns-in-Err-clause-written g c =
     let meant = view_given c.args.command (map g.T.AsStr.text c.args.words.now) in
     explained_written (AnswersView g.S.Store gives meant None) (IsUntold g.S.Store gives meant None)
     c.in-Err.error.kind (λ other. view_explained g.S.Store gives meant (c.in-Err.ensures.refused other))
-    c.explain.result _ _ _ c.explain.ensures.says c.explain.ensures.part c.explain.ensures.silent tt
+    c.explain.result _ _ _ _ c.explain.ensures.says c.explain.ensures.part c.explain.ensures.silent tt

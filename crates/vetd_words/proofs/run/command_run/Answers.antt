@@ -5,13 +5,13 @@ use Rattle.vetd_words.proofs.run.command_run.Goals as goal
 pub returns-clause-says : goal.returns-clause-says
 returns-clause-says g c =
     let asked = c.asked-asked in
-    says_meant _ _ asked.result _ _ _ _ _ asked.ensures.found asked.ensures.refused c.run.ensures.memory
+    says_meant _ _ _ asked.result _ _ _ _ _ asked.ensures.found asked.ensures.refused c.run.ensures.memory
     c.run.ensures.says
 
 pub returns-clause-part : goal.returns-clause-part
 returns-clause-part g c =
     let asked = c.asked-asked in
-    stops_meant _ _ asked.result _ _ _ _ _ asked.ensures.found asked.ensures.refused c.run.ensures.memory
+    stops_meant _ _ _ asked.result _ _ _ _ _ asked.ensures.found asked.ensures.refused c.run.ensures.memory
     c.run.ensures.part
 
 pub returns-clause-unread : goal.returns-clause-unread

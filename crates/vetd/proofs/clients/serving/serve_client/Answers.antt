@@ -7,8 +7,8 @@ pub returns-in-Ok-clause-served : goal.returns-in-Ok-clause-served
 returns-in-Ok-clause-served g c =
     let left : Connection g.row.R.Denot g.row.W.Denot = record {
       day = c.args.connection.day;
-      reader = c.serve_one.new.reader;
-      writer = c.serve_one.new.writer;
+      reader = c.serve_in.new.reader;
+      writer = c.serve_in.new.writer;
     } in
     (left, (Ok c.in-Ok.served, (c.in-Ok.ensures.served, refl)))
 
@@ -16,7 +16,7 @@ pub returns-clause-served : goal.returns-clause-served
 returns-clause-served g c =
     let left : Connection g.row.R.Denot g.row.W.Denot = record {
       day = c.args.connection.day;
-      reader = c.serve_one.new.reader;
-      writer = c.serve_one.new.writer;
+      reader = c.serve_in.new.reader;
+      writer = c.serve_in.new.writer;
     } in
     (left, (Err c.in-Err.field-0, (c.in-Err.ensures.served, refl)))

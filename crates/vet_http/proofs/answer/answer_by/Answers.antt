@@ -2,11 +2,11 @@
 use Rattle.sqlite.specs.Held.{state}
 use Rattle.vet_http.specs.Answer.{IsByRoute}
 use Rattle.vet_http.specs.AskedFor.{asked_for}
-use Rattle.vet_requests.specs.RouteTable.{route_of}
+use Rattle.vet_requests.specs.Path.{route_of}
 use Rattle.vet_requests.specs.declared.reply.Reply.{Reply}
 use Rattle.vet_http.proofs.AnswerLemmas.{replied}
 use Rattle.vet_http.proofs.AskedLemmas.{repeats_stay, told_cut_off, told_refused}
-use Rattle.vet_http.proofs.answer.answer.Goals as goal
+use Rattle.vet_http.proofs.answer.answer_by.Goals as goal
 use Rattle.vet_register.specs.State.{State}
 
 pub returns-clause-reply : goal.returns-clause-reply

@@ -1,0 +1,63 @@
+-- Which target has which route: a table of paths, and a target that is cut at its slashes (ours).
+use Rattle.std.specs.Prelude.{List, [], ◌∷◌, Bool, true, false, ◌&&◌, Option, Some, None, codes, if◌then◌else◌}
+use Rattle.std.specs.List.{slice_split}
+use Rattle.std.specs.Str.{bytes_eq, is_utf8}
+use Rattle.vet_base.specs.Words.{Bytes, Text}
+use Rattle.vet_requests.specs.Parameter.{is_slash}
+use Rattle.vet_requests.specs.declared.route.Route.{Route}
+use Rattle.vet_requests.specs.declared.route.Route.TheVariants.{Counts, Standing, StandingOf, StandingCsv, Moves, Desk}
+use Rattle.vet_requests.specs.declared.route.Route.TheVariants.{Class, File, Project, Peer, Commands}
+
+-- what a path has behind a slash: a word, or a parameter
+pub data Part : Type 0 where
+  word : Text → Part
+  parameter : Part
+
+-- a path: each part stands behind a slash
+abbrev pub Path : Type 0
+Path = List Part × Route
+
+abbrev pub path : List Part → Route → Path
+path parts route = (parts, route)
+
+abbrev pub paths : List Path
+paths =
+    path (word (codes "counts") ∷ []) Counts
+    ∷ path (word (codes "standing") ∷ []) Standing
+    ∷ path (word (codes "standing") ∷ parameter ∷ []) StandingOf
+    ∷ path (word (codes "standing.csv") ∷ []) StandingCsv
+    ∷ path (word (codes "moves") ∷ []) Moves
+    ∷ path (word (codes "desk") ∷ []) Desk
+    ∷ path (word (codes "class") ∷ parameter ∷ parameter ∷ parameter ∷ []) Class
+    ∷ path (word (codes "files") ∷ parameter ∷ []) File
+    ∷ path (word (codes "projects") ∷ parameter ∷ []) Project
+    ∷ path (word (codes "peers") ∷ parameter ∷ []) Peer
+    ∷ path (word (codes "commands") ∷ []) Commands
+    ∷ []
+
+-- a text is this word, or any text but the empty one for a parameter
+abbrev pub fits : Part → Text → Bool
+fits (word w) text = bytes_eq text w
+fits parameter [] = false
+fits parameter (b ∷ text) = true
+
+-- each text fits the part in its place
+abbrev pub fit : List Part → List Text → Bool
+fit [] [] = true
+fit [] (text ∷ texts) = false
+fit (part ∷ parts) [] = false
+fit (part ∷ parts) (text ∷ texts) = fits part text && fit parts texts
+
+-- the route of the first path whose parts these texts fit
+abbrev pub route_among : List Path → List Text → Option Route
+route_among [] texts = None
+route_among (row ∷ rows) texts = if fit row.0 texts then Some row.1 else route_among rows texts
+
+-- the route of a target that is a text: it begins with a slash, and is cut at those behind it
+abbrev pub route_at : Text → Option Route
+route_at [] = None
+route_at (b ∷ rest) = if is_slash b then route_among paths (slice_split is_slash rest) else None
+
+-- the route of a target; one that is no text, which no head has, has none
+abbrev pub route_of : Bytes → Option Route
+route_of target = if is_utf8 target then route_at target else None
