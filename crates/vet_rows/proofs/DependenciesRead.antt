@@ -1,6 +1,5 @@
 -- Criteria for dependencies, which are read of the items of a map.
 use Rattle.std.proofs.Common.{◌≡◌, ◌∙◌, List, [], ◌∷◌, Option, Some, None, map, refl, sym, ap}
-use Rattle.std.specs.List.{All}
 use Rattle.std.proofs.lemmas.Cmp.{nat_list_cmp_total}
 use Rattle.std.proofs.lemmas.Option.{same_Some}
 use Rattle.vet_base.specs.Keyed.{all_set}
@@ -12,7 +11,7 @@ use Rattle.vet_base.proofs.Rising.{R, only_equal}
 use Rattle.vet_demand.specs.DependencyCriteria.{item_name}
 use Rattle.vet_demand.specs.declared.dependency_criteria.DependencyItem.{DependencyItem}
 use Rattle.vet_rows.specs.Columns.{packed_map}
-use Rattle.vet_rows.specs.HeldValues.{AreDependencies, IsDependency}
+use Rattle.vet_rows.specs.HeldValues.{AreDependencies}
 use Rattle.vet_rows.specs.PackedItems.{as_text}
 use Rattle.vet_rows.specs.ReadBack.{IsReadBack, IsWritten}
 use Rattle.vet_rows.specs.ReadMaps.{AreMapItems, IsMapItem, map_column, map_item}

@@ -1,5 +1,5 @@
 -- Moves in the order in which they were recorded.
-use Rattle.std.proofs.Common.{◌≡◌, ◌⊎◌, ◌<◌, ◌∙◌, List, Ordering, Less, Equal, Greater, get_or, inl, inr, refl, ap}
+use Rattle.std.proofs.Common.{◌≡◌, ◌<◌, ◌∙◌, List, Ordering, Less, Equal, Greater, get_or, inl, inr, refl, ap}
 use Rattle.std.proofs.Common.{arith}
 use Rattle.std.specs.Cmp.{ranked}
 use Rattle.std.specs.List.{AllPairs}

@@ -1,5 +1,5 @@
 -- Projects whose nodes and edges are filed under their names.
-use Rattle.std.proofs.Common.{◌≡◌, ◌⊎◌, ℕ, zero, suc, ◌<◌, ◌++◌, List, [], ◌∷◌, Option, Some, None, get_or, length}
+use Rattle.std.proofs.Common.{◌≡◌, ℕ, ◌<◌, ◌++◌, List, [], ◌∷◌, Option, Some, None, get_or, length}
 use Rattle.std.proofs.Common.{map, refl, sym, ap}
 use Rattle.std.proofs.Common.{subst, ◌∙◌, inl, inr, Ordering, Less, Equal, false, true, arith}
 use Rattle.std.proofs.lemmas.Bool.{false≢true}
@@ -9,7 +9,7 @@ use Rattle.std.specs.List.{All, filter, flat_map}
 use Rattle.std.specs.Ordering.{is_eq}
 use Rattle.std.proofs.lemmas.List.{map-append}
 use Rattle.std.proofs.lemmas.Option.{same_Some}
-use Rattle.std.proofs.lemmas.List.Elements.{All-append, All-cons, All-head, All-nil, All-tail}
+use Rattle.std.proofs.lemmas.List.Elements.{All-append, All-head, All-nil, All-tail}
 use Rattle.vet_base.specs.Items.{IsIn, SameItems}
 use Rattle.vet_base.specs.Keyed.{IsByKey, all_set}
 use Rattle.vet_base.proofs.ItemLemmas.{all_in, filter_in, in_all, in_append, in_back, in_filter, in_front, in_map}
@@ -17,14 +17,14 @@ use Rattle.vet_base.proofs.ItemLemmas.{map_in}
 use Rattle.vet_base.proofs.KeyedItems.{all_set_is, of_one_key}
 use Rattle.vet_base.proofs.Rising.{R, only_equal}
 use Rattle.vet_demand.specs.NamedProject.{project_name}
-use Rattle.vet_demand.specs.Needs.{no_node, node_at}
+use Rattle.vet_demand.specs.Needs.{no_node}
 use Rattle.vet_demand.specs.Project.{AreInNodeOrder, IsProject, IsWithin, ProjectValue}
 use Rattle.vet_demand.specs.declared.project.Edge.{Edge}
 use Rattle.vet_demand.specs.declared.project.NamedProject.{NamedProject}
 use Rattle.vet_demand.specs.declared.project.Node.{Node}
 use Rattle.vet_rows.specs.Gathered.{Gathered, gathered, head_key, is_filed_at, items_at}
 use Rattle.vet_rows.specs.HeldValues.{IsNamedProject, IsNode}
-use Rattle.vet_rows.specs.ProjectRows.{edge_row, edge_rows, node_row, node_rows}
+use Rattle.vet_rows.specs.ProjectRows.{edge_rows, node_rows}
 use Rattle.vet_rows.specs.ReadBack.{EachStandsFor, IsReadBack, IsWritten}
 use Rattle.vet_rows.specs.ReadProjects.{AreNodesAndEdgesOf, IsEdgeOf, IsFiledEnds, IsFiledNode, TellsGathered, ends_of}
 use Rattle.vet_rows.specs.ReadProjects.{filed_ends, filed_ends_row, filed_node_row, filed_nodes}

@@ -1,5 +1,5 @@
 -- Rows in whatever order that are those of a list.
-use Rattle.std.proofs.Common.{◌≡◌, List, Option, Some, None, map, subst, sym}
+use Rattle.std.proofs.Common.{List, Option, Some, None, map, subst, sym}
 use Rattle.std.specs.List.{All}
 use Rattle.std.proofs.lemmas.Option.{same_Some}
 use Rattle.vet_base.specs.Items.{SameItems}

@@ -1,6 +1,5 @@
 -- A state of parts that are read.
-use Rattle.std.proofs.Common.{◌≡◌, ◌∙◌, [], ◌∷◌, List, Option, Some, None, map, sym, subst}
-use Rattle.std.specs.List.{flat_map}
+use Rattle.std.proofs.Common.{◌≡◌, ◌∙◌, List, Option, Some, None, sym, subst}
 use Rattle.std.proofs.lemmas.Option.{same_Some}
 use Rattle.vet_base.specs.Items.{SameItems}
 use Rattle.vet_demand.specs.declared.policies.KeyedPolicy.{KeyedPolicy}

@@ -6,6 +6,7 @@
 //! of `standing` aren't looked at, as the facts say what they are to be.
 ghost use Rattle.std.specs.Prelude.{◌≡◌, ◌⊎◌, IfErr, IfOk, MatchResult, Some, map, option_map};
 ghost use Rattle.std.specs.List.{All};
+ghost use Rattle.vet_base.specs.Gives.{found_or};
 ghost use Rattle.vet_base.specs.Items.{SameItems};
 ghost use Rattle.vet_desk.specs.Desk.{DeskState};
 ghost use Rattle.vet_desk.specs.SoundDesk.{IsSoundDesk};
@@ -41,10 +42,14 @@ pub fn state_of(alloc: Global, rows: &Rows) -> Result<State, Refusal>
         → MatchResult result (λ found. found ≡ s) (λ e. e ≡ Refusal.NoMemory) }
     ensures refused { IfErr result (λ e. (e ≡ Refusal.NoMemory) ⊎ (e ≡ Refusal.NotARegister)) }
 {
-    match read_state(alloc, rows)? {
-        Some(state) => Ok(state),
-        None => Err(Refusal::NotARegister),
-    }
+    found_register(read_state(alloc, rows)?)
+}
+
+/// What was found of a register in its tables, or `NotARegister` where nothing was. Takes no memory.
+pub fn found_register<T>(found: Option<T>) -> Result<T, Refusal>
+    ensures { result ≡ found_or Refusal.NotARegister found }
+{
+    found.ok_or(Refusal::NotARegister)
 }
 
 // The state of which these are the rows, if they are those of one.

@@ -1,9 +1,9 @@
-use Rattle.std.proofs.Common.{◌≡◌, ◌∙◌, [], Global, Option, Some, Vec, ap, map, option_map, subst, sym}
+use Rattle.std.proofs.Common.{◌∙◌, [], Global, Option, Vec, ap, map, option_map, subst, sym}
 use Rattle.std.specs.Cmp.Lexicographic.{nat_list_cmp_total}
 use Rattle.vet_base.specs.Keyed.{IsByKey, all_set}
 use Rattle.vet_base.proofs.Rising.{R, only_equal}
 use Rattle.vet_demand.specs.declared.project.NamedProject.{NamedProject}
-use Rattle.vet_rows.specs.Gathered.{gathered, head_key}
+use Rattle.vet_rows.specs.Gathered.{head_key}
 use Rattle.vet_rows.proofs.Gathering.{gathered_by_key}
 use Rattle.vet_rows.proofs.ProjectsRead.{own, projects_keyed, projects_read}
 use Rattle.vet_rows.proofs.read.projects.projects_of.Goals as goal

@@ -1,5 +1,3 @@
-use Rattle.std.proofs.Common.{◌≡◌, ◌∙◌, Some, ap, subst, sym}
-use Rattle.vet_demand.specs.Project.{IsProject}
 use Rattle.vet_rows.proofs.ProjectsRead.{made_project, none_made}
 use Rattle.vet_rows.proofs.read.projects.restore.Goals as goal
 
