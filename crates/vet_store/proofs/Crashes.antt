@@ -3,7 +3,6 @@ use Rattle.std.proofs.Common.{◌≡◌, ◌⊎◌, Bool, true, false, IsTrue, L
 use Rattle.std.proofs.Common.{refl, sym, ap, subst, ◌∙◌}
 use Rattle.std.proofs.lemmas.Bool.{cases_Bool, true≢false}
 use Rattle.std.proofs.lemmas.List.{append_assoc}
-use Rattle.sqlite_trees.specs.Tree.{Trees}
 use Rattle.sqlite.specs.State.{HasCleanDisk, Survives}
 use Rattle.sqlite.specs.State as sqlite
 use Rattle.vet_base.specs.Gives.{Told}
@@ -18,7 +17,8 @@ use Rattle.vet_register.specs.Verdict.{verdict}
 use Rattle.vet_rows.specs.RowsOf.{rows_of}
 use Rattle.vet_store.specs.Committed.{AreTreesOf}
 use Rattle.vet_store.specs.Crash.{EndsShut, LeavesEither, LeavesRun}
-use Rattle.vet_store.specs.Runs.{Fails, IsTurn, Ran, is_done}
+use Rattle.vet_store.specs.Exact.{IsExactTurn, WouldBeDone}
+use Rattle.vet_store.specs.Runs.{Each, Fails, IsTurn, Ran, is_done}
 use Rattle.vet_store.specs.Tied.{IsTied, IsWritten, Leaves}
 use Rattle.vet_store.proofs.Readings.{all_pushed}
 use Rattle.vet_store.proofs.Running.{done_or_stays}
@@ -82,12 +82,18 @@ fails_stays s end c a turn fails = by (done_or_stays s end c a turn) fails
     by (inl (is, rest)) (inl e) = absurd (true≢false (sym is ∙ ap is_done e))
     by (inl (is, rest)) (inr e) = absurd (true≢false (sym is ∙ ap is_done e))
 
+-- a store that is not shut was not before
+pub was_unshut : (was shut : Bool) → (IsTrue was → shut ≡ was) → shut ≡ false → was ≡ false
+was_unshut true shut same still = absurd (true≢false (sym (same refl) ∙ still))
+was_unshut false shut same still = refl
+
 -- ---- one command after another
 
 -- the commit of the last command failed
 abbrev shut_now : (s t end : State) (cs : List Command) (rs : List (Told Outcome)) (c : Command) (a : Told Outcome)
-    → Ran s cs rs t → end ≡ t → Fails a → EndsShut s (cs ++ c ∷ []) (rs ++ a ∷ []) end
-shut_now s t end cs rs c a ran stays fails = record {
+    → Ran s cs rs t → Each IsExactTurn s cs rs t → WouldBeDone t c → end ≡ t → Fails a
+    → EndsShut s (cs ++ c ∷ []) (rs ++ a ∷ []) end
+shut_now s t end cs rs c a ran exact done stays fails = record {
   front = cs;
   command = c;
   behind = [];
@@ -97,6 +103,8 @@ shut_now s t end cs rs c a ran stays fails = record {
   commands_are = refl;
   answers_are = refl;
   ran = subst (Ran s cs rs) (sym stays) ran;
+  exact = subst (Each IsExactTurn s cs rs) (sym stays) exact;
+  would_be_done = subst (λ (x : State). WouldBeDone x c) (sym stays) done;
   fails = fails;
   refused = tt;
 }
@@ -116,6 +124,8 @@ shut_still s t end cs rs c a ends stays refused = record {
   answers_are = ap (λ xs. xs ++ a ∷ []) ends.answers_are
       ∙ append_assoc ends.earlier (ends.answer ∷ ends.later) (a ∷ []);
   ran = subst (Ran s ends.front ends.earlier) (sym stays) ends.ran;
+  exact = subst (Each IsExactTurn s ends.front ends.earlier) (sym stays) ends.exact;
+  would_be_done = subst (λ (x : State). WouldBeDone x ends.command) (sym stays) ends.would_be_done;
   fails = ends.fails;
   refused = all_pushed (λ told. told ≡ Err StoreRefused) ends.later a ends.refused refused;
 }
@@ -126,15 +136,16 @@ pub record Step (mid new : sqlite.State) (was shut : Bool) (t end : State) (c : 
   pub turn : IsTurn t c a end
   pub tied : IsTied new shut (rows_of end)
   pub shuts : was ≡ false → IsTrue shut → Fails a
+  pub shuts_only : was ≡ false → IsTrue shut → WouldBeDone t c
   pub either : was ≡ false → HasCleanDisk new → LeavesEither new t c
   pub refused : IsTrue was → a ≡ Err StoreRefused
   pub same : IsTrue was → (new ≡ mid) × ((shut ≡ was) × (end ≡ t))
 
 pub leaves_more : (mid new : sqlite.State) (was shut : Bool) (s t end : State) (cs : List Command)
     (rs : List (Told Outcome)) (c : Command) (a : Told Outcome)
-    → Ran s cs rs t → LeavesRun mid was s cs rs t → Step mid new was shut t end c a
-    → LeavesRun new shut s (cs ++ c ∷ []) (rs ++ a ∷ []) end
-leaves_more mid new was shut s t end cs rs c a ran (inl (unshut, leaves)) step = by (cases_Bool shut)
+    → Ran s cs rs t → (was ≡ false → Each IsExactTurn s cs rs t) → LeavesRun mid was s cs rs t
+    → Step mid new was shut t end c a → LeavesRun new shut s (cs ++ c ∷ []) (rs ++ a ∷ []) end
+leaves_more mid new was shut s t end cs rs c a ran exact (inl (unshut, leaves)) step = by (cases_Bool shut)
   where
     by : (shut ≡ true) ⊎ (shut ≡ false) → LeavesRun new shut s (cs ++ c ∷ []) (rs ++ a ∷ []) end
     by (inr still) = inl (still, λ clean. step.tied.leaves clean still)
@@ -143,10 +154,10 @@ leaves_more mid new was shut s t end cs rs c a ran (inl (unshut, leaves)) step =
         let stays = fails_stays t end c a step.turn fails in
         inr (
           rw is,
-          shut_now s t end cs rs c a ran stays fails,
+          shut_now s t end cs rs c a ran (exact unshut) (step.shuts_only unshut (rw is)) stays fails,
           λ clean. subst (λ (x : State). LeavesEither new x c) (sym stays) (step.either unshut clean),
         )
-leaves_more mid new was shut s t end cs rs c a ran (inr (is, ends, either)) step =
+leaves_more mid new was shut s t end cs rs c a ran exact (inr (is, ends, either)) step =
     let h = step.same is in
     inr (
       rw h.1.0 is,

@@ -5,6 +5,7 @@ pub mod Crashes
 pub mod Creates
 pub mod Edits
 pub mod Effects
+pub mod Exactness
 pub mod Extends
 pub mod FormColumns
 pub mod HeldRows
@@ -24,6 +25,7 @@ pub mod Reopening
 pub mod RepeatLaws
 pub mod ReqTexts
 pub mod Resting
+pub mod Rising
 pub mod RowSets
 pub mod Running
 pub mod Selects

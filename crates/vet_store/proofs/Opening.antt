@@ -1,12 +1,14 @@
 -- What is read of tables is the state of which they have the rows.
-use Rattle.std.proofs.Common.{◌≡◌, ◌∙◌, Err, IfOk, IsTrue, Ok, Result, false, sym, subst}
+use Rattle.std.proofs.Common.{◌≡◌, ◌∙◌, Bool, Err, IfOk, IsTrue, None, Ok, Option, Result, Some, ap, false, refl, sym}
+use Rattle.std.proofs.Common.{cond, subst, true}
 use Rattle.std.specs.Prelude.{MatchResult}
 use Rattle.sqlite.specs.Effect.{Database}
 use Rattle.sqlite.specs.State.{HasCleanDisk, IsUnchanged}
 use Rattle.sqlite.specs.State as sqlite
 use Rattle.sqlite_trees.specs.Tree.{Trees}
-use Rattle.vet_base.specs.Gives.{Told}
-use Rattle.vet_base.specs.declared.refusal.Refusal.TheVariants.{NoMemory}
+use Rattle.vet_base.specs.Gives.{Told, found_or}
+use Rattle.vet_base.specs.declared.refusal.Refusal.{Refusal}
+use Rattle.vet_base.specs.declared.refusal.Refusal.TheVariants.{NoMemory, NotARegister}
 use Rattle.vet_register.specs.Sound.{IsSound}
 use Rattle.vet_register.specs.State.{State}
 use Rattle.vet_rows.specs.HeldState.{IsHeldState, SameButStanding}
@@ -63,6 +65,22 @@ pub if_answered : {A E : Type 0} (answer : Result A E) (P Q : A → Type 0) → 
     → IfOk answer Q
 if_answered (Ok x) P Q then h = then x h
 if_answered (Err e) P Q then h = tt
+
+-- what is answered of a register, by whether its rows are those that were read
+pub by_same_rows : {A : Type 0} (same : Bool) (x : A) (answer : Told A)
+    → answer ≡ cond same (Ok x) (Err NotARegister) → (P : Told A → Type 0) → (same ≡ true → P (Ok x))
+    → P (Err NotARegister) → P answer
+by_same_rows true x answer is P holds none = subst P (sym is) (holds refl)
+by_same_rows false x answer is P holds none = subst P (sym is) none
+
+-- what was found, by what is told of it
+pub none_found : {A : Type 0} (found : Option A) (e : Refusal) → found_or NotARegister found ≡ Err e → found ≡ None
+none_found None e told = refl
+none_found (Some x) e told = cc told
+
+pub some_found : {A : Type 0} (found : Option A) (x : A) → found_or NotARegister found ≡ Ok x → found ≡ Some x
+some_found None x told = cc told
+some_found (Some y) x told = ap Some (cc told)
 
 -- a connection that was at rest, and is as it was, is tied to the rows that stand there
 pub tied_opened : (old new : sqlite.State) (rows : RowsValue) → new.in_transaction ≡ false

@@ -10,7 +10,8 @@ use Rattle.vet_register.specs.Runs.{after}
 use Rattle.vet_register.specs.State.{State}
 use Rattle.vet_rows.specs.RowsOf.{rows_of}
 use Rattle.vet_store.specs.Committed.{AreTreesOf}
-use Rattle.vet_store.specs.Runs.{AreRefused, Fails, Ran}
+use Rattle.vet_store.specs.Exact.{IsExactTurn, WouldBeDone}
+use Rattle.vet_store.specs.Runs.{AreRefused, Each, Fails, Ran}
 use Rattle.vet_store.specs.Tied.{Leaves}
 
 -- a crash leaves the rows of this state, or of the state after the command
@@ -18,7 +19,8 @@ abbrev pub LeavesEither : sqlite.State → State → Command → Type 0
 LeavesEither c s command =
     (trees : Trees) → c.may_leave trees → AreTreesOf (rows_of s) trees ⊎ AreTreesOf (rows_of (after s command)) trees
 
--- the commit of one command failed: those before it ran and left the last state, and each behind it was refused
+-- the commit of one command failed, which would be done: those before it ran and left the last state, each told exactly
+-- what it is, and each behind it was refused
 pub record EndsShut (s : State) (commands : List Command) (answers : List (Told Outcome)) (last : State) : Type 0 where
   pub front : List Command
   pub command : Command
@@ -29,6 +31,8 @@ pub record EndsShut (s : State) (commands : List Command) (answers : List (Told 
   pub commands_are : commands ≡ front ++ command ∷ behind
   pub answers_are : answers ≡ earlier ++ answer ∷ later
   pub ran : Ran s front earlier last
+  pub exact : Each IsExactTurn s front earlier last
+  pub would_be_done : WouldBeDone last command
   pub fails : Fails answer
   pub refused : AreRefused later
 

@@ -1,5 +1,5 @@
 -- Whether a schema has the twelve tables, whatever else it has (ours).
-use Rattle.std.specs.Prelude.{◌≡◌, Bool, List, Some, not, slice_get, true, ◌||◌, ◌==◌, ℕ, bytes_eq, codes, ◌++◌}
+use Rattle.std.specs.Prelude.{◌≡◌, Bool, Some, not, slice_get, true, ◌||◌, ◌==◌, ℕ, bytes_eq, codes, ◌++◌}
 use Rattle.std.specs.List.{list_all}
 use Rattle.sqlite_schema.specs.Names.{same_name, table_named}
 use Rattle.sqlite_schema.specs.declared.schema.Index.{Index}

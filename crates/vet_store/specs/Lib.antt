@@ -4,14 +4,17 @@ pub mod Changes
 pub mod Classes
 pub mod Committed
 pub mod Crash
+pub mod Exact
 pub mod Form
 pub mod Forms
 pub mod Has
 pub mod Made
+pub mod Headline
 pub mod MemoryFile
 pub mod Numbered
 pub mod Opened
 pub mod Read
+pub mod Refusals
 pub mod Repeats
 pub mod RowLaws
 pub mod RunLaws

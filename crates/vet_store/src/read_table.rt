@@ -43,7 +43,7 @@ pub fn read_table<R: ReadRow + Drop, S: Alter>(
     let mut rows = Vec::new(alloc);
     let mut last = None;
     let mut found = conn.query(select_text(table), &[])?;
-    'rows: for _ in 0..u64::MAX {
+    'rows: loop {
         let Some(row) = found.next()? else {
             return Ok(Some(rows));
         };
@@ -57,5 +57,4 @@ pub fn read_table<R: ReadRow + Drop, S: Alter>(
         last = Some(id);
         rows.push(R::read(alloc, &row)?)?;
     }
-    Err(Error::SqliteFailure(ErrorCode::OutOfMemory))
 }

@@ -1,5 +1,6 @@
 //! What the database refuses, as a refusal; and a refusal that gives the connection back.
 ghost use Rattle.std.specs.Prelude.{◌≡◌, ◌⊎◌};
+ghost use Rattle.vet_store.specs.Refusals.{refusal_of};
 ghost use Rattle.vet_store.specs.Runs.{IsOfStore};
 
 use sqlite::{Alter, Connection, Error, ErrorCode};
@@ -21,6 +22,15 @@ impl<S: Alter + Drop> Drop for Refused<S> {
 }
 
 impl<S: Alter + Drop> Refused<S> {
+    /// Refuses a database in which no register is, and gives its connection back as it was. Takes no memory.
+    pub(crate) fn no_register(conn: Connection<S>) -> Refused<S>
+        ensures refusal { result.refusal ≡ Refusal.NotARegister }
+        ensures conn { result.conn ≡ conn }
+    {
+        let refusal = Refusal::NotARegister;
+        Refused { refusal, conn }
+    }
+
     /// The connection that was handed in. Takes no memory.
     pub fn into_conn(self) -> Connection<S>
         ensures { result ≡ self.conn }
@@ -41,7 +51,8 @@ impl<S: Alter + Drop> Refused<S> {
 
 /// What an error of the database is told as: `NoMemory` where memory was wanting, else `StoreRefused`.
 pub fn refusal_of(error: Error) -> Refusal
-    ensures { IsOfStore result }
+    ensures exact { result ≡ refusal_of error }
+    ensures of_store { IsOfStore result }
 {
     match error {
         Error::SqliteFailure(ErrorCode::OutOfMemory) => Refusal::NoMemory,

@@ -1,5 +1,5 @@
 //! A store is made in a database that has no register yet.
-ghost use Rattle.std.specs.Prelude.{◌≡◌, ◌<◌, ◌≤◌, ◌⊎◌, false, IfErr, IfOk, IsErrAnd, IsTrue};
+ghost use Rattle.std.specs.Prelude.{◌≡◌, ◌<◌, ◌≤◌, ◌⊎◌, false, IfErr, IfOk, IsErrAnd, IsOkAnd, IsTrue};
 ghost use Rattle.std.specs.Prelude.{MatchResult, OnErr, OnOk, ℕ, ◌∷◌, []};
 ghost use Rattle.sqlite.specs.Held.{state};
 ghost use Rattle.sqlite.specs.State.{HasCleanDisk, Survives};
@@ -129,8 +129,7 @@ fn start_changes<K: Keeper>(
 // The one row of `meta`.
 fn only_row(rows: Rows) -> Result<MetaRow, Refusal>
     requires { (row : MetaValue) × (rows.meta ≡ row ∷ []) }
-    ensures ok { IfOk result (λ row. rows.meta ≡ row ∷ []) }
-    ensures memory { IfErr result (λ e. e ≡ Refusal.NoMemory) }
+    ensures { IsOkAnd result (λ row. rows.meta ≡ row ∷ []) }
 {
     let mut rows = rows;
     match rows.meta.pop() {

@@ -9,6 +9,7 @@ ghost use Rattle.vet_register.specs.State.{start};
 ghost use Rattle.vet_rows.specs.RowsOf.{rows_of};
 ghost use Rattle.vet_store.specs.Classes.{AddsUp, HasClassesOfChains};
 ghost use Rattle.vet_store.specs.Crash.{LeavesRun};
+ghost use Rattle.vet_store.specs.Exact.{IsExactTurn};
 ghost use Rattle.vet_store.specs.Made.{AreFree, HasMade, IsAsBefore, IsMade};
 ghost use Rattle.vet_store.specs.Repeats.{IsTurnWithRepeats};
 ghost use Rattle.vet_store.specs.Runs.{Each, IsOfDone, IsOfStore, Ran};
@@ -59,6 +60,8 @@ impl<S: Alter + Drop, K: Keeper> Store<S, K> {
         ensures balance { IfOk result (λ r. IsBalanced r.store.register.state) }
         ensures repeats { IfOk result (λ r. Each IsTurnWithRepeats (start moves_limit) commands.now r.answers.items
             r.store.register.state) }
+        ensures exact { IfOk result (λ r. r.store.shut ≡ false → Each IsExactTurn (start moves_limit) commands.now
+            r.answers.items r.store.register.state) }
         ensures tables { IfOk result (λ r.
             IsTied (state S.Store r.store.conn) r.store.shut (rows_of r.store.register.state)) }
         ensures leaves { IfOk result (λ r. LeavesRun (state S.Store r.store.conn) r.store.shut (start moves_limit)

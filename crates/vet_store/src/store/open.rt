@@ -3,7 +3,8 @@
 //! **It is the sound state whose rows stand in the tables, and only where there is none is the database refused as no
 //! register.** So no table is mended: the rows of the state that was read are compared with the rows that stand there,
 //! the classes of `standing` among them.
-ghost use Rattle.std.specs.Prelude.{◌≡◌, ◌⊎◌, false, Err, IfErr, IfOk, IsTrue, MatchResult, OnOk};
+ghost use Rattle.std.specs.Prelude.{◌≡◌, ◌⊎◌, false, Err, IfErr, IfOk, IsErrAnd, IsTrue, MatchResult, Ok, OnOk};
+ghost use Rattle.std.specs.Prelude.{if◌then◌else◌};
 ghost use Rattle.sqlite.specs.Held.{state};
 ghost use Rattle.sqlite.specs.State.{HasCleanDisk, IsUnchanged, Survives};
 ghost use Rattle.vet_register.specs.Sound.{IsSound};
@@ -11,6 +12,7 @@ ghost use Rattle.vet_register.specs.State as machine;
 ghost use Rattle.vet_rows.specs.HeldState.{IsHeldState};
 ghost use Rattle.vet_rows.specs.RowsOf.{rows_of};
 ghost use Rattle.vet_rows.specs.SameRows.{SameRows};
+ghost use Rattle.vet_store.specs.Has.{HasTables};
 ghost use Rattle.vet_store.specs.Made.{IsAsBefore};
 ghost use Rattle.vet_store.specs.Opened.{IsStored, IsToldBy};
 ghost use Rattle.vet_store.specs.Read.{KeepsRest};
@@ -31,12 +33,13 @@ use vet_register::register::Register;
 use vet_rows::held_register::register_is_held;
 use vet_rows::rows::Rows;
 use vet_rows::rows_of::rows_of;
-use vet_rows::state_of::state_of;
+use vet_rows::state_of::{found_register, state_of};
 
 impl<S: Alter + Drop, K: Keeper> Store<S, K> {
     /// Opens the register whose rows stand in the tables, whatever else the database has. Nothing is written. Asks for
     /// a connection outside a transaction. A refusal gives the connection back. Refused: `NotARegister` where the
-    /// tables have the rows of no sound state, `NoMemory`, or `StoreRefused`.
+    /// tables have the rows of no sound state, `NoMemory`, or `StoreRefused`. Without the tables in their form it is
+    /// `NotARegister`, and the connection is as it was.
     pub fn open(alloc: Global, conn: Connection<S>) -> Result<Store<S, K>, Refused<S>>
         requires autocommit { conn.in_transaction ≡ false }
         ensures found { IfOk result (λ s. HasCleanDisk (state S.Store s.conn)
@@ -52,6 +55,8 @@ impl<S: Alter + Drop, K: Keeper> Store<S, K> {
             → IsUnchanged (state S.Store conn) (state S.Store s.conn)) }
         ensures none { IfErr result (λ e. e.refusal ≡ Refusal.NotARegister → HasCleanDisk (state S.Store e.conn)
             → (t : machine.State) → IsStored (state S.Store conn).now t → ⊥) }
+        ensures foreign { (HasTables (state S.Store conn).now.schema → ⊥)
+            → IsErrAnd result (λ e. (e.refusal ≡ Refusal.NotARegister) × (e.conn ≡ conn)) }
         ensures refused { IfErr result (λ e. IsOfStore e.refusal ⊎ (e.refusal ≡ Refusal.NotARegister)) }
         ensures autocommit { IfErr result (λ e. e.conn.in_transaction ≡ false) }
         ensures as_before { IfErr result (λ e. HasCleanDisk (state S.Store e.conn)
@@ -63,6 +68,9 @@ impl<S: Alter + Drop, K: Keeper> Store<S, K> {
             (λ e. Survives (state S.Store conn) (state S.Store e.conn) (λ _. ⊥)) }
     {
         let _rests = conn.is_autocommit();
+        if !has_tables(conn.schema()) {
+            return Err(Refused::no_register(conn));
+        }
         let mut conn = conn;
         match read_register(alloc, &mut conn) {
             Ok(register) => Ok(Store {
@@ -81,6 +89,7 @@ fn read_register<S: Alter, K: Keeper>(
     conn: &mut Connection<S>,
 ) -> Result<Register<K>, Refusal>
     requires autocommit { conn.old.in_transaction ≡ false }
+    requires tables { HasTables (state S.Store conn.old).now.schema }
     ensures sound { IfOk result (λ r. IsSound r.state) }
     ensures held { IfOk result (λ r. IsHeldState r.state) }
     ensures found { HasCleanDisk (state S.Store conn.new) → IfOk result (λ r.
@@ -97,14 +106,12 @@ fn read_register<S: Alter, K: Keeper>(
     ensures mode { conn.new.in_transaction ≡ false }
     ensures survives { Survives (state S.Store conn.old) (state S.Store conn.new) (λ _. ⊥) }
 {
-    if !has_tables(conn.schema()) {
-        return Err(Refusal::NotARegister);
-    }
-    match read_rows(alloc, conn) {
-        Err(error) => Err(refusal_of(error)),
-        Ok(None) => Err(Refusal::NotARegister),
-        Ok(Some(rows)) => register_of(alloc, &rows),
-    }
+    let found = match read_rows(alloc, conn) {
+        Ok(found) => found,
+        Err(error) => return Err(refusal_of(error)),
+    };
+    let rows = found_register(found)?;
+    register_of(alloc, &rows)
 }
 
 // The register of which these are the rows, in whatever order.
@@ -119,9 +126,17 @@ fn register_of<K: Keeper>(alloc: Global, rows: &Rows) -> Result<Register<K>, Ref
     let state = state_of(alloc, rows)?;
     let register: Register<K> = Register::restore(alloc, state)?;
     let again = rows_of(alloc, &register)?;
-    if have_same_rows(alloc, rows, &again)? {
-        let _sound = register.facts();
-        register_is_held(&register);
+    let same = have_same_rows(alloc, rows, &again)?;
+    let _sound = register.facts();
+    register_is_held(&register);
+    register_if(same, register)
+}
+
+// The register that was restored, where its rows are those that were read.
+fn register_if<K: Keeper>(same: bool, register: Register<K>) -> Result<Register<K>, Refusal>
+    ensures { result ≡ (if same then Ok register else Err Refusal.NotARegister) }
+{
+    if same {
         Ok(register)
     } else {
         Err(Refusal::NotARegister)

@@ -12,6 +12,7 @@ ghost use Rattle.vet_store.specs.Runs.{Fails, IsTurn};
 ghost use Rattle.vet_store.specs.Beside.{OthersStay};
 ghost use Rattle.vet_store.specs.Committed.{AreTreesBeside};
 ghost use Rattle.vet_store.specs.Crash.{LeavesEither};
+ghost use Rattle.vet_store.specs.Exact.{IsExact, WouldBeDone};
 ghost use Rattle.vet_store.specs.Tied.{IsTied};
 
 use super::Store;
@@ -25,8 +26,9 @@ use vet_register::command::{Action, Command, Outcome};
 
 impl<S: Alter, K: Keeper> Store<S, K> {
     /// Runs a command. After a refusal the register and the tables are as before. What else the database has stays in
-    /// any case. Refused: what `Register::prepare` refuses, or `NoMemory` or `StoreRefused` by the store. If these come
-    /// of the commit, the store is shut. A shut store answers `StoreRefused` and touches nothing.
+    /// any case. Refused: what `Register::prepare` refuses, or `NoMemory` or `StoreRefused` by the store, which refuses
+    /// only a command that would be done. If these come of the commit, the store is shut. A shut store answers
+    /// `StoreRefused` and touches nothing.
     pub fn run(&mut self, alloc: Global, command: &Command) -> Result<Outcome, Refusal>
         ensures turn { IsTurn self.old.register.state command.now result self.new.register.state }
         ensures repeats { RepeatsStay self.old.register.state command.now result self.new.register.state }
@@ -34,7 +36,10 @@ impl<S: Alter, K: Keeper> Store<S, K> {
         ensures others { OthersStay (state S.Store self.old.conn) (state S.Store self.new.conn) }
         ensures outside { self.new.conn.in_transaction ≡ false }
         ensures closed { IsTrue self.old.shut → (result ≡ Err Refusal.StoreRefused) × (self.new ≡ self.old) }
+        ensures exact { self.old.shut ≡ false → IsExact self.old.register.state command.now result }
         ensures shuts { self.old.shut ≡ false → IsTrue self.new.shut → Fails result }
+        ensures shuts_only { self.old.shut ≡ false → IsTrue self.new.shut
+            → WouldBeDone self.old.register.state command.now }
         ensures before { OnErr result (self.new.shut ≡ false
             → Survives (state S.Store self.old.conn) (state S.Store self.new.conn) (λ _. ⊥)) }
         ensures crash { IsTrue (state S.Store self.old.conn).is_open
@@ -54,7 +59,10 @@ impl<S: Alter, K: Keeper> Store<S, K> {
         ensures tables { IsTied (state S.Store self.new.conn) self.new.shut (rows_of self.new.register.state) }
         ensures others { OthersStay (state S.Store self.old.conn) (state S.Store self.new.conn) }
         ensures closed { IsTrue self.old.shut → (result ≡ Err Refusal.StoreRefused) × (self.new ≡ self.old) }
+        ensures exact { self.old.shut ≡ false → IsExact self.old.register.state command.now result }
         ensures shuts { self.old.shut ≡ false → IsTrue self.new.shut → Fails result }
+        ensures shuts_only { self.old.shut ≡ false → IsTrue self.new.shut
+            → WouldBeDone self.old.register.state command.now }
         ensures before { OnErr result (self.new.shut ≡ false
             → Survives (state S.Store self.old.conn) (state S.Store self.new.conn) (λ _. ⊥)) }
         ensures crash { IsTrue (state S.Store self.old.conn).is_open

@@ -15,6 +15,7 @@ ghost use Rattle.vet_rows.specs.RowsOf.{rows_of};
 ghost use Rattle.vet_store.specs.Beside.{OthersStay};
 ghost use Rattle.vet_store.specs.Classes.{AddsUp, HasClassesOfChains};
 ghost use Rattle.vet_store.specs.Crash.{LeavesRun};
+ghost use Rattle.vet_store.specs.Exact.{IsExactTurn};
 ghost use Rattle.vet_store.specs.Repeats.{IsTurnWithRepeats};
 ghost use Rattle.vet_store.specs.Runs.{AreRefused, Each, IsOfDone, Ran};
 ghost use Rattle.vet_store.specs.Tied.{IsTied};
@@ -53,6 +54,8 @@ impl<S: Alter, K: Keeper> Store<S, K> {
         ensures others { OthersStay (state S.Store self.old.conn) (state S.Store self.new.conn) }
         ensures closed { IsTrue self.old.shut → self.new ≡ self.old }
         ensures refused { IsTrue self.old.shut → IfOk result (λ answers. AreRefused answers.items) }
+        ensures exact { IfOk result (λ answers. self.old.shut ≡ false → self.new.shut ≡ false
+            → Each IsExactTurn self.old.register.state commands.now answers.items self.new.register.state) }
         ensures leaves { IfOk result (λ answers. self.old.shut ≡ false
             → LeavesRun (state S.Store self.new.conn) self.new.shut self.old.register.state commands.now answers.items
             self.new.register.state) }
@@ -76,6 +79,8 @@ impl<S: Alter, K: Keeper> Store<S, K> {
         ensures others { OthersStay (state S.Store self.old.conn) (state S.Store self.new.conn) }
         ensures closed { IsTrue self.old.shut → self.new ≡ self.old }
         ensures refused { IsTrue self.old.shut → IfOk result (λ answers. AreRefused answers.items) }
+        ensures exact { IfOk result (λ answers. self.old.shut ≡ false → self.new.shut ≡ false
+            → Each IsExactTurn self.old.register.state commands.now answers.items self.new.register.state) }
         ensures leaves { IfOk result (λ answers. self.old.shut ≡ false
             → LeavesRun (state S.Store self.new.conn) self.new.shut self.old.register.state commands.now answers.items
             self.new.register.state) }

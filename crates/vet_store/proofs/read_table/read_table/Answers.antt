@@ -1,4 +1,5 @@
-use Rattle.std.proofs.Common.{◌≡◌, ◌++◌, [], ◌∷◌, drop, false, map, refl, ap, subst, ◌∙◌, rules, arith, to_z, of_z, w64}
+use Rattle.std.proofs.Common.{◌≡◌, ◌<◌, ◌++◌, [], ◌∷◌, FitsSigned, Some, drop, false, map, refl, ap, subst, ◌∙◌, rules}
+use Rattle.std.proofs.Common.{arith, to_z, of_z, w64}
 use Rattle.std.proofs.lemmas.List.{map-append}
 use Rattle.sqlite.proofs.Callers.{given_begin, unchanged_then}
 use Rattle.sqlite.proofs.StateLemmas.{survives_then}
@@ -6,6 +7,7 @@ use Rattle.sqlite.specs.Held.{state}
 use Rattle.sqlite.specs.State.{CommitsShowing, HasCleanDisk, Survives}
 use Rattle.vet_store.proofs.Readings.{begun_quiet, read_shows, rise_more, rise_none, row_typed, survives_quiet}
 use Rattle.vet_store.proofs.Readings.{unchanged_self}
+use Rattle.vet_store.proofs.Rising.{fewer_above, ids_above}
 use Rattle.vet_store.proofs.Resting.{keeps_failed, keeps_unchanged}
 use Rattle.vet_store.proofs.read_table.read_table.Goals as goal
 use Rattle.vet_store.specs.Cells.{cells_of}
@@ -177,3 +179,11 @@ rows-preserved g c =
           ),
       λ before. moved.mode (c.rows.invariant.3 before),
     )
+
+pub rows-smaller : goal.rows-smaller
+rows-smaller g c =
+    let id : to_z w64 (of_z w64 c.int_at-id.result) ≡ c.int_at-id.result = search rules in
+    let fits : FitsSigned w64 c.int_at-id.result = search rules in
+    let fewer : ids_above (Some (to_z w64 (of_z w64 c.int_at-id.result))) < ids_above c.rows.last =
+    rw id (fewer_above c.rows.last c.int_at-id.result fits (rw id at (c.rises.ensures c.if-not-rises.false))) in
+    fewer

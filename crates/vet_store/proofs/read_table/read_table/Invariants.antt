@@ -4,6 +4,7 @@ use Rattle.sqlite.specs.Held.{state}
 use Rattle.sqlite.specs.State.{HasCleanDisk, IsUnchanged, Survives}
 use Rattle.sqlite_value.specs.Order.{Row as Cells}
 use Rattle.vet_store.proofs.Readings.{Rise}
+use Rattle.vet_store.proofs.Rising.{ids_above}
 use Rattle.vet_store.proofs.read_table.read_table.Given as goal
 use Rattle.vet_store.specs.Cells.{cells_of}
 use Rattle.vet_store.specs.Forms.{form_of}
@@ -19,3 +20,7 @@ invariant-rows g l =
     × IsUnchanged old now
     × (map (drop 1) given ≡ map (λ r. cells_of (g.R.TableRow.any r)) l.rows.items) × Rise l.last given)
     × (l.fn.conn.in_transaction ≡ false → l.found.conn.now.in_transaction ≡ false)
+
+-- the rowids rise
+abbrev pub decreases-rows : goal.decreases-rows
+decreases-rows g l = ids_above l.last

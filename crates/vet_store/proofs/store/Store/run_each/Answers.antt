@@ -4,10 +4,11 @@ use Rattle.std.proofs.lemmas.List.{take_all}
 use Rattle.sqlite.specs.Held.{state}
 use Rattle.vet_base.specs.declared.refusal.Refusal.TheVariants.{StoreRefused}
 use Rattle.vet_store.specs.Crash.{LeavesRun}
+use Rattle.vet_store.specs.Exact.{IsExactTurn}
 use Rattle.vet_store.specs.Repeats.{IsTurnWithRepeats}
 use Rattle.vet_store.specs.Runs.{AreRefused, Each, IsTurn}
 use Rattle.vet_store.specs.StoreView.{StoreView}
-use Rattle.vet_store.proofs.Crashes.{leaves_more}
+use Rattle.vet_store.proofs.Crashes.{leaves_more, was_unshut}
 use Rattle.vet_store.proofs.Readings.{all_pushed}
 use Rattle.vet_store.proofs.Running.{each_more, each_weaker, ran_of}
 use Rattle.vet_store.proofs.Tying.{others_as_were, others_then}
@@ -27,6 +28,7 @@ loop-command-init g c =
       others = others_as_were (state g.S.Store s.conn);
       closed = λ is. refl;
       refused = λ is. rw empty tt;
+      exact = λ unshut still. subst (λ answers. Each IsExactTurn first [] answers first) (sym empty) refl;
     }
 
 pub loop-command-preserved : goal.loop-command-preserved
@@ -57,10 +59,12 @@ loop-command-preserved g c =
       room = omega (arith, pushed.capacity, inv.room);
       leaves = λ unshut.
           let left = leaves_more (state g.S.Store mid.conn) (state g.S.Store last.conn) mid.shut last.shut first
-          mid.register.state last.register.state (take i xs) so_far x a before (inv.leaves unshut) (record {
+          mid.register.state last.register.state (take i xs) so_far x a before (inv.exact unshut)
+          (inv.leaves unshut) (record {
             turn = ran.turn;
             tied = ran.tables;
             shuts = ran.shuts;
+            shuts_only = ran.shuts_only;
             either = ran.leaves;
             refused = λ is. (ran.closed is).0;
             same = λ is. let same = (ran.closed is).1 in (
@@ -79,7 +83,23 @@ loop-command-preserved g c =
       refused = λ is. subst AreRefused (sym pushed.items)
           (all_pushed (λ answer. answer ≡ Err StoreRefused) so_far a (inv.refused is)
           (ran.closed (rw (inv.closed is) is)).0);
+      exact = λ unshut still.
+          let served = was_unshut mid.shut last.shut
+          (λ is. ap (λ (v : StoreView _ _). v.shut) (ran.closed is).1) still in
+          let exact = each_more IsExactTurn first mid.register.state last.register.state (take i xs) so_far x a
+          (inv.exact unshut served) (ran.turn, ran.exact served) in
+          subst (λ answers. Each IsExactTurn first (take (i + 1) xs) answers last.register.state) (sym pushed.items)
+          (subst (λ cs. Each IsExactTurn first cs (so_far ++ a ∷ []) last.register.state) (sym commands) exact);
     }
+
+pub returns-clause-exact : goal.returns-clause-exact
+returns-clause-exact g c unshut still =
+    let last = c.loop-command.self in
+    let xs = c.args.commands.now in
+    let all : take c.loop-command.command-index xs ≡ xs = take_all c.loop-command.command-index xs
+    (omega (arith, c.loop-command-test.false)) in
+    subst (λ cs. Each IsExactTurn c.args.self.now.register.state cs c.loop-command.answers.items last.register.state)
+    all (c.loop-command.invariant.exact unshut still)
 
 pub returns-clause-leaves : goal.returns-clause-leaves
 returns-clause-leaves g c unshut =

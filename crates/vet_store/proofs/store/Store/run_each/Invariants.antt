@@ -3,6 +3,7 @@ use Rattle.std.proofs.Common.{◌≡◌, ◌≤◌, IsTrue, false, length, take,
 use Rattle.sqlite.specs.Held.{state}
 use Rattle.vet_store.specs.Beside.{OthersStay}
 use Rattle.vet_store.specs.Crash.{LeavesRun}
+use Rattle.vet_store.specs.Exact.{IsExactTurn}
 use Rattle.vet_store.specs.Repeats.{IsTurnWithRepeats}
 use Rattle.vet_store.specs.Runs.{AreRefused, Each}
 use Rattle.vet_store.proofs.store.Store.run_each.Given as goal
@@ -18,4 +19,6 @@ invariant-loop-command g l = record {
   others : OthersStay (state g.S.Store l.fn.self.conn) (state g.S.Store l.self.conn);
   closed : IsTrue l.fn.self.shut → l.self ≡ l.fn.self;
   refused : IsTrue l.fn.self.shut → AreRefused l.answers.items;
+  exact : l.fn.self.shut ≡ false → l.self.shut ≡ false → Each IsExactTurn l.fn.self.register.state
+      (take l.command-index l.commands) l.answers.items l.self.register.state;
 }

@@ -4,17 +4,21 @@ use Rattle.sqlite.specs.State.{HasCleanDisk, Survives}
 use Rattle.vet_register.specs.Machine.{next}
 use Rattle.vet_register.specs.RegisterView.{IsAnswer, IsPrepared, answer_of}
 use Rattle.vet_register.specs.declared.change.Prepared.{Prepared}
+use Rattle.vet_register.specs.declared.verdict.Answer.TheVariants.{Accepted}
 use Rattle.vet_register.specs.State.{State}
+use Rattle.vet_register.specs.Verdict.{verdict}
 use Rattle.vet_register.proofs.Turns.{turn_already, turn_done, turn_refused}
 use Rattle.vet_register.specs.declared.command.Outcome.TheVariants.{Already}
 use Rattle.vet_rows.specs.RowsOf.{rows_of}
 use Rattle.vet_store.specs.Beside.{OthersStay}
 use Rattle.vet_store.specs.Committed.{AreTreesBeside}
 use Rattle.vet_store.specs.Crash.{LeavesEither}
+use Rattle.vet_store.specs.Exact.{IsExact}
 use Rattle.vet_store.specs.Runs.{IsTurn}
 use Rattle.vet_store.specs.StoreView.{StoreView}
 use Rattle.vet_store.specs.Tied.{IsTied}
 use Rattle.vet_store.proofs.Crashes.{after_accepted, left_after, left_before, left_refused}
+use Rattle.vet_store.proofs.Exactness.{exact_accepted, exact_already, exact_refused, would_be_done}
 use Rattle.vet_store.proofs.Running.{turn_of}
 use Rattle.vet_store.proofs.Tying.{others_as_were, others_stay, survives_written}
 use Rattle.vet_store.proofs.Tying.{tied_refused, tied_written}
@@ -139,6 +143,57 @@ returns-in-Ok-clause-crash g c =
     (AreTreesBeside (state g.S.Store h).now (rows_of (next c.args.self.now.register.state command)))) conn
     (subst (λ (t : State). IsTrue old.is_open → Survives old new (AreTreesBeside old.now (rows_of (next t command))))
     same crash)
+
+-- ---- nothing comes in place of what is told but what may
+
+pub returns-in-Err-clause-exact : goal.returns-in-Err-clause-exact
+returns-in-Err-clause-exact g c unshut =
+    let command = c.args.command.now in
+    subst (λ (v : StoreView _ _). IsExact v.register.state command (Err c.in-Err.refusal)) c.self.view_is
+    (exact_refused g.row.K.Denot g.row.K-Update.Denot c.self.inside.register.state command c.in-Err.refusal
+    c.in-Err.ensures.exact c.in-Err.ensures.told)
+
+pub returns-in-Ok-Already-clause-exact : goal.returns-in-Ok-Already-clause-exact
+returns-in-Ok-Already-clause-exact g c unshut =
+    let command = c.args.command.now in
+    let number = c.in-Ok-Already.number in
+    let told = c.in-Ok-Already.ensures.told ∙ ap (λ (p : Prepared _ _). Ok (answer_of p)) c.in-Ok-Already.field-0-is in
+    subst (λ (v : StoreView _ _). IsExact v.register.state command (Ok (Already number))) c.self.view_is
+    (exact_already g.row.K.Denot g.row.K-Update.Denot c.self.inside.register.state command number
+    (rw c.in-Ok-Already.field-0-is at c.in-Ok-Already.ensures.exact) told)
+
+pub returns-in-Err-write_change-clause-exact : goal.returns-in-Err-write_change-clause-exact
+returns-in-Err-write_change-clause-exact g c unshut =
+    let command = c.args.command.now in
+    let prepared : IsPrepared g.K.Keeper.keeping c.prepare.new.self command c.in-Ok-Change.change =
+    subst (λ (p : Prepared _ _). IsAnswer g.K.Keeper.keeping c.prepare.new.self command p) c.in-Ok-Change.field-0-is
+    c.in-Ok-Change.ensures.prepared in
+    let same : c.prepare.new.self.state ≡ c.args.self.now.register.state =
+    c.prepare.ensures.state ∙ ap (λ (v : StoreView _ _). v.register.state) c.self.view_is in
+    exact_accepted c.args.self.now.register.state command (Err c.in-Err-write_change.refusal)
+    (subst (λ (s : State). verdict s command ≡ Ok Accepted) same prepared.step.accepts)
+
+pub returns-in-Ok-clause-exact : goal.returns-in-Ok-clause-exact
+returns-in-Ok-clause-exact g c unshut =
+    let command = c.args.command.now in
+    let prepared : IsPrepared g.K.Keeper.keeping c.prepare.new.self command c.in-Ok-Change.change =
+    subst (λ (p : Prepared _ _). IsAnswer g.K.Keeper.keeping c.prepare.new.self command p) c.in-Ok-Change.field-0-is
+    c.in-Ok-Change.ensures.prepared in
+    let same : c.prepare.new.self.state ≡ c.args.self.now.register.state =
+    c.prepare.ensures.state ∙ ap (λ (v : StoreView _ _). v.register.state) c.self.view_is in
+    exact_accepted c.args.self.now.register.state command (Ok c.outcome-outcome.result)
+    (subst (λ (s : State). verdict s command ≡ Ok Accepted) same prepared.step.accepts)
+
+pub returns-in-Err-write_change-clause-shuts_only : goal.returns-in-Err-write_change-clause-shuts_only
+returns-in-Err-write_change-clause-shuts_only g c unshut shut =
+    let command = c.args.command.now in
+    let prepared : IsPrepared g.K.Keeper.keeping c.prepare.new.self command c.in-Ok-Change.change =
+    subst (λ (p : Prepared _ _). IsAnswer g.K.Keeper.keeping c.prepare.new.self command p) c.in-Ok-Change.field-0-is
+    c.in-Ok-Change.ensures.prepared in
+    let same : c.prepare.new.self.state ≡ c.args.self.now.register.state =
+    c.prepare.ensures.state ∙ ap (λ (v : StoreView _ _). v.register.state) c.self.view_is in
+    would_be_done c.args.self.now.register.state command
+    (subst (λ (s : State). verdict s command ≡ Ok Accepted) same prepared.step.accepts)
 
 -- ---- what a crash leaves
 

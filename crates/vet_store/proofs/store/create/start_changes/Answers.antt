@@ -23,7 +23,7 @@ returns-clause-ok g c =
     let items : c.push.new.self.items ≡ put =
     c.in_ok-push.ensures.items ∙ ap (λ (xs : List RowChange). xs ++ put) c.new-changes.ensures.items in
     let row : c.in_ok-meta.meta ∷ [] ≡ meta_row (start limit) ∷ [] =
-    sym c.in_ok-meta.ensures.ok ∙ ap (λ (r : RowsValue). r.meta) c.in_ok-rows.ensures.ok
+    sym c.in_ok-meta.ensures ∙ ap (λ (r : RowsValue). r.meta) c.in_ok-rows.ensures.ok
     ∙ ap (λ (t : State). meta_row t ∷ []) c.requires.1 in
     let made : all_changed put no_rows ≡ record no_rows { meta = meta_row (start limit) ∷ [] } =
     ap (λ (rows : List MetaRow). record no_rows { meta = rows }) row in
