@@ -77,7 +77,7 @@ by_reply day seen seen' bytes s end reply hands (Ok r, (requests, inl h)) =
       )
     ]
 
-by_served : (day : DayValue) (seen seen' : Heard) (out out' : Option Bytes) (s end : State)
+pub by_served : (day : DayValue) (seen seen' : Heard) (out out' : Option Bytes) (s end : State)
     (answer : Result Served IoFault)
     → IsServed day seen seen' out out' s answer end → Gives day seen seen' s end
 by_served day seen seen' out out' s end (Ok served) h =

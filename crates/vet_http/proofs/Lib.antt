@@ -1,5 +1,5 @@
 mod AnswerLemmas
 mod AskedLemmas
-mod DoneLemmas
-mod ServeLemmas
+pub mod DoneLemmas
+pub mod ServeLemmas
 mod TurnLemmas

@@ -18,6 +18,7 @@ ghost use Rattle.vet_requests.specs.Path.{route_at, route_of};
 ghost use Rattle.vet_http.specs.Shown.{IsShown};
 ghost use Rattle.vet_http.specs.Told.{refusal_reply};
 ghost use Rattle.vet_rows.specs.RowsOf.{rows_of};
+ghost use Rattle.vet_store.specs.Beside.{OthersStay};
 ghost use Rattle.vet_store.specs.Crash.{LeavesEither};
 ghost use Rattle.vet_store.specs.Repeats as stored;
 ghost use Rattle.vet_store.specs.Runs.{Fails, IsOfStore, IsTurn};
@@ -62,6 +63,7 @@ pub fn answer<S: Alter, K: Keeper>(
     ensures err { OnErr result (store.new ≡ store.old) }
     ensures tables { IsTied (state S.Store store.new.conn) store.new.shut (rows_of store.new.register.state) }
     ensures closed { IsTrue store.old.shut → store.new ≡ store.old }
+    ensures others { OthersStay (state S.Store store.old.conn) (state S.Store store.new.conn) }
     ensures refuses { IsTrue store.old.shut → IfOk result (λ reply.
         IsToldRefused (asked_for day request.now) reply) }
     ensures shuts { store.old.shut ≡ false → IsTrue store.new.shut → IfOk result (λ reply.
@@ -88,6 +90,7 @@ pub fn answer_by<S: Alter, K: Keeper>(
     ensures err { OnErr result (store.new ≡ store.old) }
     ensures tables { IsTied (state S.Store store.new.conn) store.new.shut (rows_of store.new.register.state) }
     ensures closed { IsTrue store.old.shut → store.new ≡ store.old }
+    ensures others { OthersStay (state S.Store store.old.conn) (state S.Store store.new.conn) }
     ensures refuses { IsTrue store.old.shut → IfOk result (λ reply.
         IsToldRefused (asked_for day request.now) reply) }
     ensures shuts { store.old.shut ≡ false → IsTrue store.new.shut → IfOk result (λ reply.
@@ -130,6 +133,7 @@ fn answer_by_route<S: Alter, K: Keeper>(
         store.old.register.state result store.new.register.state }
     ensures err { OnErr result (store.new.register.state ≡ store.old.register.state) }
     ensures closed { IsTrue store.old.shut → store.new ≡ store.old }
+    ensures others { OthersStay (state S.Store store.old.conn) (state S.Store store.new.conn) }
     ensures refuses { IsTrue store.old.shut → IsRefused (asked_for day request.now) result }
     ensures shuts { store.old.shut ≡ false → IsTrue store.new.shut
         → IsCutOff (asked_for day request.now) store.new.register.state
@@ -161,6 +165,7 @@ fn answer_at<S: Alter, K: Keeper>(
         store.old.register.state result store.new.register.state }
     ensures err { OnErr result (store.new.register.state ≡ store.old.register.state) }
     ensures closed { IsTrue store.old.shut → store.new ≡ store.old }
+    ensures others { OthersStay (state S.Store store.old.conn) (state S.Store store.new.conn) }
     ensures refuses { IsTrue store.old.shut → IsRefused (given_at day request.now (route_at target.now)) result }
     ensures shuts { store.old.shut ≡ false → IsTrue store.new.shut
         → IsCutOff (given_at day request.now (route_at target.now)) store.new.register.state
@@ -201,6 +206,7 @@ fn answer_by_method<S: Alter, K: Keeper>(
         store.old.register.state result store.new.register.state }
     ensures err { OnErr result (store.new.register.state ≡ store.old.register.state) }
     ensures closed { IsTrue store.old.shut → store.new ≡ store.old }
+    ensures others { OthersStay (state S.Store store.old.conn) (state S.Store store.new.conn) }
     ensures refuses { IsTrue store.old.shut
         → IsRefused (given_by day request.now (asked_by request.now.method (asked_at route))) result }
     ensures shuts { store.old.shut ≡ false → IsTrue store.new.shut
@@ -257,6 +263,7 @@ fn run_given<S: Alter, K: Keeper>(
         store.old.register.state result store.new.register.state }
     ensures err { OnErr result (store.new.register.state ≡ store.old.register.state) }
     ensures closed { IsTrue store.old.shut → store.new ≡ store.old }
+    ensures others { OthersStay (state S.Store store.old.conn) (state S.Store store.new.conn) }
     ensures refuses { IsTrue store.old.shut
         → IsRefused (given_in (given_told given day target.now request.now)) result }
     ensures shuts { store.old.shut ≡ false → IsTrue store.new.shut
@@ -277,6 +284,7 @@ fn run_command<S: Alter, K: Keeper>(
     ensures turn { IsTurn store.old.register.state command.now result store.new.register.state }
     ensures repeats { stored.RepeatsStay store.old.register.state command.now result store.new.register.state }
     ensures closed { IsTrue store.old.shut → store.new ≡ store.old }
+    ensures others { OthersStay (state S.Store store.old.conn) (state S.Store store.new.conn) }
     ensures refuses { IsTrue store.old.shut → result ≡ Err Refusal.StoreRefused }
     ensures shuts { store.old.shut ≡ false → IsTrue store.new.shut → Fails result }
     ensures leaves { store.old.shut ≡ false → HasCleanDisk (state S.Store store.new.conn)

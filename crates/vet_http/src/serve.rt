@@ -19,6 +19,7 @@ ghost use Rattle.vet_http.specs.ServeBytes.{IsTurnOfBytes};
 ghost use Rattle.vet_requests.specs.declared.request_limits.TheConstants.{MOST_HEAD_BYTES};
 ghost use Rattle.vet_register.specs.Sound.{IsBalanced};
 ghost use Rattle.vet_rows.specs.RowsOf.{rows_of};
+ghost use Rattle.vet_store.specs.Beside.{OthersStay};
 ghost use Rattle.vet_store.specs.Classes.{AddsUp, HasClassesOfChains};
 ghost use Rattle.vet_store.specs.Tied.{IsTied};
 
@@ -71,6 +72,7 @@ pub fn serve_one<S: Alter, K: Keeper, R: Read, W: Write>(
     ensures unchanged { IfErr result (λ fault. fault ≢ IoFault.Output → store.new ≡ store.old) }
     ensures tables { IsTied (state S.Store store.new.conn) store.new.shut (rows_of store.new.register.state) }
     ensures closed { IsTrue store.old.shut → store.new ≡ store.old }
+    ensures others { OthersStay (state S.Store store.old.conn) (state S.Store store.new.conn) }
     ensures refuses { IsTrue store.old.shut → IsServedBy (IsRefusedBy day)
         (store.new.register.state ≡ store.old.register.state) (heard R.remaining reader.old)
         (heard R.remaining reader.new) (W.contents writer.old) (W.contents writer.new) result }
@@ -103,6 +105,7 @@ pub fn serve_in<S: Alter, K: Keeper, R: Read, W: Write>(
     ensures unchanged { IfErr result (λ fault. fault ≢ IoFault.Output → store.new ≡ store.old) }
     ensures tables { IsTied (state S.Store store.new.conn) store.new.shut (rows_of store.new.register.state) }
     ensures closed { IsTrue store.old.shut → store.new ≡ store.old }
+    ensures others { OthersStay (state S.Store store.old.conn) (state S.Store store.new.conn) }
     ensures refuses { IsTrue store.old.shut → IsServedBy (IsRefusedBy day)
         (store.new.register.state ≡ store.old.register.state) (heard R.remaining reader.old)
         (heard R.remaining reader.new) (W.contents writer.old) (W.contents writer.new) result }
@@ -153,6 +156,7 @@ fn reply_to<S: Alter, K: Keeper>(
     ensures err { OnErr result (store.new ≡ store.old) }
     ensures tables { IsTied (state S.Store store.new.conn) store.new.shut (rows_of store.new.register.state) }
     ensures closed { IsTrue store.old.shut → store.new ≡ store.old }
+    ensures others { OthersStay (state S.Store store.old.conn) (state S.Store store.new.conn) }
     ensures refuses { IsTrue store.old.shut → IfOk result (λ reply. IsRefusedTold day told reply) }
     ensures shuts { store.old.shut ≡ false → IsTrue store.new.shut → IfOk result (λ reply.
         IsCutOffTold day store.new.register.state (state S.Store store.new.conn) told reply) }
@@ -187,6 +191,7 @@ pub fn serve_all<S: Alter, K: Keeper, R: Read, W: Write>(
     ensures err { OnErr result ((store.new ≡ store.old) × (connections.new ≡ connections.old)) }
     ensures tables { IsTied (state S.Store store.new.conn) store.new.shut (rows_of store.new.register.state) }
     ensures closed { IsTrue store.old.shut → store.new ≡ store.old }
+    ensures others { OthersStay (state S.Store store.old.conn) (state S.Store store.new.conn) }
     ensures refuses { IsTrue store.old.shut → IfOk result (λ answers.
         Each (IsTurnOfShut R.remaining W.contents) store.old.register.state
         connections.old connections.new answers.items store.new.register.state) }
@@ -220,6 +225,7 @@ pub fn serve_slices<S: Alter, K: Keeper>(
     ensures err { OnErr result ((store.new ≡ store.old) × (connections.new ≡ connections.old)) }
     ensures tables { IsTied (state S.Store store.new.conn) store.new.shut (rows_of store.new.register.state) }
     ensures closed { IsTrue store.old.shut → store.new ≡ store.old }
+    ensures others { OthersStay (state S.Store store.old.conn) (state S.Store store.new.conn) }
     ensures refuses { IsTrue store.old.shut → IfOk result (λ answers.
         Each (IsTurnOfShut (λ r. Some r.now) (λ w. Some w.items)) store.old.register.state
         connections.old connections.new answers.items store.new.register.state) }
@@ -242,6 +248,7 @@ fn serve_each<S: Alter, K: Keeper, R: Read, W: Write>(
     ensures err { OnErr result ((store.new ≡ store.old) × (connections.new ≡ connections.old)) }
     ensures tables { IsTied (state S.Store store.new.conn) store.new.shut (rows_of store.new.register.state) }
     ensures closed { IsTrue store.old.shut → store.new ≡ store.old }
+    ensures others { OthersStay (state S.Store store.old.conn) (state S.Store store.new.conn) }
     ensures refuses { IsTrue store.old.shut → IfOk result (λ answers.
         Each (IsTurnOfShut R.remaining W.contents) store.old.register.state
         connections.old connections.new answers.items store.new.register.state) }

@@ -2,7 +2,7 @@
 //!
 //! What a command was told is replied after its change is kept, where want of memory would be told too late. So room is
 //! taken before the command runs, and the reply is written into that. The same room serves where memory is wanting.
-ghost use Rattle.std.specs.Prelude.{◌≡◌, ◌⊎◌, ◌≤◌, [], IfOk, length};
+ghost use Rattle.std.specs.Prelude.{◌≡◌, ◌⊎◌, ◌≤◌, [], IfOk, OnErr, length};
 ghost use Rattle.vet_http.specs.ReplyRoom.{HasRoom};
 ghost use Rattle.vet_requests.specs.Reply.{text_reply};
 ghost use Rattle.vet_http.specs.Told.{outcome_reply, refusal_reply};
@@ -74,10 +74,19 @@ impl ReplyRoom {
         match refusal {
             Refusal::NoMemory => self.no_memory(),
             Refusal::StoreRefused => self.store_refused(),
-            _ => match refusal_reply(alloc, refusal) {
-                Ok(reply) => reply,
-                Err(_) => self.no_memory(),
-            },
+            _ => self.unless_no_memory(refusal_reply(alloc, refusal)),
+        }
+    }
+
+    // The reply that was made, or, where there was no memory for it, the one that says so.
+    fn unless_no_memory(self, made: Result<Reply, AllocError>) -> Reply
+        requires { HasRoom self }
+        ensures made { IfOk made (λ reply. result ≡ reply) }
+        ensures none { OnErr made (result ≡ refusal_reply Refusal.NoMemory) }
+    {
+        match made {
+            Ok(reply) => reply,
+            Err(_) => self.no_memory(),
         }
     }
 

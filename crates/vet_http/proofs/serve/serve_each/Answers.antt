@@ -8,6 +8,7 @@ use Rattle.vet_http.specs.declared.serve.Connection.{Connection}
 use Rattle.vet_http.proofs.ServeLemmas.{cut_off_by}
 use Rattle.vet_http.proofs.TurnLemmas.{each_more, leaves_more, one_more, rest_same}
 use Rattle.vet_http.proofs.serve.serve_each.Goals as goal
+use Rattle.vet_store.proofs.Tying.{others_then}
 
 pub connections-preserved : goal.connections-preserved
 connections-preserved g c =
@@ -45,6 +46,8 @@ connections-preserved g c =
           c.serve_in-answer.ensures.closed
           (subst IsTrue (sym (ap (λ st. st.shut) (c.connections.invariant.closed shut))) shut)
           ∙ c.connections.invariant.closed shut;
+      others = others_then (state g.S.Store c.args.store.now.conn) conn conn' c.connections.invariant.others
+          c.serve_in-answer.ensures.others;
       leaves = λ served shut clean.
           one_more cs ds i was left within item rest
           (λ (before behind : List Conn). LeavesAmong remaining before behind after.register.state conn')
