@@ -141,7 +141,7 @@ class Trial:
         """What the prover says of edits that are tried together, with the answers set aside that name what is gone."""
         asides = {edit: Aside(self.room) for edit in edits}
         try:
-            while any([asides[edit].set(it for name in edit.functions for it in told.faults_of(name)) for edit in edits]):
+            while any([asides[it].set(one for name in it.functions for one in told.faults_of(name)) for it in edits]):
                 told = self.check(edits)
         finally:
             for aside in asides.values():

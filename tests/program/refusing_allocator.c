@@ -1,5 +1,6 @@
-/* An allocator that refuses one allocation, the one whose number REFUSE_ALLOCATION gives. With REFUSE_ONCE_ACCEPTED they
-   are counted from the first connection on that is accepted. As it refuses, it makes the file that REFUSED_MARK names. */
+/* An allocator that refuses one allocation, the one whose number REFUSE_ALLOCATION gives. With REFUSE_ONCE_ACCEPTED
+   they are counted from the first connection on that is accepted. As it refuses, it makes the file that REFUSED_MARK
+   names. */
 #define _GNU_SOURCE
 #include <dlfcn.h>
 #include <errno.h>

@@ -1,3 +1,4 @@
+mod DoneTurnLemmas
 mod ServingLemmas
 mod Fronts
 mod Sitting

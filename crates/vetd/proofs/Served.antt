@@ -1,6 +1,6 @@
 -- From what came of serving a register to the answer to the words.
-use Rattle.std.proofs.Common.{◌≡◌, ◌≢◌, ◌∙◌, inr, ℕ, List, Bool, Option, Some, None, Result, Ok, Err, IfErr, IfOk}
-use Rattle.std.proofs.Common.{ap, refl, subst, sym}
+use Rattle.std.proofs.Common.{◌≡◌, ◌≢◌, ◌∙◌, inr, ℕ, List, Bool, false, Option, Some, None, Result, Ok, Err, IfErr}
+use Rattle.std.proofs.Common.{IfOk, ap, refl, subst, sym}
 use Rattle.std.specs.Bool.{⊤}
 use Rattle.std.specs.Io.KnownBytes.{Keeps}
 use Rattle.clap.specs.Walk.{Text}
@@ -15,6 +15,7 @@ use Rattle.vet_requests.specs.declared.io_fault.IoFault.{IoFault}
 use Rattle.vet_requests.specs.declared.io_fault.IoFault.TheVariants.{Output}
 use Rattle.vet_register.specs.State.{State, start}
 use Rattle.vet_rows.specs.RowsOf.{rows_of}
+use Rattle.vet_store.specs.Beside.{OthersStay}
 use Rattle.vet_store.specs.Runs.{IsOfStore}
 use Rattle.vet_store.specs.Tied.{IsTied}
 use Rattle.vetd_words.specs.Answer.{Answer, Explains, IsWritten, Prints, Refuses, Says, Serves, Stops}
@@ -24,6 +25,8 @@ use Rattle.vetd_words.specs.ServeAsked.{AsksServe, ServeAsked}
 use Rattle.vetd.specs.ServeRun.{Answered, AnswersServe, IsAnswerToServe, IsServeAt, IsServeInMemory, IsServeOn}
 use Rattle.vetd.specs.ServeRun.{IsServeOver, IsServeWhere, IsSitting, IsSittingOf, IsUnserved, IsUnservedAt}
 use Rattle.vetd.specs.ServeRun.{IsUnservedOver, day_told, on_day}
+use Rattle.vetd.specs.DoneTurns.{LeavesWhereShut}
+use Rattle.vetd.specs.Serving.{Turn}
 use Rattle.vetd.specs.declared.serve_run.Service.{Service}
 use Rattle.vetd_words.proofs.Answered.{told_written, was_untold, written_as}
 
@@ -48,54 +51,72 @@ is_told_of Is Of Untold Unsaid of untold r out out' errors errors' written =
     (λ Holds answered. (answered.0, (of answered.0 answered.1.0, answered.1.1))) untold
     r out out' errors errors' written
 
+-- what is less known of what a crash leaves
+less_known : (service : Service) (Leaves Left : List Turn → Type 0) (register end : State) (text : Text) (lost : Bool)
+    → ((turns : List Turn) → Leaves turns → Left turns) → IsSitting service Leaves register text lost end
+    → IsSitting service Left register text lost end
+less_known service Leaves Left register end text lost weaker is = record {
+  clients = is.clients;
+  printed = is.printed;
+  headline = is.headline;
+  leaves = weaker is.clients.turns is.leaves;
+}
+
 module _ {S : Type 0} (g : Ghosts S) (service : Service) (before : Held S) where
   served_over : (opened after : Held S) (register end : State) (shut : Bool) → IsOpenedAs g before register opened
-      → IsTied (state g after) shut (rows_of end) → (answer : Answer) → IsSittingOf service register end answer
+      → IsTied (state g after) shut (rows_of end) → OthersStay (state g opened) (state g after) → (answer : Answer)
+      → IsSittingOf service (LeavesWhereShut false shut (state g after) end) register end answer
       → IsServeOver g service before answer after
-  served_over opened after register end shut opens tables (Prints text) is = absurd is
-  served_over opened after register end shut opens tables (Refuses refusal) is = absurd is
-  served_over opened after register end shut opens tables Explains is = absurd is
-  served_over opened after register end shut opens tables (Serves text lost) is = record {
+  served_over opened after register end shut opens tables others (Prints text) is = absurd is
+  served_over opened after register end shut opens tables others (Refuses refusal) is = absurd is
+  served_over opened after register end shut opens tables others Explains is = absurd is
+  served_over opened after register end shut opens tables others (Serves text lost) is = record {
     opened = opened;
     register = register;
     opens = opens;
     end = end;
-    sitting = is;
     shut = shut;
+    sitting = is;
     tables = tables;
+    others = others;
   }
 
   -- clients were served from a register that was opened, and the connection was given back
   pub over_opened : (Same : Type 0) (opened last after : Held S) (register end : State) (shut : Bool)
       → IsOpenedAs g before register opened → (Same → last ≡ opened) → after ≡ last
-      → IsTied (state g after) shut (rows_of end) → (r : Result ℕ IoFault) (out out' errors errors' : Option Bytes)
-      → IsWritten (Answered (IsSittingOf service register end)) Same r out out' errors errors'
+      → IsTied (state g after) shut (rows_of end) → OthersStay (state g opened) (state g after)
+      → (r : Result ℕ IoFault) (out out' errors errors' : Option Bytes)
+      → IsWritten (Answered (IsSittingOf service (LeavesWhereShut false shut (state g after) end) register end)) Same r
+      out out' errors errors'
       → IsWritten (Answered (λ answer. IsServeOver g service before answer after)) (IsUnservedOver g before after) r
       out out' errors errors'
-  over_opened Same opened last after register end shut opens same closed tables =
-      is_told_of (IsSittingOf service register end) (λ answer. IsServeOver g service before answer after) Same
-      (IsUnservedOver g before after) (served_over opened after register end shut opens tables)
+  over_opened Same opened last after register end shut opens same closed tables others =
+      is_told_of (IsSittingOf service (LeavesWhereShut false shut (state g after) end) register end)
+      (λ answer. IsServeOver g service before answer after) Same
+      (IsUnservedOver g before after) (served_over opened after register end shut opens tables others)
       (λ untold. inr (
         register,
         subst (λ (h : Held S). IsOpenedAs g before register h) (sym (closed ∙ same untold)) opens,
       ))
 
 -- clients were served from a new register in memory
-module _ (service : Service) where
+module _ (service : Service) (Leaves : List Turn → Type 0) where
   in_memory : (register end : State) → register ≡ start MOST_MOVES → (answer : Answer)
-      → IsSittingOf service register end answer → IsServeInMemory service answer
+      → IsSittingOf service Leaves register end answer → IsServeInMemory service answer
   in_memory register end first (Prints text) is = absurd is
   in_memory register end first (Refuses refusal) is = absurd is
   in_memory register end first Explains is = absurd is
   in_memory register end first (Serves text lost) is =
-      (end, subst (λ (s : State). IsSitting service s text lost end) first is)
+      let known = less_known service Leaves (λ turns. ⊤) register end text lost (λ _ _. tt) is in
+      (end, subst (λ (s : State). IsSitting service (λ turns. ⊤) s text lost end) first known)
 
   pub of_memory : (Same : Type 0) (register end : State) → register ≡ start MOST_MOVES → (r : Result ℕ IoFault)
       (out out' errors errors' : Option Bytes)
-      → IsWritten (Answered (IsSittingOf service register end)) Same r out out' errors errors'
+      → IsWritten (Answered (IsSittingOf service Leaves register end)) Same r out out' errors errors'
       → IsWritten (Answered (IsServeInMemory service)) ⊤ r out out' errors errors'
   of_memory Same register end first =
-      is_told_of (IsSittingOf service register end) (IsServeInMemory service) Same ⊤ (in_memory register end first)
+      is_told_of (IsSittingOf service Leaves register end) (IsServeInMemory service) Same ⊤
+      (in_memory register end first)
       (λ untold. tt)
 
 module _ {S : Type 0} (g : Ghosts S) (Finds : Giving S) where

@@ -8,14 +8,14 @@ use Rattle.vet_base.specs.Gives.{Told, found_or, ◌>>=◌}
 use Rattle.vet_base.specs.declared.limits.TheConstants.{MOST_MOVES}
 use Rattle.vet_base.specs.declared.refusal.Refusal.{Refusal}
 use Rattle.vet_base.specs.declared.refusal.Refusal.TheVariants.{BadDay}
-use Rattle.vet_register.specs.Sound.{IsBalanced}
 use Rattle.vet_register.specs.State.{State, start}
 use Rattle.vet_rows.specs.RowsOf.{rows_of}
-use Rattle.vet_store.specs.Classes.{AddsUp, HasClassesOfChains}
+use Rattle.vet_store.specs.Beside.{OthersStay}
 use Rattle.vet_store.specs.Runs.{IsOfStore}
 use Rattle.vet_store.specs.Tied.{IsTied}
 use Rattle.vetd_commands.specs.Making.{Giving}
 use Rattle.vetd_commands.specs.Opening.{IsNotOpened, IsOpenedAs}
+use Rattle.vetd.specs.DoneTurns.{HasHeadline, LeavesWhereShut}
 use Rattle.vetd.specs.Serving.{AreServed, Turn, listening_line, replied, served_line}
 use Rattle.vetd.specs.declared.serve_run.Service.{Service}
 use Rattle.vetd_words.specs.Answer.{Answer, Explains, Refuses, Serves}
@@ -36,46 +36,45 @@ abbrev pub IsPrinted : ℕ → List Turn → Text → Bool → Type 0
 IsPrinted port turns text false = text ≡ listening_line port ++ served_line (replied turns)
 IsPrinted port turns text true = ((text ≡ []) × (turns ≡ [])) ⊎ (text ≡ listening_line port)
 
--- the classes of a state are those that chains give the least demand, add up to it, and balance with the moves
-pub record HasHeadline (s : State) : Type 0 where
-  pub classes : HasClassesOfChains s
-  pub adds_up : AddsUp s
-  pub balance : IsBalanced s
-
 -- this holds of an answer of which that holds
 abbrev pub Answered : (Answer → Type 0) → (Answer → Type 0) → Type 0
 Answered Is Holds = (answer : Answer) × (Is answer × Holds answer)
 
 module _ (service : Service) where
-  -- connections were served from a state, no more than were waited for, and this was printed; of the state that they
-  -- left the headline holds
-  pub record IsSitting (register : State) (text : Text) (lost : Bool) (end : State) : Type 0 where
-    pub clients : AreServed service.day service.connections register end
+  -- Connections were served from a state, as many as were waited for unless what listened was lost, and this was
+  -- printed. The headline holds of them, and this of what a crash leaves.
+  pub record IsSitting (Leaves : List Turn → Type 0) (register : State) (text : Text) (lost : Bool) (end : State)
+      : Type 0 where
+    pub clients : AreServed service.day service.connections lost register end
     pub printed : IsPrinted service.port clients.turns text lost
-    pub headline : HasHeadline end
+    pub headline : HasHeadline register clients.turns end
+    pub leaves : Leaves clients.turns
 
   -- the same as an answer
-  abbrev pub IsSittingOf : State → State → Answer → Type 0
-  IsSittingOf register end (Serves text lost) = IsSitting register text lost end
-  IsSittingOf register end _ = ⊥
+  abbrev pub IsSittingOf : (List Turn → Type 0) → State → State → Answer → Type 0
+  IsSittingOf Leaves register end (Serves text lost) = IsSitting Leaves register text lost end
+  IsSittingOf Leaves register end _ = ⊥
 
   -- the answer where the register is a new one in memory
   abbrev pub IsServeInMemory : Answer → Type 0
-  IsServeInMemory (Serves text lost) = (end : State) × IsSitting (start MOST_MOVES) text lost end
+  IsServeInMemory (Serves text lost) = (end : State) × IsSitting (λ turns. ⊤) (start MOST_MOVES) text lost end
   IsServeInMemory (Refuses refusal) = IsOfStore refusal
   IsServeInMemory _ = ⊥
 
 module _ {S : Type 0} (g : Ghosts S) where
-  -- a register was opened, and clients were served from it; the tables have the rows of the state that the last left
+  -- A register was opened, and clients were served from it. The tables have the rows of the state that the last left,
+  -- and all else in the database is as it was. A crash leaves these rows, or, where the store was shut, those of the
+  -- state after a command that some client asked for.
   pub record IsServedFrom (service : Service) (before : Held S) (text : Text) (lost : Bool) (after : Held S) : Type 0
     where
       pub opened : Held S
       pub register : State
       pub opens : IsOpenedAs g before register opened
       pub end : State
-      pub sitting : IsSitting service register text lost end
       pub shut : Bool
+      pub sitting : IsSitting service (LeavesWhereShut false shut (state g after) end) register text lost end
       pub tables : IsTied (state g after) shut (rows_of end)
+      pub others : OthersStay (state g opened) (state g after)
 
   -- the answer over a connection: clients were served from the register in its tables, or none was opened
   abbrev pub IsServeOver : Service → Held S → Answer → Held S → Type 0

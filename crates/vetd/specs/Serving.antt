@@ -4,8 +4,8 @@ use Rattle.std.specs.Prelude.{Result, Ok, Err, codes, length, map, ⊤}
 use Rattle.std.specs.Fmt.{decimal}
 use Rattle.vet_base.specs.Day.{DayValue}
 use Rattle.vet_base.specs.Words.{Bytes, Text}
-use Rattle.vet_http.specs.Serve.{IsServed, IsTurn}
-use Rattle.vet_requests.specs.Input.{Heard}
+use Rattle.vet_http.specs.Serve.{IsServedWithRepeats}
+use Rattle.vet_requests.specs.Input.{Heard, heard}
 use Rattle.vet_requests.specs.declared.io_fault.IoFault.{IoFault}
 use Rattle.vet_http.specs.declared.serve.Connection.{Connection}
 use Rattle.vet_http.specs.declared.serve.Served.{Served}
@@ -27,16 +27,41 @@ whole [] = 0
 whole (Ok served ∷ rest) = 1 + whole rest
 whole (Err fault ∷ rest) = whole rest
 
+-- a connection that was served: its day, what was seen of its reader and its writer before and after, and what came of
+-- it
+pub record Turn : Type 0 where
+  pub day : DayValue
+  pub seen : Heard
+  pub seen' : Heard
+  pub out : Option Bytes
+  pub out' : Option Bytes
+  pub answer : Result Served IoFault
+
+-- how many of them had their whole reply
+abbrev pub replied : List Turn → ℕ
+replied turns = whole (map (λ (t : Turn). t.answer) turns)
+
+-- a connection was served in a state, which it left for another; a request that asks for what is held leaves it
+abbrev pub IsServedTurn : State → Turn → State → Type 0
+IsServedTurn s t end = IsServedWithRepeats t.day t.seen t.seen' t.out t.out' s t.answer end
+
+-- it is the one that came
+pub record IsTurnOf {R W : Type 0} (remaining : R → Option Bytes) (contents : W → Option Bytes)
+    (came : Connection R W) (t : Turn) : Type 0 where
+  pub day : t.day ≡ came.day
+  pub seen : t.seen ≡ heard remaining came.reader
+  pub out : t.out ≡ contents came.writer
+
 -- The clients among what came were served one after the other: each as it came, in the state that the one before it
--- left. What came of them, and the state that the last left. Nobody is waited for once what listened is lost.
+-- left; and the state that the last left. Nobody is waited for once what listened is lost.
 abbrev pub Serves : {R W : Type 0} → (R → Option Bytes) → (W → Option Bytes)
-    → State → List (Arrival R W) → List (Result Served IoFault) → State → Type 0
+    → State → List (Arrival R W) → List Turn → State → Type 0
 Serves remaining contents s [] [] end = end ≡ s
-Serves remaining contents s (Failed ∷ rest) answers end = Serves remaining contents s rest answers end
+Serves remaining contents s (Failed ∷ rest) turns end = Serves remaining contents s rest turns end
 Serves remaining contents s (Lost ∷ []) [] end = end ≡ s
-Serves {R} {W} remaining contents s (Client was ∷ rest) (answer ∷ answers) end =
-    (left : Connection R W) × ((mid : State) × (IsTurn remaining contents s was left answer mid
-    × Serves remaining contents mid rest answers end))
+Serves remaining contents s (Client came ∷ rest) (t ∷ turns) end =
+    IsTurnOf remaining contents came t
+    × ((mid : State) × (IsServedTurn s t mid × Serves remaining contents mid rest turns end))
 Serves remaining contents s _ _ end = ⊥
 
 -- what listened was lost
@@ -56,29 +81,18 @@ abbrev pub Arrives : {R W : Type 0} → Option DayValue → ℕ → Option (Arri
 Arrives told awaited None awaited' = awaited ≡ 0
 Arrives told awaited (Some arrival) awaited' = IsOnDay told arrival × (awaited ≡ awaited' + 1)
 
--- a connection that was served: its day, what was seen of its reader and its writer before and after, and what came of
--- it
-pub record Turn : Type 0 where
-  pub day : DayValue
-  pub seen : Heard
-  pub seen' : Heard
-  pub out : Option Bytes
-  pub out' : Option Bytes
-  pub answer : Result Served IoFault
-
 -- Connections were served one after the other, of whatever kind their readers and writers are: each on the day that was
 -- told, where one was.
 abbrev pub Turns : Option DayValue → State → List Turn → State → Type 0
 Turns told s [] end = end ≡ s
-Turns told s (t ∷ ts) end = IfSome told (λ day. t.day ≡ day) × ((mid : State)
-    × (IsServed t.day t.seen t.seen' t.out t.out' s t.answer mid × Turns told mid ts end))
+Turns told s (t ∷ ts) end =
+    IfSome told (λ day. t.day ≡ day) × ((mid : State) × (IsServedTurn s t mid × Turns told mid ts end))
 
--- at most so many connections were served, and left this state
-pub record AreServed (told : Option DayValue) (most : ℕ) (s end : State) : Type 0 where
+-- Of so many connections that were awaited, some were served and left this state, and some failed before they could be.
+-- These are all, unless what listened was lost.
+pub record AreServed (told : Option DayValue) (most : ℕ) (lost : Bool) (s end : State) : Type 0 where
   pub turns : List Turn
+  pub failed : ℕ
   pub one_by_one : Turns told s turns end
-  pub few : length turns ≤ most
-
--- how many of them had their whole reply
-abbrev pub replied : List Turn → ℕ
-replied turns = whole (map (λ (t : Turn). t.answer) turns)
+  pub few : length turns + failed ≤ most
+  pub all : lost ≡ false → length turns + failed ≡ most

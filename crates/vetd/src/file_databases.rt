@@ -1,7 +1,8 @@
 //! Databases in the files of this machine.
-ghost use Rattle.std.specs.Prelude.{◌≡◌, ◌⊎◌, IfErr, IfOk};
-ghost use Rattle.sqlite.specs.Held.{IsNew};
+ghost use Rattle.std.specs.Prelude.{◌≡◌, ◌⊎◌, IfErr, IfOk, MatchResult};
+ghost use Rattle.vet_base.specs.declared.refusal.Refusal.TheVariants.{NotARegister};
 ghost use Rattle.vet_store.specs.Runs.{IsOfStore};
+ghost use Rattle.vetd.specs.FileDatabases.{IsOpenedNew, refusal_of_path};
 
 use sqlite::{Connection, Wary};
 use sqlite_disk::Start;
@@ -33,9 +34,9 @@ impl<'a> FileDatabases<'a> {
 }
 
 impl Databases<WaryFile> for FileDatabases<'_> {
-    ghost may_give = { λ _ _ given. IfOk given IsNew };
+    ghost may_give = { λ _ _ given. MatchResult given IsOpenedNew IsOfStore };
 
-    ghost may_find = { λ _ _ given. IfOk given IsNew };
+    ghost may_find = { λ _ _ given. MatchResult given IsOpenedNew (λ e. IsOfStore e ⊎ (e ≡ NotARegister)) };
 
     fn connect(&mut self, path: &str) -> Result<Connection<WaryFile>, Refusal> {
         connect_as(self.rt, path, Wary)
@@ -64,7 +65,7 @@ fn check_file(rt: &HostRuntime, path: &str) -> Result<(), Refusal>
 
 /// What is told of a path of which nothing can be learned.
 fn refusal_of_path(kind: io::ErrorKind) -> Refusal
-    ensures { IsOfStore result ⊎ (result ≡ Refusal.NotARegister) }
+    ensures { result ≡ refusal_of_path kind }
 {
     match kind {
         io::ErrorKind::NotFound | io::ErrorKind::NotADirectory => Refusal::NotARegister,
@@ -79,7 +80,7 @@ fn connect_as<F: Start>(
     path: &str,
     start: F,
 ) -> Result<Connection<FileStore<FileFrom<F>>>, Refusal>
-    ensures new { IfOk result IsNew }
+    ensures new { IfOk result IsOpenedNew }
     ensures refused { IfErr result IsOfStore }
 {
     match Connection::open_from(rt, path, false, start) {

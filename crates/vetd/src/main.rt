@@ -18,7 +18,7 @@
 //! written is told in the crates below.
 #![tactic(auto)]
 
-ghost use Rattle.std.specs.Prelude.{◌≡◌, IfOk};
+ghost use Rattle.std.specs.Prelude.{◌≡◌, IfOk, OnErr};
 
 mod clients;
 mod file_databases;
@@ -65,12 +65,19 @@ fn explain_no_words<W: Write, E: Write>(
     explain(alloc, &error, writer, errors)
 }
 
-/// Tells a fault. The status stays where even that can't be written.
-fn fault_status<R: Eprint>(rt: &R, fault: IoFault) -> u8
-    ensures { result ≡ FAULTED }
+/// The status with which a run ends: its own, or that of a fault, of which a line goes to the standard error. Where
+/// even that can't be written, the status is the same.
+fn status_of<R: Eprint>(rt: &R, run: Result<u8, IoFault>) -> u8
+    ensures ended { IfOk run (λ status. result ≡ status) }
+    ensures faulted { OnErr run (result ≡ FAULTED) }
 {
-    let _ = rt.eprintln(fault);
-    FAULTED
+    match run {
+        Ok(status) => status,
+        Err(fault) => {
+            let _ = rt.eprintln(fault);
+            FAULTED
+        }
+    }
 }
 
 /// Answers the words, over the databases in this machine's files. A connection is let go, and its file stays locked so
@@ -98,8 +105,5 @@ fn main(rt: HostRuntime) -> ExitCode {
             &mut rt.stderr(),
         ),
     };
-    match run {
-        Ok(status) => ExitCode::from(status),
-        Err(fault) => ExitCode::from(fault_status(&rt, fault)),
-    }
+    ExitCode::from(status_of(&rt, run))
 }

@@ -3,6 +3,7 @@ ghost use Rattle.std.specs.Prelude.{◌≡◌, ◌+◌, Err, map};
 ghost use Rattle.vet_base.specs.declared.limits.TheConstants.{MOST_READS};
 ghost use Rattle.vet_requests.specs.Input.{TakesAtMost, heard};
 ghost use Rattle.vetd.specs.Program.{AnswersAs, AsksNoInput, IsUntoldAs, command_of};
+ghost use Rattle.vetd_commands.specs.Making.{FoundBy, GivenBy};
 ghost use Rattle.vetd_words.specs.Answer.{IsWritten};
 
 use crate::serve_run::serve_run;
@@ -87,10 +88,12 @@ pub fn program_run<
     errors: &mut E,
 ) -> DatabaseRun<S>
     ensures written { IsWritten
-        (AnswersAs S.Store (D.may_give databases.old) (D.may_find databases.old) (heard R.remaining reader.old)
+        (AnswersAs S.Store (GivenBy (D.may_give databases.old)) (FoundBy (D.may_find databases.old))
+        (heard R.remaining reader.old)
         (heard R.remaining reader.new)
         (map T.text words.now) result.conn (command_of (map T.text words.now)))
-        (IsUntoldAs S.Store (D.may_give databases.old) (D.may_find databases.old) (heard R.remaining reader.old)
+        (IsUntoldAs S.Store (GivenBy (D.may_give databases.old)) (FoundBy (D.may_find databases.old))
+        (heard R.remaining reader.old)
         (heard R.remaining reader.new)
         (map T.text words.now) result.conn (command_of (map T.text words.now)))
         result.status (W.contents writer.old) (W.contents writer.new)
@@ -129,10 +132,12 @@ fn run_as<
     errors: &mut E,
 ) -> DatabaseRun<S>
     ensures written { IsWritten
-        (AnswersAs S.Store (D.may_give databases.old) (D.may_find databases.old) (heard R.remaining reader.old)
+        (AnswersAs S.Store (GivenBy (D.may_give databases.old)) (FoundBy (D.may_find databases.old))
+        (heard R.remaining reader.old)
         (heard R.remaining reader.new)
         (map T.text words.now) result.conn command)
-        (IsUntoldAs S.Store (D.may_give databases.old) (D.may_find databases.old) (heard R.remaining reader.old)
+        (IsUntoldAs S.Store (GivenBy (D.may_give databases.old)) (FoundBy (D.may_find databases.old))
+        (heard R.remaining reader.old)
         (heard R.remaining reader.new)
         (map T.text words.now) result.conn command)
         result.status (W.contents writer.old) (W.contents writer.new)

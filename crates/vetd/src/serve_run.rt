@@ -1,18 +1,23 @@
 //! A register is served over HTTP, by the words of a serve command.
-ghost use Rattle.std.specs.Prelude.{◌≡◌, ◌≢◌, ◌≤◌, IfErr, IfOk, MatchResult, Ok, OnErr, OnOk, Some, false, map, ⊤};
+ghost use Rattle.std.specs.Prelude.{◌≡◌, ◌≢◌, ◌≤◌, ◌∷◌, [], IfErr, IfOk, MatchResult, Ok, OnErr, OnOk, Some};
+ghost use Rattle.std.specs.Prelude.{false, map, ⊤};
 ghost use Rattle.std.specs.Io.KnownBytes.{Appends};
+ghost use Rattle.std.specs.Net.Addr.{ipv4_octets};
 ghost use Rattle.sqlite.specs.Held.{state};
 ghost use Rattle.vet_http.specs.Output.{AppendsPart};
 ghost use Rattle.vet_register.specs.Sound.{IsBalanced};
 ghost use Rattle.vet_register.specs.State.{start};
 ghost use Rattle.vet_rows.specs.RowsOf.{rows_of};
+ghost use Rattle.vet_store.specs.Beside.{OthersStay};
 ghost use Rattle.vet_store.specs.Classes.{AddsUp, HasClassesOfChains};
 ghost use Rattle.vet_store.specs.Runs.{IsOfStore};
 ghost use Rattle.vet_store.specs.Tied.{IsTied};
+ghost use Rattle.vetd_commands.specs.Making.{FoundBy};
 ghost use Rattle.vetd_words.specs.Answer.{IsWritten, network_line};
 ghost use Rattle.vetd_words.specs.ServeAsked.{serve_asked};
 ghost use Rattle.vetd.specs.ServeRun.{Answered, AnswersServe, IsServeAt, IsServeInMemory, IsServeOn, IsServeOver};
 ghost use Rattle.vetd.specs.ServeRun.{IsSittingOf, IsUnserved, IsUnservedAt, IsUnservedOver, day_told, on_day};
+ghost use Rattle.vetd.specs.DoneTurns.{LeavesWhereShut};
 ghost use Rattle.vetd.specs.Serving.{AreServed, replied};
 ghost use Rattle.vetd_words.specs.declared.serve_words.TheConstants.{MOST_CONNECTIONS};
 
@@ -77,8 +82,8 @@ pub fn serve_run<
     errors: &mut E,
 ) -> DatabaseRun<S>
     ensures written { IsWritten
-        (AnswersServe S.Store (D.may_find databases.old) (map T.text words.now) result.conn)
-        (IsUnserved S.Store (D.may_find databases.old) (map T.text words.now) result.conn)
+        (AnswersServe S.Store (FoundBy (D.may_find databases.old)) (map T.text words.now) result.conn)
+        (IsUnserved S.Store (FoundBy (D.may_find databases.old)) (map T.text words.now) result.conn)
         result.status (W.contents writer.old) (W.contents writer.new)
         (E.contents errors.old) (E.contents errors.new) }
     ensures faults { IfErr result.status (λ fault. (fault ≢ IoFault.Input) × (fault ≢ IoFault.Endless)) }
@@ -102,9 +107,9 @@ fn serve_on<S: Alter + Drop, K: Keeper, D: Databases<S>, H: Net + Clock, W: Writ
     errors: &mut E,
 ) -> DatabaseRun<S>
     requires { asked.connections ≤ MOST_CONNECTIONS }
-    ensures written { IsWritten (Answered (λ answer. IsServeOn S.Store (D.may_find databases.old)
+    ensures written { IsWritten (Answered (λ answer. IsServeOn S.Store (FoundBy (D.may_find databases.old))
         (serve_asked asked.entry) (day_told (serve_asked asked.entry).day) answer result.conn))
-        (IsUnservedAt S.Store (D.may_find databases.old) (serve_asked asked.entry).path result.conn)
+        (IsUnservedAt S.Store (FoundBy (D.may_find databases.old)) (serve_asked asked.entry).path result.conn)
         result.status (W.contents writer.old) (W.contents writer.new)
         (E.contents errors.old) (E.contents errors.new) }
     ensures faults { IfErr result.status (λ fault. (fault ≢ IoFault.Input) × (fault ≢ IoFault.Endless)) }
@@ -157,8 +162,9 @@ fn serve_file<S: Alter + Drop, K: Keeper, D: Databases<S>, H: Net + Clock, W: Wr
     errors: &mut E,
 ) -> DatabaseRun<S>
     requires { service.connections ≤ MOST_CONNECTIONS }
-    ensures written { IsWritten (Answered (λ answer. IsServeAt S.Store (D.may_find databases.old) service
-        path.now answer result.conn)) (IsUnservedAt S.Store (D.may_find databases.old) (Some path.now) result.conn)
+    ensures written { IsWritten (Answered (λ answer. IsServeAt S.Store (FoundBy (D.may_find databases.old)) service
+        path.now answer result.conn))
+        (IsUnservedAt S.Store (FoundBy (D.may_find databases.old)) (Some path.now) result.conn)
         result.status (W.contents writer.old) (W.contents writer.new)
         (E.contents errors.old) (E.contents errors.new) }
     ensures faults { IfErr result.status (λ fault. (fault ≢ IoFault.Input) × (fault ≢ IoFault.Endless)) }
@@ -258,17 +264,19 @@ fn serve_at_port<S: Alter + Drop, K: Keeper, H: Net + Clock, W: Write, E: Write>
     errors: &mut E,
 ) -> Result<u8, IoFault>
     requires { service.connections ≤ MOST_CONNECTIONS }
-    ensures written { IsWritten (Answered (IsSittingOf service store.old.register.state store.new.register.state))
+    ensures written { IsWritten (Answered (IsSittingOf service (LeavesWhereShut store.old.shut store.new.shut
+        (state S.Store store.new.conn) store.new.register.state) store.old.register.state store.new.register.state))
         (store.new ≡ store.old) result (W.contents writer.old) (W.contents writer.new)
         (E.contents errors.old) (E.contents errors.new) }
     ensures faults { IfErr result (λ fault. (fault ≢ IoFault.Input) × (fault ≢ IoFault.Endless)) }
     ensures tables { IsTied (state S.Store store.new.conn) store.new.shut (rows_of store.new.register.state) }
+    ensures others { OthersStay (state S.Store store.old.conn) (state S.Store store.new.conn) }
 {
     store.tables_are_of_register();
     headline_holds(store);
     let mut room = ServeRoom::new(alloc)?;
     let mut lines = ServeLines::of_port(alloc, service.port)?;
-    let listener = match TcpListener::bind(host, (Ipv4Addr::LOCALHOST, service.port)) {
+    let listener = match TcpListener::bind(host, loopback(service.port)) {
         Ok(listener) => listener,
         Err(_) => return tell_network(errors),
     };
@@ -281,6 +289,14 @@ fn serve_at_port<S: Alter + Drop, K: Keeper, H: Net + Clock, W: Write, E: Write>
     Ok(PRINTED)
 }
 
+/// The address at which clients of this machine alone connect: 127.0.0.1, and the port.
+fn loopback(port: u16) -> (Ipv4Addr, u16)
+    ensures address { ipv4_octets result.0 ≡ 127 ∷ 0 ∷ 0 ∷ 1 ∷ [] }
+    ensures port { result.1 ≡ port }
+{
+    (Ipv4Addr::LOCALHOST, port)
+}
+
 /// Serves the clients that connect to a listener.
 fn serve_clients<S: Alter, K: Keeper, H: Net + Clock>(
     alloc: Global,
@@ -291,9 +307,11 @@ fn serve_clients<S: Alter, K: Keeper, H: Net + Clock>(
     listener: &H::Listener,
 ) -> Sitting
     requires { service.connections ≤ MOST_CONNECTIONS }
-    ensures served { (clients : AreServed service.day service.connections store.old.register.state
-        store.new.register.state) × (result.served ≡ replied clients.turns) }
+    ensures served { (clients : AreServed service.day service.connections result.lost store.old.register.state
+        store.new.register.state) × ((result.served ≡ replied clients.turns) × LeavesWhereShut store.old.shut
+        store.new.shut (state S.Store store.new.conn) store.new.register.state clients.turns) }
     ensures tables { IsTied (state S.Store store.new.conn) store.new.shut (rows_of store.new.register.state) }
+    ensures others { OthersStay (state S.Store store.old.conn) (state S.Store store.new.conn) }
     ensures classes { HasClassesOfChains store.new.register.state }
     ensures adds_up { AddsUp store.new.register.state }
     ensures balance { IsBalanced store.new.register.state }

@@ -9,6 +9,7 @@ use Rattle.vet_register.specs.Sound.{IsSound}
 use Rattle.vet_register.specs.State.{State}
 use Rattle.vet_rows.specs.HeldState.{IsHeldState}
 use Rattle.vet_rows.specs.RowsOf.{rows_of}
+use Rattle.vet_store.specs.Has.{HasTables}
 use Rattle.vet_store.specs.Opened.{IsStored}
 use Rattle.vet_store.specs.Runs.{IsOfStore}
 use Rattle.vet_store.specs.Stands.{Holds, Rests}
@@ -43,11 +44,13 @@ module _ {S : Type 0} (g : Ghosts S) (before : Held S) where
   }
 
   -- where memory was wanting behind it, nothing came of it
-  pub is_for_memory : (conn after : Held S) (refusal : Refusal) → refusal ≡ NoMemory → after ≡ conn
+  pub is_for_memory : (conn after : Held S) (refusal : Refusal)
+      → ((HasTables (state g before).now.schema → ⊥) → ⊥) → refusal ≡ NoMemory → after ≡ conn
       → Stays g before conn → IsNotOpened g before refusal after
-  is_for_memory conn after refusal memory same kept =
+  is_for_memory conn after refusal has memory same kept =
       subst (λ (h : Held S). IsNotOpened g before refusal h) (sym same)
       (subst (λ (r : Refusal). IsNotOpened g before r conn) (sym memory) record {
+        foreign = λ not. absurd (has not);
         why = inl (inl refl);
         none = λ other. let two : NoMemory ≡ NotARegister = other in cc;
         stays = kept;
@@ -55,15 +58,21 @@ module _ {S : Type 0} (g : Ghosts S) (before : Held S) where
 
   -- a store that was not opened, of the parts of its refusal
   pub is_not_opened : (conn after : Held S) (told refusal : Refusal) → refusal ≡ told → after ≡ conn
+      → ((HasTables (state g before).now.schema → ⊥) → (told ≡ NotARegister) × (conn ≡ before))
       → (told ≡ NotARegister → HasCleanDisk (state g conn) → (t : State) → IsStored (state g before).now t → ⊥)
       → IsOfStore told ⊎ (told ≡ NotARegister)
       → (HasCleanDisk (state g conn) → IsTrue (state g conn).is_open
       → Rests (state g conn) × ((state g conn).now ≡ (state g before).now))
       → Survives (state g before) (state g conn) (λ _. ⊥) → IsNotOpened g before refusal after
-  is_not_opened conn after told refusal same left none why as_before crash =
+  is_not_opened conn after told refusal same left foreign none why as_before crash =
       subst (λ (h : Held S). IsNotOpened g before refusal h) (sym left)
       (subst (λ (r : Refusal). IsNotOpened g before r conn) (sym same)
-      record { why = why; none = none; stays = record { as_before = as_before; crash = crash } })
+      record {
+        foreign = foreign;
+        why = why;
+        none = none;
+        stays = record { as_before = as_before; crash = crash };
+      })
 
   -- a text that shows the register that was opened
   pub is_shown : (view : View) {T : Type 0} (text : T → Text) (conn after : Held S) (register : State)
@@ -75,7 +84,8 @@ module _ {S : Type 0} (g : Ghosts S) (before : Held S) where
       record { register = register; opened = opened; shows = shows }
 
   -- of a text that was not made, for want of memory
-  pub is_not_shown : {T : Type 0} (conn after : Held S) (told : Result T Refusal) → after ≡ conn → Stays g before conn
+  pub is_not_shown : {T : Type 0} (conn after : Held S) (told : Result T Refusal)
+      → ((HasTables (state g before).now.schema → ⊥) → ⊥) → after ≡ conn → Stays g before conn
       → IfErr told (λ refusal. refusal ≡ NoMemory) → IfErr told (λ refusal. IsNotOpened g before refusal after)
-  is_not_shown conn after (Ok t) same kept memory = tt
-  is_not_shown conn after (Err refusal) same kept memory = is_for_memory conn after refusal memory same kept
+  is_not_shown conn after (Ok t) has same kept memory = tt
+  is_not_shown conn after (Err refusal) has same kept memory = is_for_memory conn after refusal has memory same kept

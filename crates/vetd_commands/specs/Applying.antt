@@ -1,5 +1,5 @@
 -- What applying a command document to a register in a database comes to, and is answered (ours).
-use Rattle.std.specs.Prelude.{◌≡◌, ◌⊎◌, Bool, IsTrue, Option, Some, None, Ok, Err, option_and_then, ⊤}
+use Rattle.std.specs.Prelude.{◌≡◌, ◌⊎◌, [], ◌∷◌, Bool, IsTrue, Option, Some, None, Ok, Err, option_and_then, ⊤}
 use Rattle.clap.specs.Walk.{Text}
 use Rattle.sqlite.specs.Held.{Held, state}
 use Rattle.sqlite.specs.State.{HasCleanDisk, Survives}
@@ -17,8 +17,11 @@ use Rattle.vet_register.specs.declared.command.Outcome.{Outcome}
 use Rattle.vet_reports.specs.OutcomeText.{outcome_text}
 use Rattle.vet_requests.specs.Input.{Heard}
 use Rattle.vet_rows.specs.RowsOf.{rows_of}
+use Rattle.vet_store.specs.Beside.{OthersStay}
 use Rattle.vet_store.specs.Committed.{AreTreesBeside}
 use Rattle.vet_store.specs.Crash.{LeavesEither}
+use Rattle.vet_store.specs.Exact.{IsExact}
+use Rattle.vet_store.specs.Headline.{HasHeadline}
 use Rattle.vet_store.specs.Runs.{IsTurn}
 use Rattle.vet_store.specs.Tied.{IsTied}
 use Rattle.vetd_commands.specs.Making.{Giving}
@@ -26,15 +29,19 @@ use Rattle.vetd_commands.specs.Opening.{IsNotOpened, IsOpenedAs}
 use Rattle.vetd_words.specs.Answer.{Answer, Explains, IsInput, Prints, Refuses, Serves, input_read}
 use Rattle.vetd_words.specs.ApplyWords.{ApplyAsked}
 
--- A command was run on a register that stood in the tables of an open connection: it was told its verdict, or memory
--- was wanting or the store refused. The tables have the rows of the state that is left. A crash leaves these, or those
--- of the state after the command beside all else that stood there.
+-- A command was run on a register whose rows were in the tables of an open connection. It was told its verdict, or
+-- there was no memory or the store refused, where either may come in place of the verdict; and the headline holds of
+-- it. The tables have the rows of the state that is left, and all else in the database is as it was. A crash leaves these rows,
+-- or those of the state after the command beside all else that was there.
 pub record IsRunOf {S : Type 0} (g : Ghosts S) (opened : Held S) (register : State) (command : Command)
     (answer : Told Outcome) (after : Held S) : Type 0 where
   pub end : State
   pub turn : IsTurn register command answer end
+  pub exact : IsExact register command answer
+  pub headline : HasHeadline register (command ∷ []) (answer ∷ []) end
   pub shut : Bool
   pub tables : IsTied (state g after) shut (rows_of end)
+  pub others : OthersStay (state g opened) (state g after)
   pub crash : IsTrue (state g opened).is_open → Survives (state g opened) (state g after)
       (AreTreesBeside (state g opened).now (rows_of (next register command)))
   pub leaves : HasCleanDisk (state g after) → LeavesEither (state g after) register command

@@ -41,6 +41,17 @@ module _ {S : Type 0} (g : Ghosts S) (limit : ℕ) (before : Held S) where
 abbrev pub Giving : Type 0 → Type 1
 Giving S = Text → Result (Held S) Refusal → Type 0
 
+-- the same of databases of which this is known: a connection is outside a transaction, and where there is none, there
+-- was no memory or the store refused
+abbrev pub GivenBy : {S : Type 0} → Giving S → Giving S
+GivenBy gives path (Ok conn) = gives path (Ok conn) × (conn.in_transaction ≡ false)
+GivenBy gives path (Err refusal) = gives path (Err refusal) × IsOfStore refusal
+
+-- or, where a database is to stand there already, none does
+abbrev pub FoundBy : {S : Type 0} → Giving S → Giving S
+FoundBy finds path (Ok conn) = finds path (Ok conn) × (conn.in_transaction ≡ false)
+FoundBy finds path (Err refusal) = finds path (Err refusal) × (IsOfStore refusal ⊎ (refusal ≡ NotARegister))
+
 module _ {S : Type 0} (g : Ghosts S) (Gives : Giving S) where
   -- The answer to what is asked, and the connection that is left. A register was made; or there is no connection, for
   -- want of memory or as the path gave none; or there is one, and no register was made.

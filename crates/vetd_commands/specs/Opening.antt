@@ -6,6 +6,7 @@ use Rattle.sqlite_trees.specs.declared.store.Store.{Ghosts}
 use Rattle.vet_base.specs.declared.refusal.Refusal.{Refusal}
 use Rattle.vet_base.specs.declared.refusal.Refusal.TheVariants.{NotARegister}
 use Rattle.vet_register.specs.State.{State}
+use Rattle.vet_store.specs.Has.{HasTables}
 use Rattle.vet_store.specs.Opened.{IsStored}
 use Rattle.vet_store.specs.Runs.{IsOfStore}
 use Rattle.vet_store.specs.Stands.{Rests}
@@ -24,8 +25,10 @@ module _ {S : Type 0} (g : Ghosts S) (before : Held S) where
         → Rests (state g after) × ((state g after).now ≡ (state g before).now)
     pub crash : Survives (state g before) (state g after) (λ _. ⊥)
 
-  -- Nothing came of it: the tables have the rows of no register, or memory was wanting or the database refused.
+  -- Nothing came of it: the tables have the rows of no register, or there was no memory or the database refused.
+  -- Without the tables in their form it is no register, and nothing was done.
   pub record IsNotOpened (refusal : Refusal) (after : Held S) : Type 0 where
+    pub foreign : (HasTables (state g before).now.schema → ⊥) → (refusal ≡ NotARegister) × (after ≡ before)
     pub why : IsOfStore refusal ⊎ (refusal ≡ NotARegister)
     pub none : refusal ≡ NotARegister → HasCleanDisk (state g after)
         → (t : State) → IsStored (state g before).now t → ⊥

@@ -11,6 +11,7 @@ ghost use Rattle.vetd_words.specs.ApplyGiven.{apply_given};
 ghost use Rattle.vetd_words.specs.ApplyWords.{apply_asked};
 ghost use Rattle.vetd_commands.specs.Applying.{AnswersApply, IsApplyAnswer, IsApplyFor, IsDocumentAnswer};
 ghost use Rattle.vetd_commands.specs.Applying.{IsUnapplied, day_given};
+ghost use Rattle.vetd_commands.specs.Making.{FoundBy};
 ghost use Rattle.vet_requests.specs.Input.{TakesAtMost, heard};
 
 use crate::databases::{DatabaseRun, Databases};
@@ -27,6 +28,7 @@ use vet_register::command::Outcome;
 use vet_reports::outcome_text::{MOST_OUTCOME_BYTES, write_outcome};
 use vet_requests::input::CountedReader;
 use vet_requests::io_fault::IoFault;
+use vet_store::laws::classes_are_of_chains;
 use vet_store::store::Store;
 use vetd_words::answer::{explain, report};
 use vetd_words::apply_words::{ApplyWords, apply_words};
@@ -58,10 +60,10 @@ pub fn apply_run<
     writer: &mut W,
     errors: &mut E,
 ) -> DatabaseRun<S>
-    ensures written { IsWritten (AnswersApply S.Store (D.may_find databases.old)
+    ensures written { IsWritten (AnswersApply S.Store (FoundBy (D.may_find databases.old))
         (heard R.remaining reader.old) (heard R.remaining reader.new)
         (apply_given (map T.text words.now)) result.conn)
-        (IsUnapplied S.Store (D.may_find databases.old)
+        (IsUnapplied S.Store (FoundBy (D.may_find databases.old))
         (heard R.remaining reader.old) (heard R.remaining reader.new)
         (apply_given (map T.text words.now)) result.conn)
         result.status (W.contents writer.old) (W.contents writer.new)
@@ -97,10 +99,10 @@ fn apply_on<S: Alter + Drop, K: Keeper, D: Databases<S>, R: Read, W: Write, E: W
     writer: &mut W,
     errors: &mut E,
 ) -> DatabaseRun<S>
-    ensures written { IsWritten (AnswersApply S.Store (D.may_find databases.old)
+    ensures written { IsWritten (AnswersApply S.Store (FoundBy (D.may_find databases.old))
         (heard R.remaining reader.old) (heard R.remaining reader.new)
         (Some (apply_asked asked.entry)) result.conn)
-        (IsUnapplied S.Store (D.may_find databases.old)
+        (IsUnapplied S.Store (FoundBy (D.may_find databases.old))
         (heard R.remaining reader.old) (heard R.remaining reader.new)
         (Some (apply_asked asked.entry)) result.conn)
         result.status (W.contents writer.old) (W.contents writer.new)
@@ -162,8 +164,8 @@ fn apply_at<S: Alter + Drop, K: Keeper, D: Databases<S>>(
     day: Day,
     giver: Option<&[u8]>,
 ) -> (Result<String, Refusal>, Option<Connection<S>>)
-    ensures { IsApplyFor S.Store (D.may_find databases.old) path.now (option_copied giver.entry) day document.now
-        (answer_for string_bytes result.0) result.1 }
+    ensures { IsApplyFor S.Store (FoundBy (D.may_find databases.old)) path.now (option_copied giver.entry) day
+        document.now (answer_for string_bytes result.0) result.1 }
 {
     let line = match String::with_capacity(alloc, MOST_OUTCOME_BYTES) {
         Ok(line) => line,
@@ -221,6 +223,7 @@ fn run_document<S: Alter + Drop, K: Keeper>(
     match read_command(alloc, document, day, giver) {
         Ok(command) => {
             let answer = store.run(alloc, &command);
+            classes_are_of_chains(store.register());
             (outcome_line(answer, line), store.close())
         }
         Err(refusal) => (Err(refusal), store.close()),

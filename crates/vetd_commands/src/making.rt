@@ -1,7 +1,7 @@
 //! A register is made in a database, by the words of a new command.
 ghost use Rattle.std.specs.Prelude.{◌≡◌, ◌≢◌, ◌<◌, ◌≤◌, IfErr, IfOk, OnOk, false, map, string_bytes};
 ghost use Rattle.vetd_commands.specs.Making.{AnswersNew, IsAnswerFor, IsNewRegister, IsNoRegister, IsUnmade};
-ghost use Rattle.vetd_commands.specs.Making.{created_line};
+ghost use Rattle.vetd_commands.specs.Making.{GivenBy, created_line};
 ghost use Rattle.vetd_words.specs.Answer.{IsWritten, answer_for};
 ghost use Rattle.vetd_words.specs.NewAsked.{new_asked};
 
@@ -33,8 +33,8 @@ pub fn new_run<T: AsStr, S: Alter + Drop, K: Keeper, D: Databases<S>, W: Write, 
     errors: &mut E,
 ) -> DatabaseRun<S>
     ensures written { IsWritten
-        (AnswersNew S.Store (D.may_give databases.old) (map T.text words.now) result.conn)
-        (IsUnmade S.Store (D.may_give databases.old) (map T.text words.now) result.conn)
+        (AnswersNew S.Store (GivenBy (D.may_give databases.old)) (map T.text words.now) result.conn)
+        (IsUnmade S.Store (GivenBy (D.may_give databases.old)) (map T.text words.now) result.conn)
         result.status (W.contents writer.old) (W.contents writer.new)
         (E.contents errors.old) (E.contents errors.new) }
     ensures faults { IfErr result.status (λ fault. (fault ≢ IoFault.Input) × (fault ≢ IoFault.Endless)) }
@@ -59,7 +59,7 @@ fn make_at<S: Alter + Drop, K: Keeper, D: Databases<S>>(
     asked: NewWords<'_>,
 ) -> (Result<String, Refusal>, Option<Connection<S>>)
     requires { (0 < asked.moves_limit) × (asked.moves_limit ≤ MOST_MOVES) }
-    ensures { IsAnswerFor S.Store (D.may_give databases.old) (new_asked asked.entry)
+    ensures { IsAnswerFor S.Store (GivenBy (D.may_give databases.old)) (new_asked asked.entry)
         (answer_for string_bytes result.0) result.1 }
 {
     let text = match created(alloc) {

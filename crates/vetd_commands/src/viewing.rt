@@ -2,6 +2,7 @@
 ghost use Rattle.std.specs.Prelude.{◌≡◌, ◌≢◌, IfErr, IfOk, false, map, string_bytes};
 ghost use Rattle.vetd_words.specs.Answer.{IsWritten, answer_for};
 ghost use Rattle.vetd_words.specs.ViewWords.{view_asked, view_given};
+ghost use Rattle.vetd_commands.specs.Making.{FoundBy};
 ghost use Rattle.vetd_commands.specs.Opening.{IsNotOpened};
 ghost use Rattle.vetd_commands.specs.Viewing.{AnswersView, IsShown, IsUntold, IsViewFor};
 
@@ -34,8 +35,9 @@ pub fn view_run<T: AsStr, S: Alter + Drop, K: Keeper, D: Databases<S>, W: Write,
     errors: &mut E,
 ) -> DatabaseRun<S>
     ensures written { IsWritten
-        (AnswersView S.Store (D.may_find databases.old) (view_given command (map T.text words.now)) result.conn)
-        (IsUntold S.Store (D.may_find databases.old) (view_given command (map T.text words.now)) result.conn)
+        (AnswersView S.Store (FoundBy (D.may_find databases.old)) (view_given command (map T.text words.now))
+        result.conn)
+        (IsUntold S.Store (FoundBy (D.may_find databases.old)) (view_given command (map T.text words.now)) result.conn)
         result.status (W.contents writer.old) (W.contents writer.new)
         (E.contents errors.old) (E.contents errors.new) }
     ensures faults { IfErr result.status (λ fault. (fault ≢ IoFault.Input) × (fault ≢ IoFault.Endless)) }
@@ -59,7 +61,7 @@ fn view_at<S: Alter + Drop, K: Keeper, D: Databases<S>>(
     databases: &mut D,
     asked: ViewWords<'_>,
 ) -> (Result<String, Refusal>, Option<Connection<S>>)
-    ensures { IsViewFor S.Store (D.may_find databases.old) (view_asked asked.entry)
+    ensures { IsViewFor S.Store (FoundBy (D.may_find databases.old)) (view_asked asked.entry)
         (answer_for string_bytes result.0) result.1 }
 {
     match databases.find(asked.path) {

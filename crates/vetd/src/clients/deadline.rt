@@ -1,7 +1,7 @@
 //! How long a connection may last, and the day of the clock.
-ghost use Rattle.std.specs.Prelude.{◌≡◌, ◌<◌, ◌/◌, IfOk, IfSome, pos};
+ghost use Rattle.std.specs.Prelude.{◌≡◌, ◌==◌, ◌<◌, ◌/◌, IfOk, IfSome, None, Some, if◌then◌else◌, pos, true};
 ghost use Rattle.std.specs.Duration.{as_nanos};
-ghost use Rattle.vet_base.specs.Day.{day_number};
+ghost use Rattle.vet_base.specs.Day.{DayValue, day_number, is_day};
 
 use std::io;
 use std::time::{Clock, Duration, Instant, SystemTime, UNIX_EPOCH};
@@ -34,12 +34,18 @@ impl Deadline {
     pub fn time_left<C: Clock>(self, clock: &C) -> io::Result<Duration>
         ensures { IfOk result (λ left. 0 < as_nanos left) }
     {
-        let left = self.end.duration_since(Instant::now(clock)?);
-        if left.is_zero() {
-            return Err(io::Error::from(io::ErrorKind::TimedOut));
+        match some_time(self.end.duration_since(Instant::now(clock)?)) {
+            Some(left) => Ok(left),
+            None => Err(io::Error::from(io::ErrorKind::TimedOut)),
         }
-        Ok(left)
     }
+}
+
+/// A time, unless it is none.
+fn some_time(left: Duration) -> Option<Duration>
+    ensures { result ≡ (if as_nanos left == 0 then None else Some left) }
+{
+    if left.is_zero() { None } else { Some(left) }
 }
 
 /// The clock's day in UTC. An error where the clock can't be read, or is past 9999-12-31.
@@ -53,9 +59,11 @@ pub fn today<C: Clock>(clock: &C) -> io::Result<Day> {
     }
 }
 
-/// The day that it is so many seconds after 1970 began, unless that is past 9999-12-31.
+/// The day that it is so many seconds after 1970 began, and none exactly where that is past 9999-12-31.
 fn day_at(seconds: u64) -> Option<Day>
-    ensures { IfSome result (λ day. day_number day ≡ pos (seconds / SECONDS_OF_A_DAY)) }
+    ensures number { IfSome result (λ day. day_number day ≡ pos (seconds / SECONDS_OF_A_DAY)) }
+    ensures only { (d : DayValue) → is_day d ≡ true → day_number d ≡ pos (seconds / SECONDS_OF_A_DAY)
+        → result ≡ Some d }
 {
     Day::of_number((seconds / SECONDS_OF_A_DAY) as i64)
 }

@@ -2,16 +2,15 @@
 //!
 //! **Each that is replied to is a step of the machine, as where all are at hand at once. What comes of one never keeps
 //! the next from being served.**
-ghost use Rattle.std.specs.Prelude.{◌≡◌, ◌≤◌, [], ◌∷◌, IfSome, IsTrue, List, Result, false, is_none, true};
+ghost use Rattle.std.specs.Prelude.{◌≡◌, ◌≤◌, [], ◌∷◌, IfSome, IsTrue, List, false, is_none, true};
 ghost use Rattle.std.specs.Iterator.{DrainsIf, IsFinite, size};
 ghost use Rattle.sqlite.specs.Held.{state};
-ghost use Rattle.vet_http.specs.Serve.{IsTurn};
-ghost use Rattle.vet_requests.specs.declared.io_fault.IoFault.{IoFault as IoFaultValue};
-ghost use Rattle.vet_http.specs.declared.serve.Connection.{Connection as ConnectionValue};
-ghost use Rattle.vet_http.specs.declared.serve.Served.{Served as ServedValue};
 ghost use Rattle.vet_rows.specs.RowsOf.{rows_of};
+ghost use Rattle.vet_store.specs.Beside.{OthersStay};
 ghost use Rattle.vet_store.specs.Tied.{IsTied};
-ghost use Rattle.vetd.specs.Serving.{Serves, is_lost, whole};
+ghost use Rattle.vetd.specs.DoneTurns.{LeavesWhereShut};
+ghost use Rattle.vetd.specs.HangingUp.{awaits_rest};
+ghost use Rattle.vetd.specs.Serving.{IsServedTurn, IsTurnOf, Serves, Turn, is_lost, replied};
 ghost use Rattle.vetd.specs.declared.clients.arrivals.Arrival.{Arrival as ArrivalValue};
 ghost use Rattle.vetd_words.specs.declared.serve_words.TheConstants.{MOST_CONNECTIONS};
 
@@ -46,12 +45,15 @@ where
     requires can { I.can_next arrivals }
     requires ends { IsFinite (I.remaining arrivals) }
     requires few { size (I.remaining arrivals) ≤ MOST_CONNECTIONS }
-    ensures served { (came : List (ArrivalValue R W)) × ((answers : List (Result ServedValue IoFaultValue))
-        × (Serves R.remaining W.Write.contents store.old.register.state came answers store.new.register.state
-        × ((result.served ≡ whole answers) × ((result.lost ≡ is_lost came)
-        × DrainsIf I.next_gives (result.lost ≡ false) arrivals came)))) }
+    ensures served { (came : List (ArrivalValue R W)) × ((turns : List Turn)
+        × (Serves R.remaining W.Write.contents store.old.register.state came turns store.new.register.state
+        × ((result.served ≡ replied turns) × ((result.lost ≡ is_lost came)
+        × (DrainsIf I.next_gives (result.lost ≡ false) arrivals came
+        × LeavesWhereShut store.old.shut store.new.shut (state S.Store store.new.conn) store.new.register.state
+        turns))))) }
     ensures tables { IsTied (state S.Store store.new.conn) store.new.shut (rows_of store.new.register.state) }
     ensures closed { IsTrue store.old.shut → store.new ≡ store.old }
+    ensures others { OthersStay (state S.Store store.old.conn) (state S.Store store.new.conn) }
 {
     store.tables_are_of_register();
     let mut served = 0;
@@ -74,14 +76,16 @@ fn serve_arrival<S: Alter, K: Keeper, R: Read + Drop, W: HangUp + Drop>(
     store: &mut Store<S, K>,
     arrival: Arrival<R, W>,
 ) -> Option<u32>
-    ensures served { IfSome result (λ replied. (answers : List (Result ServedValue IoFaultValue))
-        × (Serves R.remaining W.Write.contents store.old.register.state (arrival ∷ []) answers
-        store.new.register.state × (replied ≡ whole answers))) }
+    ensures served { IfSome result (λ whole. (turns : List Turn)
+        × (Serves R.remaining W.Write.contents store.old.register.state (arrival ∷ []) turns store.new.register.state
+        × ((whole ≡ replied turns) × LeavesWhereShut store.old.shut store.new.shut (state S.Store store.new.conn)
+        store.new.register.state turns))) }
     ensures few { IfSome result (λ replied. replied ≤ 1) }
     ensures found { is_none result ≡ is_lost (arrival ∷ []) }
     ensures lost { is_none result ≡ true → store.new ≡ store.old }
     ensures tables { IsTied (state S.Store store.new.conn) store.new.shut (rows_of store.new.register.state) }
     ensures closed { IsTrue store.old.shut → store.new ≡ store.old }
+    ensures others { OthersStay (state S.Store store.old.conn) (state S.Store store.new.conn) }
 {
     store.tables_are_of_register();
     match arrival {
@@ -98,12 +102,14 @@ fn serve_client<S: Alter, K: Keeper, R: Read + Drop, W: HangUp + Drop>(
     store: &mut Store<S, K>,
     connection: Connection<R, W>,
 ) -> u32
-    ensures served { (left : ConnectionValue R W) × ((answer : Result ServedValue IoFaultValue)
-        × (IsTurn R.remaining W.Write.contents store.old.register.state connection left answer
-        store.new.register.state × (result ≡ whole (answer ∷ [])))) }
+    ensures served { (turn : Turn) × (IsTurnOf R.remaining W.Write.contents connection turn
+        × (IsServedTurn store.old.register.state turn store.new.register.state × ((result ≡ replied (turn ∷ []))
+        × LeavesWhereShut store.old.shut store.new.shut (state S.Store store.new.conn) store.new.register.state
+        (turn ∷ [])))) }
     ensures few { result ≤ 1 }
     ensures tables { IsTied (state S.Store store.new.conn) store.new.shut (rows_of store.new.register.state) }
     ensures closed { IsTrue store.old.shut → store.new ≡ store.old }
+    ensures others { OthersStay (state S.Store store.old.conn) (state S.Store store.new.conn) }
 {
     let mut connection = connection;
     let day = connection.day;
@@ -124,7 +130,9 @@ fn serve_client<S: Alter, K: Keeper, R: Read + Drop, W: HangUp + Drop>(
 }
 
 /// Whether a reply of this status may come before the client has sent all that it announced.
-fn may_await(status: Status) -> bool {
+fn may_await(status: Status) -> bool
+    ensures { result ≡ awaits_rest status }
+{
     match status {
         Status::BadRequest | Status::ContentTooLarge | Status::NotImplemented => true,
         _ => false,

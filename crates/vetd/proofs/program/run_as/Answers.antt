@@ -8,11 +8,12 @@ use Rattle.vetd.specs.declared.program.ProgramCommand.TheVariants.{File}
 use Rattle.vet_requests.proofs.ReadLemmas.{hands_nothing}
 use Rattle.vetd_words.proofs.Answered.{is_written}
 use Rattle.vetd.proofs.program.run_as.Goals as goal
+use Rattle.vetd_commands.specs.Making.{FoundBy, GivenBy}
 
 pub returns-in-File-clause-written : goal.returns-in-File-clause-written
 returns-in-File-clause-written g c =
-    let gives = g.D.Databases.may_give c.args.databases.now in
-    let finds = g.D.Databases.may_find c.args.databases.now in
+    let gives = GivenBy (g.D.Databases.may_give c.args.databases.now) in
+    let finds = FoundBy (g.D.Databases.may_find c.args.databases.now) in
     let seen = heard g.R.Read.remaining c.args.reader.now in
     let seen' = heard g.R.Read.remaining c.command_run.new.reader in
     let words = map g.T.AsStr.text c.args.words.now in

@@ -1,28 +1,38 @@
 -- What was printed as clients were served, from what each step wrote.
-use Rattle.std.proofs.Common.{◌≡◌, ◌∙◌, [], ap}
+use Rattle.std.proofs.Common.{◌≡◌, ◌∙◌, [], Bool, ap, subst}
 use Rattle.std.proofs.KnownBytes.{Appends-nil}
-use Rattle.vetd.specs.Serving.{served_line}
-use Rattle.vetd.proofs.Sitting.{headline_of, lost_in_between, lost_written, no_port, sat_in_part, sat_whole, unheard}
+use Rattle.sqlite.specs.Held.{state}
+use Rattle.vetd.proofs.DoneTurnLemmas.{never_shut}
+use Rattle.vetd.specs.DoneTurns.{LeavesWhereShut}
+use Rattle.vetd.specs.Serving.{AreServed, replied, served_line}
+use Rattle.vetd.proofs.Sitting.{classes_of, lost_in_between, lost_written, no_port, sat_in_part, sat_whole, unheard}
+use Rattle.vet_store.proofs.Tying.{others_as_were}
 use Rattle.vetd.proofs.serve_run.serve_at_port.Goals as goal
 
 pub returns-in-Err-clause-written : goal.returns-in-Err-clause-written
 returns-in-Err-clause-written g c =
     let held = c.headline_holds.ensures in
-    let headline = headline_of c.args.store.now.register.state held.classes held.adds_up held.balance in
+    let classes = classes_of c.args.store.now.register.state held.classes held.adds_up held.balance in
     let store = c.args.store.now in
     let s = store.register.state in
     let out = g.W.Write.contents c.args.writer.now in
     let told = c.tell_network.ensures in
-    lost_written c.args.service s s (store ≡ store) [] out out _ _ (no_port c.args.service s headline)
+    let conn = state g.S.Store store.conn in
+    let leaves = LeavesWhereShut store.shut store.shut conn s in
+    lost_written c.args.service leaves s s (store ≡ store) [] out out _ _
+    (no_port c.args.service leaves s classes (never_shut store.shut conn s []))
     c.tell_network.result (Appends-nil out) told.status told.told told.part told.faults
 
 pub returns-in_err-write_whole-clause-written : goal.returns-in_err-write_whole-clause-written
 returns-in_err-write_whole-clause-written g c =
     let held = c.headline_holds.ensures in
-    let headline = headline_of c.args.store.now.register.state held.classes held.adds_up held.balance in
+    let classes = classes_of c.args.store.now.register.state held.classes held.adds_up held.balance in
     let store = c.args.store.now in
     let written = c.in_err-write_whole.ensures in
-    unheard c.args.service store.register.state headline (store ≡ store) c.from_residual-in_err-write_whole.result
+    let conn = state g.S.Store store.conn in
+    let s = store.register.state in
+    unheard c.args.service (LeavesWhereShut store.shut store.shut conn s) s classes
+    (never_shut store.shut conn s []) (store ≡ store) c.from_residual-in_err-write_whole.result
     c.in_err-write_whole.field-0.0 c.as_bytes.result.now _ _ _
     (c.as_bytes.ensures.value ∙ c.in_ok-lines.ensures.listening) c.from_residual-in_err-write_whole.ensures.1
     written.faults written.part
@@ -32,10 +42,16 @@ returns-then-sitting-clause-written g c =
     let first = c.args.store.now in
     let last = c.serve_clients-sitting.new.store in
     let held = c.serve_clients-sitting.ensures in
-    let headline = headline_of last.register.state held.classes held.adds_up held.balance in
+    let classes = classes_of last.register.state held.classes held.adds_up held.balance in
     let told = c.tell_network-then-sitting.ensures in
-    lost_in_between c.args.service first.register.state last.register.state headline
-    c.serve_clients-sitting.ensures.served.0 (last ≡ first) c.as_bytes.result.now c.tell_network-then-sitting.result
+    let conn = state g.S.Store last.conn in
+    let end = last.register.state in
+    let lost = c.if-sitting.true in
+    let served = subst (λ (lost : Bool). (clients : AreServed c.args.service.day c.args.service.connections lost
+    first.register.state end) × ((c.serve_clients-sitting.result.served ≡ replied clients.turns)
+    × LeavesWhereShut first.shut last.shut conn end clients.turns)) lost c.serve_clients-sitting.ensures.served in
+    lost_in_between c.args.service (LeavesWhereShut first.shut last.shut conn end) first.register.state end classes
+    (last ≡ first) served.0 served.1.1 c.as_bytes.result.now c.tell_network-then-sitting.result
     _ _ _ _ (c.as_bytes.ensures.value ∙ c.in_ok-lines.ensures.listening) c.in_ok-write_whole.ensures.whole
     told.status told.told told.part told.faults
 
@@ -44,12 +60,18 @@ returns-in_err-write_whole-2-clause-written g c =
     let first = c.args.store.now in
     let last = c.serve_clients-sitting.new.store in
     let held = c.serve_clients-sitting.ensures in
-    let headline = headline_of last.register.state held.classes held.adds_up held.balance in
-    let served = c.serve_clients-sitting.ensures.served in
+    let classes = classes_of last.register.state held.classes held.adds_up held.balance in
+    let conn = state g.S.Store last.conn in
+    let end = last.register.state in
+    let kept = c.if-sitting.false in
+    let served = subst (λ (lost : Bool). (clients : AreServed c.args.service.day c.args.service.connections lost
+    first.register.state end) × ((c.serve_clients-sitting.result.served ≡ replied clients.turns)
+    × LeavesWhereShut first.shut last.shut conn end clients.turns)) kept c.serve_clients-sitting.ensures.served in
     let written = c.in_err-write_whole-2.ensures in
-    sat_in_part c.args.service first.register.state last.register.state headline served.0 (last ≡ first)
+    sat_in_part c.args.service (LeavesWhereShut first.shut last.shut conn end) first.register.state end classes
+    (last ≡ first) served.0 served.1.1
     c.as_bytes.result.now c.as_bytes-2.result.now (c.as_bytes.ensures.value ∙ c.in_ok-lines.ensures.listening)
-    (c.as_bytes-2.ensures.value ∙ c.served.ensures ∙ ap served_line served.1)
+    (c.as_bytes-2.ensures.value ∙ c.served.ensures ∙ ap served_line served.1.0)
     c.from_residual-in_err-write_whole-2.result c.in_err-write_whole-2.field-0.0 _ _ _ _
     c.from_residual-in_err-write_whole-2.ensures.1 written.faults c.in_ok-write_whole.ensures.whole written.part
 
@@ -58,9 +80,20 @@ returns-clause-written g c =
     let first = c.args.store.now in
     let last = c.serve_clients-sitting.new.store in
     let held = c.serve_clients-sitting.ensures in
-    let headline = headline_of last.register.state held.classes held.adds_up held.balance in
-    let served = c.serve_clients-sitting.ensures.served in
-    sat_whole c.args.service first.register.state last.register.state headline served.0 (last ≡ first)
+    let classes = classes_of last.register.state held.classes held.adds_up held.balance in
+    let conn = state g.S.Store last.conn in
+    let end = last.register.state in
+    let kept = c.if-sitting.false in
+    let served = subst (λ (lost : Bool). (clients : AreServed c.args.service.day c.args.service.connections lost
+    first.register.state end) × ((c.serve_clients-sitting.result.served ≡ replied clients.turns)
+    × LeavesWhereShut first.shut last.shut conn end clients.turns)) kept c.serve_clients-sitting.ensures.served in
+    sat_whole c.args.service (LeavesWhereShut first.shut last.shut conn end) first.register.state end classes
+    (last ≡ first) served.0 served.1.1
     c.as_bytes.result.now c.as_bytes-2.result.now (c.as_bytes.ensures.value ∙ c.in_ok-lines.ensures.listening)
-    (c.as_bytes-2.ensures.value ∙ c.served.ensures ∙ ap served_line served.1) _ _ _ _
+    (c.as_bytes-2.ensures.value ∙ c.served.ensures ∙ ap served_line served.1.0) _ _ _ _
     c.in_ok-write_whole.ensures.whole c.in_ok-write_whole-2.ensures.whole
+
+-- ---- all else in the database
+
+pub returns-in_err-room-clause-others : goal.returns-in_err-room-clause-others
+returns-in_err-room-clause-others g c = others_as_were (state g.S.Store c.args.store.now.conn)

@@ -10,7 +10,7 @@ pub returns-in-Ok-clause-written : goal.returns-in-Ok-clause-written
 returns-in-Ok-clause-written g c =
     let first = c.in-Ok.store in
     let last = c.serve_at_port.new.store in
-    of_memory c.args.service (last ≡ first) first.register.state last.register.state c.in-Ok.ensures.start
+    of_memory c.args.service _ (last ≡ first) first.register.state last.register.state c.in-Ok.ensures.start
     c.serve_at_port.result _ _ _ _ c.serve_at_port.ensures.written
 
 pub returns-in-Err-clause-written : goal.returns-in-Err-clause-written

@@ -5,10 +5,11 @@ use Rattle.vetd_words.specs.ServeAsked.{serve_asked}
 use Rattle.vetd.specs.ServeRun.{IsServeOn, IsUnservedAt, day_told}
 use Rattle.vetd.proofs.Served.{bad_day, is_told, on_none, on_path}
 use Rattle.vetd.proofs.serve_run.serve_on.Goals as goal
+use Rattle.vetd_commands.specs.Making.{FoundBy}
 
 pub returns-in-Err-clause-written : goal.returns-in-Err-clause-written
 returns-in-Err-clause-written g c =
-    let finds = g.D.Databases.may_find c.args.databases.now in
+    let finds = FoundBy (g.D.Databases.may_find c.args.databases.now) in
     let asked = serve_asked c.args.asked in
     let refusal = c.in-Err.refusal in
     is_told (λ answer. IsServeOn g.S.Store finds asked (day_told asked.day) answer None)
@@ -18,12 +19,12 @@ returns-in-Err-clause-written g c =
 
 pub returns-in-Some-clause-written : goal.returns-in-Some-clause-written
 returns-in-Some-clause-written g c =
-    on_path g.S.Store (g.D.Databases.may_find c.args.databases.now) (serve_asked c.args.asked) c.in-Ok.service
+    on_path g.S.Store (FoundBy (g.D.Databases.may_find c.args.databases.now)) (serve_asked c.args.asked) c.in-Ok.service
     c.in-Ok.ensures.day c.in-Ok.ensures.same c.serve_file.result.conn c.in-Some.path.now
     (ap (option_map (λ path. path.now)) c.in-Some.is) c.serve_file.result.status _ _ _ _ c.serve_file.ensures.written
 
 pub returns-in-None-clause-written : goal.returns-in-None-clause-written
 returns-in-None-clause-written g c =
-    on_none g.S.Store (g.D.Databases.may_find c.args.databases.now) (serve_asked c.args.asked) c.in-Ok.service
+    on_none g.S.Store (FoundBy (g.D.Databases.may_find c.args.databases.now)) (serve_asked c.args.asked) c.in-Ok.service
     c.in-Ok.ensures.day c.in-Ok.ensures.same None (ap (option_map (λ path. path.now)) c.in-None.is) refl
     c.serve_memory.result _ _ _ _ c.serve_memory.ensures.written

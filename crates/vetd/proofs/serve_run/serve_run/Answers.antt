@@ -5,16 +5,17 @@ use Rattle.vetd.specs.ServeRun.{AnswersServe, IsUnserved}
 use Rattle.vetd_words.proofs.Answered.{explained_written}
 use Rattle.vetd.proofs.Served.{of_words, serve_explained}
 use Rattle.vetd.proofs.serve_run.serve_run.Goals as goal
+use Rattle.vetd_commands.specs.Making.{FoundBy}
 
 pub returns-in-Ok-clause-written : goal.returns-in-Ok-clause-written
 returns-in-Ok-clause-written g c =
-    of_words g.S.Store (g.D.Databases.may_find c.args.databases.now) (map g.T.AsStr.text c.args.words.now)
+    of_words g.S.Store (FoundBy (g.D.Databases.may_find c.args.databases.now)) (map g.T.AsStr.text c.args.words.now)
     (serve_asked c.in-Ok.asked) c.in-Ok.ensures.found c.serve_on.result.conn c.serve_on.result.status _ _ _ _
     c.serve_on.ensures.written
 
 pub returns-in-Err-clause-written : goal.returns-in-Err-clause-written
 returns-in-Err-clause-written g c =
-    let finds = g.D.Databases.may_find c.args.databases.now in
+    let finds = FoundBy (g.D.Databases.may_find c.args.databases.now) in
     let words = map g.T.AsStr.text c.args.words.now in
     explained_written (AnswersServe g.S.Store finds words None) (IsUnserved g.S.Store finds words None)
     c.in-Err.error.kind (λ other. serve_explained g.S.Store finds words (c.in-Err.ensures.refused other))

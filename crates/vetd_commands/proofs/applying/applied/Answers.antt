@@ -10,7 +10,8 @@ returns-in-Err g c =
     inl (is_not_opened g.S.Store c.args.conn c.in-Err.refused.conn c.into_parts-refusal.result.1
     c.in-Err.refused.refusal c.into_parts-refusal.result.0
     c.into_parts-refusal.ensures.refusal c.into_parts-refusal.ensures.conn
-    c.in-Err.ensures.none c.in-Err.ensures.refused c.in-Err.ensures.as_before c.in-Err.ensures.crash)
+    c.in-Err.ensures.foreign c.in-Err.ensures.none c.in-Err.ensures.refused c.in-Err.ensures.as_before
+    c.in-Err.ensures.crash)
 
 pub returns : goal.returns
 returns g c =

@@ -12,10 +12,11 @@ use Rattle.vetd_words.proofs.AnswerLemmas.{read_since}
 use Rattle.vetd_words.proofs.Answered.{failed_written, told_written}
 use Rattle.vetd_commands.proofs.Applied.{apply_of_input, apply_undone, apply_untold, bad_day, is_no_day, is_that_day}
 use Rattle.vetd_commands.proofs.applying.apply_on.Goals as goal
+use Rattle.vetd_commands.specs.Making.{FoundBy}
 
 pub returns-in-Err-clause-written : goal.returns-in-Err-clause-written
 returns-in-Err-clause-written g c =
-    let gives = g.D.Databases.may_find c.args.databases.now in
+    let gives = FoundBy (g.D.Databases.may_find c.args.databases.now) in
     let seen = heard g.R.Read.remaining c.args.reader.now in
     let asked = apply_asked c.args.asked in
     let told = is_no_day (read_day asked.day) c.in-Err.refusal c.in-Err.ensures in
@@ -27,7 +28,7 @@ returns-in-Err-clause-written g c =
 
 pub returns-in-Err-read_at_most-clause-written : goal.returns-in-Err-read_at_most-clause-written
 returns-in-Err-read_at_most-clause-written g c =
-    let gives = g.D.Databases.may_find c.args.databases.now in
+    let gives = FoundBy (g.D.Databases.may_find c.args.databases.now) in
     let seen = heard g.R.Read.remaining c.args.reader.now in
     let seen' = heard g.R.Read.remaining c.read_at_most.new.self in
     let asked = apply_asked c.args.asked in
@@ -37,7 +38,7 @@ returns-in-Err-read_at_most-clause-written g c =
 
 pub returns-clause-written : goal.returns-clause-written
 returns-clause-written g c =
-    let gives = g.D.Databases.may_find c.args.databases.now in
+    let gives = FoundBy (g.D.Databases.may_find c.args.databases.now) in
     let seen = heard g.R.Read.remaining c.args.reader.now in
     let seen' = heard g.R.Read.remaining c.read_at_most.new.self in
     let asked = apply_asked c.args.asked in

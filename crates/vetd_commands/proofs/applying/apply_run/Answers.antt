@@ -9,10 +9,11 @@ use Rattle.vetd_words.proofs.Answered.{explained_written}
 use Rattle.vetd_commands.proofs.Applied.{apply_explained}
 use Rattle.vetd_words.proofs.RunLemmas.{is_for_want}
 use Rattle.vetd_commands.proofs.applying.apply_run.Goals as goal
+use Rattle.vetd_commands.specs.Making.{FoundBy}
 
 pub returns-in-Ok-clause-written : goal.returns-in-Ok-clause-written
 returns-in-Ok-clause-written g c =
-    let gives = g.D.Databases.may_find c.args.databases.now in
+    let gives = FoundBy (g.D.Databases.may_find c.args.databases.now) in
     let seen = heard g.R.Read.remaining c.args.reader.now in
     let seen' = heard g.R.Read.remaining c.apply_on.new.reader in
     let left = c.apply_on.result.conn in
@@ -36,7 +37,7 @@ returns-in-Ok-clause-spent g c = λ spent some.
 
 pub returns-in-Err-clause-written : goal.returns-in-Err-clause-written
 returns-in-Err-clause-written g c =
-    let gives = g.D.Databases.may_find c.args.databases.now in
+    let gives = FoundBy (g.D.Databases.may_find c.args.databases.now) in
     let seen = heard g.R.Read.remaining c.args.reader.now in
     let meant = apply_given (map g.T.AsStr.text c.args.words.now) in
     explained_written (AnswersApply g.S.Store gives seen seen meant None)

@@ -1,6 +1,6 @@
 -- The answer to the words, from what was asked and what came of it.
 use Rattle.std.proofs.Common.{None, map, string_bytes}
-use Rattle.vetd_commands.specs.Making.{AnswersNew, IsUnmade}
+use Rattle.vetd_commands.specs.Making.{AnswersNew, GivenBy, IsUnmade}
 use Rattle.vetd_words.specs.NewAsked.{new_asked}
 use Rattle.vetd_words.proofs.Answered.{explained_written, told_written}
 use Rattle.vetd_commands.proofs.MakingLemmas.{made_of_words, new_explained, told_unmade}
@@ -8,7 +8,7 @@ use Rattle.vetd_commands.proofs.making.new_run.Goals as goal
 
 pub returns-in-Ok-clause-written : goal.returns-in-Ok-clause-written
 returns-in-Ok-clause-written g c =
-    let gives = g.D.Databases.may_give c.args.databases.now in
+    let gives = GivenBy (g.D.Databases.may_give c.args.databases.now) in
     let words = map g.T.AsStr.text c.args.words.now in
     let told = c.make_at-told.result.0 in
     let left = c.make_at-told.result.1 in
@@ -22,7 +22,7 @@ returns-in-Ok-clause-written g c =
 
 pub returns-in-Err-clause-written : goal.returns-in-Err-clause-written
 returns-in-Err-clause-written g c =
-    let gives = g.D.Databases.may_give c.args.databases.now in
+    let gives = GivenBy (g.D.Databases.may_give c.args.databases.now) in
     let words = map g.T.AsStr.text c.args.words.now in
     explained_written (AnswersNew g.S.Store gives words None) (IsUnmade g.S.Store gives words None)
     c.in-Err.error.kind (λ other. new_explained g.S.Store gives words (c.in-Err.ensures.refused other))

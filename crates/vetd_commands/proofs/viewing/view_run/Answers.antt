@@ -5,10 +5,11 @@ use Rattle.vetd_commands.specs.Viewing.{AnswersView, IsUntold}
 use Rattle.vetd_words.proofs.Answered.{explained_written, told_written}
 use Rattle.vetd_commands.proofs.Viewed.{view_explained, view_of_words, view_untold}
 use Rattle.vetd_commands.proofs.viewing.view_run.Goals as goal
+use Rattle.vetd_commands.specs.Making.{FoundBy}
 
 pub returns-in-Ok-clause-written : goal.returns-in-Ok-clause-written
 returns-in-Ok-clause-written g c =
-    let gives = g.D.Databases.may_find c.args.databases.now in
+    let gives = FoundBy (g.D.Databases.may_find c.args.databases.now) in
     let meant = view_given c.args.command (map g.T.AsStr.text c.args.words.now) in
     let told = c.view_at-told.result.0 in
     let left = c.view_at-told.result.1 in
@@ -22,7 +23,7 @@ returns-in-Ok-clause-written g c =
 
 pub returns-in-Err-clause-written : goal.returns-in-Err-clause-written
 returns-in-Err-clause-written g c =
-    let gives = g.D.Databases.may_find c.args.databases.now in
+    let gives = FoundBy (g.D.Databases.may_find c.args.databases.now) in
     let meant = view_given c.args.command (map g.T.AsStr.text c.args.words.now) in
     explained_written (AnswersView g.S.Store gives meant None) (IsUntold g.S.Store gives meant None)
     c.in-Err.error.kind (λ other. view_explained g.S.Store gives meant (c.in-Err.ensures.refused other))

@@ -1,22 +1,64 @@
 -- What came of a client, whether it had its whole reply or ended in a fault.
 use Rattle.std.proofs.Common.{Err, Ok, refl}
-use Rattle.vet_http.specs.declared.serve.Connection.{Connection}
+use Rattle.sqlite.specs.Held.{state}
+use Rattle.vet_http.proofs.ServeLemmas.{cut_off_by}
+use Rattle.vet_requests.specs.Input.{heard}
+use Rattle.vetd.proofs.DoneTurnLemmas.{one_leaves}
 use Rattle.vetd.proofs.clients.serving.serve_client.Goals as goal
+use Rattle.vetd.specs.Serving.{Turn}
 
 pub returns-in-Ok-clause-served : goal.returns-in-Ok-clause-served
 returns-in-Ok-clause-served g c =
-    let left : Connection g.row.R.Denot g.row.W.Denot = record {
+    let turn : Turn = record {
       day = c.args.connection.day;
-      reader = c.serve_in.new.reader;
-      writer = c.serve_in.new.writer;
+      seen = heard g.R.Read.remaining c.args.connection.reader;
+      seen' = heard g.R.Read.remaining c.serve_in.new.reader;
+      out = g.W.Write.contents c.args.connection.writer;
+      out' = g.W.Write.contents c.serve_in.new.writer;
+      answer = Ok c.in-Ok.served;
     } in
-    (left, (Ok c.in-Ok.served, (c.in-Ok.ensures.served, refl)))
+    let store = c.serve_in.new.store in
+    let conn = state g.S.Store store.conn in
+    let h = c.in-Ok.ensures in (
+      turn,
+      (
+        record { day = refl; seen = refl; out = refl },
+        (
+          h.repeats,
+          (
+            refl,
+            one_leaves c.args.store.now.shut store.shut conn store.register.state turn
+                (λ served shut clean. cut_off_by turn.day store.register.state conn turn.seen turn.seen' turn.out
+                turn.out' turn.answer (h.shuts served shut) clean),
+          ),
+        ),
+      ),
+    )
 
 pub returns-clause-served : goal.returns-clause-served
 returns-clause-served g c =
-    let left : Connection g.row.R.Denot g.row.W.Denot = record {
+    let turn : Turn = record {
       day = c.args.connection.day;
-      reader = c.serve_in.new.reader;
-      writer = c.serve_in.new.writer;
+      seen = heard g.R.Read.remaining c.args.connection.reader;
+      seen' = heard g.R.Read.remaining c.serve_in.new.reader;
+      out = g.W.Write.contents c.args.connection.writer;
+      out' = g.W.Write.contents c.serve_in.new.writer;
+      answer = Err c.in-Err.field-0;
     } in
-    (left, (Err c.in-Err.field-0, (c.in-Err.ensures.served, refl)))
+    let store = c.serve_in.new.store in
+    let conn = state g.S.Store store.conn in
+    let h = c.in-Err.ensures in (
+      turn,
+      (
+        record { day = refl; seen = refl; out = refl },
+        (
+          h.repeats,
+          (
+            refl,
+            one_leaves c.args.store.now.shut store.shut conn store.register.state turn
+                (λ served shut clean. cut_off_by turn.day store.register.state conn turn.seen turn.seen' turn.out
+                turn.out' turn.answer (h.shuts served shut) clean),
+          ),
+        ),
+      ),
+    )
