@@ -29,10 +29,10 @@ use Rattle.vetd_commands.specs.Opening.{IsNotOpened, IsOpenedAs}
 use Rattle.vetd_words.specs.Answer.{Answer, Explains, IsInput, Prints, Refuses, Serves, input_read}
 use Rattle.vetd_words.specs.ApplyWords.{ApplyAsked}
 
--- A command was run on a register whose rows were in the tables of an open connection. It was told its verdict, or
+-- A command was run on a register whose rows were in the tables of an open connection. Its answer is its verdict, or
 -- there was no memory or the store refused, where either may come in place of the verdict; and the headline holds of
--- it. The tables have the rows of the state that is left, and all else in the database is as it was. A crash leaves these rows,
--- or those of the state after the command beside all else that was there.
+-- it. The tables have the rows of the state that is left, and all else in the database is as it was. A crash leaves
+-- these rows, or those of the state after the command beside all else that was there.
 pub record IsRunOf {S : Type 0} (g : Ghosts S) (opened : Held S) (register : State) (command : Command)
     (answer : Told Outcome) (after : Held S) : Type 0 where
   pub end : State
