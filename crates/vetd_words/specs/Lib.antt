@@ -11,6 +11,7 @@ pub mod ReadLine
 pub mod Reported
 pub mod ServeAsked
 pub mod ServeWords
+pub mod Surplus
 pub mod View
 pub mod ViewWords
 pub mod Words

@@ -100,6 +100,10 @@ unless_fault (k ∷ ks) rows = None
 unfoldable pub rows_given : Text → List Text → Option (List Row)
 rows_given name words = unless_fault (fault_of top_app words) (rows_if_named name (subcommand_of top_app words))
 
+-- the word for KIND of the subcommand of a name, if it is the one that was given
+abbrev pub kind_word : Text → Option (Text × List Row) → Option Text
+kind_word name subcommand = option_and_then (first_of (codes "KIND")) (rows_if_named name subcommand)
+
 -- ---- `class`
 
 -- a package, a version and a criterion

@@ -23,6 +23,7 @@ pub mod read_line;
 pub mod report_kind;
 pub mod run;
 pub mod serve_words;
+mod surplus;
 pub mod view;
 pub mod view_words;
 pub mod words;

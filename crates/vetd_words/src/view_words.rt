@@ -2,7 +2,7 @@
 ghost use Rattle.std.specs.Prelude.{◌≡◌, ◌≢◌, IfErr, IfOk, map, option_and_then, option_map};
 ghost use Rattle.clap.specs.Words.{found_of, kind_of, rows_of, subcommand_rows_of};
 ghost use Rattle.vetd_words.specs.ViewWords.{name_of, view_asked, view_from, view_given, view_named};
-ghost use Rattle.vetd_words.specs.Words.{rows_if_named};
+ghost use Rattle.vetd_words.specs.Words.{kind_word, rows_if_named};
 
 use crate::file_word::{FILE_WORDS, file_of_word};
 use crate::report_kind::{REPORT_WORDS, ReportKind};
@@ -91,8 +91,10 @@ fn no_kind(
     }
 }
 
-/// The word that stands for a kind, where the words are such a command.
-fn kind_word<'a>(command: ViewCommand, matches: &ArgMatches<'a>) -> Option<&'a str> {
+/// The word for KIND, if the words are such a command.
+fn kind_word<'a>(command: ViewCommand, matches: &ArgMatches<'a>) -> Option<&'a str>
+    ensures { option_map (λ s. s.now) result ≡ kind_word (name_of command) (subcommand_rows_of matches.now) }
+{
     value(matches_if_named(matches, command.name())?, "KIND")
 }
 

@@ -1,13 +1,13 @@
 //! The command line.
-ghost use Rattle.std.specs.Prelude.{◌≡◌, ◌≢◌, List, IfOk, IfErr, codes, false, map, option_and_then, option_map, true};
+ghost use Rattle.std.specs.Prelude.{◌≡◌, ◌≢◌, IfOk, IfErr, codes, false, map, option_and_then, option_map, true};
 ghost use Rattle.clap.specs.Words.{App, Rule, first_of, found_of, kind_of, rows_of, with_rule};
 ghost use Rattle.clap.specs.Words.{subcommand_rows_of, Text};
 ghost use Rattle.vetd_words.specs.ApplyWords.{apply_app};
 ghost use Rattle.vetd_words.specs.NewWords.{limit_rule, new_app, option_rule};
 ghost use Rattle.vetd_words.specs.ServeWords.{number_rule, serve_app};
 ghost use Rattle.vetd_words.specs.Words.{IsApp, IsRule, asked_of, bare_app, begins_with, class_alone_app, class_app};
-ghost use Rattle.vetd_words.specs.Words.{changed_app, class_given, exported_app, file_app, kind_from, made_app};
-ghost use Rattle.vetd_words.specs.Words.{read_app, read_given, reported_app, rows_given, rows_if_named};
+ghost use Rattle.vetd_words.specs.Words.{changed_app, class_given, exported_app, file_app, kind_from, kind_word};
+ghost use Rattle.vetd_words.specs.Words.{made_app, read_app, read_given, reported_app, rows_given, rows_if_named};
 ghost use Rattle.vetd_words.specs.Words.{top_app, view_app, with_kind, word_rule, words_from};
 
 use crate::file_word::{FILE_WORDS, file_of_word};
@@ -16,6 +16,7 @@ use crate::help::{
     SERVE_HELP, VERSION,
 };
 use crate::serve_words::{LAST_PORT, MOST_CONNECTIONS};
+use crate::surplus::surplus_word;
 use clap::builder::ValueParser;
 use clap::error::ErrorKind;
 use clap::{Arg, ArgMatches, Command, Error};
@@ -90,8 +91,10 @@ pub(crate) fn invalid_kind(
     command.error(ErrorKind::InvalidValue, message.as_str())
 }
 
-/// The word that stands for a kind, where the words are a read command.
-fn kind_word<'a>(matches: &ArgMatches<'a>) -> Option<&'a str> {
+/// The word for KIND, if the words are a read command.
+fn kind_word<'a>(matches: &ArgMatches<'a>) -> Option<&'a str>
+    ensures { option_map (λ s. s.now) result ≡ kind_word (codes "read") (subcommand_rows_of matches.now) }
+{
     value(matches_if_named(matches, "read")?, "KIND")
 }
 
@@ -169,21 +172,6 @@ fn hinted<S: AsStr>(alloc: Global, words: &[S], error: Error) -> Result<Error, A
         }
         None => Ok(error),
     }
-}
-
-/// The first word that a command doesn't take, where none looks like a flag.
-fn surplus_word<S: AsStr>(words: &[S]) -> Option<&str> {
-    'words: for word in words {
-        if word.as_str().starts_with('-') {
-            return None;
-        }
-    }
-    let taken = match words.first()?.as_str() {
-        "class" => 4,
-        "read" => 2,
-        _ => return None,
-    };
-    Some(words.get(taken)?.as_str())
 }
 
 /// The program's command line.
