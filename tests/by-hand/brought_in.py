@@ -37,7 +37,7 @@ def load(name, programs):
     script = types.ModuleType(name)
     script.__file__ = os.path.join(TESTS, name)
     importlib.machinery.SourceFileLoader(name, script.__file__).exec_module(script)
-    for constant in ("PROGRAM", "TRIALS", "VETD"):
+    for constant in ("PROGRAM", "TRIALS", "VETD", "AT_HAND"):
         if hasattr(script, constant):
             setattr(script, constant, programs[os.path.basename(getattr(script, constant))])
     if hasattr(script, "module_of"):

@@ -9,7 +9,7 @@ from typing import NamedTuple
 from answers import LOWEST, answer_of
 
 # not of the product
-PASSED_OVER = ("trials", "trial_registers", "trial_times", "trial_values")
+PASSED_OVER = ("trials", "trial_clients", "trial_registers", "trial_times", "trial_values")
 # a planted program is slow, so that these are reached sooner in it
 LIMITS = {
     "MOST_ENTRIES": 1_000,

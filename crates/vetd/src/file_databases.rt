@@ -16,7 +16,7 @@ use vetd_commands::databases::Databases;
 /// A file and its log, of which a torn write may leave anything.
 pub type WaryFile = FileStore<FileFrom<Wary>>;
 
-/// The most bytes that a file has in which no database stands.
+/// The most bytes of a file that holds no database.
 const MOST_BYTES_OF_NONE: u64 = 1;
 
 /// Databases in the files of this machine. A file is opened without sums of its pages, so that another program may
@@ -63,7 +63,7 @@ fn check_file(rt: &HostRuntime, path: &str) -> Result<(), Refusal>
     }
 }
 
-/// What is told of a path of which nothing can be learned.
+/// The refusal of a path of which nothing can be learned.
 fn refusal_of_path(kind: io::ErrorKind) -> Refusal
     ensures { result ≡ refusal_of_path kind }
 {

@@ -13,29 +13,28 @@
 //! file and what the database answers. With `serve` the clients and the clock do so too. A run that ends with a fault
 //! wrote nothing, or, where a write failed, the front of that answer.**
 //!
-//! Scope of this crate: what each command does with a register, and where databases are. What words ask for is told in
-//! `vetd_words`. What a class is, what files hold, what stands in tables, how a report reads and how bytes are read and
-//! written is told in the crates below.
+//! Scope of this crate: `main`, the databases in this machine's files, and its network. `vetd_program` has what the
+//! program does over any databases and any network.
 #![tactic(auto)]
 
 ghost use Rattle.std.specs.Prelude.{◌≡◌, IfOk, OnErr};
 
-mod clients;
+mod deadline;
 mod file_databases;
-mod program;
-mod serve_lines;
-mod serve_run;
+mod tcp_network;
+mod timed;
 
 use crate::file_databases::{FileDatabases, WaryFile};
-use crate::program::program_run;
+use crate::tcp_network::TcpNetwork;
 use std::alloc::Global;
 use std::io::Write;
 use std::process::ExitCode;
 use std::rt::Env;
 use std::{env, io};
 use vet_graph::plain::PlainKeeper;
-use vet_http::input::CountedReader;
-use vet_http::io_fault::IoFault;
+use vet_requests::input::CountedReader;
+use vet_requests::io_fault::IoFault;
+use vetd_program::program::program_run;
 use vetd_words::answer::{EXPLAINED, explain};
 use vetd_words::words::not_text;
 
@@ -49,7 +48,7 @@ fn words_after_name<R: Env + AllocGlobal>(rt: &R) -> io::Result<Vec<String>> {
     Ok(words.collect(rt.alloc())?)
 }
 
-/// Tells why the words can't be had: there was no memory, or one of them is no text.
+/// Explains why the words can't be had: there was no memory, or one of them is no text.
 fn explain_no_words<W: Write, E: Write>(
     alloc: Global,
     kind: io::ErrorKind,
@@ -80,13 +79,22 @@ fn status_of<R: Eprint>(rt: &R, run: Result<u8, IoFault>) -> u8
     }
 }
 
-/// Answers the words, over the databases in this machine's files. A connection is let go, and its file stays locked so
-/// long.
+/// Answers the words, over the databases in this machine's files and its network. A connection is let go, and its file
+/// stays locked so long.
 fn run_words(rt: &HostRuntime, words: &[String]) -> Result<u8, IoFault> {
-    let run = program_run::<String, WaryFile, PlainKeeper, FileDatabases<'_>, _, _, _, _>(
+    let run = program_run::<
+        String,
+        WaryFile,
+        PlainKeeper,
+        FileDatabases<'_>,
+        TcpNetwork<'_, HostRuntime>,
+        _,
+        _,
+        _,
+    >(
         rt.alloc(),
         words,
-        rt,
+        &mut TcpNetwork::new(rt),
         &mut CountedReader::new(rt.alloc(), rt.reader()),
         &mut FileDatabases::new(rt),
         &mut io::writer(rt),

@@ -22,16 +22,17 @@ use Rattle.vet_requests.specs.declared.io_fault.IoFault.TheVariants.{Output}
 module _ {S : Type 0} (g : Ghosts S) (limit : ℕ) (before : Held S) where
   -- what a store that was made ensures, of the connection that it gives back
   pub is_new_register : (conn after : Held S) (shut : Bool) (s : State) → after ≡ conn → s ≡ start limit
+      → ((AreFree (state g before).now.schema → ⊥) → ⊥)
       → (shut ≡ false) × IsTied (state g conn) shut (rows_of s)
       → (HasCleanDisk (state g conn) → SparesOthers (state g before).now (state g conn).now)
       → Survives (state g before) (state g conn) (IsMade (state g before) (rows_of (start limit)))
       → IsNewRegister g limit before after
-  is_new_register conn after shut s same first tied others crash =
+  is_new_register conn after shut s same first not_taken tied others crash =
       let held : IsTied (state g conn) false (rows_of (start limit)) =
       subst (λ (t : State). IsTied (state g conn) false (rows_of t)) first
       (subst (λ (b : Bool). IsTied (state g conn) b (rows_of s)) tied.0 tied.1) in
       subst (λ (h : Held S). IsNewRegister g limit before h) (sym same)
-      record { tables = held; others = others; crash = crash }
+      record { not_taken = not_taken; tables = held; others = others; crash = crash }
 
   -- what a refusal ensures, of its parts
   pub is_no_register : (conn after : Held S) (told refusal : Refusal) → refusal ≡ told → after ≡ conn

@@ -22,7 +22,7 @@ use Rattle.vet_store.specs.Committed.{AreTreesBeside}
 use Rattle.vet_store.specs.Crash.{LeavesEither}
 use Rattle.vet_store.specs.Exact.{IsExact}
 use Rattle.vet_store.specs.Headline.{HasHeadline}
-use Rattle.vet_store.specs.Runs.{IsTurn}
+use Rattle.vet_store.specs.Runs.{Fails, IsTurn}
 use Rattle.vet_store.specs.Tied.{IsTied}
 use Rattle.vetd_commands.specs.Making.{Giving}
 use Rattle.vetd_commands.specs.Opening.{IsNotOpened, IsOpenedAs}
@@ -31,8 +31,9 @@ use Rattle.vetd_words.specs.ApplyWords.{ApplyAsked}
 
 -- A command was run on a register whose rows were in the tables of an open connection. Its answer is its verdict, or
 -- there was no memory or the store refused, where either may come in place of the verdict; and the headline holds of
--- it. The tables have the rows of the state that is left, and all else in the database is as it was. A crash leaves
--- these rows, or those of the state after the command beside all else that was there.
+-- it. The tables have the rows of the state that is left, and all else in the database is as it was. If there is an
+-- outcome, the store was not shut. A crash leaves these rows, or those of the state after the command beside all else
+-- that was there.
 pub record IsRunOf {S : Type 0} (g : Ghosts S) (opened : Held S) (register : State) (command : Command)
     (answer : Told Outcome) (after : Held S) : Type 0 where
   pub end : State
@@ -40,6 +41,7 @@ pub record IsRunOf {S : Type 0} (g : Ghosts S) (opened : Held S) (register : Sta
   pub exact : IsExact register command answer
   pub headline : HasHeadline register (command ∷ []) (answer ∷ []) end
   pub shut : Bool
+  pub shuts : IsTrue shut → Fails answer
   pub tables : IsTied (state g after) shut (rows_of end)
   pub others : OthersStay (state g opened) (state g after)
   pub crash : IsTrue (state g opened).is_open → Survives (state g opened) (state g after)
@@ -62,7 +64,7 @@ module _ {S : Type 0} (g : Ghosts S) (document : Bytes) (day : DayValue) (giver 
       (((refusal ≡ NoMemory) ⊎ (command_told document day giver ≡ Err refusal)) × (after ≡ opened))
       ⊎ IsGiven opened register (Err refusal) after
   IsDocumentAnswer opened register Explains after = ⊥
-  IsDocumentAnswer opened register (Serves text lost) after = ⊥
+  IsDocumentAnswer opened register (Serves text ending) after = ⊥
 
   -- a register was opened, and this is the answer over it
   pub record IsApplied (before : Held S) (answer : Answer) (after : Held S) : Type 0 where
@@ -77,7 +79,7 @@ module _ {S : Type 0} (g : Ghosts S) (document : Bytes) (day : DayValue) (giver 
   IsApplyAnswer before (Refuses refusal) after =
       IsNotOpened g before refusal after ⊎ IsApplied before (Refuses refusal) after
   IsApplyAnswer before Explains after = ⊥
-  IsApplyAnswer before (Serves text lost) after = ⊥
+  IsApplyAnswer before (Serves text ending) after = ⊥
 
 -- the day that words give, if they ask for something and their text is a day
 abbrev pub day_given : Option ApplyAsked → Option DayValue
@@ -109,7 +111,8 @@ module _ {S : Type 0} (g : Ghosts S) (Gives : Giving S) where
   AnswersApply before after asked left Holds = (input : Bytes) × (IsInput before after (day_given asked) input
       × ((answer : Answer) × (IsAnswerToApply asked (input_read input) answer left × Holds answer)))
 
-  -- a run that told nothing printed no outcome: no command was done
+  -- What a run without an answer says of the connection that is left: it is as after a refusal. Of a database without
+  -- one it says nothing.
   abbrev pub IsUnapplied : Heard → Heard → Option ApplyAsked → Option (Held S) → Type 0
   IsUnapplied before after asked None = ⊤
   IsUnapplied before after asked (Some conn) = (input : Bytes) × (IsInput before after (day_given asked) input

@@ -21,9 +21,11 @@ abbrev pub created_line : Text
 created_line = codes "created\n"
 
 module _ {S : Type 0} (g : Ghosts S) (limit : ℕ) (before : Held S) where
-  -- A register was made in a database: its tables have the rows of the first state, and all else stands as it did.
-  -- A crash leaves just that, as the first clause says, and in the midst of it may have left what stood before.
+  -- A register was made in a database in which no name of its tables was taken: its tables have the rows of the first
+  -- state, and all else stands as it did. A crash leaves just that, as the second clause says, and in the midst of it
+  -- may have left what stood before.
   pub record IsNewRegister (after : Held S) : Type 0 where
+    pub not_taken : (AreFree (state g before).now.schema → ⊥) → ⊥
     pub tables : IsTied (state g after) false (rows_of (start limit))
     pub others : HasCleanDisk (state g after) → SparesOthers (state g before).now (state g after).now
     pub crash : Survives (state g before) (state g after) (IsMade (state g before) (rows_of (start limit)))
@@ -62,7 +64,7 @@ module _ {S : Type 0} (g : Ghosts S) (Gives : Giving S) where
   IsAnswerFor asked (Refuses refusal) (Some after) = (before : Held S) × (Gives asked.path (Ok before)
       × IsNoRegister g asked.moves_limit before refusal after)
   IsAnswerFor asked Explains left = ⊥
-  IsAnswerFor asked (Serves text lost) left = ⊥
+  IsAnswerFor asked (Serves text ending) left = ⊥
 
   -- the same of words: they are explained where they are no new command
   abbrev pub IsAnswerToNew : List Text → Answer → Option (Held S) → Type 0
@@ -73,7 +75,8 @@ module _ {S : Type 0} (g : Ghosts S) (Gives : Giving S) where
   abbrev pub AnswersNew : List Text → Option (Held S) → (Answer → Type 0) → Type 0
   AnswersNew words left Holds = (answer : Answer) × (IsAnswerToNew words answer left × Holds answer)
 
-  -- a run that told nothing made no register
+  -- What a run without an answer says of the connection that is left: it is as after a refusal. Of a database without
+  -- one it says nothing.
   abbrev pub IsUnmade : List Text → Option (Held S) → Type 0
   IsUnmade words None = ⊤
   IsUnmade words (Some after) = (asked : NewAsked) × (AsksNew words asked

@@ -29,7 +29,7 @@ module _ {S : Type 0} (g : Ghosts S) (Gives : Giving S) where
   IsViewFor asked (Refuses refusal) (Some after) = (before : Held S) × (Gives asked.path (Ok before)
       × IsNotOpened g before refusal after)
   IsViewFor asked Explains left = ⊥
-  IsViewFor asked (Serves text lost) left = ⊥
+  IsViewFor asked (Serves text ending) left = ⊥
 
   -- the same of what words ask for: they are explained where they ask for nothing
   abbrev pub IsAnswerToView : Option ViewAsked → Answer → Option (Held S) → Type 0
@@ -41,7 +41,8 @@ module _ {S : Type 0} (g : Ghosts S) (Gives : Giving S) where
   abbrev pub AnswersView : Option ViewAsked → Option (Held S) → (Answer → Type 0) → Type 0
   AnswersView asked left Holds = (answer : Answer) × (IsAnswerToView asked answer left × Holds answer)
 
-  -- a run that told nothing left the tables as they were
+  -- What a run without an answer says of the connection that is left: it is as after a refusal. Of a database without
+  -- one it says nothing.
   abbrev pub IsUntold : Option ViewAsked → Option (Held S) → Type 0
   IsUntold asked None = ⊤
   IsUntold asked (Some after) = (refusal : Refusal) × IsAnswerToView asked (Refuses refusal) (Some after)

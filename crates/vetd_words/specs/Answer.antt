@@ -1,5 +1,5 @@
 -- What a run answers (ours): what it writes, and its status.
-use Rattle.std.specs.Prelude.{◌≡◌, ◌≢◌, ◌⊎◌, ℕ, ◌+◌, ◌++◌, Bool, true, false, Option, Some, None, IfErr, IfOk, IfSome}
+use Rattle.std.specs.Prelude.{◌≡◌, ◌≢◌, ◌⊎◌, ℕ, ◌+◌, ◌++◌, Option, Some, None, IfErr, IfOk, IfSome}
 use Rattle.std.specs.Prelude.{Result, Ok, Err, codes, take}
 use Rattle.std.specs.Io.KnownBytes.{Appends, Keeps}
 use Rattle.vet_base.specs.Gives.{Told}
@@ -14,15 +14,23 @@ use Rattle.vet_requests.specs.declared.io_fault.IoFault.TheVariants.{Output}
 use Rattle.vet_reports.specs.RefusalText.{refusal_line}
 use Rattle.vetd_words.specs.declared.answer.TheConstants.{PRINTED, REFUSED, EXPLAINED}
 
+-- how serving clients ended: as many came as were awaited; what listened was lost; the port couldn't be had; or the
+-- first line couldn't be written, so that nobody was awaited
+pub data Ending : Type 0 where
+  AllCame : Ending
+  NetworkLost : Ending
+  NoPort : Ending
+  Unheard : Ending
+
 -- what a run answers: a text, a refusal, or an explanation of the command line; or what it printed as it served
--- clients, and whether the network was lost before the end
+-- clients, and how that ended
 pub data Answer : Type 0 where
   Prints : Text → Answer
   Refuses : Refusal → Answer
   Explains : Answer
-  Serves : Text → Bool → Answer
+  Serves : Text → Ending → Answer
 
--- what is told where the network is lost
+-- what is printed where what listened is lost, or the port can't be had
 abbrev pub network_line : Text
 network_line = codes "fault: network\n"
 
@@ -65,16 +73,18 @@ abbrev pub IsExplainedInPart : Option Bytes → Option Bytes → Option Bytes �
 IsExplainedInPart out out' errors errors' = (text : Text)
     × ((AppendsPart out out' text × Keeps errors errors') ⊎ (Keeps out out' × AppendsPart errors errors' text))
 
--- the status, and what was written to the output and to the errors. Want of memory is never told so.
+-- The status, and what was written to the output and to the errors. Want of memory is never told so, and with a status
+-- the first line was written.
 abbrev pub Says : Answer → ℕ → Option Bytes → Option Bytes → Option Bytes → Option Bytes → Type 0
 Says (Prints text) status out out' errors errors' = (status ≡ PRINTED) × Appends out out' text × Keeps errors errors'
 Says (Refuses refusal) status out out' errors errors' =
     (status ≡ REFUSED) × Keeps out out' × Appends errors errors' (refusal_line refusal) × (refusal ≢ NoMemory)
 Says Explains status out out' errors errors' =
     (status ≡ EXPLAINED) × IsExplained out out' errors errors'
-Says (Serves text false) status out out' errors errors' =
+Says (Serves text AllCame) status out out' errors errors' =
     (status ≡ PRINTED) × Appends out out' text × Keeps errors errors'
-Says (Serves text true) status out out' errors errors' =
+Says (Serves text Unheard) status out out' errors errors' = ⊥
+Says (Serves text _) status out out' errors errors' =
     (status ≡ REFUSED) × Appends out out' text × Appends errors errors' network_line
 
 -- what was written where a write failed
@@ -83,9 +93,9 @@ Stops (Prints text) out out' errors errors' = AppendsPart out out' text × Keeps
 Stops (Refuses refusal) out out' errors errors' =
     Keeps out out' × AppendsPart errors errors' (refusal_line refusal) × (refusal ≢ NoMemory)
 Stops Explains out out' errors errors' = IsExplainedInPart out out' errors errors'
-Stops (Serves text false) out out' errors errors' = AppendsPart out out' text × Keeps errors errors'
-Stops (Serves text true) out out' errors errors' =
-    Appends out out' text × AppendsPart errors errors' network_line
+Stops (Serves text AllCame) out out' errors errors' = AppendsPart out out' text × Keeps errors errors'
+Stops (Serves text Unheard) out out' errors errors' = AppendsPart out out' text × Keeps errors errors'
+Stops (Serves text _) out out' errors errors' = Appends out out' text × AppendsPart errors errors' network_line
 
 -- What a run wrote, by what holds of its answer and what is left if it told nothing. With a status, all of the answer
 -- was written. Where a write failed, the front of it was. With another fault nothing was.

@@ -26,6 +26,7 @@ returns-in-Ok g c =
         repeats = (end, ((h.turn, h.repeats), refl));
       };
       shut = last.shut;
+      shuts = h.shuts c.requires.served;
       tables = h.tables;
       others = h.others;
       crash = h.crash;

@@ -5,7 +5,8 @@ use Rattle.vetd_commands.proofs.making.make.Goals as goal
 pub returns-in-Ok-clause-made : goal.returns-in-Ok-clause-made
 returns-in-Ok-clause-made g c =
     is_new_register g.S.Store c.args.moves_limit c.args.conn c.in-Ok.store.conn c.close.result c.in-Ok.store.shut
-    c.in-Ok.store.register.state c.close.ensures.conn c.in-Ok.ensures.start c.in-Ok.ensures.tables
+    c.in-Ok.store.register.state c.close.ensures.conn c.in-Ok.ensures.start c.in-Ok.ensures.taken
+    c.in-Ok.ensures.tables
     c.in-Ok.ensures.others c.in-Ok.ensures.crash
 
 pub returns-in-Err-clause-refused : goal.returns-in-Err-clause-refused

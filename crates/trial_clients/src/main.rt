@@ -1,0 +1,154 @@
+//! A program of tests, no part of the product: what `vetd serve` does with clients that are at hand.
+//!
+//! Its first word is how many clients are awaited, and each word behind it is what comes: a request, each whole;
+//! `failed`, for a client that can't be served; `lost`, once what listens is lost; or, as the only one, `no-port`, where
+//! the port can't be had. Replies and what the program prints go to standard output in the order in which they are
+//! written, and a fault of the network to standard error. The status is that of the program, and 3 where there was no
+//! memory for its words.
+#![tactic(auto)]
+
+use sqlite::Connection as Database;
+use std::collections::VecDeque;
+use std::io::Write;
+use std::process::ExitCode;
+use std::{env, io};
+use trial_values::fault::Fault;
+use vet_base::day::Day;
+use vet_base::refusal::Refusal;
+use vet_graph::plain::PlainKeeper;
+use vet_http::serve::Connection;
+use vet_requests::input::CountedReader;
+use vet_store::memory_file::MemoryFiles;
+use vetd_commands::databases::Databases;
+use vetd_program::clients::arrivals::Arrival;
+use vetd_program::clients::memory_network::MemoryNetwork;
+use vetd_program::clients::network::{HangUp, Network};
+use vetd_program::program::program_run;
+
+/// The day on which all clients are served.
+const DAY: &str = "2024-05-01";
+
+/// The status of a run for which there was no memory.
+const NO_MEMORY: u8 = 3;
+
+/// The status of a run that ended with a fault.
+const FAULTED: u8 = 1;
+
+/// Writes a client's reply to another writer.
+#[derive(Drop)]
+struct Reply<W> {
+    writer: W,
+}
+
+impl<W: Write> Write for Reply<W> {
+    fn write(&mut self, buf: &[u8]) -> io::Result<usize> {
+        self.writer.write(buf)
+    }
+
+    fn flush(&mut self) -> io::Result<()> {
+        self.writer.flush()
+    }
+}
+
+impl<W: Write> HangUp for Reply<W> {
+    fn hang_up(&mut self, _awaited: bool) {}
+}
+
+/// No database at any path.
+#[derive(Drop)]
+struct NoDatabases;
+
+impl Databases<MemoryFiles> for NoDatabases {
+    ghost use Rattle.std.specs.Prelude.{◌≡◌, Err};
+    ghost use Rattle.vet_base.specs.declared.refusal.Refusal.TheVariants.{StoreRefused};
+
+    ghost may_give = { λ _ _ given. given ≡ Err StoreRefused };
+
+    ghost may_find = { λ _ _ found. found ≡ Err StoreRefused };
+
+    fn connect(&mut self, _path: &str) -> Result<Database<MemoryFiles>, Refusal> {
+        Err(Refusal::StoreRefused)
+    }
+
+    fn find(&mut self, _path: &str) -> Result<Database<MemoryFiles>, Refusal> {
+        Err(Refusal::StoreRefused)
+    }
+}
+
+/// What comes of a word.
+fn arrival<'a, W: Drop>(
+    rt: &HostRuntime,
+    word: &'a str,
+    writer: W,
+) -> Result<Arrival<&'a [u8], Reply<W>>, Fault> {
+    match word {
+        "failed" => Ok(Arrival::Failed),
+        "lost" => Ok(Arrival::Lost),
+        request => Ok(Arrival::Client(Connection {
+            day: Day::parse(DAY)?,
+            reader: CountedReader::new(rt.alloc(), request.as_bytes()),
+            writer: Reply { writer },
+        })),
+    }
+}
+
+/// Serves the clients that the words behind the first are.
+fn run_words(rt: &HostRuntime, words: &[String]) -> Result<u8, Fault> {
+    let Some((awaited, rest)) = words.split_first() else {
+        return Err(Fault::NotUnderstood);
+    };
+    let mut coming = VecDeque::new(rt.alloc());
+    for word in rest {
+        coming.push_back(arrival(rt, word.as_str(), io::writer(rt))?)?;
+    }
+    let mut network = MemoryNetwork::new(coming);
+    if rest.len() == 1 && rest[0].as_str() == "no-port" {
+        let _listener = network.listen(1);
+    }
+    serve(rt, awaited.as_str(), &mut network)
+}
+
+/// Has the program serve the clients of a network.
+fn serve<N: Network>(rt: &HostRuntime, awaited: &str, network: &mut N) -> Result<u8, Fault> {
+    let words = [
+        "serve",
+        "--port",
+        "8080",
+        "--connections",
+        awaited,
+        "--day",
+        DAY,
+    ];
+    let run = program_run::<&str, MemoryFiles, PlainKeeper, NoDatabases, N, _, _, _>(
+        rt.alloc(),
+        &words[..],
+        network,
+        &mut CountedReader::new(rt.alloc(), rt.reader()),
+        &mut NoDatabases,
+        &mut io::writer(rt),
+        &mut rt.stderr(),
+    );
+    match run.status {
+        Ok(status) => Ok(status),
+        Err(_) => Ok(FAULTED),
+    }
+}
+
+/// The words behind the program's name.
+fn words_after_name(rt: &HostRuntime) -> Result<Vec<String>, Fault> {
+    let mut words = env::args(rt)?;
+    let _name = words.next();
+    Ok(words.collect(rt.alloc())?)
+}
+
+fn run(rt: &HostRuntime) -> Result<u8, Fault> {
+    let words = words_after_name(rt)?;
+    run_words(rt, words.as_slice())
+}
+
+fn main(rt: HostRuntime) -> ExitCode {
+    match &run(&rt) {
+        Ok(status) => ExitCode::from(*status),
+        Err(_) => ExitCode::from(NO_MEMORY),
+    }
+}
