@@ -57,7 +57,8 @@ def answer_of(signature, crate, text):
     signature = signature.rstrip()
     if RUN.search(signature):
         fault = error_of("IoFault", crate, text)
-        return Answer(f"crate::databases::DatabaseRun {{ status: Err({fault}), conn: None }}")
+        home = "crate" if crate == "vetd_commands" else "vetd_commands"
+        return Answer(f"{home}::databases::DatabaseRun {{ status: Err({fault}), conn: None }}")
     if found := PAIR.search(signature):
         fault, conn = error_of(found[1], crate, text), "None" if found[2] else holder_of(signature)
         return Answer(f"(Err({fault}), {conn})", None if found[2] else conn.partition(".")[0])
