@@ -1,10 +1,10 @@
 //! A program of tests, no part of the product: what `vetd serve` does with clients that are at hand.
 //!
 //! Its first word is how many clients are awaited, and each word behind it is what comes: a request, each whole;
-//! `failed`, for a client that can't be served; `lost`, once what listens is lost; or, as the only one, `no-port`, where
-//! the port can't be had. Replies and what the program prints go to standard output in the order in which they are
-//! written, and a fault of the network to standard error. The status is that of the program, and 3 where there was no
-//! memory for its words.
+//! `failed`, for a client that can't be served; `lost`, for the loss of what listens; or, as the only one, `no-port`,
+//! where the port can't be had. Replies and what the program prints go to standard output in the order in which they
+//! are written, and a fault of the network to standard error. The status is that of the program, and 3 where there was
+//! no memory for its words.
 #![tactic(auto)]
 
 use sqlite::Connection as Database;
