@@ -1,3 +1,4 @@
+pub mod Bits
 pub mod BuiltIn
 pub mod Changes
 pub mod Closed
@@ -11,7 +12,6 @@ pub mod DeltaLemmas
 pub mod DeltaText
 pub mod FurtherLaws
 pub mod FurtherOrder
-pub mod Held
 pub mod ItemLemmas
 pub mod Kept
 pub mod KeyedItems

@@ -1,7 +1,7 @@
 -- Lists: what filters keep, what edits leave, what is found, and the first element beside the rest.
 use Rattle.std.proofs.Common.{◌≡◌, ◌⊎◌, ℕ, zero, suc, ◌+◌, ◌<◌, ◌≤◌, Bool, true, false, List, [], ◌∷◌, ◌++◌, Option}
-use Rattle.std.proofs.Common.{Some, None, cond, option_map, is_none, is_some, length, get_or, set, take, drop, refl}
-use Rattle.std.proofs.Common.{sym, ap, ◌∙◌, arith, inl, inr}
+use Rattle.std.proofs.Common.{Some, None, cond, option_map, is_none, is_some, length, get_or, replicate, set, take}
+use Rattle.std.proofs.Common.{drop, refl, sym, ap, ◌∙◌, arith, inl, inr}
 use Rattle.std.specs.Bool.{Decides}
 use Rattle.std.specs.Cmp.Lexicographic.{pointwise, pointwise_decides}
 use Rattle.std.specs.List.{All, AllPairs, Contains, list_all, filter, find, insert, remove}
@@ -24,6 +24,12 @@ Contains-later x y xs h = (suc h.0, omega (arith, h.1), h.2)
 pub Contains-cons_cases : {X : Type 0} (x : X) (xs : List X) (y : X) → Contains (x ∷ xs) y → (x ≡ y) ⊎ Contains xs y
 Contains-cons_cases x xs y (zero, l, e) = inl e
 Contains-cons_cases x xs y (suc k, l, e) = inr (k, omega arith, e)
+
+-- copies of one value are that value everywhere, and past their end too
+pub all_alike : {X : Type 0} (x : X) (n q : ℕ) → get_or (replicate n x) q x ≡ x
+all_alike x zero q = refl
+all_alike x (suc n) zero = refl
+all_alike x (suc n) (suc q) = all_alike x n q
 
 -- what passes a test passes a weaker one
 pub all_weaker : {X : Type 0} (f g : X → Bool) → ((x : X) → f x ≡ true → g x ≡ true) → (xs : List X)

@@ -1,7 +1,8 @@
 -- Sets of places in a table of criteria (ours).
-use Rattle.std.specs.Prelude.{ℕ, zero, suc, ◌≡◌, ◌||◌, Bool, false, List, [], ◌++◌, ◌∷◌, length, slice_index_or}
+use Rattle.std.specs.Prelude.{ℕ, zero, suc, ◌≡◌, ◌||◌, ◌==◌, ◌+◌, ◌^◌, Bool, false, cond}
 use Rattle.std.specs.List.{list_any}
 use Rattle.std.specs.Ordering.{nat_cmp}
+use Rattle.std.specs.Int.{bit_at}
 use Rattle.std.specs.FinSet.{FinSet, empty, insert, retain, contains, items, union}
 
 -- a set of places in a table of criteria
@@ -29,11 +30,11 @@ unfoldable pub places_below : ℕ → FinSet nat_cmp
 places_below zero = empty
 places_below (suc n) = insert (places_below n) n
 
--- the places at which a truth value is true
-abbrev pub true_places : List Bool → FinSet nat_cmp
-true_places held = retain (places_below (length held)) (λ p. slice_index_or held p false)
+-- the places below a number whose bits are set
+abbrev pub set_places : ℕ → ℕ → FinSet nat_cmp
+set_places n word = retain (places_below n) (λ p. bit_at word p == 1)
 
--- the truth values of a set at the places below a number
-unfoldable pub truth_below : ℕ → FinSet nat_cmp → List Bool
-truth_below zero places = []
-truth_below (suc n) places = truth_below n places ++ contains places n ∷ []
+-- the word with the bits of a set at the places below a number
+unfoldable pub word_below : ℕ → FinSet nat_cmp → ℕ
+word_below zero places = 0
+word_below (suc n) places = word_below n places + cond (contains places n) (2 ^ n) 0

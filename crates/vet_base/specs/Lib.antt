@@ -32,4 +32,5 @@ pub mod Text
 pub mod Version
 pub mod VersionOrder
 pub mod VersionOrderLaws
+pub mod Width
 pub mod Words

@@ -1,39 +1,42 @@
 //! Sets of criteria of one table.
-ghost use Rattle.std.specs.Prelude.{◌≡◌, ◌↔◌, ◌<◌, ℕ, true, IsTrue};
+ghost use Rattle.std.specs.Prelude.{◌≡◌, ◌↔◌, ◌<◌, ℕ, true, false, IsTrue, ◌&&◌, not};
 ghost use Rattle.std.specs.FinSet as set;
 ghost use Rattle.vet_base.specs.CriteriaSet.{meet, MeetOfNothing, MeetOfUnions};
 
 use crate::limits::MOST_CRITERIA;
 use std::marker::Model;
 
+// One bit a place. The definitions have its width, and `MOST_CRITERIA` is at most that.
+type Word = u64;
+
 /// A set of criteria of one table, by their places among the table's names. A change of that table makes it
 /// void.
 #[derive(Clone, Copy)]
 pub struct CriteriaSet {
-    held: [bool; MOST_CRITERIA],
+    word: Word,
 }
 
 impl Model for CriteriaSet {
-    ghost use Rattle.std.specs.Prelude.{◌≡◌, length};
+    ghost use Rattle.std.specs.Prelude.{◌<◌, ◌^◌};
     ghost use Rattle.std.specs.Ordering.{nat_cmp};
     ghost use Rattle.std.specs.Coded.{coded_ℕ};
     ghost use Rattle.std.specs.FinSet as set;
     ghost use Rattle.vet_base.specs.declared.limits.TheConstants.{MOST_CRITERIA};
-    ghost use Rattle.vet_base.specs.CriteriaSet.{true_places, truth_below};
+    ghost use Rattle.vet_base.specs.CriteriaSet.{set_places, word_below};
 
     ghost Value = { set.FinSet nat_cmp };
 
     ghost coded = { set.code coded_ℕ };
 
-    ghost view = { λ s. true_places s.held };
+    ghost view = { λ s. set_places MOST_CRITERIA s.word };
 
-    ghost invariant = { λ s. length s.held ≡ MOST_CRITERIA };
+    ghost invariant = { λ s. s.word < 2 ^ MOST_CRITERIA };
 
-    ghost inverse = { λ places. record { held = truth_below MOST_CRITERIA places } };
+    ghost inverse = { λ places. record { word = word_below MOST_CRITERIA places } };
 
-    ghost use Rattle.vet_base.specs.CriteriaSetLaws.{same_truth};
+    ghost use Rattle.vet_base.specs.CriteriaSetLaws.{same_word};
 
-    ghost inverse_ok = { λ s h. λ i. record { held = same_truth MOST_CRITERIA s.held h i } };
+    ghost inverse_ok = { λ s h. λ i. record { word = same_word MOST_CRITERIA s.word h i } };
 }
 
 impl CriteriaSet {
@@ -41,9 +44,7 @@ impl CriteriaSet {
     pub fn empty() -> CriteriaSet
         ensures { result ≡ set.empty }
     {
-        CriteriaSet {
-            held: [false; MOST_CRITERIA],
-        }
+        CriteriaSet { word: 0 }
     }
 
     /// Whether the criterion at a place is in the set.
@@ -51,27 +52,44 @@ impl CriteriaSet {
         ensures value { result ≡ set.contains self.now place }
         ensures within { IsTrue result → place < MOST_CRITERIA }
     {
-        place < MOST_CRITERIA && self.held[place]
+        place < MOST_CRITERIA && (self.word >> place) & 1 == 1
     }
 
     /// The set with one more place.
-    pub fn with(mut self, place: usize) -> CriteriaSet
+    pub fn with(self, place: usize) -> CriteriaSet
         requires { place < MOST_CRITERIA }
         ensures { result ≡ set.insert self place }
     {
-        self.held[place] = true;
-        self
+        CriteriaSet {
+            word: self.word | (1 << place),
+        }
     }
 
     /// What is in either set.
     pub fn union(&self, other: &CriteriaSet) -> CriteriaSet
         ensures { result ≡ set.union self.now other.now }
     {
-        let mut held = self.held;
-        for place in 0..MOST_CRITERIA {
-            held[place] = held[place] | other.held[place];
+        CriteriaSet {
+            word: self.word | other.word,
         }
-        CriteriaSet { held }
+    }
+
+    /// What is in both sets.
+    pub fn common(&self, other: &CriteriaSet) -> CriteriaSet
+        ensures { (p : ℕ) → set.contains result p ≡ (set.contains self.now p && set.contains other.now p) }
+    {
+        CriteriaSet {
+            word: self.word & other.word,
+        }
+    }
+
+    /// What is in this set and not in the other.
+    pub fn less(&self, other: &CriteriaSet) -> CriteriaSet
+        ensures { (p : ℕ) → set.contains result p ≡ (set.contains self.now p && not (set.contains other.now p)) }
+    {
+        CriteriaSet {
+            word: self.word & !other.word,
+        }
     }
 
     /// Whether some criterion is in both sets.
@@ -80,18 +98,24 @@ impl CriteriaSet {
         ensures both { IsTrue result ↔ ((p : ℕ)
             × (set.contains self.now p ≡ true) × (set.contains other.now p ≡ true)) }
     {
-        let mut met = false;
-        for place in 0..MOST_CRITERIA {
-            met = met | (self.held[place] & other.held[place]);
-        }
-        met
+        self.word & other.word != 0
+    }
+
+    /// Whether some criterion is in this set and not in the other.
+    pub fn exceeds(&self, other: &CriteriaSet) -> bool
+        ensures some { IsTrue result → (p : ℕ) × (p < MOST_CRITERIA)
+            × (set.contains self.now p ≡ true) × (set.contains other.now p ≡ false) }
+        ensures none { result ≡ false → (p : ℕ)
+            → set.contains self.now p ≡ true → set.contains other.now p ≡ true }
+    {
+        self.word & !other.word != 0
     }
 
     /// Whether there are no criteria.
     pub fn is_empty(&self) -> bool
         ensures { IsTrue result ↔ (self.now ≡ set.empty) }
     {
-        !self.held.contains(&true)
+        self.word == 0
     }
 }
 

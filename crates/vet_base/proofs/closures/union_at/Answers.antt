@@ -2,6 +2,7 @@ use Rattle.std.proofs.Common.{◌≡◌, ℕ, ◌<◌, ◌||◌, true, ap, sym, 
 use Rattle.std.specs.Cmp.{nat_cmp_total}
 use Rattle.std.specs.Ordering.{nat_cmp}
 use Rattle.std.specs.FinSet as set
+use Rattle.vet_base.specs.declared.limits.TheConstants.{MOST_CRITERIA as most}
 use Rattle.std.proofs.lemmas.List.{get_or_default, get_or_past}
 use Rattle.std.proofs.lemmas.Bool.{cases_lt, false≢true}
 use Rattle.vet_base.specs.CriteriaSet.{has}
@@ -22,7 +23,7 @@ loop-place-preserved c q =
     let held = λ (p : ℕ). (has p c.args.places.now ≡ true) × (has q (get_or closed p set.empty) ≡ true) in
     let old = c.loop-place.invariant q in
     elim c.if-has.branch [
-      | then-has w ↦ (let long : length closed ≡ 64 = search in
+      | then-has w ↦ (let long : length closed ≡ most = search in
           let found = get_or closed n set.empty in
           let here : get_or closed n w.index-sets-place.result ≡ found =
           get_or_default closed n w.index-sets-place.result set.empty (omega (arith, c.loop-place-test.true, long))
@@ -45,8 +46,8 @@ returns c q = (
   where
     low : (p : ℕ) → has q (get_or c.args.sets.now p set.empty) ≡ true → p < c.loop-place.place
     low p h =
-        let long : length c.args.sets.now ≡ 64 = search in
-        elim (cases_lt p 64) [
+        let long : length c.args.sets.now ≡ most = search in
+        elim (cases_lt p most) [
           | inl less ↦ omega (arith, less, c.loop-place-test.false)
           | inr high ↦ absurd (false≢true
               (sym (set.contains-empty nat_cmp q)

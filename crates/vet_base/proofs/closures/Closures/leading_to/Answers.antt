@@ -1,5 +1,6 @@
 use Rattle.std.proofs.Common.{◌≡◌, ap, sym, ◌∙◌, arith, get_or, length}
 use Rattle.std.specs.FinSet as set
+use Rattle.vet_base.specs.declared.limits.TheConstants.{MOST_CRITERIA as most}
 use Rattle.vet_base.specs.CriteriaSet.{meet}
 use Rattle.std.proofs.lemmas.List.{get_or_default, get_or_past}
 use Rattle.vet_base.proofs.Meeting.{leading_none, leading_more, leading_same, leading_all}
@@ -13,7 +14,7 @@ pub loop-place-preserved : goal.loop-place-preserved
 loop-place-preserved c table are =
     let places = c.args.set.now in
     let n = c.loop-place.place in
-    let long : length c.args.self.now.closed ≡ 64 = search in
+    let long : length c.args.self.now.closed ≡ most = search in
     let closed = c.args.self.now.closed in
     let here : get_or closed n c.index-self-place.result ≡ get_or closed n set.empty =
     get_or_default closed n c.index-self-place.result set.empty (omega (arith, c.loop-place-test.true, long)) in
@@ -28,7 +29,7 @@ loop-place-preserved c table are =
 
 pub returns : goal.returns
 returns c table are =
-    let long : length c.args.self.now.closed ≡ 64 = search in
+    let long : length c.args.self.now.closed ≡ most = search in
     c.loop-place.invariant table are
     ∙ leading_all table c.args.set.now c.loop-place.place
     (λ p high. sym (are p)

@@ -1,15 +1,18 @@
-use Rattle.std.proofs.Common.{sym, ◌∙◌, false}
-use Rattle.std.proofs.lemmas.List.{get_or_past}
+use Rattle.vet_base.specs.declared.limits.TheConstants.{MOST_CRITERIA as most}
+use Rattle.std.proofs.Common.{sym, ap, ◌∙◌, ◌==◌}
 use Rattle.std.proofs.lemmas.Bool.{le-ltb}
-use Rattle.vet_base.proofs.Held.{tells}
+use Rattle.std.proofs.lemmas.Nat.Bits.{shr_and_one, bit_at_above}
+use Rattle.vet_base.proofs.Bits.{tells}
 use Rattle.vet_base.proofs.criteria_set.CriteriaSet.has.Goals as goal
 
 pub returns-then-place-lt-MOST_CRITERIA-clause-value : goal.returns-then-place-lt-MOST_CRITERIA-clause-value
 returns-then-place-lt-MOST_CRITERIA-clause-value c =
-    sym (tells c.self.inside.held c.args.self.now c.args.place c.self.view_is)
+    ap (λ x. x == 1) (shr_and_one c.self.inside.word c.args.place)
+    ∙ sym (tells most c.self.inside.word c.args.self.now c.self.invariant c.self.view_is c.args.place)
 
 pub returns-else-place-lt-MOST_CRITERIA-clause-value : goal.returns-else-place-lt-MOST_CRITERIA-clause-value
 returns-else-place-lt-MOST_CRITERIA-clause-value c =
-    le-ltb c.args.place 64 c.if-place-lt-MOST_CRITERIA.false
-    ∙ sym (tells c.self.inside.held c.args.self.now c.args.place c.self.view_is
-    ∙ get_or_past c.self.inside.held c.args.place false (rw c.self.invariant c.if-place-lt-MOST_CRITERIA.false))
+    let past = c.if-place-lt-MOST_CRITERIA.false in
+    le-ltb c.args.place most past
+    ∙ sym (tells most c.self.inside.word c.args.self.now c.self.invariant c.self.view_is c.args.place
+    ∙ ap (λ x. x == 1) (bit_at_above c.self.inside.word most c.args.place c.self.invariant past))

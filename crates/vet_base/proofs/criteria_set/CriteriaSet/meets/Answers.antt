@@ -1,39 +1,34 @@
-use Rattle.std.proofs.Common.{◌≡◌, ℕ, ◌<◌, true, false, sym, ◌∙◌, arith, get_or, inl, inr}
+use Rattle.vet_base.specs.declared.limits.TheConstants.{MOST_CRITERIA as most}
+use Rattle.std.proofs.Common.{◌≡◌, ◌↔◌, ◌==◌, ℕ, not, true, sym, ◌∙◌}
+use lib.Bits.{bit_and}
 use Rattle.std.specs.FinSet as set
-use Rattle.std.proofs.lemmas.List.{get_or_past}
-use Rattle.std.proofs.lemmas.Bool.{cases_lt, false≢true, and_parts, and_from}
-use Rattle.vet_base.proofs.Closed.{one_more_found}
-use Rattle.vet_base.proofs.Held.{tells}
+use Rattle.std.specs.Int.{bit_at}
+use Rattle.std.proofs.lemmas.Bool.{and_parts, and_from}
+use Rattle.vet_base.proofs.Bits.{tells, and_bits, fits, some_bit, has_bit}
 use Rattle.vet_base.proofs.Meeting.{meet-is}
 use Rattle.vet_base.proofs.criteria_set.CriteriaSet.meets.Goals as goal
 
-pub loop-place-preserved : goal.loop-place-preserved
-loop-place-preserved c =
-    let a = c.self.inside.held in
-    let b = c.other.inside.held in
-    let n = c.loop-place.place in
-    one_more_found (λ p. (get_or a p false ≡ true) × (get_or b p false ≡ true)) c.loop-place.met n
-    c.loop-place.invariant _
-    (and_parts (get_or a n false) (get_or b n false), λ h. and_from (get_or a n false) (get_or b n false) h.0 h.1)
-
-pub returns-clause-both : goal.returns-clause-both
-returns-clause-both c = (
-  λ h. (let at = c.loop-place.invariant.0 h in (at.0, own at.0 ∙ at.2.0, others at.0 ∙ at.2.1)),
-  λ h. c.loop-place.invariant.1 (h.0, low h.0 (sym (own h.0) ∙ h.1), (sym (own h.0) ∙ h.1, sym (others h.0) ∙ h.2)),
-)
+pub returns : goal.returns
+returns c = record { value = meet-is _ c.args.self.now c.args.other.now both; both = both }
   where
-    own : (q : ℕ) → set.contains c.args.self.now q ≡ get_or c.self.inside.held q false
-    own q = tells c.self.inside.held c.args.self.now q c.self.view_is
+    a : ℕ
+    a = c.self.inside.word
 
-    others : (q : ℕ) → set.contains c.args.other.now q ≡ get_or c.other.inside.held q false
-    others q = tells c.other.inside.held c.args.other.now q c.other.view_is
+    b : ℕ
+    b = c.other.inside.word
 
-    low : (q : ℕ) → get_or c.self.inside.held q false ≡ true → q < c.loop-place.place
-    low q h = elim (cases_lt q 64) [
-      | inl less ↦ omega (arith, less, c.loop-place-test.false)
-      | inr high ↦ absurd
-          (false≢true (sym (get_or_past c.self.inside.held q false (omega (arith, high, c.self.invariant))) ∙ h))
-    ]
+    own : (q : ℕ) → set.contains c.args.self.now q ≡ (bit_at a q == 1)
+    own q = tells most a c.args.self.now c.self.invariant c.self.view_is q
 
-pub returns-clause-value : goal.returns-clause-value
-returns-clause-value c = meet-is _ c.args.self.now c.args.other.now (returns-clause-both c)
+    others : (q : ℕ) → set.contains c.args.other.now q ≡ (bit_at b q == 1)
+    others q = tells most b c.args.other.now c.other.invariant c.other.view_is q
+
+    both : (not (bit_and a b == 0) ≡ true) ↔ ((p : ℕ)
+        × (set.contains c.args.self.now p ≡ true) × (set.contains c.args.other.now p ≡ true))
+    both = (
+      λ t. (let at = some_bit (bit_and a b) (fits a b c.self.invariant) t in
+          let parts = and_parts (bit_at a at.0 == 1) (bit_at b at.0 == 1) (sym (and_bits a b at.0) ∙ at.2) in
+          (at.0, own at.0 ∙ parts.0, others at.0 ∙ parts.1)),
+      λ h. has_bit (bit_and a b) h.0 (and_bits a b h.0
+          ∙ and_from (bit_at a h.0 == 1) (bit_at b h.0 == 1) (sym (own h.0) ∙ h.1) (sym (others h.0) ∙ h.2)),
+    )
