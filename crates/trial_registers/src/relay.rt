@@ -35,11 +35,9 @@ impl Keeper for RelayKeeper {
     ghost keeping = { record {
       standing = λ k. k.plain;
       keeps = λ k facts demand. k.plain ≡ standing_of facts demand;
-      planned = λ u. u.plain.standing;
-      plans = λ u facts demand. u.plain.standing ≡ standing_of facts demand;
+      plans = λ k u facts demand. u.plain.standing ≡ standing_of facts demand;
       moves_of = λ u. u.plain.moves;
       touched_of = λ u. u.plain.touched;
-      is_ready = λ k u. Unit {0};
     } };
 
     fn empty(alloc: Global) -> Result<RelayKeeper, Refusal> {

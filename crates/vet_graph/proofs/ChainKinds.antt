@@ -14,8 +14,8 @@ use Rattle.vet_base.specs.VersionOrder.{version_eq}
 use Rattle.vet_base.specs.VersionOrderLaws.{version_eq-Decides}
 use Rattle.vet_entries.specs.declared.step.Step.{Step}
 use Rattle.vet_graph.specs.declared.guarded.GuardedStep.{GuardedStep}
-use Rattle.vet_graph.specs.declared.search.Skip.{Skip}
-use Rattle.vet_graph.specs.declared.search.Skip.TheVariants.{Nothing, Exempt, ExemptTo}
+use Rattle.vet_graph.specs.declared.skip.Skip.{Skip}
+use Rattle.vet_graph.specs.declared.skip.Skip.TheVariants.{Nothing, Exempt, ExemptTo}
 use Rattle.vet_graph.specs.declared.search.Terms.{Terms}
 use Rattle.vet_graph.specs.Chain.{Condemned, EndsReviewed, HasChain, HasCleanChain, HasNoExempt, IsAny, IsChain}
 use Rattle.vet_graph.specs.Chain.{IsClean, Leads}

@@ -42,7 +42,7 @@ length-le_from_distinct xs ys once among =
     (λ q m. (is_member-Decides version_eq-Decides ys q).1
     (All-contains (Contains ys) xs q among ((is_member-Decides version_eq-Decides xs q).0 m)))
 
-AllPairs-mapped : {X Y : Type 0} (R : Y → Y → Type 0) (f : X → Y) (xs : List X) → AllPairs (λ x y. R (f x) (f y)) xs
+pub AllPairs-mapped : {X Y : Type 0} (R : Y → Y → Type 0) (f : X → Y) (xs : List X) → AllPairs (λ x y. R (f x) (f y)) xs
     → AllPairs R (map f xs)
 AllPairs-mapped R f [] h = λ i j d l m. absurd (omega arith)
 AllPairs-mapped R f (x ∷ xs) h = AllPairs-cons R (f x) (map f xs)

@@ -7,13 +7,11 @@ use Rattle.vet_graph.specs.declared.standing.Stand.{Stand}
 use Rattle.vet_graph.specs.declared.touched.Touched.{Touched}
 
 -- of a keeper: the class of each demanded pair, and whether what it holds is what some facts and a demand give;
--- of an update: the standing that it brings, whether it is what some facts and a demand give, its moves, and what it
--- was told is touched; of both: whether this keeper planned the update on its standing, and still holds the room for it
+-- of both: whether the keeper planned the update for some facts and a demand on what it holds, and still has the room
+-- for it; of an update: its moves, and what it was told is touched
 pub record Keeping (K U : Type 0) : Type 1 where
   pub standing : K → List Stand
   pub keeps : K → Facts → List Pair → Type 0
-  pub planned : U → List Stand
-  pub plans : U → Facts → List Pair → Type 0
+  pub plans : K → U → Facts → List Pair → Type 0
   pub moves_of : U → List Move
   pub touched_of : U → Touched
-  pub is_ready : K → U → Type 0

@@ -7,7 +7,8 @@ ghost use Rattle.vet_graph.specs.ClassAt.{class_at};
 ghost use Rattle.vet_graph.specs.Search.{Agrees, AreGuardedAt, IsReached, steps_in};
 
 use crate::links::LinkedSteps;
-use crate::search::{Skip, Terms, leads_to, search};
+use crate::search::{Terms, leads_to, search};
+use crate::skip::Skip;
 use std::alloc::Global;
 use vet_base::criteria_set::CriteriaSet;
 use vet_base::refusal::Refusal;

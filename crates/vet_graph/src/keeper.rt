@@ -33,7 +33,7 @@ use vet_entries::facts::EntryFacts;
 /// An implementer says in the ghost member what its values mean, and the clauses of the calls are the contract
 /// that it has to prove and on which every caller rests.
 pub trait Keeper: Drop {
-    /// A planned change: what it makes of the standing, its moves, and the room that `apply` needs.
+    /// A planned change: its moves, and what `apply` needs beside what the keeper holds.
     type Update: Drop;
 
     /// What the values of the keeper and of its updates mean. One that finds all anew holds the standing alone;
@@ -50,7 +50,7 @@ pub trait Keeper: Drop {
     /// Plans the standing of a demand by some facts. Asks that the criteria of each entry, and each demanded
     /// criterion, are in the facts' table; and that outside of what is touched these facts and this demand
     /// are as those of which the keeper holds what they give. The standing stays, what is held still is what
-    /// the same facts and demand give, and what was planned before stays ready; also where it is refused.
+    /// the same facts and demand give, and what was planned before can still be applied; also where it is refused.
     /// Refused: `NoMemory`.
     fn plan(
         &mut self,
@@ -63,17 +63,16 @@ pub trait Keeper: Drop {
         requires demanded { HasDemanded facts.now.content.criteria demand.now }
         requires outside { (old_facts : Facts) × (old_demand : List Pair) × keeping.keeps self.old old_facts old_demand
             × SameOutside touched.now old_facts old_demand facts.now.content demand.now }
-        ensures planned { IfOk result (λ u. keeping.planned u ≡ standing_of facts.now.content demand.now) }
-        ensures plans { IfOk result (λ u. keeping.plans u facts.now.content demand.now) }
+        ensures plans { IfOk result (λ u. keeping.plans self.new u facts.now.content demand.now) }
         ensures moves { IfOk result (λ u. keeping.moves_of u
             ≡ moves_between (keeping.standing self.old) (standing_of facts.now.content demand.now)) }
         ensures touched { IfOk result (λ u. keeping.touched_of u ≡ touched.now) }
-        ensures ready { IfOk result (keeping.is_ready self.new) }
         ensures memory { IfErr result (λ e. e ≡ Refusal.NoMemory) }
         ensures standing { keeping.standing self.new ≡ keeping.standing self.old }
         ensures keeps { (facts : Facts) (demand : List Pair)
             → keeping.keeps self.old facts demand → keeping.keeps self.new facts demand }
-        ensures stays_ready { (u : Self.Update) → keeping.is_ready self.old u → keeping.is_ready self.new u };
+        ensures stays_planned { (u : Self.Update) (facts : Facts) (demand : List Pair)
+            → keeping.plans self.old u facts demand → keeping.plans self.new u facts demand };
 
     /// The moves from the standing on which an update was planned: each pair whose class differs, once, in
     /// the order of the pairs. Takes no memory.
@@ -84,13 +83,14 @@ pub trait Keeper: Drop {
     fn touched(update: &Self::Update) -> &Touched
         ensures { result.now ≡ keeping.touched_of update.now };
 
-    /// Makes what was planned the standing. Asks that this keeper planned the update on the standing that it
-    /// has, and still holds the room for it. Takes no memory.
+    /// Makes the standing that of the facts and the demand for which the update was planned. Asks that this
+    /// keeper planned the update on what it holds, and still has the room for it. Takes no memory.
     fn apply(&mut self, update: Self::Update)
-        requires { keeping.is_ready self.old update }
-        ensures standing { keeping.standing self.new ≡ keeping.planned update }
-        ensures keeps { (facts : Facts) (demand : List Pair)
-            → keeping.plans update facts demand → keeping.keeps self.new facts demand };
+        requires { (facts : Facts) × (demand : List Pair) × keeping.plans self.old update facts demand }
+        ensures standing { (facts : Facts) (demand : List Pair) → keeping.plans self.old update facts demand
+            → keeping.standing self.new ≡ standing_of facts demand }
+        ensures keeps { (facts : Facts) (demand : List Pair) → keeping.plans self.old update facts demand
+            → keeping.keeps self.new facts demand };
 
     /// The class at which a pair stands, or none where it isn't demanded. Takes no memory.
     fn class(&self, package: &PackageName, version: &VetVersion, criterion: &Name) -> Option<Class>

@@ -20,5 +20,6 @@ mod package_steps;
 pub mod pair_class;
 pub mod plain;
 mod search;
+pub mod skip;
 pub mod standing;
 pub mod touched;

@@ -77,11 +77,9 @@ impl Keeper for PlainKeeper {
     ghost keeping = { record {
       standing = λ k. k;
       keeps = λ k facts demand. k ≡ standing_of facts demand;
-      planned = λ u. u.standing;
-      plans = λ u facts demand. u.standing ≡ standing_of facts demand;
+      plans = λ k u facts demand. u.standing ≡ standing_of facts demand;
       moves_of = λ u. u.moves;
       touched_of = λ u. u.touched;
-      is_ready = λ k u. Unit {0};
     } };
 
     /// Nothing is demanded. Never refused.

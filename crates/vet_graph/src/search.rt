@@ -45,25 +45,15 @@ ghost use Rattle.std.specs.Prelude.{◌≡◌, ◌≢◌, ◌<◌, ◌↔◌, Is
 ghost use Rattle.std.specs.List.{All, AllPairs, Contains};
 ghost use Rattle.vet_base.specs.Version.{VersionValue};
 ghost use Rattle.vet_graph.specs.Links.{IsLinked};
-ghost use Rattle.vet_graph.specs.Search.{IsReached, is_open, may_take, versions_at};
+ghost use Rattle.vet_graph.specs.Search.{IsReached, is_open, versions_at};
 ghost use Rattle.vet_graph.specs.Reaching.{IsReaching, LeadsOn, StandsBefore};
 
 use crate::guarded::GuardedStep;
 use crate::links::{LinkedSteps, Links};
+use crate::skip::{Skip, may_take};
 use std::alloc::Global;
 use vet_base::refusal::Refusal;
 use vet_base::version::VetVersion;
-use vet_entries::step::Step;
-
-/// Which steps a search skips.
-#[derive(Clone, Copy)]
-pub enum Skip<'v> {
-    Nothing,
-    /// The exempt steps.
-    Exempt,
-    /// The exempt steps to a version.
-    ExemptTo(&'v VetVersion),
-}
 
 /// What a search asks of the steps of a chain.
 #[derive(Clone, Copy)]
@@ -74,16 +64,6 @@ pub struct Terms<'v> {
     pub barred: bool,
     /// The steps that aren't taken.
     pub skip: Skip<'v>,
-}
-
-fn may_take(skip: &Skip<'_>, step: &Step) -> bool
-    ensures { result ≡ may_take skip.now step.now }
-{
-    match skip {
-        Skip::Nothing => true,
-        Skip::Exempt => !step.exempt,
-        Skip::ExemptTo(version) => !(step.exempt && step.target == **version),
-    }
 }
 
 fn is_open(terms: &Terms<'_>, guarded: &GuardedStep) -> bool

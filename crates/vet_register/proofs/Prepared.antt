@@ -11,10 +11,9 @@ use Rattle.vet_register.specs.declared.command.Command.{Command}
 use Rattle.vet_register.specs.declared.moves.Recording.{Recording}
 use Rattle.vet_register.specs.declared.moves.Recording.TheVariants.{Behind, Anew}
 use Rattle.vet_register.specs.declared.held.HeldEdit.{HeldEdit}
-use Rattle.vet_register.specs.declared.command.Action.{Action}
 use Rattle.vet_register.specs.declared.verdict.Answer.TheVariants.{Accepted}
 use Rattle.vet_register.specs.Changes.{FitsMoves, changed, demand_by, desk_edited, first_by, moves_by}
-use Rattle.vet_register.specs.Held.{Fits, HeldEditsFit, demand_in, edited, held_with, standing_in}
+use Rattle.vet_register.specs.Held.{Fits, HeldEditsFit, demand_in, edited, held_with}
 use Rattle.vet_register.specs.Machine.{desk_by, first_after, held_after, moves_after, next, number_after, outcome_of}
 use Rattle.vet_register.specs.Machine.{touched_by}
 use Rattle.vet_register.specs.RegisterView.{HoldsDesk, IsStep, KeepsPrepared, KeepsReady, KeepsRoom, RegisterView}
@@ -32,12 +31,6 @@ pub record AreParts {K U : Type 0} (s : State) (c : Command) (change : Change K 
   pub step : change.step ≡ s.step + 1
   pub next_entry : change.next_entry ≡ number_after s c.action
   pub outcome : change.outcome ≡ outcome_of s c
-
--- what its update is
-pub record IsUpdate {K U : Type 0} (keeping : Keeping K U) (s : State) (a : Action) (u : U) : Type 0 where
-  pub standing : keeping.planned u ≡ standing_in (held_after s a)
-  pub basis : keeping.plans u (held_after s a).facts (demand_in (held_after s a))
-  pub touches : keeping.touched_of u ≡ touched_by s a
 
 becomes_next : {K U : Type 0} (s : State) (c : Command) (change : Change K U) → AreParts s c change → edited
     change.edit s.held ≡ held_after s c.action
@@ -59,15 +52,13 @@ pub is_step : {K U : Type 0} → MoveLaws → (keeping : Keeping K U) (s : State
     s c change
     → edited change.edit s.held ≡ held_after s c.action → desk_edited change.desk s.desk ≡ desk_by s c.day c.action
     → demand_by change.demand (demanded s) ≡ demand_in (held_after s c.action)
-    → IsUpdate keeping s c.action change.update → IsStep keeping s c change
-is_step laws keeping s c change sound told held parts by desk demand update = record {
+    → keeping.touched_of change.update ≡ touched_by s c.action → IsStep keeping s c change
+is_step laws keeping s c change sound told held parts by desk demand touches = record {
   accepts = ap (λ t. t >>= fitting s c.action) told ∙ ap (λ t. t >>= λ _. Ok Accepted) parts.fit;
   becomes = becomes_next s c change parts by desk;
   sound = sound_after laws s c sound told parts.fit held;
   demand = demand;
-  standing = update.standing;
-  basis = update.basis;
-  touches = update.touches;
+  touches = touches;
   outcome = parts.outcome;
 }
 
@@ -89,10 +80,10 @@ fits_told s t c same told h =
 
 -- ---- what was prepared before
 
--- what the same keeper was ready for it is ready for
+-- what the same keeper planned it has planned
 pub same_keeper : {K U : Type 0} (keeping : Keeping K U) (old new : RegisterView K) → new.keeper ≡ old.keeper →
     KeepsReady keeping old new
-same_keeper keeping old new keeper u h = subst (λ k. keeping.is_ready k u) (sym keeper) h
+same_keeper keeping old new keeper u facts demand h = subst (λ k. keeping.plans k u facts demand) (sym keeper) h
 
 -- an edit of the desk that it holds, it still holds
 pub desk_still : (old new : DeskView) → KeepsDeskChanges old new → (o : Option DeskEdit) → HoldsDesk o old → HoldsDesk
@@ -112,12 +103,13 @@ module _ (law : HeldEditsFit) {K U : Type 0} (keeping : Keeping K U) (old new : 
   moves_still (Behind more) h = omega (arith, h, room.1.0)
   moves_still (Anew counts) h = tt
 
-  -- it still is where the state is the same, the keeper is still ready for it, and no room is lost
+  -- it still is where the state is the same, the keeper still has what it planned, and no room is lost
   pub prepared_stays : KeepsPrepared keeping old new
   prepared_stays c change h = record {
     step = subst (λ (t : State). IsStep keeping t c change) (sym state) h.step;
     fits = held_still change.edit h.fits;
     desk = desk_still (desk_room old) (desk_room new) room.1.1 change.desk h.desk;
     move_room = moves_still change.recording h.move_room;
-    ready = ready change.update h.ready;
+    plans = subst (λ (t : State). keeping.plans new.keeper change.update (next t c).held.facts (demanded (next t c)))
+        (sym state) (ready change.update _ _ h.plans);
   }

@@ -44,7 +44,7 @@ module _ (law : HeldEditsFit) {K U : Type 0} (keeping : Keeping K U) (old first 
     room_stays = room_onward old first second room more
 
     still_ready : KeepsReady keeping old second
-    still_ready u h = ready u (same_keeper keeping old first keeper u h)
+    still_ready u facts demand h = ready u facts demand (same_keeper keeping old first keeper u facts demand h)
 
     -- by a second
     pub planned_stays : KeepsPrepared keeping old second
@@ -55,5 +55,5 @@ module _ (law : HeldEditsFit) {K U : Type 0} (keeping : Keeping K U) (old first 
       -- and by a third
       pub changed_stays : KeepsPrepared keeping old third
       changed_stays = prepared_stays law keeping old third (last ∙ further ∙ state)
-          (λ u h. same_keeper keeping second third same u (still_ready u h))
+          (λ u facts demand h. same_keeper keeping second third same u facts demand (still_ready u facts demand h))
           (rooms_onward old first second third room more most)

@@ -9,11 +9,11 @@
 -- moves with more behind them, or none and other first counts (moves_by, first_by). A change is prepared for a
 -- command in a register (IsPrepared) if all of this holds. It is the command's step from this state (IsStep). That
 -- is, the verdict accepts the command, and what the change makes of the state is the next one, which is sound. Its
--- demand, or the one before where it has none, is that of the next state, and so is the planned standing. The
--- keeper was told what the command touches (touched_by), and the outcome is that of the command. There is room for
--- its edit and moves (FitsMoves), the desk prepared what changes there (HoldsDesk), and the keeper is ready for the
--- update. What was prepared stays prepared when another command is prepared in between (KeepsPrepared). An answer
--- to a command is Already, or a change that is prepared for it (answer_of, IsAnswer).
+-- demand, or the one before where it has none, is that of the next state. The keeper was told what the command
+-- touches (touched_by), and the outcome is that of the command. There is room for its edit and moves (FitsMoves), the
+-- desk prepared what changes there (HoldsDesk), and the keeper planned the update for the next state, and has the
+-- room. What was prepared stays prepared when another command is prepared in between (KeepsPrepared). An answer to a
+-- command is Already, or a change that is prepared for it (answer_of, IsAnswer).
 use Rattle.std.specs.Prelude.{◌≡◌, ◌⊎◌, ℕ, ◌≤◌, Bool, true, false, List, Option, Some, None, is_some, Result, Ok, Err}
 use Rattle.std.specs.Prelude.{MatchResult}
 use Rattle.vet_base.specs.Day.{DayValue}
@@ -23,6 +23,7 @@ use Rattle.vet_base.specs.declared.refusal.Refusal.TheVariants.{NoMemory}
 use Rattle.vet_demand.specs.declared.pair.Pair.{Pair}
 use Rattle.vet_desk.specs.declared.command.DeskCommand.{DeskCommand}
 use Rattle.vet_desk.specs.DeskView.{DeskRoom, DeskView, IsDeskChange, KeepsDeskChanges, entry_in}
+use Rattle.vet_entries.specs.Facts.{Facts}
 use Rattle.vet_graph.specs.Keeping.{Keeping}
 use Rattle.vet_register.specs.declared.change.Change.{Change}
 use Rattle.vet_register.specs.declared.change.DeskEdit.{DeskEdit}
@@ -43,7 +44,7 @@ use Rattle.vet_register.specs.Changes.{FitsMoves, changed, demand_by, desk_edite
 use Rattle.vet_register.specs.Held.{Fits, HeldRoom, HeldValue, HoldsRoomOf, demand_in, edited, held_with, standing_in}
 use Rattle.vet_register.specs.Machine.{desk_by, held_after, next, number_after, number_given, outcome_of, touched_by}
 use Rattle.vet_register.specs.Sound.{IsSound, IsSoundHeld}
-use Rattle.vet_register.specs.State.{State, demanded, standing}
+use Rattle.vet_register.specs.State.{State, demanded}
 use Rattle.vet_register.specs.Verdict.{verdict, wants_memory}
 
 -- for how much more of what is held, of what is at the desk, and for how many more recorded moves, there is room
@@ -91,30 +92,31 @@ HasKept keeping keeper demand held =
     keeping.keeps keeper held.facts (demand_in held)
     × ((keeping.standing keeper ≡ standing_in held) × (demand ≡ demand_in held))
 
--- each update that was ready still is
+-- each update that was planned for some facts and a demand still is
 abbrev pub KeepsReady : {K U : Type 0} → Keeping K U → RegisterView K → RegisterView K → Type 0
-KeepsReady {K} {U} keeping old new = (u : U) → keeping.is_ready old.keeper u → keeping.is_ready new.keeper u
+KeepsReady {K} {U} keeping old new =
+    (u : U) (facts : Facts) (demand : List Pair) → keeping.plans old.keeper u facts demand
+    → keeping.plans new.keeper u facts demand
 
 -- a change is that of a command in a state, which accepts it: it leads to the next state, which is sound, with the
--- demand there, and its update to the standing there
+-- demand there
 pub record IsStep {K U : Type 0} (keeping : Keeping K U) (s : State) (c : Command) (change : Change K U) : Type 0 where
   pub accepts : verdict s c ≡ Ok Accepted
   pub becomes : changed change s ≡ next s c
   pub sound : IsSound (next s c)
   pub demand : demand_by change.demand (demanded s) ≡ demanded (next s c)
-  pub standing : keeping.planned change.update ≡ standing (next s c)
-  pub basis : keeping.plans change.update (next s c).held.facts (demanded (next s c))
   pub touches : keeping.touched_of change.update ≡ touched_by s c.action
   pub outcome : change.outcome ≡ outcome_of s c
 
--- this register prepared the change for the command on this state, and it and its keeper still hold the room for it
+-- this register prepared the change for the command on this state, and its keeper planned the update for the next
+-- one; both still have the room for it
 pub record IsPrepared {K U : Type 0} (keeping : Keeping K U) (r : RegisterView K) (c : Command) (change : Change K U)
     : Type 0 where
   pub step : IsStep keeping r.state c change
   pub fits : Fits change.edit (held_room r)
   pub desk : HoldsDesk change.desk (desk_room r)
   pub move_room : FitsMoves change.recording r.room.moves
-  pub ready : keeping.is_ready r.keeper change.update
+  pub plans : keeping.plans r.keeper change.update (next r.state c).held.facts (demanded (next r.state c))
 
 -- what was prepared on the old register is prepared on the new one
 abbrev pub KeepsPrepared : {K U : Type 0} → Keeping K U → RegisterView K → RegisterView K → Type 0

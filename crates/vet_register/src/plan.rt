@@ -119,14 +119,11 @@ impl<K: Keeper> Register<K> {
         ensures fits { IfOk result (λ p. Fits p.edit (held_room self.new)) }
         ensures demand { IfOk result (λ p. demand_by p.demand (demanded self.old.state)
             ≡ demand_in (edited edit self.old.state.held)) }
-        ensures standing { IfOk result (λ p. K.keeping.planned p.update
-            ≡ standing_in (edited edit self.old.state.held)) }
-        ensures plans { IfOk result (λ p. K.keeping.plans p.update
+        ensures plans { IfOk result (λ p. K.keeping.plans self.new.keeper p.update
             (edited edit self.old.state.held).facts (demand_in (edited edit self.old.state.held))) }
         ensures moves { IfOk result (λ p. K.keeping.moves_of p.update
             ≡ moves_between (standing self.old.state) (standing_in (edited edit self.old.state.held))) }
         ensures touched { IfOk result (λ p. K.keeping.touched_of p.update ≡ touched.now) }
-        ensures ready { IfOk result (λ p. K.keeping.is_ready self.new.keeper p.update) }
         ensures memory { IfErr result (λ e. e ≡ Refusal.NoMemory) }
         ensures state { self.new.state ≡ self.old.state }
         ensures room_stays { KeepsRoom self.old self.new }
@@ -258,18 +255,17 @@ fn find_standing<K: Keeper>(
     requires outside { (old_facts : Facts) × (old_demand : List Pair) × K.keeping.keeps keeper.old old_facts old_demand
         × SameOutside touched.now old_facts old_demand held.now.facts.content (demand_in (content_of held.now)) }
     ensures demand { IfOk result (λ s. demand_by s.demand before.now ≡ demand_in (content_of held.now)) }
-    ensures planned { IfOk result (λ s. K.keeping.planned s.update ≡ standing_in (content_of held.now)) }
-    ensures plans { IfOk result (λ s. K.keeping.plans s.update
+    ensures plans { IfOk result (λ s. K.keeping.plans keeper.new s.update
         held.now.facts.content (demand_in (content_of held.now))) }
     ensures moves { IfOk result (λ s. K.keeping.moves_of s.update
         ≡ moves_between (K.keeping.standing keeper.old) (standing_in (content_of held.now))) }
     ensures touched { IfOk result (λ s. K.keeping.touched_of s.update ≡ touched.now) }
-    ensures ready { IfOk result (λ s. K.keeping.is_ready keeper.new s.update) }
     ensures memory { IfErr result (λ e. e ≡ Refusal.NoMemory) }
     ensures standing { K.keeping.standing keeper.new ≡ K.keeping.standing keeper.old }
     ensures keeps { (facts : Facts) (demand : List Pair)
         → K.keeping.keeps keeper.old facts demand → K.keeping.keeps keeper.new facts demand }
-    ensures stays_ready { (u : K.Update) → K.keeping.is_ready keeper.old u → K.keeping.is_ready keeper.new u }
+    ensures stays_planned { (u : K.Update) (facts : Facts) (demand : List Pair)
+        → K.keeping.plans keeper.old u facts demand → K.keeping.plans keeper.new u facts demand }
 {
     demanded_are_known();
     if keeps {

@@ -31,7 +31,7 @@
 //! Where memory is wanting in any part, the refusal is `NoMemory` and the state is as it was.
 //!
 //! `install` asks that this register prepared the change, on this state, and still has the room. Another command that
-//! is prepared in between leaves the state, loses no room (`KeepsRoom`) and leaves the keeper ready (`KeepsReady`). So
+//! is prepared in between leaves the state, loses no room (`KeepsRoom`) and no planned update (`KeepsReady`). So
 //! what was prepared stays prepared (`KeepsPrepared`), and can be installed after it.
 ghost use Rattle.std.specs.Prelude.{◌≡◌, ◌<◌, ◌≤◌, Ok, IfOk, IfErr, OnErr, length};
 ghost use Rattle.vet_base.specs.Gives.{Gives};

@@ -4,7 +4,7 @@ use Rattle.vet_register.specs.Held.{content_of}
 use Rattle.vet_register.specs.Machine.{next}
 use Rattle.vet_register.specs.RegisterView.{IsPrepared}
 use Rattle.vet_register.specs.Sound.{IsSound}
-use Rattle.vet_register.specs.State.{State, demanded, standing}
+use Rattle.vet_register.specs.State.{State, demanded}
 use Rattle.vet_register.proofs.register.Register.install.Goals as goal
 
 pub invariant_of-self : goal.invariant_of-self
@@ -39,13 +39,13 @@ invariant_of-self g c =
       first = sym c.make_recording.ensures.first i;
       moves = sym c.make_recording.ensures.moves i;
     } in
-    let same : next s command ≡ left = sym prepared.step.becomes ∙ made in (
+    let same : next s command ≡ left = sym prepared.step.becomes ∙ made in
+    let planned = subst (λ (t : State). g.K.Keeper.keeping.plans c.self.inside.keeper change.update t.held.facts
+    (demanded t)) same prepared.plans in (
       (
-        c.apply-2.ensures.keeps _ _
-            (subst (λ (t : State). g.K.Keeper.keeping.plans change.update t.held.facts (demanded t)) same
-            prepared.step.basis),
+        c.apply-2.ensures.keeps _ _ planned,
         (
-          c.apply-2.ensures.standing ∙ prepared.step.standing ∙ ap standing same,
+          c.apply-2.ensures.standing _ _ planned,
           c.exchange.ensures ∙ ap (demand_by change.demand) c.self.invariant.0.1.1 ∙ prepared.step.demand ∙ ap
               demanded same,
         ),
@@ -58,6 +58,12 @@ apply-requires g c =
     let prepared = subst (λ r. IsPrepared g.K.Keeper.keeping r c.requires.0 c.args.change) (sym c.self.view_is)
     c.requires.1 in
     prepared.fits
+
+pub apply-requires-2 : goal.apply-requires-2
+apply-requires-2 g c =
+    let prepared = subst (λ r. IsPrepared g.K.Keeper.keeping r c.requires.0 c.args.change) (sym c.self.view_is)
+    c.requires.1 in
+    (_, _, prepared.plans)
 
 pub change_desk-requires : goal.change_desk-requires
 change_desk-requires g c =

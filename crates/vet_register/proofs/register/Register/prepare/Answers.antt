@@ -4,7 +4,7 @@ use Rattle.vet_register.specs.declared.held.Held.{Held}
 use Rattle.vet_register.specs.Held.{Fits, demand_in, edited, held_with, standing_in}
 use Rattle.vet_register.specs.declared.verdict.Answer.TheVariants.{Accepted}
 use Rattle.vet_register.specs.Changes.{demand_by, desk_edited}
-use Rattle.vet_register.specs.Machine.{moves_of, number_after, number_given}
+use Rattle.vet_register.specs.Machine.{held_after, moves_of, next, number_after, number_given}
 use Rattle.vet_register.specs.RegisterView.{HoldsDesk, IsStep, desk_room, held_room}
 use Rattle.vet_graph.specs.Moves.{moves_between}
 use Rattle.vet_register.specs.State.{State, demanded, standing}
@@ -13,7 +13,7 @@ use Rattle.vet_register.specs.Verdict.{judged, step_limit, wants_memory}
 use Rattle.vet_register.proofs.Asking.{accepted_exact, refusal_exact, refusal_told}
 use Rattle.vet_register.proofs.AskingDesk.{room_onward}
 use Rattle.vet_register.proofs.Effects.{passed, step_passed}
-use Rattle.vet_register.proofs.Prepared.{AreParts, IsUpdate, desk_still, fit_told, fits_told, is_step}
+use Rattle.vet_register.proofs.Prepared.{AreParts, desk_still, fit_told, fits_told, is_step}
 use Rattle.vet_register.proofs.PreparedParts.{asked_stays, changed_stays, effect_of, planned_stays, rooms_onward}
 use Rattle.vet_register.proofs.Soundness.{MoveLaws}
 use Rattle.vet_register.proofs.register.Register.prepare.Goals as goal
@@ -96,13 +96,6 @@ returns-in_ok-change-in-Effect-clause-prepared g c =
       outcome = made.outcome;
     } in
     let held = asks.1.held in
-    let update : IsUpdate g.K.Keeper.keeping s action change.update = subst
-    (λ u. IsUpdate g.K.Keeper.keeping s action u) (sym made.update) (record {
-      standing = planned.standing ∙ ap standing_in held;
-      basis = subst (λ h. g.K.Keeper.keeping.plans c.in_ok-planned-in-Effect.planned.update h.facts (demand_in h))
-          held planned.plans;
-      touches = planned.touched;
-    }) in
     let laws : MoveLaws = record {
       differences = c.moves_are_differences.ensures;
       balance = c.moves_balance.ensures;
@@ -114,9 +107,15 @@ returns-in_ok-change-in-Effect-clause-prepared g c =
     let desk = ap (λ o. desk_edited o s.desk) made.desk ∙ asks.1.desk in
     let demand = ap (λ d. demand_by d (demanded s)) made.demand ∙ planned.demand ∙ ap demand_in held in
     let step = is_step laws g.K.Keeper.keeping s command change c.state_is_sound.ensures told asks.1.sound
-    (subst (λ (t : State). AreParts t command change) c.plan.ensures.state parts) by desk demand update in
+    (subst (λ (t : State). AreParts t command change) c.plan.ensures.state parts) by desk demand
+    (ap g.K.Keeper.keeping.touched_of made.update ∙ planned.touched) in
     let left : Held = held_room c.change.new.self in
     let room : held_room c.plan.new.self ≡ left = λ i. held_with ((sym made.state i).held) (sym made.held_room i) in
+    let after = held_after s action in
+    let plans : g.K.Keeper.keeping.plans c.plan.new.self.keeper change.update after.facts (demand_in after) = subst
+    (λ u. g.K.Keeper.keeping.plans c.plan.new.self.keeper u after.facts (demand_in after)) (sym made.update)
+    (subst (λ h. g.K.Keeper.keeping.plans c.plan.new.self.keeper c.in_ok-planned-in-Effect.planned.update h.facts
+    (demand_in h)) held planned.plans) in
     record {
       step = subst (λ (t : State). IsStep g.K.Keeper.keeping t command change)
           (sym (made.state ∙ c.plan.ensures.state)) step;
@@ -128,8 +127,9 @@ returns-in_ok-change-in-Effect-clause-prepared g c =
           (desk_still (desk_room c.asked_by.new.self) (desk_room c.plan.new.self) c.plan.ensures.room_stays.1.1
           c.in-Effect.effect.desk asks.1.holds));
       move_room = made.room;
-      ready = subst (λ k. g.K.Keeper.keeping.is_ready k change.update) (sym made.keeper)
-          (subst (λ u. g.K.Keeper.keeping.is_ready c.plan.new.self.keeper u) (sym made.update) planned.ready);
+      plans = subst (λ (t : State). g.K.Keeper.keeping.plans c.change.new.self.keeper change.update
+          (next t command).held.facts (demanded (next t command))) (sym (made.state ∙ c.plan.ensures.state))
+          (subst (λ k. g.K.Keeper.keeping.plans k change.update after.facts (demand_in after)) (sym made.keeper) plans);
     }
 
 pub plan-requires-clause-sound : goal.plan-requires-clause-sound
