@@ -1,5 +1,4 @@
-use Rattle.std.proofs.Common.{◌∙◌, ◌++◌, ◌∷◌, ◌<◌, [], refl, sym}
-use Rattle.std.specs.List.{All}
+use Rattle.std.proofs.Common.{◌∙◌, ◌++◌, ◌∷◌, [], refl}
 use Rattle.std.proofs.lemmas.Result.{err_from_is_err_and}
 use Rattle.vet_register.specs.declared.command.Action.TheVariants as action
 use Rattle.vet_register.proofs.Asking.{effective, no_memory}

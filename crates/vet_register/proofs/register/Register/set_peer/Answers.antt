@@ -1,4 +1,4 @@
-use Rattle.std.proofs.Common.{◌∙◌, ap, refl}
+use Rattle.std.proofs.Common.{◌∙◌, refl}
 use Rattle.vet_entries.specs.HeldPeer.{with_settings}
 use Rattle.vet_register.specs.declared.command.Action.TheVariants as action
 use Rattle.vet_register.proofs.Asking.{effective}

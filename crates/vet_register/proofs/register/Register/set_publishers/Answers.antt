@@ -1,5 +1,4 @@
-use Rattle.std.proofs.Common.{refl, subst}
-use Rattle.vet_entries.specs.PublisherRecords.{IsByName, with_records}
+use Rattle.std.proofs.Common.{refl}
 use Rattle.vet_register.specs.declared.command.Action.TheVariants as action
 use Rattle.vet_register.proofs.Asking.{effective, some_day, records_counted, records_differ, records_sound}
 use Rattle.vet_register.proofs.AskingEdits.{accepts, none_given, of_facts_is, state_before, told_before}
