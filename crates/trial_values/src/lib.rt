@@ -14,6 +14,7 @@ pub mod lists;
 pub mod name_lists;
 mod policies;
 pub mod projects;
+mod searches;
 mod steps;
 pub mod tables;
 pub mod values;

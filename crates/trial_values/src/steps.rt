@@ -93,8 +93,8 @@ fn origin(alloc: Global, origin: &Option<VetVersion>) -> Result<String, Fault> {
     }
 }
 
-// Adds a text, behind a separator where something stands before it.
-fn push_behind(told: &mut String, separator: &str, text: &str) -> Result<(), Fault> {
+/// Adds a text, behind a separator where something stands before it. Refused: `NoMemory`.
+pub fn push_behind(told: &mut String, separator: &str, text: &str) -> Result<(), Fault> {
     if !told.is_empty() {
         told.push_str(separator)?;
     }
@@ -102,7 +102,8 @@ fn push_behind(told: &mut String, separator: &str, text: &str) -> Result<(), Fau
     Ok(())
 }
 
-fn or_none(alloc: Global, told: String) -> Result<String, Fault> {
+/// A text, or `-` where it is empty. Refused: `NoMemory`.
+pub fn or_none(alloc: Global, told: String) -> Result<String, Fault> {
     if told.is_empty() {
         return Ok(String::from_str(alloc, "-")?);
     }

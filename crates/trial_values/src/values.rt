@@ -3,8 +3,8 @@
 //! `name TEXT`, `package TEXT`, `key TEXT`, `version TEXT`, `delta TEXT`, `requirement TEXT`, `day TEXT` and
 //! `policy-key TEXT` tell the value as it is printed. `texts [TEXT ..]` tells a set of texts, how many it holds and
 //! each in brackets, and `text-of N` how many bytes a text of N letters has. `closure NAME ..` tells the names of the
-//! closure in the register's table. Lines of other values stand in the other modules, and of these `steps` asks for
-//! what the register holds, too.
+//! closure in the register's table. Lines of other values stand in the other modules, and of these `steps` and
+//! `searches` ask for what the register holds, too.
 
 use crate::days::{day_number, day_of_parts, day_order, plus};
 use crate::fault::Fault;
@@ -13,6 +13,7 @@ use crate::line::{one, words_of};
 use crate::lists::{edited, names_of, packages_of, push_in_brackets, texts_of, touched};
 use crate::name_lists::names;
 use crate::projects::{project, table_word};
+use crate::searches::{extended, searched};
 use crate::steps::{condemned_criteria, steps, told_criteria};
 use crate::tables::{moves, table, table_of};
 use crate::versions::{equal, matches, order};
@@ -56,6 +57,8 @@ fn value_of(
         "closure" => closure(alloc, facts, texts),
         "steps" => steps(alloc, facts, texts),
         "condemned" => condemned_criteria(alloc, facts, texts),
+        "search" => searched(alloc, facts, texts),
+        "extend" => extended(alloc, facts, texts),
         _ => order_value(alloc, word, texts),
     }
 }

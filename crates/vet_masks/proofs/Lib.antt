@@ -1,0 +1,13 @@
+pub mod Barring
+pub mod Copies
+pub mod Extended
+pub mod Extending
+pub mod Indexing
+pub mod Onward
+pub mod Passing
+pub mod Popped
+pub mod Sizes
+pub mod Sounds
+pub mod Taken
+pub mod Used
+pub mod Whole

@@ -1,0 +1,61 @@
+//! Steps that can be seen only by looks, which are counted.
+ghost use Rattle.std.specs.Prelude.{◌≡◌, ◌-◌, ◌^◌, ◌<◌, length, Some, slice_get};
+ghost use Rattle.std.specs.Borrow.{sem};
+ghost use Rattle.vet_masks.specs.Looked.{CountsOne};
+
+use std::marker::Model;
+use vet_entries::step::Step;
+
+/// The steps of a package. No other call shows the content of one.
+#[derive(Drop)]
+pub struct Looks {
+    steps: Vec<Step>,
+    count: u128,
+}
+
+impl Model for Looks {
+    ghost use Rattle.vet_masks.specs.Counted.{Counted, counted_code};
+    ghost use Rattle.vet_entries.specs.contracts.step.Step as step;
+
+    ghost Value = { Counted };
+
+    ghost coded = { counted_code step.the_row.coded };
+
+    ghost view = { λ a. record { steps = a.steps.items; count = a.count } };
+}
+
+impl Looks {
+    /// Some steps, none of which was looked at. Takes no memory.
+    pub fn over(steps: Vec<Step>) -> Looks
+        ensures steps { result.steps ≡ steps.items }
+        ensures count { result.count ≡ 0 }
+    {
+        Looks { steps, count: 0 }
+    }
+
+    /// How many steps there are. Takes no memory.
+    pub fn len(&self) -> usize
+        ensures { result ≡ length self.now.steps }
+    {
+        self.steps.len()
+    }
+
+    /// How many looks were made. Takes no memory.
+    pub fn count(&self) -> u128
+        ensures { result ≡ self.now.count }
+    {
+        self.count
+    }
+
+    /// The step at a place, for one look more. Asks that there is one, and that the count is below its type's end.
+    /// Takes no memory.
+    pub fn look(&mut self, place: usize) -> &Step
+        requires place { place < length self.old.steps }
+        requires count { self.old.count < 2 ^ 128 - 1 }
+        ensures* counts { sem 𝓛 (CountsOne self.entry) }
+        ensures step { slice_get self.old.steps place ≡ Some result.now }
+    {
+        self.count += 1;
+        &self.steps[place]
+    }
+}
