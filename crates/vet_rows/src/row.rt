@@ -4,7 +4,7 @@
 //! that may be missing is a packed list of none or one. A map is a packed list of keys and packed lists in turn, in the
 //! order of the keys. A day is its number: how many days it is behind 1970-01-01. What may be said or not, and is true
 //! or false, is -1 where nothing is said, 0 for false, 1 for true. Classes are 0 to 4 in their order: conflicting,
-//! vetted, partially vetted, exempted, unvetted; 5 stands for none.
+//! full, partial, exempted, unvetted; 5 stands for none.
 use crate::column::{BlobColumn, TextColumn};
 
 /// The one row of `meta`: all of which there is just one.
@@ -24,9 +24,9 @@ pub struct MetaRow {
     pub moves_limit: i64,
     /// How many pairs were conflicting at first.
     pub first0: i64,
-    /// How many pairs were vetted in full at first.
+    /// How many pairs were full at first.
     pub first1: i64,
-    /// How many pairs were vetted in part at first.
+    /// How many pairs were partial at first.
     pub first2: i64,
     /// How many pairs were exempted at first.
     pub first3: i64,
