@@ -135,4 +135,13 @@ def table(size):
 
 
 def document(command, **keys):
-    return "".join(f"{key} = {json.dumps(told)}\n" for key, told in {"command": command, **keys}.items())
+    return "".join(f"{key} = {toml_of(value)}\n" for key, value in {"command": command, **keys}.items())
+
+
+def toml_of(value):
+    """A value as TOML writes it: a text, number, flag or list as JSON, and a table with its keys and values."""
+    if isinstance(value, dict):
+        return "{" + ", ".join(f"{json.dumps(key)} = {toml_of(of_key)}" for key, of_key in value.items()) + "}"
+    if isinstance(value, list):
+        return "[" + ", ".join(map(toml_of, value)) + "]"
+    return json.dumps(value)
