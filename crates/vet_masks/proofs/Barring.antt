@@ -1,10 +1,10 @@
 -- What bars the versions of steps, by their numbers.
-use Rattle.std.proofs.Common.{◌≡◌, ◌≢◌, ◌+◌, ◌<◌, ◌||◌, ◌&&◌, ◌++◌, ◌∷◌, [], ℕ, Bool, true, false, List, Some, None}
-use Rattle.std.proofs.Common.{length, get_or, set as setn, take, unwrap_or, refl, sym, ap, ◌∙◌, inl, inr}
+use Rattle.std.proofs.Common.{◌≡◌, ◌≢◌, ◌+◌, ◌<◌, ◌||◌, ◌&&◌, ◌++◌, ◌∷◌, [], ℕ, Bool, true, false, not, List, Some}
+use Rattle.std.proofs.Common.{None, length, get_or, set as setn, take, unwrap_or, refl, sym, ap, ◌∙◌, inl, inr}
 use Rattle.std.specs.Cmp.{nat_cmp_total}
 use Rattle.std.specs.FinSet as set
 use Rattle.std.specs.List.{All, list_any}
-use Rattle.std.proofs.lemmas.Bool.{cases_Bool, cases_eq}
+use Rattle.std.proofs.lemmas.Bool.{cases_eq}
 use Rattle.std.proofs.lemmas.List.{get_or-set_same, get_or-set_other, take_more}
 use Rattle.std.proofs.lemmas.List.Folds.{list_any-append}
 use Rattle.vet_base.specs.CriteriaSet.{has, Places}
@@ -15,9 +15,10 @@ use Rattle.vet_entries.specs.declared.step.Step.{Step}
 use Rattle.vet_masks.specs.declared.index.Index.{Index}
 use Rattle.vet_masks.specs.declared.search.Barred.{Barred}
 use Rattle.vet_masks.specs.Index.{IsNamed, IsNumbering, Numbers}
-use Rattle.vet_masks.specs.Masks.{bars_at}
-use Rattle.vet_masks.specs.Reached.{AreBarredAlike}
+use Rattle.vet_masks.specs.Masks.{bars_at, is_taken_at}
+use Rattle.vet_masks.specs.Reached.{AreBarredAlike, AreTakenAlike}
 use Rattle.vet_masks.specs.Vouched.{barred_by}
+use Rattle.vet_masks.proofs.Flags.{other-version}
 use Rattle.vet_masks.proofs.Indexing.{numbers_in, some-is}
 
 -- whether one of them bars a version
@@ -45,10 +46,7 @@ module _ (numbers : Numbers) (m : ℕ) (numbering : IsNumbering numbers m) (bars
     (so_far : (v : VersionValue) (n c : ℕ) → numbers v ≡ Some n → has c (get_or bars n set.empty) ≡ before c v) where
   -- a version with another number is not barred by it
   not_one : (v : VersionValue) (c : ℕ) → b.version ≢ v → bars_one b c v ≡ false
-  not_one v c d = elim (cases_Bool (version_eq b.version v)) [
-    | inl tied ↦ absurd (d ((version_eq-Decides b.version v).0 tied))
-    | inr other ↦ ap (λ x. x && has c b.criteria) other
-  ]
+  not_one v c d = ap (λ x. x && has c b.criteria) (other-version b.version v d)
 
   -- where its version has a number, it is put there
   pub bars-put : (k : ℕ) → numbers b.version ≡ Some k → k < length bars → (v : VersionValue) (n c : ℕ)
@@ -84,3 +82,13 @@ bars-alike index bars barred steps named h k d l c =
     let s = get_or steps k d in
     let at = some-is (numbers_in index s.target) (named k d l).target in
     ap (λ n. has c (get_or bars n set.empty)) (ap (λ o. unwrap_or o 0) at.1) ∙ h s.target at.0 c at.1
+
+-- by flags at the numbers of versions, steps are taken as the flags say
+pub taken-alike : (index : Index) (flags : List Bool) (taken : Step → Bool) (steps : List Step)
+    → All (IsNamed (numbers_in index)) steps
+    → ((s : Step) (n : ℕ) → numbers_in index s.target ≡ Some n → not (s.exempt && get_or flags n false) ≡ taken s)
+    → AreTakenAlike steps (is_taken_at index flags) taken
+taken-alike index flags taken steps named h k d l =
+    let s = get_or steps k d in
+    let at = some-is (numbers_in index s.target) (named k d l).target in
+    ap (λ n. not (s.exempt && get_or flags n false)) (ap (λ o. unwrap_or o 0) at.1) ∙ h s at.0 at.1

@@ -1,6 +1,6 @@
 -- What an answer for the first steps is worth for all of them.
-use Rattle.std.proofs.Common.{◌≡◌, ◌+◌, ◌*◌, ◌<◌, ◌≤◌, ◌||◌, ◌++◌, ℕ, zero, suc, Bool, true, false, cond, List, Option}
-use Rattle.std.proofs.Common.{Some, None}
+use Rattle.std.proofs.Common.{◌≡◌, ◌+◌, ◌*◌, ◌<◌, ◌≤◌, ◌||◌, ◌&&◌, ◌++◌, ℕ, zero, suc, Bool, true, false}
+use Rattle.std.proofs.Common.{not, cond, List, Option, Some, None}
 use Rattle.std.proofs.Common.{length, get_or, replicate, take, drop, refl, sym, ap, ◌∙◌, arith}
 use Rattle.std.specs.FinSet as set
 use Rattle.std.specs.List.{All, list_any}
@@ -16,10 +16,11 @@ use Rattle.vet_graph.specs.Chain.{Condemned}
 use Rattle.vet_masks.specs.declared.index.Index.{Index}
 use Rattle.vet_masks.specs.declared.search.Barred.{Barred}
 use Rattle.vet_masks.specs.Index.{IsIndex, IsNamed, Keeps, ends_of, is_used}
-use Rattle.vet_masks.specs.Masks.{Grows, Stands, bars_at, reached, size, spent}
-use Rattle.vet_masks.specs.Reached.{AreBarredAlike, used_below}
+use Rattle.vet_masks.specs.Masks.{Grows, IsDone, Numbered, Open, Stands, bars_at, is_taken_at, origin_at, reached}
+use Rattle.vet_masks.specs.Masks.{size, spent}
+use Rattle.vet_masks.specs.Reached.{AreBarredAlike, AreTakenAlike, used_below}
 use Rattle.vet_masks.specs.Vouched.{barred_by}
-use Rattle.vet_masks.proofs.Barring.{bars-alike}
+use Rattle.vet_masks.proofs.Barring.{bars-alike, taken-alike}
 use Rattle.vet_masks.proofs.Extending.{AreFirst}
 use Rattle.vet_masks.proofs.Indexing.{ends-kept, keeps-named, numbers_in}
 use Rattle.vet_masks.proofs.Whole.{reached-filled}
@@ -47,17 +48,16 @@ used-onward steps n c h =
     ∙ or_true (list_any f (take n steps)) (list_any f (drop n steps)) h
 
 -- what was spent for the first steps, all of it passed on, was spent for these
-pub spent-before : (steps : List Step) (n : ℕ) (old new : Index) (held passed : List Places)
+pub spent-before : (steps : List Step) (n : ℕ) (old new : Index) (held : List Places)
     → IsIndex (take n steps) old → IsIndex steps new → Keeps (numbers_in old) (numbers_in new)
-    → ((c m : ℕ) → reached passed c m ≡ reached held c m)
-    → spent (size most old.used) held old.ends.items ≤ spent (size most new.used) passed (take n new.ends.items)
-spent-before steps n old new held passed h k keeps same =
+    → spent (size most old.used) held old.ends.items ≤ spent (size most new.used) held (take n new.ends.items)
+spent-before steps n old new held h k keeps =
     let ends : old.ends.items ≡ take n new.ends.items = h.ends
     ∙ ends-kept (take n steps) (numbers_in old) (numbers_in new) keeps h.named
     ∙ sym (ap (take n) k.ends ∙ take-map (ends_of (numbers_in new)) n steps) in
-    rw (← ends) (spent-grows (size most old.used) (size most new.used) held passed old.ends.items
+    rw (← ends) (spent-grows (size most old.used) (size most new.used) held held old.ends.items
     (size-le most old.used new.used (λ c e. k.used c ∙ used-onward steps n c (sym (h.used c) ∙ e)))
-    (λ i. size-le most (get_or held i set.empty) (get_or passed i set.empty) (λ c e. same c i ∙ e)))
+    (λ i. omega arith))
 
 one-most : (b : Bool) → cond b 1 0 ≤ 1
 one-most true = omega arith
@@ -74,19 +74,33 @@ few_looks x s u l h = (let at : s * (u + 1) ≤ s * 65 = mul-le-mul (omega arith
     omega (arith, h, at))
 
 -- sets that are filled up with empty ones say of each version what they said
-pub filled-same : (held sets all : List Places) (k : ℕ) → all ≡ sets ++ replicate k set.empty → sets ≡ held
-    → (c m : ℕ) → reached all c m ≡ reached held c m
-filled-same held sets all k is same c m = ap (λ hs. reached hs c m) is ∙ reached-filled sets k c m
-    ∙ ap (λ hs. reached hs c m) same
+pub filled-same : (sets all : List Places) (k : ℕ) → all ≡ sets ++ replicate k set.empty
+    → (c m : ℕ) → reached all c m ≡ reached sets c m
+filled-same sets all k is c m = ap (λ hs. reached hs c m) is ∙ reached-filled sets k c m
 
--- the first steps are barred by the sets of their versions as they were
-pub alike-onward : (front : List Step) (old new : Index) (bar : Condemned) (barred : List Barred) (bars : List Places)
-    → All (IsNamed (numbers_in old)) front → Keeps (numbers_in old) (numbers_in new)
-    → AreBarredAlike front bar (barred_by barred)
-    → ((v : VersionValue) (n c : ℕ) → numbers_in new v ≡ Some n
-    → has c (get_or bars n set.empty) ≡ barred_by barred c v)
-    → AreBarredAlike front bar (bars_at new bars)
-alike-onward front old new bar barred bars named keeps alike h k d l c =
-    let named_now : All (IsNamed (numbers_in new)) front = All-weaker (IsNamed (numbers_in old))
-    (IsNamed (numbers_in new)) (keeps-named (numbers_in old) (numbers_in new) keeps) front named in
-    alike k d l c ∙ sym (bars-alike new bars barred front named_now h k d l c)
+-- where each version has what it had, steps lead on as they did
+pub done-same : (steps : List Numbered) (open_step : Open) (held all : List Places) (n : ℕ)
+    → ((c m : ℕ) → reached all c m ≡ reached held c m) → IsDone steps open_step held held n
+    → IsDone steps open_step all all n
+done-same steps open_step held all n same h c p l st o =
+    same c _ ∙ h c p l (stands-grows all held (λ q m e. sym (same q m) ∙ e) c (origin_at steps p) st) o
+
+-- the first steps are barred by the sets of their versions as they were, and taken by the flags of these as they were
+module _ (front : List Step) (old new : Index) (named : All (IsNamed (numbers_in old)) front)
+    (keeps : Keeps (numbers_in old) (numbers_in new)) where
+  named_now : All (IsNamed (numbers_in new)) front
+  named_now = All-weaker (IsNamed (numbers_in old)) (IsNamed (numbers_in new))
+      (keeps-named (numbers_in old) (numbers_in new) keeps) front named
+
+  pub barred-onward : (bar : Condemned) (barred : List Barred) (bars : List Places)
+      → AreBarredAlike front bar (barred_by barred)
+      → ((v : VersionValue) (n c : ℕ) → numbers_in new v ≡ Some n
+      → has c (get_or bars n set.empty) ≡ barred_by barred c v)
+      → AreBarredAlike front bar (bars_at new bars)
+  barred-onward bar barred bars alike h k d l c =
+      alike k d l c ∙ sym (bars-alike new bars barred front named_now h k d l c)
+
+  pub taken-onward : (flags : List Bool) (taken : Step → Bool)
+      → ((s : Step) (n : ℕ) → numbers_in new s.target ≡ Some n → not (s.exempt && get_or flags n false) ≡ taken s)
+      → AreTakenAlike front taken (is_taken_at new flags)
+  taken-onward flags taken h k d l = sym (taken-alike new flags taken front named_now h k d l)

@@ -1,5 +1,5 @@
 -- What was found for some steps stands for more of them, with other numbers for new versions.
-use Rattle.std.proofs.Common.{◌≡◌, ℕ, ◌<◌, ◌&&◌, Bool, true, not, List, Option, Some, None, length, get_or, map}
+use Rattle.std.proofs.Common.{◌≡◌, ℕ, ◌<◌, ◌&&◌, Bool, true, not, List, length, get_or, map}
 use Rattle.std.proofs.Common.{sym, ap, subst, ◌∙◌, arith}
 use Rattle.std.specs.List.{All, Contains}
 use Rattle.std.proofs.lemmas.List.{get_or-map, length-map}
@@ -9,8 +9,9 @@ use Rattle.vet_entries.specs.declared.step.Step.{Step}
 use Rattle.vet_graph.specs.Chain.{Condemned}
 use Rattle.vet_graph.specs.ListLaws.{Contains-map}
 use Rattle.vet_masks.specs.Index.{IsNamed, Keeps, Numbers}
-use Rattle.vet_masks.specs.Masks.{IsDone, IsSound, Numbered, Stands, is_open, no_step, numbered}
+use Rattle.vet_masks.specs.Masks.{IsDone, IsReaching, IsSound, Numbered, Stands, is_open, no_step, numbered}
 use Rattle.vet_masks.specs.Masks.{reached}
+use Rattle.vet_masks.specs.Reached.{AreBarredAlike, AreTakenAlike}
 use Rattle.vet_masks.proofs.Indexing.{keeps-number, keeps-origin}
 
 -- these are the first of some steps
@@ -19,9 +20,8 @@ AreFirst front steps = (p : ℕ) (d : Step) → p < length front →
     (p < length steps) × (get_or steps p d ≡ get_or front p d)
 
 module _ (front steps : List Step) (first : AreFirst front steps) (old new : Numbers) (keeps : Keeps old new)
-    (named : All (IsNamed old) front) (bar other : Condemned)
-    (alike : All (λ s. (c : ℕ) → bar c s.target ≡ other c s.target) front)
-    (taken : Step → Bool) (held after : List Places) (same : (c n : ℕ) → reached after c n ≡ reached held c n) where
+    (named : All (IsNamed old) front) (bar other : Condemned) (alike : AreBarredAlike front bar other)
+    (taken takes : Step → Bool) (same : AreTakenAlike front taken takes) (held : List Places) where
   numbered-same : (s : Step) → IsNamed old s → numbered old s ≡ numbered new s
   numbered-same s h = λ i. record {
     origin = keeps-origin old new keeps s.origin h.origin i;
@@ -57,18 +57,20 @@ module _ (front steps : List Step) (first : AreFirst front steps) (old new : Num
       (Contains-map (numbered new) steps at.0 in-steps)
 
   open-same : (c : ℕ) (t : Numbered) → Contains (map (numbered old) front) t
-      → is_open bar taken c t ≡ is_open other taken c t
+      → is_open bar taken c t ≡ is_open other takes c t
   open-same c t k =
       let at = of-front t k in
       let step : t.step ≡ at.0 = ap (λ (u : Numbered). u.step) at.2 in
       let bars : bar c t.step.target ≡ other c t.step.target = subst (λ (s : Step). bar c s.target ≡ other c s.target)
       (sym step) (All-contains (λ s. (q : ℕ) → bar q s.target ≡ other q s.target) front at.0 alike at.1 c) in
-      ap (λ b. has c t.step.criteria && (not b && taken t.step)) bars
+      let takes_it : taken t.step ≡ takes t.step = subst (λ (s : Step). taken s ≡ takes s) (sym step)
+      (All-contains (λ s. taken s ≡ takes s) front at.0 same at.1) in
+      λ i. has c t.step.criteria && (not (bars i) && takes_it i)
 
-  pub sound-onward : (c : ℕ) → IsSound (map (numbered old) front) (is_open bar taken c) (reached held c)
-      → IsSound (map (numbered new) steps) (is_open other taken c) (reached after c)
+  sound-onward : (c : ℕ) → IsSound (map (numbered old) front) (is_open bar taken c) (reached held c)
+      → IsSound (map (numbered new) steps) (is_open other takes c) (reached held c)
   sound-onward c h v w =
-      let k = h v (sym (same c v) ∙ w) in (
+      let k = h v w in (
         k.0,
         record {
           of_package = All-weaker (Contains (map (numbered old) front)) (Contains (map (numbered new) steps)) carried
@@ -77,21 +79,20 @@ module _ (front steps : List Step) (first : AreFirst front steps) (old new : Num
           leads = k.1.leads;
           once = k.1.once;
         },
-        All-weaker (λ t. reached held c t.target ≡ true) (λ t. reached after c t.target ≡ true)
-            (λ t q. same c t.target ∙ q) k.0 k.2,
+        k.2,
       )
 
-  stands-same : (c : ℕ) (o : Option ℕ) → Stands (reached after c) o → Stands (reached held c) o
-  stands-same c None h = tt
-  stands-same c (Some v) h = sym (same c v) ∙ h
-
-  pub done-onward : IsDone (map (numbered old) front) (is_open bar taken) held held (length front)
-      → IsDone (map (numbered new) steps) (is_open other taken) after after (length front)
+  done-onward : IsDone (map (numbered old) front) (is_open bar taken) held held (length front)
+      → IsDone (map (numbered new) steps) (is_open other takes) held held (length front)
   done-onward h c p l st o =
       let t = get_or (map (numbered old) front) p no_step in
       let here = at-same p l in
       let in-front : Contains (map (numbered old) front) t = Contains-get_or (map (numbered old) front) p no_step
       (omega (arith, l, length-map front (numbered old))) in
-      same c _ ∙ ap (λ (u : Numbered). reached held c u.target) here
-      ∙ h c p l (stands-same c t.origin (subst (λ (u : Numbered). Stands (reached after c) u.origin) here st))
-      (open-same c t in-front ∙ subst (λ (u : Numbered). is_open other taken c u ≡ true) here o)
+      ap (λ (u : Numbered). reached held c u.target) here
+      ∙ h c p l (subst (λ (u : Numbered). Stands (reached held c) u.origin) here st)
+      (open-same c t in-front ∙ subst (λ (u : Numbered). is_open other takes c u ≡ true) here o)
+
+  pub reaches-onward : IsReaching (map (numbered old) front) (is_open bar taken) (length front) held
+      → IsReaching (map (numbered new) steps) (is_open other takes) (length front) held
+  reaches-onward h = record { sound = λ c. sound-onward c (h.sound c); done = done-onward h.done }

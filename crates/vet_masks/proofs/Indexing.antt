@@ -136,6 +136,7 @@ pub keeps-ends : (old new : Numbers) → Keeps old new → (s : Step) → IsName
 keeps-ends old new keeps s h = λ i. record {
   origin = keeps-origin old new keeps s.origin h.origin i;
   target = sym (keeps-number old new keeps s.target h.target) i;
+  exempt = s.exempt;
 }
 
 pub ends-kept : (steps : List Step) (old new : Numbers) → Keeps old new → All (IsNamed old) steps
@@ -208,6 +209,9 @@ module _ (steps : List Step) (index : Index) (h : IsIndex steps index) (p : ℕ)
   pub origin-same : origin_at (numbered_by index steps) p ≡ (get_or index.ends.items p no_ends).origin
   origin-same = ap (λ (t : Numbered). t.origin) (numbered-at no_step)
       ∙ sym (ap (λ (e : Ends). e.origin) (ends-at no_ends))
+
+  pub target-at : (e : Ends) → e ≡ get_or index.ends.items p e → e.target ≡ number_of (numbers_in index) step_at.target
+  target-at e is = ap (λ (x : Ends). x.target) (is ∙ ends-at e)
 
   pub target-below : number_of (numbers_in index) step_at.target < length index.after.items
   target-below = number-below (numbers_in index) (length index.after.items) h.numbering step_at.target named-at.target

@@ -2,6 +2,7 @@ pub mod Barring
 pub mod Copies
 pub mod Extended
 pub mod Extending
+pub mod Flags
 pub mod Indexing
 pub mod Onward
 pub mod Passing

@@ -57,7 +57,7 @@ looks-bound steps bar taken r h =
     let spends : spent k r.held.items r.index.ends.items ≤ k * length r.index.ends.items =
     spent-le k k r.held.items r.index.ends.items (omega arith)
     (λ i. size-le most (get_or r.held.items i set.empty) r.index.used (λ c at. h.index.used c
-    ∙ reached-used (get version_cmp r.index.numbers) steps bar taken r.held.items h.sound c i at)) in
+    ∙ reached-used (get version_cmp r.index.numbers) steps bar taken r.held.items h.reaches.sound c i at)) in
     let long : length r.index.ends.items ≡ length steps =
     ap length h.index.ends ∙ length-map steps (ends_of (get version_cmp r.index.numbers)) in
     rw (← size-used most r.index.used steps h.index.used)

@@ -1,5 +1,5 @@
 -- What a finished search has reached.
-use Rattle.std.proofs.Common.{◌≡◌, ◌≢◌, ◌⊎◌, ℕ, zero, suc, ◌<◌, ◌↔◌, Bool, true, false, List, [], ◌∷◌, ◌++◌}
+use Rattle.std.proofs.Common.{◌≡◌, ◌≢◌, ◌⊎◌, ℕ, ◌<◌, ◌↔◌, Bool, true, false, List, [], ◌∷◌, ◌++◌}
 use Rattle.std.proofs.Common.{Option, Some, None, option_map, unwrap_or, is_some, length, replicate, get_or, map, refl}
 use Rattle.std.proofs.Common.{sym, ap}
 use Rattle.std.proofs.Common.{subst, ◌∙◌, arith, inl, inr}
@@ -10,7 +10,7 @@ use Rattle.std.specs.Ordering.{nat_cmp}
 use Rattle.std.proofs.lemmas.Bool.{cases_lt, false≢true, and_parts, and_from, not-true, not_from_false}
 use Rattle.std.proofs.lemmas.List.{get_or_default, get_or-map, get_or_past, length-map}
 use Rattle.std.proofs.lemmas.List.Elements.{All-head, All-tail, All-map, All-weaker, All-contains}
-use Rattle.vet_base.proofs.ListLemmas.{Contains-here, Contains-later, all_alike}
+use Rattle.vet_base.proofs.ListLemmas.{Contains-here, Contains-later}
 use Rattle.vet_base.specs.CriteriaSet.{has, Places}
 use Rattle.vet_base.specs.Version.{VersionValue}
 use Rattle.vet_base.specs.VersionOrder.{version_cmp}
@@ -19,19 +19,18 @@ use Rattle.vet_graph.specs.Chain.{Condemned, IsChain}
 use Rattle.vet_graph.specs.Chain as chains
 use Rattle.vet_graph.specs.ListLaws.{Contains-map}
 use Rattle.vet_graph.proofs.Reach.{AllPairs-mapped}
-use Rattle.vet_masks.specs.declared.search.Reached.{Reached}
-use Rattle.vet_masks.specs.Index.{IsNamed, IsNumbering, Numbers, number_of}
-use Rattle.vet_masks.specs.Masks.{IsDone, IsOpenChain, Leads, Numbered, Open, Stands, is_open, no_step, numbered}
-use Rattle.vet_masks.specs.Masks.{reached}
-use Rattle.vet_masks.specs.Reached.{IsAnswer}
+use Rattle.vet_masks.specs.declared.index.Index.{Index}
+use Rattle.vet_masks.specs.Index.{IsIndex, IsNamed, IsNumbering, Numbers, number_of}
+use Rattle.vet_masks.specs.Masks.{IsDone, IsOpenChain, IsReaching, Leads, Numbered, Open, Stands, is_open, no_step}
+use Rattle.vet_masks.specs.Masks.{numbered, numbered_by, reached}
 use Rattle.vet_masks.specs.Vouched.{IsVouched}
+use Rattle.vet_masks.proofs.Copies.{get_or-filled}
+use Rattle.vet_masks.proofs.Indexing.{some-is}
 use Rattle.vet_masks.proofs.Sounds.{walk_ends}
 
 -- empty sets behind the others change nothing
 pub reached-filled : (held : List Places) (k c v : ℕ) → reached (held ++ replicate k set.empty) c v ≡ reached held c v
-reached-filled [] k c v = ap (has c) (all_alike set.empty k v)
-reached-filled (s ∷ held) k c zero = refl
-reached-filled (s ∷ held) k c (suc v) = reached-filled held k c v
+reached-filled held k c v = ap (has c) (get_or-filled set.empty held k v)
 
 -- a version past the end is not reached
 pub below : (held : List Places) (c v : ℕ) → reached held c v ≡ true → v < length held
@@ -61,17 +60,13 @@ module _ (steps : List Numbered) (open_step : Open) (held : List Places)
 -- ---- between versions
 
 -- the steps of a chain lead to its version
-leads_last : (at : Option VersionValue) (chain : List Step) (v : VersionValue) → chains.Leads at chain v
+pub leads_last : (at : Option VersionValue) (chain : List Step) (v : VersionValue) → chains.Leads at chain v
     → (at ≡ Some v) ⊎ ((s : Step) × Contains chain s × (s.target ≡ v))
 leads_last at [] v l = inl l
 leads_last at (s ∷ rest) v l = elim (leads_last (Some s.target) rest v l.1) [
   | inl here ↦ inr (s, Contains-here s rest, cc here)
   | inr more ↦ inr (more.0, Contains-later s more.0 rest more.1, more.2)
 ]
-
-some-is : (o : Option ℕ) → is_some o ≡ true → (n : ℕ) × (o ≡ Some n)
-some-is None h = absurd (false≢true h)
-some-is (Some n) h = (n, refl)
 
 module _ (numbers : Numbers) (m : ℕ) (numbering : IsNumbering numbers m) (steps : List Step)
     (named : All (IsNamed numbers) steps) where
@@ -199,21 +194,22 @@ module _ (numbers : Numbers) (m : ℕ) (numbering : IsNumbering numbers m) (step
     ]
 
 -- a version is reached just where a chain vouches for it
-pub reached-vouched : (steps : List Step) (bar : Condemned) (taken : Step → Bool) (r : Reached)
-    → IsAnswer steps bar taken r → (v : VersionValue) (n : ℕ) → get version_cmp r.index.numbers v ≡ Some n → (c : ℕ)
-    → (reached r.held.items c n ≡ true) ↔ IsVouched steps bar taken c v
-reached-vouched steps bar taken r h v n known c =
-    let numbers = get version_cmp r.index.numbers in
-    let m = length r.index.after.items in
+pub reached-vouched : (steps : List Step) (index : Index) (bar : Condemned) (taken : Step → Bool) (held : List Places)
+    → IsIndex steps index → IsReaching (numbered_by index steps) (is_open bar taken) (length steps) held
+    → (v : VersionValue) (n : ℕ) → get version_cmp index.numbers v ≡ Some n → (c : ℕ)
+    → (reached held c n ≡ true) ↔ IsVouched steps bar taken c v
+reached-vouched steps index bar taken held h r v n known c =
+    let numbers = get version_cmp index.numbers in
+    let m = length index.after.items in
     let is : number_of numbers v ≡ n = ap (λ o. unwrap_or o 0) known in (
-      λ e. (let k = h.sound c n e in
-          vouched-from_open numbers m h.index.numbering steps h.index.named bar taken c v (ap is_some known) k.0
+      λ e. (let k = r.sound c n e in
+          vouched-from_open numbers m h.numbering steps h.named bar taken c v (ap is_some known) k.0
           (subst (λ j. IsOpenChain (map (numbered numbers) steps) (is_open bar taken c) j k.0) (sym is) k.1)),
-      λ w. (let walk = walk-from_vouched numbers m h.index.numbering steps h.index.named bar taken c v w in
-          subst (λ j. reached r.held.items c j ≡ true) is
-          (walked (map (numbered numbers) steps) (is_open bar taken) r.held.items
-          (subst (IsDone (map (numbered numbers) steps) (is_open bar taken) r.held.items r.held.items)
-          (sym (length-map steps (numbered numbers))) h.done) c
+      λ w. (let walk = walk-from_vouched numbers m h.numbering steps h.named bar taken c v w in
+          subst (λ j. reached held c j ≡ true) is
+          (walked (map (numbered numbers) steps) (is_open bar taken) held
+          (subst (IsDone (map (numbered numbers) steps) (is_open bar taken) held held)
+          (sym (length-map steps (numbered numbers))) r.done) c
           (number_of numbers v) (map (numbered numbers) w.0) walk.0
           walk.1.0 walk.1.1)),
     )

@@ -29,9 +29,13 @@ Keeps old new = (v : VersionValue) (k : ℕ) → old v ≡ Some k → new v ≡ 
 abbrev pub number_of : Numbers → VersionValue → ℕ
 number_of numbers v = unwrap_or (numbers v) 0
 
--- the numbers of the versions between which a step leads
+-- the numbers of the versions between which a step leads, and whether it is exempt
 abbrev pub ends_of : Numbers → Step → Ends
-ends_of numbers s = record { origin = option_map (number_of numbers) s.origin; target = number_of numbers s.target }
+ends_of numbers s = record {
+  origin = option_map (number_of numbers) s.origin;
+  target = number_of numbers s.target;
+  exempt = s.exempt;
+}
 
 -- what stands for the version at which a step starts
 abbrev pub IsOrigin : Numbers → Option VersionValue → Option ℕ → Type 0
@@ -56,7 +60,7 @@ places_from place n (e ∷ rest) =
 
 -- what a read past the end would give
 abbrev pub no_ends : Ends
-no_ends = record { origin = None; target = 0 }
+no_ends = record { origin = None; target = 0; exempt = false }
 
 -- whether some step has a criterion
 abbrev pub is_used : List Step → ℕ → Bool

@@ -10,7 +10,6 @@ use Rattle.vet_base.specs.VersionOrder.{version_cmp}
 use Rattle.vet_base.specs.declared.limits.TheConstants.{MOST_CRITERIA as most}
 use Rattle.vet_entries.specs.declared.step.Step.{Step}
 use Rattle.vet_graph.specs.Chain.{Condemned}
-use Rattle.vet_graph.specs.Search.{may_take}
 use Rattle.vet_masks.specs.declared.index.Ends.{Ends}
 use Rattle.vet_masks.specs.declared.index.Index.{Index}
 use Rattle.vet_masks.specs.declared.masks.Added.{Added}
@@ -61,9 +60,14 @@ is_open bar taken c s = has c s.step.criteria && (not (bar c s.step.target) && t
 abbrev pub bars_at : Index → List Places → Condemned
 bars_at index bars c v = has c (get_or bars (number_of (get version_cmp index.numbers) v) set.empty)
 
+-- whether a search takes a step, by whether exempt steps to each version are skipped
+abbrev pub is_taken_at : Index → List Bool → Step → Bool
+is_taken_at index skipped s =
+    not (s.exempt && get_or skipped (number_of (get version_cmp index.numbers) s.target) false)
+
 -- which steps a search takes on these terms
 abbrev pub open_by : Index → Terms → Open
-open_by index terms = is_open (bars_at index terms.bars.now) (may_take terms.skip)
+open_by index terms = is_open (bars_at index terms.bars.now) (is_taken_at index terms.skipped.now)
 
 -- the steps lead from where one stands to the version of number v
 abbrev pub Leads : Option ℕ → List Numbered → ℕ → Type 0
@@ -127,10 +131,15 @@ abbrev pub LeadsOn : List Numbered → Open → List Places → ℕ → ℕ → 
 LeadsOn steps open_step held c p = open_step c (get_or steps p no_step) ≡ true
     → reached held c (get_or steps p no_step).target ≡ true
 
--- what was passed on by the first n steps leads into what was reached
+-- what was passed on leads along each of the first n steps into what was reached
 abbrev pub IsDone : List Numbered → Open → List Places → List Places → ℕ → Type 0
 IsDone steps open_step held passed n = (c p : ℕ) → p < n → Stands (reached passed c) (origin_at steps p)
     → LeadsOn steps open_step held c p
+
+-- chains of these steps lead to what was reached, and the first n of them lead on to nothing else
+pub record IsReaching (steps : List Numbered) (open_step : Open) (n : ℕ) (held : List Places) : Type 0 where
+  pub sound : (c : ℕ) → IsSound steps (open_step c) (reached held c)
+  pub done : IsDone steps open_step held held n
 
 -- the steps at these places start where one stands for each criterion that is given
 abbrev pub AreReady : List Numbered → Places → List Places → List ℕ → Type 0
@@ -164,6 +173,7 @@ pub record GoesOn (old new : Masks) : Type 0 where
 pub record IsSearch (steps : List Step) (index : Index) (terms : Terms) (masks : Masks) : Type 0 where
   pub indexed : IsIndex steps index
   pub bars : length terms.bars.now ≡ length index.after.items
+  pub skipped : length terms.skipped.now ≡ length index.after.items
   pub held : length masks.held.items ≡ length index.after.items
   pub passed : length masks.passed.items ≡ length index.after.items
   pub sound : (c : ℕ) → IsSound (numbered_by index steps) (open_by index terms c) (reached masks.held.items c)

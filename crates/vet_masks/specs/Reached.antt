@@ -6,7 +6,7 @@ use Rattle.vet_entries.specs.declared.step.Step.{Step}
 use Rattle.vet_graph.specs.Chain.{Condemned}
 use Rattle.vet_masks.specs.declared.search.Reached.{Reached}
 use Rattle.vet_masks.specs.Index.{IsIndex, is_used}
-use Rattle.vet_masks.specs.Masks.{IsDone, IsSound, is_open, numbered_by, reached, size, spent}
+use Rattle.vet_masks.specs.Masks.{IsReaching, is_open, numbered_by, size, spent}
 
 -- how many of the first n criteria some step has
 unfoldable pub used_below : ℕ → List Step → ℕ
@@ -18,10 +18,13 @@ used_below (suc n) steps = used_below n steps + cond (is_used steps n) 1 0
 pub record IsAnswer (steps : List Step) (bar : Condemned) (taken : Step → Bool) (r : Reached) : Type 0 where
   pub index : IsIndex steps r.index
   pub count : length r.held.items ≡ length r.index.after.items
-  pub sound : (c : ℕ) → IsSound (numbered_by r.index steps) (is_open bar taken c) (reached r.held.items c)
-  pub done : IsDone (numbered_by r.index steps) (is_open bar taken) r.held.items r.held.items (length steps)
+  pub reaches : IsReaching (numbered_by r.index steps) (is_open bar taken) (length steps) r.held.items
   pub looks : r.looks ≤ length steps + spent (size most r.index.used) r.held.items r.index.ends.items
 
 -- the versions to which steps lead are barred alike
 abbrev pub AreBarredAlike : List Step → Condemned → Condemned → Type 0
 AreBarredAlike steps bar other = All (λ s. (c : ℕ) → bar c s.target ≡ other c s.target) steps
+
+-- steps are taken alike
+abbrev pub AreTakenAlike : List Step → (Step → Bool) → (Step → Bool) → Type 0
+AreTakenAlike steps taken other = All (λ s. taken s ≡ other s) steps

@@ -15,11 +15,12 @@ use vet_base::refusal::Refusal;
 use vet_base::version::VetVersion;
 use vet_demand::place_lists::push_at;
 
-// The numbers of the versions between which a step leads.
+// The numbers of the versions between which a step leads, and whether it is exempt.
 #[derive(Clone, Copy)]
 pub(crate) struct Ends {
     pub(crate) origin: Option<usize>,
     pub(crate) target: usize,
+    pub(crate) exempt: bool,
 }
 
 // Made by one look at each step.
@@ -91,7 +92,11 @@ impl Index {
         let step = looks.look(place);
         let origin = self.origin(alloc, &step.origin)?;
         let target = self.number(alloc, &step.target)?;
-        self.ends.push(Ends { origin, target })?;
+        self.ends.push(Ends {
+            origin,
+            target,
+            exempt: step.exempt,
+        })?;
         self.used = self.used.union(&step.criteria);
         self.put_after(origin, place)?;
         Ok(())

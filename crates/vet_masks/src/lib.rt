@@ -14,4 +14,5 @@
 mod index;
 pub mod looks;
 mod masks;
+mod reach;
 pub mod search;

@@ -5,8 +5,8 @@
 //!
 //! Why a search ends, and how often it looks at a step. Each turn of a version passes on at least one criterion more,
 //! and no criterion passes twice along a step. So each look at a step is paid by a criterion.
-ghost use Rattle.std.specs.Prelude.{◌≡◌, ◌+◌, ◌*◌, ◌-◌, ◌^◌, ◌<◌, ◌≤◌, ℕ, true, IfOk, IfErr, [], Some, length};
-ghost use Rattle.std.specs.Prelude.{get_or, set};
+ghost use Rattle.std.specs.Prelude.{◌≡◌, ◌+◌, ◌*◌, ◌-◌, ◌^◌, ◌<◌, ◌≤◌, ◌&&◌, ℕ, true, false, not, IfOk, IfErr, [], Some};
+ghost use Rattle.std.specs.Prelude.{get_or, length, set};
 ghost use Rattle.std.specs.Prelude.{take as taken};
 ghost use Rattle.std.specs.FinSet as places;
 ghost use Rattle.std.specs.List.{All, Contains, HoldsAt};
@@ -23,7 +23,7 @@ use std::alloc::Global;
 use vet_base::criteria_set::CriteriaSet;
 use vet_base::limits::MOST_CRITERIA;
 use vet_base::refusal::Refusal;
-use vet_graph::skip::{Skip, may_take};
+use vet_entries::step::Step;
 
 // What was reached and what was passed on, by the numbers of versions; and the versions that wait to pass on the rest.
 #[derive(Drop)]
@@ -33,11 +33,12 @@ pub(crate) struct Masks {
     pub(crate) waiting: Vec<usize>,
 }
 
-// What a search asks of steps: the criteria for which each version is barred, by its number, and which are skipped.
+// What a search asks of steps, by the number of the version to which they lead: for which criteria it is barred, and
+// whether exempt steps to it are skipped.
 #[derive(Clone, Copy)]
 pub(crate) struct Terms<'t> {
     pub(crate) bars: &'t [CriteriaSet],
-    pub(crate) skip: Skip<'t>,
+    pub(crate) skipped: &'t [bool],
 }
 
 // What a step adds to the version to which it leads.
@@ -55,6 +56,15 @@ impl Terms<'_> {
     {
         self.bars[number]
     }
+
+    // Whether the search takes a step to the version of a number.
+    fn takes(&self, step: &Step, number: usize) -> bool
+        requires { number < length self.now.skipped.now }
+        ensures { result ≡ not (step.now.exempt && get_or self.now.skipped.now number false) }
+    {
+        let is_skipped = self.skipped[number];
+        !(step.exempt && is_skipped)
+    }
 }
 
 // What a step adds, of what its origin passes on.
@@ -68,6 +78,7 @@ fn what_adds(
     requires place { place < length looks.old.steps }
     requires index { IsIndex looks.old.steps index.now }
     requires bars { length terms.now.bars.now ≡ length index.now.after.items }
+    requires skipped { length terms.now.skipped.now ≡ length index.now.after.items }
     requires count { looks.old.count < 2 ^ 128 - 1 }
     ensures count { looks.new.count ≡ looks.old.count + 1 }
     ensures steps { looks.new.steps ≡ looks.old.steps }
@@ -78,7 +89,7 @@ fn what_adds(
     let target = index.ends[place].target;
     let step = looks.look(place);
     let criteria = given.common(&step.criteria);
-    let criteria = if may_take(&terms.skip, step) {
+    let criteria = if terms.takes(step, target) {
         criteria.less(&terms.bar(target))
     } else {
         CriteriaSet::empty()

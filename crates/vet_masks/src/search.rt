@@ -1,12 +1,11 @@
 //! The criteria for which chains lead to each version, with a count of the looks at steps.
-ghost use Rattle.std.specs.Prelude.{◌≡◌, ◌↔◌, ◌+◌, ◌-◌, ◌*◌, ◌^◌, ◌<◌, ◌≤◌, ◌++◌, ℕ, Bool, true, IfOk, IfErr, List, []};
-ghost use Rattle.std.specs.Prelude.{Some};
-ghost use Rattle.std.specs.Prelude.{get_or, length, replicate, take};
+ghost use Rattle.std.specs.Prelude.{◌≡◌, ◌↔◌, ◌+◌, ◌*◌, ◌^◌, ◌<◌, ◌≤◌, ◌&&◌, ℕ, Bool, true, false, not, IfOk, IfErr};
+ghost use Rattle.std.specs.Prelude.{List, [], Some, get_or, length, replicate, take};
 ghost use Rattle.std.specs.BTreeMap.{get};
 ghost use Rattle.std.specs.FinSet as set;
 ghost use Rattle.vet_base.specs.CriteriaSet.{has};
 ghost use Rattle.vet_base.specs.Version.{VersionValue};
-ghost use Rattle.vet_base.specs.VersionOrder.{version_cmp};
+ghost use Rattle.vet_base.specs.VersionOrder.{version_cmp, version_eq};
 ghost use Rattle.vet_entries.specs.declared.step.Step.{Step};
 ghost use Rattle.vet_graph.specs.Chain.{Condemned};
 ghost use Rattle.vet_graph.specs.Search.{may_take};
@@ -16,7 +15,8 @@ ghost use Rattle.vet_masks.specs.Vouched.{IsVouched, barred_by};
 
 use crate::index::Index;
 use crate::looks::Looks;
-use crate::masks::{Masks, Terms, pass_all_new, settle};
+use crate::masks::Terms;
+use crate::reach::{filled_up, reach};
 use std::alloc::Global;
 use vet_base::criteria_set::CriteriaSet;
 use vet_base::limits::MOST_CRITERIA;
@@ -129,18 +129,12 @@ pub fn extend(
     let before = looks.count();
     let index = reached.index.extended(alloc, looks, first)?;
     let bars = bars_of(alloc, &index, barred)?;
+    let skipped = skipped_by(alloc, &index, skip)?;
     let terms = Terms {
         bars: bars.as_slice(),
-        skip: *skip,
+        skipped: skipped.as_slice(),
     };
-    let mut masks = masks_of(alloc, reached.held.as_slice(), index.after.len())?;
-    pass_all_new(looks, &index, first, &terms, &mut masks)?;
-    settle(looks, &index, &terms, &mut masks)?;
-    let Masks {
-        held,
-        passed: _,
-        waiting: _,
-    } = masks;
+    let held = reach(alloc, looks, &index, first, reached.held.as_slice(), &terms)?;
     Ok(Reached {
         index,
         held,
@@ -165,29 +159,43 @@ fn bars_of(alloc: Global, index: &Index, barred: &[Barred]) -> Result<Vec<Criter
     Ok(bars)
 }
 
-// What was reached, all of it passed on, with nothing at the versions from there on.
-fn masks_of(alloc: Global, held: &[CriteriaSet], count: usize) -> Result<Masks, Refusal>
-    requires { length held.now ≤ count }
-    ensures held { IfOk result (λ m. m.held.items ≡ held.now ++ replicate (count - length held.now) set.empty) }
-    ensures passed { IfOk result (λ m. m.passed.items ≡ held.now ++ replicate (count - length held.now) set.empty) }
-    ensures waiting { IfOk result (λ m. m.waiting.items ≡ []) }
+// Whether the exempt steps to versions are skipped, by their numbers.
+fn skipped_by(alloc: Global, index: &Index, skip: &Skip<'_>) -> Result<Vec<bool>, Refusal>
+    requires { IsNumbering (get version_cmp index.now.numbers) (length index.now.after.items) }
+    ensures count { IfOk result (λ flags. length flags.items ≡ length index.now.after.items) }
+    ensures skips { IfOk result (λ flags. (s : Step) (n : ℕ) → get version_cmp index.now.numbers s.target ≡ Some n
+        → not (s.exempt && get_or flags.items n false) ≡ may_take skip.now s) }
     ensures memory { IfErr result (λ e. e ≡ Refusal.NoMemory) }
 {
-    Ok(Masks {
-        held: filled_up(alloc, held, count)?,
-        passed: filled_up(alloc, held, count)?,
-        waiting: Vec::new(alloc),
-    })
+    let count = index.after.len();
+    match skip {
+        Skip::Nothing => all_flags(alloc, false, count),
+        Skip::Exempt => all_flags(alloc, true, count),
+        Skip::ExemptTo(version) => flag_at(alloc, index, version),
+    }
 }
 
-// Some sets, and empty ones up to a count.
-fn filled_up(alloc: Global, sets: &[CriteriaSet], count: usize) -> Result<Vec<CriteriaSet>, Refusal>
-    requires { length sets.now ≤ count }
-    ensures ok { IfOk result (λ s. s.items ≡ sets.now ++ replicate (count - length sets.now) set.empty) }
+// The same flag for each of some versions.
+fn all_flags(alloc: Global, flag: bool, count: usize) -> Result<Vec<bool>, Refusal>
+    ensures ok { IfOk result (λ flags. flags.items ≡ replicate count flag) }
     ensures memory { IfErr result (λ e. e ≡ Refusal.NoMemory) }
 {
-    let mut all = Vec::new(alloc);
-    all.extend_from_slice(sets)?;
-    all.resize(count, CriteriaSet::empty())?;
-    Ok(all)
+    let mut flags = Vec::new(alloc);
+    flags.resize(count, flag)?;
+    Ok(flags)
+}
+
+// A flag for each version, which is true for one alone.
+fn flag_at(alloc: Global, index: &Index, version: &VetVersion) -> Result<Vec<bool>, Refusal>
+    requires { IsNumbering (get version_cmp index.now.numbers) (length index.now.after.items) }
+    ensures count { IfOk result (λ flags. length flags.items ≡ length index.now.after.items) }
+    ensures flags { IfOk result (λ flags. (v : VersionValue) (n : ℕ) → get version_cmp index.now.numbers v ≡ Some n
+        → get_or flags.items n false ≡ version_eq v version.now) }
+    ensures memory { IfErr result (λ e. e ≡ Refusal.NoMemory) }
+{
+    let mut flags = all_flags(alloc, false, index.after.len())?;
+    if let Some(number) = index.numbers.get(version).copied() {
+        flags[number] = true;
+    }
+    Ok(flags)
 }

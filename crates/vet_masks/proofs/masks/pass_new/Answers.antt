@@ -3,8 +3,8 @@ use Rattle.std.specs.FinSet as set
 use Rattle.std.specs.Ordering.{nat_cmp}
 use Rattle.std.proofs.lemmas.Bool.{false≢true}
 use Rattle.vet_base.specs.CriteriaSet.{has}
-use Rattle.vet_graph.specs.Search.{may_take}
-use Rattle.vet_masks.specs.Masks.{IsDone, bars_at, given_by, numbered_by, open_by, origin_at}
+use Rattle.vet_masks.specs.Masks.{IsDone, bars_at, given_by, is_taken_at, numbered_by, open_by}
+use Rattle.vet_masks.specs.Masks.{origin_at}
 use Rattle.vet_masks.proofs.Indexing.{origin-below, origin-same}
 use Rattle.vet_masks.proofs.Passing.{done-grows, done-next, open-used, paid-some, stands-given}
 use Rattle.vet_masks.proofs.masks.pass_new.Goals as goal
@@ -28,8 +28,8 @@ returns-then-not-exceeds-clause-passing c =
     let origin = origin-same steps index h place c.requires.place in
     done-next (numbered_by index steps) (open_by index c.args.terms.now) c.args.masks.now.held.items passed index.used
     place c.requires.passing
-    (open-used steps index h (bars_at index c.args.terms.now.bars.now) (may_take c.args.terms.now.skip) place
-    c.requires.place)
+    (open-used steps index h (bars_at index c.args.terms.now.bars.now) (is_taken_at index c.args.terms.now.skipped.now)
+    place c.requires.place)
     (λ q g o. absurd (false≢true (sym (set.contains-empty nat_cmp q) ∙ sym (ap (has q) c.empty.ensures)
     ∙ c.exceeds.ensures.none c.if-not-exceeds.true q
     (ap (has q) (c.given_to-given.ensures ∙ ap (given_by index.used passed) (sym origin)) ∙ g))))
@@ -74,8 +74,8 @@ returns-clause-passing c =
     (done-next (numbered_by index steps) open_step more passed index.used place
     (done-grows (numbered_by index steps) open_step c.args.masks.now.held.items passed more place told.onward.grows
     c.requires.passing)
-    (open-used steps index h (bars_at index c.args.terms.now.bars.now) (may_take c.args.terms.now.skip) place
-    c.requires.place)
+    (open-used steps index h (bars_at index c.args.terms.now.bars.now) (is_taken_at index c.args.terms.now.skipped.now)
+    place c.requires.place)
     (λ q g. told.leads q
     (ap (has q) (c.given_to-given.ensures ∙ ap (given_by index.used passed) (sym origin)) ∙ g)))
 

@@ -24,6 +24,7 @@ returns-clause-search c =
     record {
       indexed = c.requires.search.indexed;
       bars = c.requires.search.bars;
+      skipped = c.requires.search.skipped;
       held = told.onward.count ∙ c.requires.search.held;
       passed = ap length told.onward.passed ∙ c.requires.search.passed;
       sound = λ q. subst (λ (hs : List Places). IsSound steps (open_step q) (reached hs q)) (sym told.held)

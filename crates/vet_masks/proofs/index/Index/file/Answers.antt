@@ -36,9 +36,11 @@ returns-clause-index c =
     let origin : IsOrigin nums s.origin o = origin-keeps (get version_cmp c.origin.new.self.numbers) nums told.keeps
     s.origin o before.origin in
     let same : numbers_in new ≡ nums = ap (get version_cmp) after.numbers in
-    let ends : record { origin = o; target = c.in_ok-target.target } ≡ ends_of (numbers_in new) s = λ i. record {
+    let ends : record { origin = o; target = c.in_ok-target.target; exempt = s.exempt } ≡ ends_of (numbers_in new) s
+    = λ i. record {
       origin = (origin-number nums s.origin o origin ∙ ap (λ (ns : Numbers). (ends_of ns s).origin) (sym same)) i;
       target = (sym (ap (λ k. unwrap_or k 0) told.number) ∙ ap (λ (ns : Numbers). (ends_of ns s).target) (sym same)) i;
+      exempt = s.exempt;
     } in
     let long : place ≡ length (take place steps) = omega (arith, length-take-le place steps, c.requires.place) in
     let seen : get_or steps place no_step.step ≡ s = get_or_from_slice_get steps place s no_step.step

@@ -18,7 +18,7 @@ returns-then-number-len c steps bar taken h q =
     let low : n < length r.held.items = omega (arith, c.if-number-len.true, c.len.ensures, r.held.ok) in
     let is : c.index.result.now ≡ get_or r.held.items n set.empty =
     c.index.ensures ∙ sym (get_or_default r.held.items n set.empty c.index.result.now low) in
-    rw is (reached-vouched steps bar taken r h c.args.version.now n known q)
+    rw is (reached-vouched steps r.index bar taken r.held.items h.index h.reaches c.args.version.now n known q)
 
 pub returns-else-number-len : goal.returns-else-number-len
 returns-else-number-len c steps bar taken h q =
@@ -29,7 +29,7 @@ returns-else-number-len c steps bar taken h q =
     let high : length r.held.items ≤ n = omega (arith, c.if-number-len.false, c.len.ensures, r.held.ok) in
     let is : c.empty-else-number-len.result ≡ get_or r.held.items n set.empty =
     c.empty-else-number-len.ensures ∙ sym (get_or_past r.held.items n set.empty high) in
-    rw is (reached-vouched steps bar taken r h c.args.version.now n known q)
+    rw is (reached-vouched steps r.index bar taken r.held.items h.index h.reaches c.args.version.now n known q)
 
 pub returns-in_default : goal.returns-in_default
 returns-in_default c steps bar taken h q =

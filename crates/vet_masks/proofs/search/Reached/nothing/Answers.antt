@@ -9,8 +9,11 @@ pub returns-clause-answer : goal.returns-clause-answer
 returns-clause-answer c bar taken = record {
   index = c.nothing.ensures.index;
   count = ap length c.new.ensures.items ∙ sym (ap length c.nothing.ensures.after);
-  sound = λ q v h. absurd (false≢true
-      (sym (ap (λ hs. reached hs q v) c.new.ensures.items ∙ set.contains-empty nat_cmp q) ∙ h));
-  done = λ q p l. absurd (omega (arith, l));
+  reaches =
+      record {
+        sound = λ q v h. absurd (false≢true
+            (sym (ap (λ hs. reached hs q v) c.new.ensures.items ∙ set.contains-empty nat_cmp q) ∙ h));
+        done = λ q p l. absurd (omega (arith, l));
+      };
   looks = omega arith;
 }
