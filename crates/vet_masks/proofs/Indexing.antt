@@ -5,7 +5,7 @@ use Rattle.std.proofs.Common.{◌∙◌, subst}
 use Rattle.std.proofs.Common.{arith, inl, inr, eqb-true, eq-eqb}
 use Rattle.std.specs.BTreeMap.{get}
 use Rattle.std.specs.List.{All, Contains}
-use Rattle.std.proofs.lemmas.Bool.{cases_Bool, false≢true}
+use Rattle.std.proofs.lemmas.Bool.{cases_Bool, cases_lt, false≢true}
 use Rattle.std.proofs.lemmas.List.{get_or-map, length-map, map_push}
 use Rattle.std.proofs.lemmas.List.Elements.{All-head, All-tail, All-push, All-weaker}
 use Rattle.std.proofs.lemmas.List.Folds.{list_any-append}
@@ -259,6 +259,13 @@ module _ (old new : Numbers) (v : VersionValue) (n : ℕ) (none : old v ≡ None
         | inr too ↦ h.apart u w k (sym same ∙ d) (sym too ∙ e)
       ]
     ];
+    each = λ k l. elim (cases_lt k n) [
+      | inl low ↦ (let at = h.each k low in (at.0, Keeps-next at.0 k at.1))
+      | inr high ↦ (let last : n ≡ k = omega (arith, l, high) in (
+        v,
+        knows v ∙ ap (λ b. cond b (Some n) (old v)) ((version_eq-Decides v v).1 refl) ∙ ap (λ (j : ℕ). Some j) last,
+      ))
+    ];
   }
 
 -- ---- one like another
@@ -308,3 +315,13 @@ origin-low numbers m numbering None origin h n e = absurd (let q = sym h ∙ e i
 origin-low numbers m numbering (Some v) origin h n e =
     let same : h.0 ≡ n = cc (sym h.1 ∙ e) in
     rw same at (numbering.below v h.0 h.2)
+
+-- ---- numbers that were given before
+
+-- a number that was given is of the version that had it
+pub number-kept : (old new : Numbers) (m n : ℕ) → IsNumbering old m → IsNumbering new n → Keeps old new
+    → (v : VersionValue) (k : ℕ) → new v ≡ Some k → k < m → old v ≡ Some k
+number-kept old new m n h g keeps v k e l =
+    let at = h.each k l in
+    let same : at.0 ≡ v = g.apart at.0 v k (keeps at.0 k at.1) e in
+    ap old (sym same) ∙ at.1

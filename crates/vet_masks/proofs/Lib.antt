@@ -1,7 +1,11 @@
 pub mod Barring
+pub mod Classing
 pub mod Copies
+pub mod Digits
+pub mod ExemptVersions
 pub mod Extended
 pub mod Extending
+pub mod FirstSteps
 pub mod Flags
 pub mod Indexing
 pub mod Onward

@@ -16,10 +16,11 @@ use Rattle.vet_masks.specs.declared.index.Index.{Index}
 abbrev pub Numbers : Type 0
 Numbers = VersionValue → Option ℕ
 
--- these are numbers below n, a version each
+-- these are the numbers below n, a version each
 pub record IsNumbering (numbers : Numbers) (n : ℕ) : Type 0 where
   pub below : (v : VersionValue) (k : ℕ) → numbers v ≡ Some k → k < n
   pub apart : (v w : VersionValue) (k : ℕ) → numbers v ≡ Some k → numbers w ≡ Some k → v ≡ w
+  pub each : (k : ℕ) → k < n → (v : VersionValue) × (numbers v ≡ Some k)
 
 -- a version that has a number keeps it
 abbrev pub Keeps : Numbers → Numbers → Type 0

@@ -1,6 +1,9 @@
+pub mod Classes
 pub mod Counted
+pub mod Exempt
 pub mod Index
 pub mod Looked
 pub mod Masks
 pub mod Reached
+pub mod Rules
 pub mod Vouched

@@ -1,4 +1,4 @@
-use Rattle.std.proofs.Common.{◌≡◌, [], None, sym, ap, ◌∙◌, get_or}
+use Rattle.std.proofs.Common.{◌≡◌, [], None, sym, ap, ◌∙◌, get_or, length, arith}
 use Rattle.std.specs.FinSet as set
 use Rattle.std.specs.Ordering.{nat_cmp}
 use Rattle.std.specs.BTreeMap.{get}
@@ -17,6 +17,7 @@ returns-clause-index c = record {
       record {
         below = λ v k e. absurd (let q = sym (none v) ∙ e in cc q);
         apart = λ v w k e. absurd (let q = sym (none v) ∙ e in cc q);
+        each = λ k l. absurd (omega (arith, l, ap length c.new-3.ensures.items));
       };
   named = All-nil (IsNamed (get version_cmp c.new.result));
   ends = c.new-2.ensures.items;
