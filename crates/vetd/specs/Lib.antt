@@ -1,1 +1,2 @@
+pub mod Deadline
 pub mod FileDatabases

@@ -1,6 +1,8 @@
 //! How long a connection may last, and the day of the clock.
-ghost use Rattle.std.specs.Prelude.{◌≡◌, ◌==◌, ◌<◌, ◌/◌, IfOk, IfSome, None, Some, if◌then◌else◌, pos, true};
+ghost use Rattle.std.specs.Prelude.{◌≡◌, ◌==◌, ◌+◌, ◌<◌, ◌≤◌, ◌/◌, IfOk, IfSome, None, Some, if◌then◌else◌, pos, true};
 ghost use Rattle.std.specs.Duration.{as_nanos};
+ghost use Rattle.std.specs.Time.{FitsClock, instant_nanos};
+ghost use Rattle.vetd.specs.Deadline.{end_of_connection};
 ghost use Rattle.vet_base.specs.Day.{DayValue, day_number, is_day};
 
 use std::io;
@@ -20,13 +22,22 @@ pub struct Deadline {
 }
 
 impl Deadline {
-    /// The deadline of a connection that is accepted now. An error where the clock can't be read.
+    /// The deadline of a connection that is accepted now. An error where the clock can't be read, or can't count so far.
     pub fn from_now<C: Clock>(clock: &C) -> io::Result<Deadline> {
-        let lasting = Duration::from_secs(CONNECTION_SECONDS);
-        match Instant::now(clock)?.checked_add(lasting) {
-            Some(end) => Ok(Deadline { end }),
+        match Deadline::after(Instant::now(clock)?) {
+            Some(deadline) => Ok(deadline),
             None => Err(io::Error::from(io::ErrorKind::InvalidData)),
         }
+    }
+
+    /// The deadline of a connection that was accepted at a time; none exactly where no clock counts so far.
+    fn after(accepted: Instant) -> Option<Deadline>
+        ensures is { IfSome result (λ d. instant_nanos d.end ≡ end_of_connection (instant_nanos accepted)) }
+        ensures none { result ≡ None → ¬ FitsClock (end_of_connection (instant_nanos accepted)) }
+    {
+        let lasting = Duration::from_secs(CONNECTION_SECONDS);
+        let end = accepted.checked_add(lasting)?;
+        Some(Deadline { end })
     }
 
     /// The time that is left, which is never none: as a time-out of a socket, none would mean that it may wait forever.
@@ -34,10 +45,19 @@ impl Deadline {
     pub fn time_left<C: Clock>(self, clock: &C) -> io::Result<Duration>
         ensures { IfOk result (λ left. 0 < as_nanos left) }
     {
-        match some_time(self.end.duration_since(Instant::now(clock)?)) {
+        match self.left_at(Instant::now(clock)?) {
             Some(left) => Ok(left),
             None => Err(io::Error::from(io::ErrorKind::TimedOut)),
         }
+    }
+
+    /// The time that is left at a time, unless it is none.
+    fn left_at(self, now: Instant) -> Option<Duration>
+        ensures left { IfSome result (λ left. (0 < as_nanos left)
+            × (instant_nanos now + as_nanos left ≡ instant_nanos self.end)) }
+        ensures none { result ≡ None → instant_nanos self.end ≤ instant_nanos now }
+    {
+        some_time(self.end.duration_since(now))
     }
 }
 
@@ -61,8 +81,8 @@ pub fn today<C: Clock>(clock: &C) -> io::Result<Day> {
 
 /// The day that it is so many seconds after 1970 began, and none exactly where that is past 9999-12-31.
 fn day_at(seconds: u64) -> Option<Day>
-    ensures number { IfSome result (λ day. day_number day ≡ pos (seconds / SECONDS_OF_A_DAY)) }
-    ensures only { (d : DayValue) → is_day d ≡ true → day_number d ≡ pos (seconds / SECONDS_OF_A_DAY)
+    ensures number { IfSome result (λ day. day_number day ≡ pos (seconds / 86400)) }
+    ensures only { (d : DayValue) → is_day d ≡ true → day_number d ≡ pos (seconds / 86400)
         → result ≡ Some d }
 {
     Day::of_number((seconds / SECONDS_OF_A_DAY) as i64)

@@ -1,5 +1,5 @@
 //! Databases in the files of this machine.
-ghost use Rattle.std.specs.Prelude.{◌≡◌, ◌⊎◌, IfErr, IfOk, MatchResult};
+ghost use Rattle.std.specs.Prelude.{◌≡◌, ◌⊎◌, ◌<◌, ◌≤◌, IfErr, IfOk, IsTrue, MatchResult};
 ghost use Rattle.vet_base.specs.declared.refusal.Refusal.TheVariants.{NotARegister};
 ghost use Rattle.vet_store.specs.Runs.{IsOfStore};
 ghost use Rattle.vetd.specs.FileDatabases.{IsOpenedNew, refusal_of_path};
@@ -53,14 +53,20 @@ fn check_file(rt: &HostRuntime, path: &str) -> Result<(), Refusal>
     ensures refused { IfErr result (λ e. IsOfStore e ⊎ (e ≡ Refusal.NotARegister)) }
 {
     match fs::metadata(rt, path) {
-        Ok(found) => {
-            if found.is_file() && found.len() <= MOST_BYTES_OF_NONE {
-                return Err(Refusal::NotARegister);
-            }
-            Ok(())
-        }
+        Ok(found) => holds_some(found.is_file(), found.len()),
         Err(error) => Err(refusal_of_path(error.kind())),
     }
+}
+
+/// Refuses a file of so many bytes that no database is in it.
+fn holds_some(is_file: bool, bytes: u64) -> Result<(), Refusal>
+    ensures refused { IfErr result (λ e. (e ≡ Refusal.NotARegister) × IsTrue is_file × (bytes < 2)) }
+    ensures taken { IfOk result (λ _. IsTrue is_file → 2 ≤ bytes) }
+{
+    if is_file && bytes <= MOST_BYTES_OF_NONE {
+        return Err(Refusal::NotARegister);
+    }
+    Ok(())
 }
 
 /// The refusal of a path of which nothing can be learned.

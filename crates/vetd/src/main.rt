@@ -68,7 +68,7 @@ fn explain_no_words<W: Write, E: Write>(
 /// even that can't be written, the status is the same.
 fn status_of<R: Eprint>(rt: &R, run: Result<u8, IoFault>) -> u8
     ensures ended { IfOk run (λ status. result ≡ status) }
-    ensures faulted { OnErr run (result ≡ FAULTED) }
+    ensures faulted { OnErr run (result ≡ 1) }
 {
     match run {
         Ok(status) => status,
