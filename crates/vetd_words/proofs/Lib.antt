@@ -1,6 +1,7 @@
 pub mod AnswerLemmas
 pub mod Answered
 mod Asking
+pub mod HelpLemmas
 pub mod RunLemmas
 mod SurplusLemmas
 mod WordsLemmas

@@ -11,7 +11,8 @@ use Rattle.clap.specs.declared.error.kind.ErrorKind.{ErrorKind}
 use Rattle.clap.specs.declared.error.kind.ErrorKind.TheVariants.{OutOfMemory}
 use Rattle.clap.specs.declared.parser.matches.ArgMatches.{ArgMatches}
 use Rattle.clap.proofs.OnLiterals.{clap_on_literals}
-use Rattle.vetd_words.specs.Words.{rows_given, rows_if_named, top_app, unless_fault}
+use Rattle.vetd_words.specs.Words.{IsErrorOf, faults_of, rows_given, rows_if_named, top_app, unless_fault}
+use Rattle.vetd_words.proofs.HelpLemmas.{among_one}
 
 simple : is_simple top_app ≡ true
 unfolding clap_on_literals
@@ -75,3 +76,27 @@ pub all_refused : (app : App) (words : List Text) (r : Result ArgMatches Error) 
     → IfErr r (λ error. kind_of error ≢ OutOfMemory → (name : Text) → rows_given name words ≡ None)
 all_refused app words (Ok matches) app_is fails = tt
 all_refused app words (Err error) app_is fails = λ other name. given_refused name app words error app_is fails other
+
+-- where clap takes the words, its error has no kind
+pub all_clean : (app : App) (words : List Text) (r : Result ArgMatches Error) → app ≡ top_app
+    → (is_simple_and_free app ≡ true → FailsBy (fault_of app words) r)
+    → IfOk r (λ matches. faults_of words ≡ [])
+unfolding faults_of
+all_clean app words (Err error) app_is fails = tt
+all_clean app words (Ok matches) app_is fails =
+    ap (λ (a : App). fault_of a words) (sym app_is) ∙ fails (ap is_simple_and_free app_is ∙ simple_and_free)
+
+-- and where it refuses them, one of these
+pub all_kinds : (app : App) (words : List Text) (r : Result ArgMatches Error) → app ≡ top_app
+    → (is_simple_and_free app ≡ true → FailsBy (fault_of app words) r)
+    → IfErr r (λ error. IsErrorOf words (kind_of error))
+unfolding faults_of
+all_kinds app words (Ok matches) app_is fails = tt
+all_kinds app words (Err error) app_is fails =
+    let kind : HasKind (fault_of top_app words) error =
+    subst (λ (a : App). HasKind (fault_of a words) error) app_is
+    (fails (ap is_simple_and_free app_is ∙ simple_and_free)) in
+    elim kind [
+      | inl want ↦ inl want
+      | inr among ↦ inr (among_one (kind_of error) (fault_of top_app words) among)
+    ]

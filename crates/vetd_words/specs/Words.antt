@@ -1,5 +1,5 @@
 -- The command line (ours), as clap reads it.
-use Rattle.std.specs.Prelude.{◌≡◌, Bool, List, [], ◌∷◌, Option, Some, None, codes, if◌then◌else◌, true, false}
+use Rattle.std.specs.Prelude.{◌≡◌, ◌≢◌, ◌⊎◌, Bool, List, [], ◌∷◌, Option, Some, None, codes, if◌then◌else◌, true, false}
 use Rattle.std.specs.Prelude.{option_and_then, option_map}
 use Rattle.std.specs.Str.{bytes_eq}
 use Rattle.clap.specs.Walk.{Row, Rule, Text, first_of}
@@ -7,7 +7,9 @@ use Rattle.clap.specs.Simple as simple
 use Rattle.clap.specs.Simple.{App, app_of, new_rule, with_rule, with_subcommand, subcommand_of}
 use Rattle.clap.specs.Walk.{rule_of}
 use Rattle.clap.specs.Faults.{fault_of}
-use Rattle.clap.specs.Kinds.{Kinds}
+use Rattle.clap.specs.Kinds.{IsAmong, Kinds}
+use Rattle.clap.specs.declared.error.kind.ErrorKind.{ErrorKind}
+use Rattle.clap.specs.declared.error.kind.ErrorKind.TheVariants.{DisplayHelp, DisplayVersion, OutOfMemory}
 use Rattle.vet_documents.specs.declared.register_file.RegisterFile.{RegisterFile}
 use Rattle.vetd_words.specs.ApplyWords.{apply_app}
 use Rattle.vetd_words.specs.FileWord.{file_of_word}
@@ -140,3 +142,31 @@ kind_from rows = option_and_then file_of_word (first_of (codes "KIND") rows)
 -- the kind of file that the words of a read command name
 abbrev pub read_given : List Text → Option RegisterFile
 read_given words = option_and_then kind_from (rows_given (codes "read") words)
+
+-- ---- why words are explained
+
+-- the kinds that clap's error of the words may have, if it refuses them
+unfoldable pub faults_of : List Text → Kinds
+faults_of words = fault_of top_app words
+
+-- an error that shows what was asked for: help, or the version
+abbrev pub IsShown : ErrorKind → Type 0
+IsShown kind = (kind ≡ DisplayHelp) ⊎ (kind ≡ DisplayVersion)
+
+-- one of clap's errors; or, where it has none, one of the program's own, which shows nothing
+abbrev pub IsOneOf : ErrorKind → Kinds → Type 0
+IsOneOf kind [] = IsShown kind → ⊥
+IsOneOf kind (first ∷ rest) = IsAmong kind (first ∷ rest)
+
+-- memory ran out, or words may have this error
+abbrev pub IsErrorOf : List Text → ErrorKind → Type 0
+IsErrorOf words kind = (kind ≡ OutOfMemory) ⊎ IsOneOf kind (faults_of words)
+
+-- what clap finds first in the words is a call for help or for the version
+pub record AskForHelp (words : List Text) : Type 0 where
+  pub some : faults_of words ≢ []
+  pub shown : (kind : ErrorKind) → IsAmong kind (faults_of words) → IsShown kind
+
+-- it is none
+abbrev pub AskForNoHelp : List Text → Type 0
+AskForNoHelp words = (kind : ErrorKind) → IsAmong kind (faults_of words) → IsShown kind → ⊥

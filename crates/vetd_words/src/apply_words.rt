@@ -1,9 +1,9 @@
 //! The words of an apply command.
-ghost use Rattle.std.specs.Prelude.{◌≡◌, ◌≢◌, IfErr, IfOk, codes, map, option_and_then, option_map};
+ghost use Rattle.std.specs.Prelude.{◌≡◌, ◌≢◌, [], IfErr, IfOk, codes, map, option_and_then, option_map};
 ghost use Rattle.clap.specs.Words.{found_of, kind_of, rows_of, subcommand_rows_of};
 ghost use Rattle.vetd_words.specs.ApplyGiven.{apply_given};
 ghost use Rattle.vetd_words.specs.ApplyWords.{apply_asked, apply_from};
-ghost use Rattle.vetd_words.specs.Words.{rows_if_named};
+ghost use Rattle.vetd_words.specs.Words.{IsErrorOf, faults_of, rows_if_named};
 
 use crate::words::{matches_if_named, matches_of, value, words_error};
 use clap::error::ErrorKind;
@@ -26,6 +26,8 @@ pub fn apply_words<'a, S: AsStr>(alloc: Global, words: &'a [S]) -> Result<ApplyW
     ensures found { IfOk result (λ asked. apply_given (map S.text words.entry.now) ≡ Some (apply_asked asked)) }
     ensures refused { IfErr result (λ error. kind_of error ≢ ErrorKind.OutOfMemory
         → apply_given (map S.text words.entry.now) ≡ None) }
+    ensures clean { IfOk result (λ _. faults_of (map S.text words.entry.now) ≡ []) }
+    ensures kinds { IfErr result (λ error. IsErrorOf (map S.text words.entry.now) (kind_of error)) }
 {
     let matches = matches_of(alloc, words)?;
     match asked_by(&matches) {

@@ -1,8 +1,9 @@
 //! What the words of a command line ask for.
-ghost use Rattle.std.specs.Prelude.{◌≡◌, ◌≢◌, IfOk, IfErr, map, string_bytes};
+ghost use Rattle.std.specs.Prelude.{◌≡◌, ◌≢◌, [], IfOk, IfErr, map, string_bytes};
 ghost use Rattle.clap.specs.Words.{kind_of};
 ghost use Rattle.vet_base.specs.Gives.{Gives};
 ghost use Rattle.vetd_words.specs.Asked.{asked_by, class_asked, line_told, read_asked};
+ghost use Rattle.vetd_words.specs.Words.{IsErrorOf, faults_of};
 
 use crate::class_line::class_line;
 use crate::read_line::read_line;
@@ -49,6 +50,8 @@ impl CommandKind {
             asked_by self (map S.text words.entry.now) ≡ Some (line_told asked)) }
         ensures refused { IfErr result (λ error. kind_of error ≢ ErrorKind.OutOfMemory
             → asked_by self (map S.text words.entry.now) ≡ None) }
+        ensures clean { IfOk result (λ _. faults_of (map S.text words.entry.now) ≡ []) }
+        ensures kinds { IfErr result (λ error. IsErrorOf (map S.text words.entry.now) (kind_of error)) }
     {
         match self {
             CommandKind::Class => asked_class(alloc, words),
@@ -63,6 +66,8 @@ fn asked_class<'a, S: AsStr>(alloc: Global, words: &'a [S]) -> Result<Asked<'a>,
         class_asked (map S.text words.entry.now) ≡ Some (line_told asked)) }
     ensures refused { IfErr result (λ error. kind_of error ≢ ErrorKind.OutOfMemory
         → class_asked (map S.text words.entry.now) ≡ None) }
+    ensures clean { IfOk result (λ _. faults_of (map S.text words.entry.now) ≡ []) }
+    ensures kinds { IfErr result (λ error. IsErrorOf (map S.text words.entry.now) (kind_of error)) }
 {
     Ok(Asked::Class(class_words(alloc, words)?))
 }
@@ -72,6 +77,8 @@ fn asked_read<S: AsStr>(alloc: Global, words: &[S]) -> Result<Asked<'static>, Er
     ensures found { IfOk result (λ asked. read_asked (map S.text words.now) ≡ Some (line_told asked)) }
     ensures refused { IfErr result (λ error. kind_of error ≢ ErrorKind.OutOfMemory
         → read_asked (map S.text words.now) ≡ None) }
+    ensures clean { IfOk result (λ _. faults_of (map S.text words.now) ≡ []) }
+    ensures kinds { IfErr result (λ error. IsErrorOf (map S.text words.now) (kind_of error)) }
 {
     Ok(Asked::Read(read_words(alloc, words)?))
 }

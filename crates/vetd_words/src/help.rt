@@ -68,7 +68,8 @@ Example:
 pub const APPLY_HELP: &str = "\
 Reads a command document in TOML: the key command, and the keys of that command.
 Prints done, the step, the number of what was made and how many pairs changed class; or already, if it is held.
-A refused command changes nothing. The member matters to the commands that finish or withdraw a review.
+A refused command changes nothing, except that one refused 29 or 30 may have been saved.
+The member matters to the commands that finish or withdraw a review.
 
 Refused 31 if there is no register at PATH, and 30 if no database can be opened there.
 

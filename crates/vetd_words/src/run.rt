@@ -5,6 +5,7 @@ ghost use Rattle.clap.specs.Words.{kind_of};
 ghost use Rattle.vet_base.specs.declared.limits.TheConstants.{MOST_READS};
 ghost use Rattle.vetd_words.specs.Answer.{Answers, Says, Stops};
 ghost use Rattle.vetd_words.specs.Asked.{asked_by, telling_of};
+ghost use Rattle.vetd_words.specs.Words.{AskForHelp, AskForNoHelp};
 ghost use Rattle.vet_requests.specs.Input.{TakesAtMost, heard};
 
 use crate::answer::{explain, report};
@@ -57,6 +58,11 @@ pub fn command_run<S: AsStr, R: Read, W: Write, E: Write>(
     ensures endless { result ≡ Err IoFault.Endless → reader.new.made ≡ MOST_READS }
     ensures spent { reader.old.made ≡ MOST_READS → asked_by command (map S.text words.now) ≢ None
         → (result ≡ Err IoFault.Endless) ⊎ (result ≡ Err IoFault.NoMemory) }
+
+    // Help and the version go to the output, and what is wrong with the words to the errors.
+    ensures help { AskForHelp (map S.text words.now) → Keeps (E.contents errors.old) (E.contents errors.new) }
+    ensures wrong { asked_by command (map S.text words.now) ≡ None → AskForNoHelp (map S.text words.now)
+        → Keeps (W.contents writer.old) (W.contents writer.new) }
 {
     let asked = command.asked(alloc, words);
     run(alloc, asked, reader, writer, errors)
@@ -94,6 +100,11 @@ pub fn class_run<S: AsStr, R: Read, W: Write, E: Write>(
     ensures endless { result ≡ Err IoFault.Endless → reader.new.made ≡ MOST_READS }
     ensures spent { reader.old.made ≡ MOST_READS → asked_by CommandKind.Class (map S.text words.now) ≢ None
         → (result ≡ Err IoFault.Endless) ⊎ (result ≡ Err IoFault.NoMemory) }
+
+    // Help and the version go to the output, and what is wrong with the words to the errors.
+    ensures help { AskForHelp (map S.text words.now) → Keeps (E.contents errors.old) (E.contents errors.new) }
+    ensures wrong { asked_by CommandKind.Class (map S.text words.now) ≡ None → AskForNoHelp (map S.text words.now)
+        → Keeps (W.contents writer.old) (W.contents writer.new) }
 {
     command_run(alloc, CommandKind::Class, words, reader, writer, errors)
 }
@@ -130,6 +141,11 @@ pub fn read_run<S: AsStr, R: Read, W: Write, E: Write>(
     ensures endless { result ≡ Err IoFault.Endless → reader.new.made ≡ MOST_READS }
     ensures spent { reader.old.made ≡ MOST_READS → asked_by CommandKind.Read (map S.text words.now) ≢ None
         → (result ≡ Err IoFault.Endless) ⊎ (result ≡ Err IoFault.NoMemory) }
+
+    // Help and the version go to the output, and what is wrong with the words to the errors.
+    ensures help { AskForHelp (map S.text words.now) → Keeps (E.contents errors.old) (E.contents errors.new) }
+    ensures wrong { asked_by CommandKind.Read (map S.text words.now) ≡ None → AskForNoHelp (map S.text words.now)
+        → Keeps (W.contents writer.old) (W.contents writer.new) }
 {
     command_run(alloc, CommandKind::Read, words, reader, writer, errors)
 }
@@ -167,6 +183,14 @@ fn run<R: Read, W: Write, E: Write>(
     ensures endless { result ≡ Err IoFault.Endless → reader.new.made ≡ MOST_READS }
     ensures spent { reader.old.made ≡ MOST_READS
         → IfOk asked.entry (λ _. result ≡ Err IoFault.Endless) }
+
+    // Help and the version go to the output, and what is wrong to the errors.
+    ensures help { IfErr asked.entry (λ error. kind_of error ≡ ErrorKind.DisplayHelp
+        → Keeps (E.contents errors.old) (E.contents errors.new)) }
+    ensures version { IfErr asked.entry (λ error. kind_of error ≡ ErrorKind.DisplayVersion
+        → Keeps (E.contents errors.old) (E.contents errors.new)) }
+    ensures wrong { IfErr asked.entry (λ error. kind_of error ≢ ErrorKind.DisplayHelp
+        → kind_of error ≢ ErrorKind.DisplayVersion → Keeps (W.contents writer.old) (W.contents writer.new)) }
 {
     let asked = match asked {
         Ok(asked) => asked,

@@ -1,9 +1,9 @@
 //! The words of a serve command.
-ghost use Rattle.std.specs.Prelude.{◌≡◌, ◌≢◌, ◌≤◌, IfErr, IfOk, IfSome, IsSome, codes, is_none, map, true, ℕ};
+ghost use Rattle.std.specs.Prelude.{◌≡◌, ◌≢◌, ◌≤◌, [], IfErr, IfOk, IfSome, IsSome, codes, is_none, map, true, ℕ};
 ghost use Rattle.clap.specs.Words.{found_of, kind_of, rows_of, subcommand_rows_of};
 ghost use Rattle.vetd_words.specs.ServeAsked.{AsksServe, IsServeAskedBy, ServeAsked, serve_asked};
 ghost use Rattle.vetd_words.specs.ServeWords.{IsNumberUpTo};
-ghost use Rattle.vetd_words.specs.Words.{rows_if_named};
+ghost use Rattle.vetd_words.specs.Words.{IsErrorOf, faults_of, rows_if_named};
 
 use crate::words::{matches_if_named, matches_of, value, words_error};
 use clap::error::ErrorKind;
@@ -34,6 +34,8 @@ pub fn serve_words<'a, S: AsStr>(alloc: Global, words: &'a [S]) -> Result<ServeW
     ensures few { IfOk result (λ asked. asked.connections ≤ MOST_CONNECTIONS) }
     ensures refused { IfErr result (λ error. kind_of error ≢ ErrorKind.OutOfMemory
         → (asked : ServeAsked) → AsksServe (map S.text words.entry.now) asked → ⊥) }
+    ensures clean { IfOk result (λ _. faults_of (map S.text words.entry.now) ≡ []) }
+    ensures kinds { IfErr result (λ error. IsErrorOf (map S.text words.entry.now) (kind_of error)) }
 {
     let matches = matches_of(alloc, words)?;
     match asked_by(&matches) {

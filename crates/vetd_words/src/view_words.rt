@@ -1,8 +1,8 @@
 //! The words of a command that shows something of a register.
-ghost use Rattle.std.specs.Prelude.{◌≡◌, ◌≢◌, IfErr, IfOk, map, option_and_then, option_map};
+ghost use Rattle.std.specs.Prelude.{◌≡◌, ◌≢◌, [], IfErr, IfOk, map, option_and_then, option_map};
 ghost use Rattle.clap.specs.Words.{found_of, kind_of, rows_of, subcommand_rows_of};
 ghost use Rattle.vetd_words.specs.ViewWords.{name_of, view_asked, view_from, view_given, view_named};
-ghost use Rattle.vetd_words.specs.Words.{kind_word, rows_if_named};
+ghost use Rattle.vetd_words.specs.Words.{IsErrorOf, faults_of, kind_word, rows_if_named};
 
 use crate::file_word::{FILE_WORDS, file_of_word};
 use crate::report_kind::{REPORT_WORDS, ReportKind};
@@ -62,6 +62,8 @@ pub fn view_words<'a, S: AsStr>(
         view_given command (map S.text words.entry.now) ≡ Some (view_asked asked)) }
     ensures refused { IfErr result (λ error. kind_of error ≢ ErrorKind.OutOfMemory
         → view_given command (map S.text words.entry.now) ≡ None) }
+    ensures clean { IfOk result (λ _. faults_of (map S.text words.entry.now) ≡ []) }
+    ensures kinds { IfErr result (λ error. IsErrorOf (map S.text words.entry.now) (kind_of error)) }
 {
     let matches = matches_of(alloc, words)?;
     match asked_by(command, &matches) {

@@ -1,12 +1,13 @@
 //! The command line.
-ghost use Rattle.std.specs.Prelude.{◌≡◌, ◌≢◌, IfOk, IfErr, codes, false, map, option_and_then, option_map, true};
+ghost use Rattle.std.specs.Prelude.{◌≡◌, ◌≢◌, [], IfOk, IfErr, codes, false, map, option_and_then, option_map, true};
 ghost use Rattle.clap.specs.Words.{App, Rule, first_of, found_of, kind_of, rows_of, with_rule};
 ghost use Rattle.clap.specs.Words.{subcommand_rows_of, Text};
 ghost use Rattle.vetd_words.specs.ApplyWords.{apply_app};
 ghost use Rattle.vetd_words.specs.NewWords.{limit_rule, new_app, option_rule};
 ghost use Rattle.vetd_words.specs.ServeWords.{number_rule, serve_app};
-ghost use Rattle.vetd_words.specs.Words.{IsApp, IsRule, asked_of, bare_app, begins_with, class_alone_app, class_app};
-ghost use Rattle.vetd_words.specs.Words.{changed_app, class_given, exported_app, file_app, kind_from, kind_word};
+ghost use Rattle.vetd_words.specs.Words.{IsApp, IsErrorOf, IsRule, asked_of, bare_app, begins_with, class_alone_app};
+ghost use Rattle.vetd_words.specs.Words.{changed_app, class_app, class_given, exported_app, faults_of, file_app};
+ghost use Rattle.vetd_words.specs.Words.{kind_from, kind_word};
 ghost use Rattle.vetd_words.specs.Words.{made_app, read_app, read_given, reported_app, rows_given, rows_if_named};
 ghost use Rattle.vetd_words.specs.Words.{top_app, view_app, with_kind, word_rule, words_from};
 
@@ -39,6 +40,8 @@ pub fn class_words<'a, S: AsStr>(alloc: Global, words: &'a [S]) -> Result<ClassW
     ensures found { IfOk result (λ asked. class_given (map S.text words.entry.now) ≡ Some (asked_of asked)) }
     ensures refused { IfErr result (λ error. kind_of error ≢ ErrorKind.OutOfMemory
         → class_given (map S.text words.entry.now) ≡ None) }
+    ensures clean { IfOk result (λ _. faults_of (map S.text words.entry.now) ≡ []) }
+    ensures kinds { IfErr result (λ error. IsErrorOf (map S.text words.entry.now) (kind_of error)) }
 {
     let matches = matches_of(alloc, words)?;
     match class_asked(&matches) {
@@ -58,6 +61,8 @@ pub fn read_words<S: AsStr>(alloc: Global, words: &[S]) -> Result<RegisterFile, 
     ensures found { IfOk result (λ kind. read_given (map S.text words.now) ≡ Some kind) }
     ensures refused { IfErr result (λ error. kind_of error ≢ ErrorKind.OutOfMemory
         → read_given (map S.text words.now) ≡ None) }
+    ensures clean { IfOk result (λ _. faults_of (map S.text words.now) ≡ []) }
+    ensures kinds { IfErr result (λ error. IsErrorOf (map S.text words.now) (kind_of error)) }
 {
     let matches = matches_of(alloc, words)?;
     match kind_asked(&matches) {
@@ -139,6 +144,8 @@ pub(crate) fn matches_of<'a, S: AsStr>(
         ≡ rows_if_named name (subcommand_rows_of matches)) }
     ensures refused { IfErr result (λ error. kind_of error ≢ ErrorKind.OutOfMemory
         → (name : Text) → rows_given name (map S.text words.entry.now) ≡ None) }
+    ensures clean { IfOk result (λ _. faults_of (map S.text words.entry.now) ≡ []) }
+    ensures kinds { IfErr result (λ error. IsErrorOf (map S.text words.entry.now) (kind_of error)) }
 {
     match matches_by_clap(alloc, words) {
         Ok(matches) => Ok(matches),
@@ -152,6 +159,8 @@ fn matches_by_clap<'a, S: AsStr>(alloc: Global, words: &'a [S]) -> Result<ArgMat
         ≡ rows_if_named name (subcommand_rows_of matches)) }
     ensures refused { IfErr result (λ error. kind_of error ≢ ErrorKind.OutOfMemory
         → (name : Text) → rows_given name (map S.text words.entry.now) ≡ None) }
+    ensures clean { IfOk result (λ _. faults_of (map S.text words.entry.now) ≡ []) }
+    ensures kinds { IfErr result (λ error. IsErrorOf (map S.text words.entry.now) (kind_of error)) }
 {
     top_command(alloc)?.try_get_matches_from(words)
 }

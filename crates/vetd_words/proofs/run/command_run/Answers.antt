@@ -1,4 +1,5 @@
 -- What a run ensures of what was asked, told of what the words of its command ask for.
+use Rattle.vetd_words.proofs.HelpLemmas.{asked_help, asked_wrong}
 use Rattle.vetd_words.proofs.RunLemmas.{of_nothing, says_meant, spent_meant, stops_meant}
 use Rattle.vetd_words.proofs.run.command_run.Goals as goal
 
@@ -28,3 +29,17 @@ pub returns-clause-spent : goal.returns-clause-spent
 returns-clause-spent g c = λ spent some.
     let asked = c.asked-asked in
     spent_meant _ asked.result _ asked.ensures.refused c.run.ensures.memory (c.run.ensures.spent spent) some
+
+pub returns-clause-help : goal.returns-clause-help
+returns-clause-help g c = λ asks.
+    let asked = c.asked-asked in
+    let h = c.run.ensures in
+    asked_help _ asked.result c.run.result _ _ _ _ asked.ensures.clean asked.ensures.kinds h.silent h.memory h.help
+    h.version asks
+
+pub returns-clause-wrong : goal.returns-clause-wrong
+returns-clause-wrong g c = λ nothing none.
+    let asked = c.asked-asked in
+    let h = c.run.ensures in
+    of_nothing _ _ asked.result asked.ensures.found nothing
+    (asked_wrong _ asked.result c.run.result _ _ _ _ asked.ensures.kinds h.silent h.memory h.wrong none)
