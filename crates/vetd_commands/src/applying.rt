@@ -1,6 +1,7 @@
 //! A command document is applied to a register in a database, by the words of an apply command.
 ghost use Rattle.std.specs.Prelude.{◌≡◌, ◌≢◌, ◌⊎◌, ◌+◌, ◌≤◌, IfErr, IfOk, None, false, map, string_bytes};
 ghost use Rattle.std.specs.Prelude.{[], IsOkAnd, Some, option_map, string_capacity};
+ghost use Rattle.std.specs.Io.KnownBytes.{Keeps};
 ghost use Rattle.std.specs.Option.{option_copied};
 ghost use Rattle.vet_base.specs.Day.{read_day};
 ghost use Rattle.vet_base.specs.declared.limits.TheConstants.{MOST_READS};
@@ -9,6 +10,7 @@ ghost use Rattle.vet_reports.specs.declared.outcome_text.TheConstants.{MOST_OUTC
 ghost use Rattle.vetd_words.specs.Answer.{IsWritten, answer_for};
 ghost use Rattle.vetd_words.specs.ApplyGiven.{apply_given};
 ghost use Rattle.vetd_words.specs.ApplyWords.{apply_asked};
+ghost use Rattle.vetd_words.specs.Words.{AskForHelp, AskForNoHelp};
 ghost use Rattle.vetd_commands.specs.Applying.{AnswersApply, IsApplyAnswer, IsApplyFor, IsDocumentAnswer};
 ghost use Rattle.vetd_commands.specs.Applying.{IsUnapplied, day_given};
 ghost use Rattle.vetd_commands.specs.Making.{FoundBy};
@@ -80,6 +82,11 @@ pub fn apply_run<
     ensures endless { result.status ≡ Err IoFault.Endless → reader.new.made ≡ MOST_READS }
     ensures spent { reader.old.made ≡ MOST_READS → day_given (apply_given (map T.text words.now)) ≢ None
         → (result.status ≡ Err IoFault.Endless) ⊎ (result.status ≡ Err IoFault.NoMemory) }
+
+    // Help and the version go to the output, and what is wrong with the words to the errors.
+    ensures help { AskForHelp (map T.text words.now) → Keeps (E.contents errors.old) (E.contents errors.new) }
+    ensures wrong { apply_given (map T.text words.now) ≡ None
+        → AskForNoHelp (map T.text words.now) → Keeps (W.contents writer.old) (W.contents writer.new) }
 {
     match apply_words(alloc, words) {
         Ok(asked) => apply_on::<S, K, D, R, W, E>(alloc, asked, reader, databases, writer, errors),

@@ -1,9 +1,11 @@
 //! A register is made in a database, by the words of a new command.
 ghost use Rattle.std.specs.Prelude.{◌≡◌, ◌≢◌, ◌<◌, ◌≤◌, IfErr, IfOk, OnOk, false, map, string_bytes};
+ghost use Rattle.std.specs.Io.KnownBytes.{Keeps};
 ghost use Rattle.vetd_commands.specs.Making.{AnswersNew, IsAnswerFor, IsNewRegister, IsNoRegister, IsUnmade};
 ghost use Rattle.vetd_commands.specs.Making.{GivenBy, created_line};
 ghost use Rattle.vetd_words.specs.Answer.{IsWritten, answer_for};
-ghost use Rattle.vetd_words.specs.NewAsked.{new_asked};
+ghost use Rattle.vetd_words.specs.NewAsked.{AsksNew, NewAsked, new_asked};
+ghost use Rattle.vetd_words.specs.Words.{AskForHelp, AskForNoHelp};
 
 use crate::databases::{DatabaseRun, Databases};
 use sqlite::{Alter, Connection};
@@ -38,6 +40,11 @@ pub fn new_run<T: AsStr, S: Alter + Drop, K: Keeper, D: Databases<S>, W: Write, 
         result.status (W.contents writer.old) (W.contents writer.new)
         (E.contents errors.old) (E.contents errors.new) }
     ensures faults { IfErr result.status (λ fault. (fault ≢ IoFault.Input) × (fault ≢ IoFault.Endless)) }
+
+    // Help and the version go to the output, and what is wrong with the words to the errors.
+    ensures help { AskForHelp (map T.text words.now) → Keeps (E.contents errors.old) (E.contents errors.new) }
+    ensures wrong { ((asked : NewAsked) → AsksNew (map T.text words.now) asked → ⊥)
+        → AskForNoHelp (map T.text words.now) → Keeps (W.contents writer.old) (W.contents writer.new) }
 {
     match new_words(alloc, words) {
         Ok(asked) => {

@@ -1,7 +1,9 @@
 //! Something is shown of a register in a database, by the words of a command.
-ghost use Rattle.std.specs.Prelude.{◌≡◌, ◌≢◌, IfErr, IfOk, false, map, string_bytes};
+ghost use Rattle.std.specs.Prelude.{◌≡◌, ◌≢◌, IfErr, IfOk, None, false, map, string_bytes};
+ghost use Rattle.std.specs.Io.KnownBytes.{Keeps};
 ghost use Rattle.vetd_words.specs.Answer.{IsWritten, answer_for};
 ghost use Rattle.vetd_words.specs.ViewWords.{view_asked, view_given};
+ghost use Rattle.vetd_words.specs.Words.{AskForHelp, AskForNoHelp};
 ghost use Rattle.vetd_commands.specs.Making.{FoundBy};
 ghost use Rattle.vetd_commands.specs.Opening.{IsNotOpened};
 ghost use Rattle.vetd_commands.specs.Viewing.{AnswersView, IsShown, IsUntold, IsViewFor};
@@ -41,6 +43,11 @@ pub fn view_run<T: AsStr, S: Alter + Drop, K: Keeper, D: Databases<S>, W: Write,
         result.status (W.contents writer.old) (W.contents writer.new)
         (E.contents errors.old) (E.contents errors.new) }
     ensures faults { IfErr result.status (λ fault. (fault ≢ IoFault.Input) × (fault ≢ IoFault.Endless)) }
+
+    // Help and the version go to the output, and what is wrong with the words to the errors.
+    ensures help { AskForHelp (map T.text words.now) → Keeps (E.contents errors.old) (E.contents errors.new) }
+    ensures wrong { view_given command (map T.text words.now) ≡ None
+        → AskForNoHelp (map T.text words.now) → Keeps (W.contents writer.old) (W.contents writer.new) }
 {
     match view_words(alloc, command, words) {
         Ok(asked) => {

@@ -5,6 +5,7 @@ use Rattle.vetd_words.specs.Answer.{IsWritten}
 use Rattle.vetd_words.specs.ApplyGiven.{apply_given}
 use Rattle.vetd_words.specs.ApplyWords.{ApplyAsked}
 use Rattle.vetd_commands.specs.Applying.{AnswersApply, IsUnapplied, day_given}
+use Rattle.vetd_words.proofs.HelpLemmas.{help_kept, wrong_kept}
 use Rattle.vetd_words.proofs.Answered.{explained_written}
 use Rattle.vetd_commands.proofs.Applied.{apply_explained}
 use Rattle.vetd_words.proofs.RunLemmas.{is_for_want}
@@ -49,3 +50,21 @@ pub returns-in-Err-clause-spent : goal.returns-in-Err-clause-spent
 returns-in-Err-clause-spent g c = λ spent some.
     inr (is_for_want (apply_given (map g.T.AsStr.text c.args.words.now) ≡ None) c.in-Err.error.kind c.explain.result
     c.in-Err.ensures.refused c.explain.ensures.memory (λ none. some (ap day_given none)))
+
+pub returns-in-Err-clause-help : goal.returns-in-Err-clause-help
+returns-in-Err-clause-help g c = λ asks.
+    let h = c.explain.ensures in
+    help_kept (map g.T.AsStr.text c.args.words.now) c.in-Err.error.kind c.explain.result _ _ _ _ c.in-Err.ensures.kinds
+    h.silent h.memory h.help h.version asks
+
+pub returns-in-Err-clause-wrong : goal.returns-in-Err-clause-wrong
+returns-in-Err-clause-wrong g c = λ nothing none.
+    let h = c.explain.ensures in
+    wrong_kept (map g.T.AsStr.text c.args.words.now) c.in-Err.error.kind c.explain.result _ _ _ _ c.in-Err.ensures.kinds
+    h.silent h.memory h.wrong none
+
+pub returns-in-Ok-clause-help : goal.returns-in-Ok-clause-help
+returns-in-Ok-clause-help g c = λ asks. absurd (asks.some c.in-Ok.ensures.clean)
+
+pub returns-in-Ok-clause-wrong : goal.returns-in-Ok-clause-wrong
+returns-in-Ok-clause-wrong g c = λ nothing none. absurd (let two = sym c.in-Ok.ensures.found ∙ nothing in cc)
