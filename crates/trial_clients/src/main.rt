@@ -3,8 +3,8 @@
 //! Its first word is how many clients are awaited, and each word behind it is what comes: a request, each whole;
 //! `failed`, for a client that can't be served; `lost`, for the loss of what listens; or, as the only one, `no-port`,
 //! where the port can't be had. Replies and what the program prints go to standard output in the order in which they
-//! are written, and a fault of the network to standard error. The status is that of the program, and 3 where there was
-//! no memory for its words.
+//! are written, and a fault of the network to standard error. Last, where it closed what listened, is how many clients
+//! it released. The status is that of the program, and 3 where there was no memory for its words.
 #![tactic(auto)]
 
 use sqlite::Connection as Database;
@@ -20,7 +20,7 @@ use vet_http::serve::Connection;
 use vet_requests::input::CountedReader;
 use vet_store::memory_file::MemoryFiles;
 use vetd_commands::databases::Databases;
-use vetd_program::clients::arrivals::Arrival;
+use vetd_program::clients::arrival::Arrival;
 use vetd_program::clients::memory_network::MemoryNetwork;
 use vetd_program::clients::network::{HangUp, Network};
 use vetd_program::program::program_run;
@@ -101,11 +101,16 @@ fn run_words(rt: &HostRuntime, words: &[String]) -> Result<u8, Fault> {
     for word in rest {
         coming.push_back(arrival(rt, word.as_str(), io::writer(rt))?)?;
     }
-    let mut network = MemoryNetwork::new(coming);
+    let mut network = MemoryNetwork::new(rt.alloc(), coming);
     if rest.len() == 1 && rest[0].as_str() == "no-port" {
         let _listener = network.listen(1);
     }
-    serve(rt, awaited.as_str(), &mut network)
+    let status = serve(rt, awaited.as_str(), &mut network)?;
+    if let Some(released) = network.into_released() {
+        let count = released.len();
+        println!(rt; "released {count}")?;
+    }
+    Ok(status)
 }
 
 /// Has the program serve the clients of a network.

@@ -3,7 +3,7 @@ ghost use Rattle.std.specs.Net.Addr.{ipv4_octets};
 ghost use Rattle.std.specs.Prelude.{◌≡◌, ◌∷◌, [], IfOk, Option, ⊤};
 ghost use Rattle.vet_base.specs.Day.{DayValue};
 ghost use Rattle.vetd_program.specs.Serving.{IsOnDay};
-ghost use Rattle.vetd_program.specs.declared.clients.arrivals.Arrival.TheVariants.{Client};
+ghost use Rattle.vetd_program.specs.declared.clients.arrival.Arrival.TheVariants.{Client};
 
 use crate::deadline::{Deadline, today};
 use crate::timed::{TimedReader, TimedWriter};
@@ -15,7 +15,7 @@ use std::time::Clock;
 use vet_base::day::Day;
 use vet_http::serve::Connection;
 use vet_requests::input::CountedReader;
-use vetd_program::clients::arrivals::Arrival;
+use vetd_program::clients::arrival::Arrival;
 use vetd_program::clients::network::Network;
 
 /// The ports of the loopback, and the clock by which clients are served. Nothing is known of who connects.
@@ -60,9 +60,13 @@ impl<'a, H: Net + Clock> Network for TcpNetwork<'a, H> {
 
     type Writer = TimedWriter<'a, H, H::Stream>;
 
-    ghost may_listen = { λ _ _ _. ⊤ };
+    ghost may_listen = { λ _ _ _ _. ⊤ };
 
     ghost may_come = { λ _ _ _ _. ⊤ };
+
+    ghost may_release = { λ _ _ _. ⊤ };
+
+    ghost may_close = { λ _ _ _. ⊤ };
 
     fn listen(&mut self, port: u16) -> Option<Self::Listener> {
         TcpListener::bind(self.host, loopback(port)).ok()
@@ -83,6 +87,16 @@ impl<'a, H: Net + Clock> Network for TcpNetwork<'a, H> {
             Err(_) => Arrival::Failed,
         }
     }
+
+    fn release(
+        &self,
+        _listener: &mut Self::Listener,
+        _client: Connection<Self::Reader, Self::Writer>,
+    )
+        ensures { ⊤ }
+    {}
+
+    fn close(&mut self, _listener: Self::Listener) {}
 }
 
 /// The address at which clients of this machine alone connect: 127.0.0.1, and the port.

@@ -1,18 +1,15 @@
--- What came more is served in the state that was left, and what comes to a listener is served one by one.
-use Rattle.std.proofs.Common.{◌≡◌, ℕ, ◌+◌, Bool, false, true, List, [], ◌∷◌, ◌++◌, Option, Result, Ok, Err}
-use Rattle.std.proofs.Common.{length, map, arith, ap, refl, sym, subst, ◌∙◌}
+-- What came more is served in the state and at the listener that were left.
+use Rattle.std.proofs.Common.{◌≡◌, ◌+◌, false, true, List, [], ◌∷◌, ◌++◌, Option, Result, Ok, Err, map, arith, ap, refl}
+use Rattle.std.proofs.Common.{sym, subst, ◌∙◌}
 use Rattle.std.proofs.lemmas.List.{map-append}
-use Rattle.std.specs.Iterator.{DrainsIf, Yields}
 use Rattle.vet_base.specs.Day.{DayValue}
-use Rattle.vet_base.specs.Words.{Bytes}
 use Rattle.vet_http.specs.declared.serve.Connection.{Connection}
 use Rattle.vet_http.specs.declared.serve.Served.{Served}
 use Rattle.vet_register.specs.State.{State}
 use Rattle.vet_requests.specs.declared.io_fault.IoFault.{IoFault}
-use Rattle.vetd_program.specs.Serving.{AreServed, Arrives, Come, Coming, IsServedTurn, IsTurnOf, ServesEach, Turn}
-use Rattle.vetd_program.specs.Serving.{is_lost, replied, whole}
-use Rattle.vetd_program.specs.declared.clients.arrivals.Arrival.{Arrival}
-use Rattle.vetd_program.specs.declared.clients.arrivals.Arrival.TheVariants.{Client, Failed, Lost}
+use Rattle.vetd_program.specs.Serving.{Clients, Comes, IsServedClient, ServesEach, Turn, is_lost, replied, whole}
+use Rattle.vetd_program.specs.declared.clients.arrival.Arrival.{Arrival}
+use Rattle.vetd_program.specs.declared.clients.arrival.Arrival.TheVariants.{Client, Failed, Lost}
 
 pub lost_more : {R W : Type 0} (came : List (Arrival R W)) (next : Arrival R W) → is_lost came ≡ false
     → is_lost (came ++ next ∷ []) ≡ is_lost (next ∷ [])
@@ -32,94 +29,50 @@ replied_more turns more =
     ap whole (map-append (λ (t : Turn). t.answer) turns more)
     ∙ whole_more (map (λ (t : Turn). t.answer) turns) (map (λ (t : Turn). t.answer) more)
 
-module _ {R W : Type 0} (remaining : R → Option Bytes) (contents : W → Option Bytes) where
+module _ {N L R W : Type 0} (clients : Clients N L R W) (told : Option DayValue) where
   pub serves_more : (came : List (Arrival R W)) (turns more : List Turn) (next : Arrival R W) (s mid end : State)
-      → is_lost came ≡ false → ServesEach remaining contents s came turns mid
-      → ServesEach remaining contents mid (next ∷ []) more end
-      → ServesEach remaining contents s (came ++ next ∷ []) (turns ++ more) end
-  serves_more [] [] more next s mid end none first second =
-      subst (λ (u : State). ServesEach remaining contents u (next ∷ []) more end) first second
-  serves_more [] (t ∷ turns) more next s mid end none first second = absurd first
-  serves_more (Failed ∷ came) turns more next s mid end none first second =
-      serves_more came turns more next s mid end none first second
-  serves_more (Lost ∷ came) turns more next s mid end none first second =
+      (l m l' : L) → is_lost came ≡ false → ServesEach clients told s l came turns mid m
+      → ServesEach clients told mid m (next ∷ []) more end l'
+      → ServesEach clients told s l (came ++ next ∷ []) (turns ++ more) end l'
+  serves_more [] [] more next s mid end l m l' none first second =
+      subst (λ (u : State). ServesEach clients told u l (next ∷ []) more end l') first.0
+      (subst (λ (k : L). ServesEach clients told mid k (next ∷ []) more end l') first.1 second)
+  serves_more [] (t ∷ turns) more next s mid end l m l' none first second = absurd first
+  serves_more (Failed ∷ came) turns more next s mid end l m l' none (k, (comes, rest)) second =
+      (k, (comes, serves_more came turns more next s mid end k m l' none rest second))
+  serves_more (Lost ∷ came) turns more next s mid end l m l' none first second =
       absurd (let two : true ≡ false = none in cc)
-  serves_more (Client was ∷ came) [] more next s mid end none first second = absurd first
-  serves_more (Client was ∷ came) (t ∷ turns) more next s mid end none (is, (after, (turn, rest))) second =
-      (is, (after, (turn, serves_more came turns more next after mid end none rest second)))
+  serves_more (Client was ∷ came) [] more next s mid end l m l' none first second = absurd first
+  serves_more (Client was ∷ came) (t ∷ turns) more next s mid end l m l' none
+      (held, (comes, (after, (k, (is, rest))))) second =
+      (held, (comes, (after, (k, (is, serves_more came turns more next after mid end k m l' none rest second)))))
 
   -- where what listened is lost nobody is served
-  pub lost_alone : (next : Arrival R W) (s end : State) → end ≡ s → is_lost (next ∷ []) ≡ true
-      → ServesEach remaining contents s (next ∷ []) [] end
-  lost_alone Lost s end same lost = same
-  lost_alone Failed s end same lost = cc
-  lost_alone (Client was) s end same lost = absurd (let two : false ≡ true = lost in cc)
+  pub lost_alone : (arrival : Arrival R W) (s : State) (l l' : L) → arrival ≡ Lost → Comes clients told l arrival l'
+      → ServesEach clients told s l (arrival ∷ []) [] s l'
+  lost_alone arrival s l l' is comes =
+      subst (λ (a : Arrival R W). ServesEach clients told s l (a ∷ []) [] s l') (sym is)
+      (refl, subst (λ (a : Arrival R W). Comes clients told l a l') is comes)
 
   -- a client that came was served
-  pub one_client : (arrival : Arrival R W) (was : Connection R W) (t : Turn) (s end : State) → arrival ≡ Client was
-      → IsTurnOf remaining contents was t → IsServedTurn s t end
-      → ServesEach remaining contents s (arrival ∷ []) (t ∷ []) end
-  one_client arrival was t s end is of turn =
-      subst (λ (a : Arrival R W). ServesEach remaining contents s (a ∷ []) (t ∷ []) end) (sym is)
-      (of, (end, (turn, refl)))
+  pub one_client : (arrival : Arrival R W) (was : Connection R W) (t : Turn) (s end : State) (l held l' : L)
+      → arrival ≡ Client was → Comes clients told l arrival held → IsServedClient clients s held was t end l'
+      → ServesEach clients told s l (arrival ∷ []) (t ∷ []) end l'
+  one_client arrival was t s end l held l' is comes served =
+      subst (λ (a : Arrival R W). ServesEach clients told s l (a ∷ []) (t ∷ []) end l') (sym is)
+      (held, (subst (λ (a : Arrival R W). Comes clients told l a held) is comes, (end, (l', (served, (refl, refl))))))
 
   -- where none came nobody was
-  pub no_client : (arrival : Arrival R W) (s : State) → arrival ≡ Failed
-      → ServesEach remaining contents s (arrival ∷ []) [] s
-  no_client arrival s is = subst (λ (a : Arrival R W). ServesEach remaining contents s (a ∷ []) [] s) (sym is) refl
+  pub no_client : (arrival : Arrival R W) (s : State) (l l' : L) → arrival ≡ Failed → Comes clients told l arrival l'
+      → ServesEach clients told s l (arrival ∷ []) [] s l'
+  no_client arrival s l l' is comes =
+      subst (λ (a : Arrival R W). ServesEach clients told s l (a ∷ []) [] s l') (sym is)
+      (l', (subst (λ (a : Arrival R W). Comes clients told l a l') is comes, (refl, refl)))
 
-module _ {S L R W : Type 0} (may_come : Coming L R W) (day_of : S → Option DayValue) (awaited_of : S → ℕ)
-    (listener_of : S → L) where
-  -- what a wait comes to
-  abbrev Waits : S → Option (Arrival R W) → S → Type 0
-  Waits a arrival b =
-      Arrives may_come (day_of a) (awaited_of a) (listener_of a) arrival (awaited_of b) (listener_of b)
-      × (day_of b ≡ day_of a)
-
-  -- what came did so one after the other, and no more than was awaited
-  came_one_by_one : (came : List (Arrival R W)) (a b : S) → Yields Waits a came b
-      → Come may_come (day_of a) (listener_of a) came (listener_of b) × (length came + awaited_of b ≡ awaited_of a)
-  came_one_by_one [] a b yields = (
-    ap listener_of (sym yields),
-    let same : awaited_of a ≡ awaited_of b = ap awaited_of yields in omega (arith, same),
-  )
-  came_one_by_one (next ∷ came) a b yields =
-      let step = yields.1 in
-      let rest = came_one_by_one came yields.0 b yields.2 in
-      let fewer : awaited_of a ≡ awaited_of yields.0 + 1 = step.0.1 in
-      let few : length came + awaited_of b ≡ awaited_of yields.0 = rest.1 in (
-        (
-          listener_of yields.0,
-          (
-            step.0.0,
-            subst (λ (told : Option DayValue). Come may_come told (listener_of yields.0) came (listener_of b)) step.1
-                rest.0,
-          ),
-        ),
-        omega arith,
-      )
-
-  -- so serving all that comes to a listener serves the clients that were awaited
-  pub clients_served : (remaining : R → Option Bytes) (contents : W → Option Bytes) (told : Option DayValue) (most : ℕ)
-      (l : L) (a : S) (lost : Bool) (came : List (Arrival R W)) (turns : List Turn) (s end : State)
-      → day_of a ≡ told → awaited_of a ≡ most → listener_of a ≡ l → ServesEach remaining contents s came turns end
-      → lost ≡ is_lost came → DrainsIf Waits (lost ≡ false) a came
-      → (clients : AreServed may_come remaining contents l told most lost s end) × (clients.turns ≡ turns)
-  clients_served remaining contents told most l a lost came turns s end day awaited first serves found drains =
-      let held = came_one_by_one came a drains.0 drains.1 in
-      let come : Come may_come told l came (listener_of drains.0) =
-      subst (λ (m : L). Come may_come told m came (listener_of drains.0)) first
-      (subst (λ (t : Option DayValue). Come may_come t (listener_of a) came (listener_of drains.0)) day held.0) in
-      let awaits : length came + awaited_of drains.0 ≡ awaited_of a = held.1 in (
-        record {
-          came = came;
-          left = listener_of drains.0;
-          come = come;
-          turns = turns;
-          one_by_one = serves;
-          few = omega (arith, awaited);
-          found = found;
-          all = λ kept. let ended : awaited_of drains.0 ≡ 0 = (drains.2 kept).1.0 in omega (arith, awaited);
-        },
-        refl,
-      )
+  -- and of that loss alone nobody was
+  pub none_at_loss : (arrival : Arrival R W) (turns : List Turn) (s end : State) (l l' : L)
+      → is_lost (arrival ∷ []) ≡ true → ServesEach clients told s l (arrival ∷ []) turns end l' → replied turns ≡ 0
+  none_at_loss Lost [] s end l l' lost h = refl
+  none_at_loss Lost (t ∷ turns) s end l l' lost h = absurd h
+  none_at_loss Failed turns s end l l' lost h = absurd (let two : false ≡ true = lost in cc)
+  none_at_loss (Client was) turns s end l l' lost h = absurd (let two : false ≡ true = lost in cc)

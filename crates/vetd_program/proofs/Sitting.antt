@@ -15,8 +15,9 @@ use Rattle.vet_store.specs.Headline.{HasClasses}
 use Rattle.vetd_words.specs.Answer.{AllCame, Ending, IsWritten, NetworkLost, NoPort, Says, Serves, Stops, Unheard}
 use Rattle.vetd_words.specs.Answer.{network_line}
 use Rattle.vetd_program.specs.ServeRun.{Answered, IsSitting, IsSittingOf}
-use Rattle.vetd_program.specs.Serving.{AreServed, Clients, HasEnded, Turn, listening_line, printed_by, replied}
-use Rattle.vetd_program.specs.Serving.{served_line}
+use Rattle.vetd_program.specs.Serving.{AreServed, AreServedAt, Clients, HasEnded, ServesEach, Turn, listening_line}
+use Rattle.vetd_program.specs.Serving.{printed_by, replied, served_line}
+use Rattle.vetd_program.specs.declared.clients.arrival.Arrival.{Arrival}
 use Rattle.vetd_words.specs.declared.answer.TheConstants.{PRINTED, REFUSED}
 use Rattle.vetd_program.specs.declared.serve_run.Service.{Service}
 use Rattle.vetd_words.proofs.Answered.{told_written}
@@ -35,17 +36,19 @@ IsOfNetwork NetworkLost = ⊤
 IsOfNetwork NoPort = ⊤
 IsOfNetwork _ = ⊥
 
-module _ {L R W : Type 0} (clients : Clients L R W) (service : Service) (Leaves : List Turn → Type 0) (s end : State)
-    (Untold : Type 0) where
-  written_of : (text : Text) (ending : Ending) (sitting : IsSitting clients service Leaves s text ending end)
+module _ {N L R W : Type 0} (clients : Clients N L R W) (network network' : N) (service : Service)
+    (Leaves : List Turn → Type 0) (s end : State) (Untold : Type 0) where
+  written_of : (text : Text) (ending : Ending) (sitting : IsSitting clients network network' service Leaves s text
+      ending end)
       (r : Result ℕ IoFault) (out out' errors errors' : Option Bytes)
       → IfOk r (λ status. Says (Serves text ending) status out out' errors errors')
       → IfErr r (λ fault. fault ≡ Output → Stops (Serves text ending) out out' errors errors')
       → IfErr r (λ fault. fault ≢ Output → Keeps out out' × Keeps errors errors')
       → IfErr r (λ fault. fault ≢ Output → Untold)
-      → IsWritten (Answered (IsSittingOf clients service Leaves s end)) Untold r out out' errors errors'
+      → IsWritten (Answered (IsSittingOf clients network network' service Leaves s end)) Untold r out out' errors
+      errors'
   written_of text ending sitting r out out' errors errors' says stops silent untold =
-      told_written (Answered (IsSittingOf clients service Leaves s end)) Untold (Serves text ending)
+      told_written (Answered (IsSittingOf clients network network' service Leaves s end)) Untold (Serves text ending)
       (λ Holds holds. (Serves text ending, (sitting, holds))) r out out' errors errors' says stops silent untold
 
   module _ (text : Text) (out out' errors errors' : Option Bytes) where
@@ -69,29 +72,32 @@ module _ {L R W : Type 0} (clients : Clients L R W) (service : Service) (Leaves 
     stops_lost Unheard is (Err fault) printed part = absurd is
 
     pub lost_written : (ending : Ending) → IsOfNetwork ending
-        → (sitting : IsSitting clients service Leaves s text ending end) (r : Result ℕ IoFault)
+        → (sitting : IsSitting clients network network' service Leaves s text ending end) (r : Result ℕ IoFault)
         → Appends out out' text
         → IfOk r (λ status. status ≡ REFUSED) → OnOk r (Appends errors errors' network_line)
         → OnErr r (AppendsPart errors errors' network_line) → IfErr r (λ fault. fault ≡ Output)
-        → IsWritten (Answered (IsSittingOf clients service Leaves s end)) Untold r out out' errors errors'
+        → IsWritten (Answered (IsSittingOf clients network network' service Leaves s end)) Untold r out out' errors
+        errors'
     lost_written ending is sitting r printed status told part faults =
         written_of text ending sitting r out out' errors errors' (says_lost ending is r printed status told)
         (stops_lost ending is r printed part) (not_other r (Keeps out out' × Keeps errors errors') faults)
         (not_other r Untold faults)
 
   -- the whole text was printed
-  pub whole_written : (text : Text) (sitting : IsSitting clients service Leaves s text AllCame end)
+  pub whole_written : (text : Text) (sitting : IsSitting clients network network' service Leaves s text AllCame end)
       (out out' errors : Option Bytes)
       → Appends out out' text
-      → IsWritten (Answered (IsSittingOf clients service Leaves s end)) Untold (Ok PRINTED) out out' errors errors
+      → IsWritten (Answered (IsSittingOf clients network network' service Leaves s end)) Untold (Ok PRINTED) out out'
+      errors errors
   whole_written text sitting out out' errors printed =
       written_of text AllCame sitting (Ok PRINTED) out out' errors errors (refl, printed, Keeps-refl errors) tt tt tt
 
   -- a front of it was, and then a write failed
-  pub part_written : (text : Text) (ending : Ending) → (sitting : IsSitting clients service Leaves s text ending end)
+  pub part_written : (text : Text) (ending : Ending) → (sitting : IsSitting clients network network' service Leaves s
+      text ending end)
       (r : Result ℕ IoFault) (fault : IoFault) (out out' errors : Option Bytes) → IsErrAnd r (λ f. f ≡ fault)
       → fault ≡ Output → Stops (Serves text ending) out out' errors errors
-      → IsWritten (Answered (IsSittingOf clients service Leaves s end)) Untold r out out' errors errors
+      → IsWritten (Answered (IsSittingOf clients network network' service Leaves s end)) Untold r out out' errors errors
   part_written text ending sitting (Ok n) fault out out' errors is output part = absurd is
   part_written text ending sitting (Err f) fault out out' errors is output part =
       let failed : f ≡ Output = is ∙ output in
@@ -101,85 +107,115 @@ module _ {L R W : Type 0} (clients : Clients L R W) (service : Service) (Leaves 
 pub classes_of : (s : State) → HasClassesOfChains s → AddsUp s → IsBalanced s → HasClasses s
 classes_of s classes adds_up balance = record { classes = classes; adds_up = adds_up; balance = balance }
 
-module _ {L R W : Type 0} (clients : Clients L R W) (service : Service) (Leaves : List Turn → Type 0) (s : State) where
+module _ {N L R W : Type 0} (clients : Clients N L R W) (network network' : N) (service : Service)
+    (Leaves : List Turn → Type 0) (s : State) where
   -- nobody was served
   none_served : HasClasses s → Leaves [] → (text : Text) (ending : Ending)
-      → HasEnded clients service.port service.day service.connections [] ending
+      → HasEnded clients service.day service.port service.connections network s [] [] s network' ending
       → text ≡ printed_by service.port [] ending
-      → IsSitting clients service Leaves s text ending s
+      → IsSitting clients network network' service Leaves s text ending s
   none_served classes leaves text ending ended printed = record {
     came = [];
-    ended = ended;
     turns = [];
-    one_by_one = refl;
+    ended = ended;
     printed = printed;
-    headline = record { done = []; are_done = refl; machine = refl; classes = classes };
+    headline = record {
+      done = [];
+      outcomes = [];
+      are_done = refl;
+      machine = refl;
+      same = refl;
+      classes = classes;
+    };
     leaves = leaves;
   }
 
   -- the port couldn't be had
-  pub no_port : HasClasses s → Leaves [] → clients.may_listen service.port None
-      → IsSitting clients service Leaves s [] NoPort s
-  no_port classes leaves none = none_served classes leaves [] NoPort (none, refl) refl
+  pub no_port : HasClasses s → Leaves [] → clients.may_listen network service.port None network'
+      → IsSitting clients network network' service Leaves s [] NoPort s
+  no_port classes leaves none = none_served classes leaves [] NoPort (none, (refl, (refl, refl))) refl
 
-  -- the first line can't be printed
-  pub unheard : (l : L) → clients.may_listen service.port (Some l) → HasClasses s → Leaves [] → (Untold : Type 0)
-      (r : Result ℕ IoFault) (fault : IoFault) (line : Text)
-      (out out' errors : Option Bytes) → line ≡ listening_line service.port → IsErrAnd r (λ f. f ≡ fault)
-      → fault ≡ Output → AppendsPart out out' line
-      → IsWritten (Answered (IsSittingOf clients service Leaves s s)) Untold r out out' errors errors
-  unheard l listens classes leaves Untold r fault line out out' errors is failed output part =
-      part_written clients service Leaves s s Untold line Unheard
-      (none_served classes leaves line Unheard ((l, (listens, (l, refl))), refl) is) r fault out out' errors failed
-      output (part, Keeps-refl errors)
+  module _ (listener last : L) (listening : N) (listens : clients.may_listen network service.port (Some listener)
+      listening)
+      (closes : clients.may_close listening last network') where
+    served_at : (came : List (Arrival R W)) (turns : List Turn) (end : State)
+        → ServesEach clients service.day s listener came turns end last
+        → AreServedAt clients service.day service.port network s came turns end network'
+    served_at came turns end one_by_one = record {
+      listener = listener;
+      listening = listening;
+      listens = listens;
+      last = last;
+      one_by_one = one_by_one;
+      closes = closes;
+    }
 
-  -- clients were served
-  module _ (end : State) (classes : HasClasses end) (Untold : Type 0) (l : L)
-      (listens : clients.may_listen service.port (Some l)) where
-    pub lost_in_between : (served : AreServed clients.may_come clients.remaining clients.contents l service.day
-        service.connections true s end) → Leaves served.turns
-        → (line : Text) (r : Result ℕ IoFault) (out out' errors errors' : Option Bytes)
-        → line ≡ listening_line service.port → Appends out out' line → IfOk r (λ status. status ≡ REFUSED)
-        → OnOk r (Appends errors errors' network_line) → OnErr r (AppendsPart errors errors' network_line)
-        → IfErr r (λ fault. fault ≡ Output)
-        → IsWritten (Answered (IsSittingOf clients service Leaves s end)) Untold r out out' errors errors'
-    lost_in_between served leaves line r out out' errors errors' is printed =
-        lost_written clients service Leaves s end Untold line out out' errors errors' NetworkLost tt (record {
+    -- the first line can't be printed
+    pub unheard : last ≡ listener → HasClasses s → Leaves [] → (Untold : Type 0)
+        (r : Result ℕ IoFault) (fault : IoFault) (line : Text)
+        (out out' errors : Option Bytes) → line ≡ listening_line service.port → IsErrAnd r (λ f. f ≡ fault)
+        → fault ≡ Output → AppendsPart out out' line
+        → IsWritten (Answered (IsSittingOf clients network network' service Leaves s s)) Untold r out out' errors errors
+    unheard same classes leaves Untold r fault line out out' errors is failed output part =
+        part_written clients network network' service Leaves s s Untold line Unheard
+        (none_served classes leaves line Unheard (served_at [] [] s (refl, same), refl) is) r fault out out' errors
+        failed output (part, Keeps-refl errors)
+
+    -- clients were served
+    module _ (end : State) (classes : HasClasses end) (Untold : Type 0) where
+      pub lost_in_between : (served : AreServed clients service.day service.connections s listener true end last)
+          → Leaves served.turns
+          → (line : Text) (r : Result ℕ IoFault) (out out' errors errors' : Option Bytes)
+          → line ≡ listening_line service.port → Appends out out' line → IfOk r (λ status. status ≡ REFUSED)
+          → OnOk r (Appends errors errors' network_line) → OnErr r (AppendsPart errors errors' network_line)
+          → IfErr r (λ fault. fault ≡ Output)
+          → IsWritten (Answered (IsSittingOf clients network network' service Leaves s end)) Untold r out out' errors
+          errors'
+      lost_in_between served leaves line r out out' errors errors' is printed =
+          lost_written clients network network' service Leaves s end Untold line out out' errors errors' NetworkLost tt
+          (record {
+            came = served.came;
+            turns = served.turns;
+            ended = (
+              served_at served.came served.turns end served.one_by_one,
+              (served.few, sym served.found),
+            );
+            printed = is;
+            headline = headline_of clients service.day last s end listener served.came served.turns served.one_by_one
+                classes;
+            leaves = leaves;
+          }) r printed
+
+      module _ (served : AreServed clients service.day service.connections s listener false end last)
+          (leaves : Leaves served.turns) (line more : Text) (is : line ≡ listening_line service.port)
+          (ends : more ≡ served_line (replied served.turns)) where
+        sat : IsSitting clients network network' service Leaves s (line ++ more) AllCame end
+        sat = record {
           came = served.came;
-          ended = ((l, (listens, (served.left, served.come))), (served.few, sym served.found));
           turns = served.turns;
-          one_by_one = served.one_by_one;
-          printed = is;
-          headline = headline_of clients.remaining clients.contents s end served.came served.turns served.one_by_one
+          ended = (
+            served_at served.came served.turns end served.one_by_one,
+            (served.all refl, sym served.found),
+          );
+          printed = ap (λ (l : Text). l ++ more) is
+              ∙ ap (λ (l : Text). listening_line service.port ++ l) ends;
+          headline = headline_of clients service.day last s end listener served.came served.turns served.one_by_one
               classes;
           leaves = leaves;
-        }) r printed
+        }
 
-    module _ (served : AreServed clients.may_come clients.remaining clients.contents l service.day service.connections
-        false s end) (leaves : Leaves served.turns) (line last : Text) (is : line ≡ listening_line service.port)
-        (ends : last ≡ served_line (replied served.turns)) where
-      sat : IsSitting clients service Leaves s (line ++ last) AllCame end
-      sat = record {
-        came = served.came;
-        ended = ((l, (listens, (served.left, served.come))), (served.all refl, sym served.found));
-        turns = served.turns;
-        one_by_one = served.one_by_one;
-        printed = ap (λ (l : Text). l ++ last) is
-            ∙ ap (λ (l : Text). listening_line service.port ++ l) ends;
-        headline = headline_of clients.remaining clients.contents s end served.came served.turns served.one_by_one
-            classes;
-        leaves = leaves;
-      }
+        pub sat_whole : (out mid out' errors : Option Bytes) → Appends out mid line → Appends mid out' more
+            → IsWritten (Answered (IsSittingOf clients network network' service Leaves s end)) Untold (Ok PRINTED) out
+            out' errors errors
+        sat_whole out mid out' errors first second =
+            whole_written clients network network' service Leaves s end Untold (line ++ more) sat out out' errors
+            (Appends-trans out mid out' line more first second)
 
-      pub sat_whole : (out mid out' errors : Option Bytes) → Appends out mid line → Appends mid out' last
-          → IsWritten (Answered (IsSittingOf clients service Leaves s end)) Untold (Ok PRINTED) out out' errors errors
-      sat_whole out mid out' errors first second =
-          whole_written clients service Leaves s end Untold (line ++ last) sat out out' errors
-          (Appends-trans out mid out' line last first second)
-
-      pub sat_in_part : (r : Result ℕ IoFault) (fault : IoFault) (out mid out' errors : Option Bytes)
-          → IsErrAnd r (λ f. f ≡ fault) → fault ≡ Output → Appends out mid line → AppendsPart mid out' last
-          → IsWritten (Answered (IsSittingOf clients service Leaves s end)) Untold r out out' errors errors
-      sat_in_part r fault out mid out' errors failed output first part =
-          part_written clients service Leaves s end Untold (line ++ last) AllCame sat r fault out out' errors failed
-          output (front_behind out mid out' line last first part, Keeps-refl errors)
+        pub sat_in_part : (r : Result ℕ IoFault) (fault : IoFault) (out mid out' errors : Option Bytes)
+            → IsErrAnd r (λ f. f ≡ fault) → fault ≡ Output → Appends out mid line → AppendsPart mid out' more
+            → IsWritten (Answered (IsSittingOf clients network network' service Leaves s end)) Untold r out out' errors
+            errors
+        sat_in_part r fault out mid out' errors failed output first part =
+            part_written clients network network' service Leaves s end Untold (line ++ more) AllCame sat r fault out
+            out'
+            errors failed output (front_behind out mid out' line more first part, Keeps-refl errors)

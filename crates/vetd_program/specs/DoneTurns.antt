@@ -3,32 +3,40 @@ use Rattle.std.specs.Prelude.{◌≡◌, ◌⊎◌, Bool, false, IsTrue, List, [
 use Rattle.sqlite.specs.State.{HasCleanDisk}
 use Rattle.sqlite.specs.State as sqlite
 use Rattle.vet_http.specs.DoneRequests.{IsAskedBy, IsDone}
+use Rattle.vet_base.specs.Gives.{Told}
+use Rattle.vet_register.specs.Runs.{told}
 use Rattle.vet_register.specs.State.{State}
 use Rattle.vet_register.specs.declared.command.Command.{Command}
+use Rattle.vet_register.specs.declared.command.Outcome.{Outcome}
 use Rattle.vet_store.specs.Crash.{LeavesEither}
 use Rattle.vet_store.specs.Headline.{HasClasses}
-use Rattle.vet_store.specs.Runs.{machine}
+use Rattle.vet_store.specs.Runs.{machine, told_each}
 use Rattle.vetd_program.specs.Serving.{Turn}
 
 -- the request of a turn asks for this command
 abbrev pub IsAskedIn : Turn → Command → Type 0
 IsAskedIn t command = IsAskedBy t.day t.seen t.seen' command
 
--- turns led from a state to the last by these commands, each asked for and done in its turn
-abbrev pub AreDone : State → List Turn → List Command → State → Type 0
-AreDone s [] [] last = last ≡ s
-AreDone s [] (command ∷ commands) last = ⊥
-AreDone s (t ∷ turns) [] last = AreDone s turns [] last
-AreDone s (t ∷ turns) (command ∷ commands) last =
-    AreDone s turns (command ∷ commands) last
-    ⊎ (IsAskedIn t command × ((mid : State) × (IsDone s command mid × AreDone mid turns commands last)))
+-- Turns led from a state to the last by these commands, each asked for and done in its turn, with these outcomes. All
+-- other turns left the state as it was.
+abbrev pub AreDone : State → List Turn → List Command → List (Told Outcome) → State → Type 0
+AreDone s [] [] [] last = last ≡ s
+AreDone s [] commands outcomes last = ⊥
+AreDone s (t ∷ turns) [] [] last = AreDone s turns [] [] last
+AreDone s (t ∷ turns) (command ∷ commands) (outcome ∷ outcomes) last =
+    AreDone s turns (command ∷ commands) (outcome ∷ outcomes) last
+    ⊎ (IsAskedIn t command × ((outcome ≡ told s command)
+    × ((mid : State) × (IsDone s command mid × AreDone mid turns commands outcomes last))))
+AreDone s (t ∷ turns) commands outcomes last = ⊥
 
--- The headline over clients, of which each turn says the reply and that what is held stays: the last state is the
--- machine's after the commands alone that were done, and it has its classes.
+-- The headline over clients, of which each turn says the reply and that what is held stays: the last state is that of
+-- the machine over the commands alone that were done, with the same outcomes, and it has its classes.
 pub record HasHeadline (s : State) (turns : List Turn) (last : State) : Type 0 where
   pub done : List Command
-  pub are_done : AreDone s turns done last
+  pub outcomes : List (Told Outcome)
+  pub are_done : AreDone s turns done outcomes last
   pub machine : last ≡ machine s done
+  pub same : outcomes ≡ told_each s done
   pub classes : HasClasses last
 
 -- some client asked for this command

@@ -14,6 +14,8 @@ use Rattle.vetd_program.specs.declared.program.ProgramCommand.TheVariants.{Apply
 use Rattle.vetd_words.specs.Answer.{Answer, Answers}
 use Rattle.vetd_words.specs.ApplyGiven.{apply_given}
 use Rattle.vetd_words.specs.Asked.{asked_by}
+use Rattle.vetd_words.specs.NewAsked.{AsksNew, NewAsked}
+use Rattle.vetd_words.specs.ServeAsked.{AsksServe, ServeAsked}
 use Rattle.vetd_words.specs.ViewWords.{view_given}
 use Rattle.vetd_words.specs.Words.{begins_with}
 use Rattle.vetd_words.specs.declared.asked.CommandKind.TheVariants.{Class, Read}
@@ -29,15 +31,15 @@ command_of words =
     else (if begins_with (codes "export") words then Show Export
     else (if begins_with (codes "serve") words then Serve else File Class)))))
 
-module _ {S : Type 0} (g : Ghosts S) (Gives Finds : Giving S) {L R W : Type 0} (clients : Clients L R W)
-    (seen seen' : Heard) (words : List Text) (left : Option (Held S)) where
+module _ {S : Type 0} (g : Ghosts S) (Gives Finds : Giving S) {N L R W : Type 0} (clients : Clients N L R W)
+    (network network' : N) (seen seen' : Heard) (words : List Text) (left : Option (Held S)) where
   -- this holds of the answer to the words, the input, what a path gives or finds, and the clients that come
   abbrev pub AnswersAs : ProgramCommand → (Answer → Type 0) → Type 0
   AnswersAs (File kind) Holds = Answers seen seen' (asked_by kind words) Holds × (left ≡ None)
   AnswersAs New Holds = AnswersNew g Gives words left Holds
   AnswersAs Apply Holds = AnswersApply g Finds seen seen' (apply_given words) left Holds
   AnswersAs (Show command) Holds = AnswersView g Finds (view_given command words) left Holds
-  AnswersAs Serve Holds = AnswersServe g Finds clients words left Holds
+  AnswersAs Serve Holds = AnswersServe g Finds clients network network' words left Holds
 
   -- what a run without an answer says of the connection that is left
   abbrev pub IsUntoldAs : ProgramCommand → Type 0
@@ -45,7 +47,15 @@ module _ {S : Type 0} (g : Ghosts S) (Gives Finds : Giving S) {L R W : Type 0} (
   IsUntoldAs New = IsUnmade g Gives words left
   IsUntoldAs Apply = IsUnapplied g Finds seen seen' (apply_given words) left
   IsUntoldAs (Show command) = IsUntold g Finds (view_given command words) left
-  IsUntoldAs Serve = IsUnserved g Finds words left
+  IsUntoldAs Serve = (network' ≡ network) × IsUnserved g Finds words left
+
+-- the words are none of the command
+abbrev pub AsksNothing : ProgramCommand → List Text → Type 0
+AsksNothing (File kind) words = asked_by kind words ≡ None
+AsksNothing New words = (asked : NewAsked) → AsksNew words asked → ⊥
+AsksNothing Apply words = apply_given words ≡ None
+AsksNothing (Show command) words = view_given command words ≡ None
+AsksNothing Serve words = (asked : ServeAsked) → AsksServe words asked → ⊥
 
 -- nothing of the input is asked for
 abbrev pub AsksNoInput : ProgramCommand → List Text → Type 0

@@ -16,8 +16,8 @@ use Rattle.vet_store.specs.Tied.{IsTied}
 use Rattle.vetd_commands.specs.Making.{Giving}
 use Rattle.vetd_commands.specs.Opening.{IsNotOpened, IsOpenedAs}
 use Rattle.vetd_program.specs.DoneTurns.{HasHeadline, LeavesWhereShut}
-use Rattle.vetd_program.specs.Serving.{Clients, HasEnded, ServesEach, Turn, printed_by}
-use Rattle.vetd_program.specs.declared.clients.arrivals.Arrival.{Arrival}
+use Rattle.vetd_program.specs.Serving.{Clients, HasEnded, Turn, printed_by}
+use Rattle.vetd_program.specs.declared.clients.arrival.Arrival.{Arrival}
 use Rattle.vetd_program.specs.declared.serve_run.Service.{Service}
 use Rattle.vetd_words.specs.Answer.{Answer, Ending, Explains, Refuses, Serves}
 use Rattle.vetd_words.specs.ServeAsked.{AsksServe, ServeAsked}
@@ -35,15 +35,15 @@ on_day asked day = record { port = asked.port; connections = asked.connections; 
 abbrev pub Answered : (Answer → Type 0) → (Answer → Type 0) → Type 0
 Answered Is Holds = (answer : Answer) × (Is answer × Holds answer)
 
-module _ {L R W : Type 0} (clients : Clients L R W) (service : Service) where
+module _ {N L R W : Type 0} (clients : Clients N L R W) (network network' : N) (service : Service) where
   -- Clients came to a port and were served from a state, one after the other as they came, and this was printed. The
   -- headline holds of them, and this of what a crash leaves.
   pub record IsSitting (Leaves : List Turn → Type 0) (register : State) (text : Text) (ending : Ending) (end : State)
       : Type 0 where
     pub came : List (Arrival R W)
-    pub ended : HasEnded clients service.port service.day service.connections came ending
     pub turns : List Turn
-    pub one_by_one : ServesEach clients.remaining clients.contents register came turns end
+    pub ended : HasEnded clients service.day service.port service.connections network register came turns end network'
+        ending
     pub printed : text ≡ printed_by service.port turns ending
     pub headline : HasHeadline register turns end
     pub leaves : Leaves turns
@@ -56,10 +56,10 @@ module _ {L R W : Type 0} (clients : Clients L R W) (service : Service) where
   -- the answer where the register is a new one in memory
   abbrev pub IsServeInMemory : Answer → Type 0
   IsServeInMemory (Serves text ending) = (end : State) × IsSitting (λ turns. ⊤) (start MOST_MOVES) text ending end
-  IsServeInMemory (Refuses refusal) = IsOfStore refusal
+  IsServeInMemory (Refuses refusal) = IsOfStore refusal × (network' ≡ network)
   IsServeInMemory _ = ⊥
 
-module _ {S : Type 0} (g : Ghosts S) {L R W : Type 0} (clients : Clients L R W) where
+module _ {S : Type 0} (g : Ghosts S) {N L R W : Type 0} (clients : Clients N L R W) (network network' : N) where
   -- A register was opened, and clients were served from it. The tables have the rows of the state that the last left,
   -- and all else in the database is as it was. A crash leaves these rows, or, where the store was shut, those of the
   -- state after a command that some client asked for.
@@ -70,37 +70,41 @@ module _ {S : Type 0} (g : Ghosts S) {L R W : Type 0} (clients : Clients L R W) 
     pub opens : IsOpenedAs g before register opened
     pub end : State
     pub shut : Bool
-    pub sitting : IsSitting clients service (LeavesWhereShut false shut (state g after) end) register text ending end
+    pub sitting : IsSitting clients network network' service (LeavesWhereShut false shut (state g after) end) register
+        text ending end
     pub tables : IsTied (state g after) shut (rows_of end)
     pub others : OthersStay (state g opened) (state g after)
 
   -- the answer over a connection: clients were served from the register in its tables, or none was opened
   abbrev pub IsServeOver : Service → Held S → Answer → Held S → Type 0
   IsServeOver service before (Serves text ending) after = IsServedFrom service before text ending after
-  IsServeOver service before (Refuses refusal) after = IsNotOpened g before refusal after
+  IsServeOver service before (Refuses refusal) after = IsNotOpened g before refusal after × (network' ≡ network)
   IsServeOver service before _ after = ⊥
 
-module _ {S : Type 0} (g : Ghosts S) (Finds : Giving S) {L R W : Type 0} (clients : Clients L R W) where
+module _ {S : Type 0} (g : Ghosts S) (Finds : Giving S) {N L R W : Type 0} (clients : Clients N L R W)
+    (network network' : N) where
   -- the answer where the register is in the database at a path, and the connection that is left
   abbrev pub IsServeAt : Service → Text → Answer → Option (Held S) → Type 0
   IsServeAt service path answer (Some after) =
-      (before : Held S) × (Finds path (Ok before) × IsServeOver g clients service before answer after)
-  IsServeAt service path (Refuses refusal) None = Finds path (Err refusal)
+      (before : Held S) × (Finds path (Ok before)
+      × IsServeOver g clients network network' service before answer after)
+  IsServeAt service path (Refuses refusal) None = Finds path (Err refusal) × (network' ≡ network)
   IsServeAt service path _ None = ⊥
 
   -- the answer, by whether there is a path
   abbrev pub IsServeWhere : Service → Option Text → Answer → Option (Held S) → Type 0
   IsServeWhere service (Some path) answer left = IsServeAt service path answer left
-  IsServeWhere service None answer left = IsServeInMemory clients service answer × (left ≡ None)
+  IsServeWhere service None answer left = IsServeInMemory clients network network' service answer × (left ≡ None)
 
   -- the same where the day is still a text: a bad one goes before all else
   abbrev pub IsServeOn : ServeAsked → Told (Option DayValue) → Answer → Option (Held S) → Type 0
   IsServeOn asked (Ok day) answer left = IsServeWhere (on_day asked day) asked.path answer left
-  IsServeOn asked (Err refusal) answer left = (answer ≡ Refuses refusal) × (left ≡ None)
+  IsServeOn asked (Err refusal) answer left = (answer ≡ Refuses refusal) × ((left ≡ None) × (network' ≡ network))
 
   -- the same of words: they are explained where they are no serve command
   abbrev pub IsAnswerToServe : List Text → Answer → Option (Held S) → Type 0
-  IsAnswerToServe words Explains left = ((asked : ServeAsked) → AsksServe words asked → ⊥) × (left ≡ None)
+  IsAnswerToServe words Explains left =
+      ((asked : ServeAsked) → AsksServe words asked → ⊥) × ((left ≡ None) × (network' ≡ network))
   IsAnswerToServe words answer left =
       (asked : ServeAsked) × (AsksServe words asked × IsServeOn asked (day_told asked.day) answer left)
 

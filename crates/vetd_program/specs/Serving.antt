@@ -2,6 +2,7 @@
 use Rattle.std.specs.Prelude.{◌≡◌, ◌≤◌, ℕ, ◌+◌, Bool, true, false, List, [], ◌∷◌, ◌++◌, Option, Some, None, IfSome}
 use Rattle.std.specs.Prelude.{Result, Ok, Err, codes, length, map, ⊤}
 use Rattle.std.specs.Fmt.{decimal}
+use Rattle.std.specs.Io.KnownBytes.{Keeps}
 use Rattle.vet_base.specs.Day.{DayValue}
 use Rattle.vet_base.specs.Words.{Bytes, Text}
 use Rattle.vet_http.specs.Serve.{IsServedWithRepeats}
@@ -11,8 +12,8 @@ use Rattle.vet_http.specs.declared.serve.Connection.{Connection}
 use Rattle.vet_http.specs.declared.serve.Served.{Served}
 use Rattle.vet_register.specs.State.{State}
 use Rattle.vetd_words.specs.Answer.{Ending, AllCame, NetworkLost, NoPort, Unheard}
-use Rattle.vetd_program.specs.declared.clients.arrivals.Arrival.{Arrival}
-use Rattle.vetd_program.specs.declared.clients.arrivals.Arrival.TheVariants.{Client, Failed, Lost}
+use Rattle.vetd_program.specs.declared.clients.arrival.Arrival.{Arrival}
+use Rattle.vetd_program.specs.declared.clients.arrival.Arrival.TheVariants.{Client, Failed, Lost}
 
 -- the line that says at which port clients may connect
 abbrev pub listening_line : ℕ → Text
@@ -53,25 +54,6 @@ printed_by port turns Unheard = listening_line port
 abbrev pub IsServedTurn : State → Turn → State → Type 0
 IsServedTurn s t end = IsServedWithRepeats t.day t.seen t.seen' t.out t.out' s t.answer end
 
--- it is the one that came
-pub record IsTurnOf {R W : Type 0} (remaining : R → Option Bytes) (contents : W → Option Bytes)
-    (came : Connection R W) (t : Turn) : Type 0 where
-  pub day : t.day ≡ came.day
-  pub seen : t.seen ≡ heard remaining came.reader
-  pub out : t.out ≡ contents came.writer
-
--- The clients among what came were served one after the other: each as it came, in the state that the one before it
--- left; and the state that the last left. Nobody is waited for once what listened is lost.
-abbrev pub ServesEach : {R W : Type 0} → (R → Option Bytes) → (W → Option Bytes)
-    → State → List (Arrival R W) → List Turn → State → Type 0
-ServesEach remaining contents s [] [] end = end ≡ s
-ServesEach remaining contents s (Failed ∷ rest) turns end = ServesEach remaining contents s rest turns end
-ServesEach remaining contents s (Lost ∷ []) [] end = end ≡ s
-ServesEach remaining contents s (Client came ∷ rest) (t ∷ turns) end =
-    IsTurnOf remaining contents came t
-    × ((mid : State) × (IsServedTurn s t mid × ServesEach remaining contents mid rest turns end))
-ServesEach remaining contents s _ _ end = ⊥
-
 -- what listened was lost
 abbrev pub is_lost : {R W : Type 0} → List (Arrival R W) → Bool
 is_lost [] = false
@@ -83,66 +65,90 @@ abbrev pub IsOnDay : {R W : Type 0} → Option DayValue → Arrival R W → Type
 IsOnDay told (Client connection) = IfSome told (λ day. connection.day ≡ day)
 IsOnDay told _ = ⊤
 
--- what may come to a listener: from it, by the day that is given, if one is, this comes and leaves that listener
-abbrev pub Coming : Type 0 → Type 0 → Type 0 → Type 1
-Coming L R W = L → Option DayValue → Arrival R W → L → Type 0
-
--- this came to a listener, on the day that is given
-abbrev pub ComesBy : {L R W : Type 0} → Coming L R W → Coming L R W
-ComesBy may_come l told arrival l' = may_come l told arrival l' × IsOnDay told arrival
-
--- what came of waiting once more, where so many were awaited before and after it: something came; or no more was
--- awaited
-abbrev pub Arrives : {L R W : Type 0} → Coming L R W → Option DayValue → ℕ → L → Option (Arrival R W) → ℕ → L → Type 0
-Arrives may_come told awaited l None awaited' l' = awaited ≡ 0
-Arrives may_come told awaited l (Some arrival) awaited' l' =
-    ComesBy may_come l told arrival l' × (awaited ≡ awaited' + 1)
-
--- these came to a listener one after the other
-abbrev pub Come : {L R W : Type 0} → Coming L R W → Option DayValue → L → List (Arrival R W) → L → Type 0
-Come {L} may_come told l [] l' = l' ≡ l
-Come {L} may_come told l (arrival ∷ rest) l' =
-    (mid : L) × (ComesBy may_come l told arrival mid × Come may_come told mid rest l')
-
--- Of so many clients that were awaited at a listener, some came and were served one after the other, of whatever kind
--- their readers and writers are. These are all, unless what listened was lost.
-pub record AreServed {L R W : Type 0} (may_come : Coming L R W) (remaining : R → Option Bytes)
-    (contents : W → Option Bytes) (l : L) (told : Option DayValue) (most : ℕ) (lost : Bool) (s end : State) : Type 0
-  where
-    pub came : List (Arrival R W)
-    pub left : L
-    pub come : Come may_come told l came left
-    pub turns : List Turn
-    pub one_by_one : ServesEach remaining contents s came turns end
-    pub few : length came ≤ most
-    pub found : lost ≡ is_lost came
-    pub all : lost ≡ false → length came ≡ most
-
--- What is known of clients: what listening at a port may give, if anything, and what may come to a listener; and, where
--- these are known, the bytes that a client's reader has left and those that its writer holds.
-pub record Clients (L R W : Type 0) : Type 1 where
-  pub may_listen : ℕ → Option L → Type 0
-  pub may_come : Coming L R W
+-- What is known of a network and its clients: what listening at a port may give, if anything; what may come to a
+-- listener, by the day that is given, if one is; what a listener may be once a client is released, and the network
+-- once a listener is closed; and, where these are known, the bytes that a client's reader has left and those that its
+-- writer holds.
+pub record Clients (N L R W : Type 0) : Type 1 where
+  pub may_listen : N → ℕ → Option L → N → Type 0
+  pub may_come : L → Option DayValue → Arrival R W → L → Type 0
+  pub may_release : L → Connection R W → L → Type 0
+  pub may_close : N → L → N → Type 0
   pub remaining : R → Option Bytes
   pub contents : W → Option Bytes
 
-abbrev pub clients_of : {L R W : Type 0} → (ℕ → Option L → Type 0) → Coming L R W → (R → Option Bytes)
-    → (W → Option Bytes) → Clients L R W
-clients_of may_listen may_come remaining contents =
-    record { may_listen = may_listen; may_come = may_come; remaining = remaining; contents = contents }
+abbrev pub clients_of : {N L R W : Type 0} → (N → ℕ → Option L → N → Type 0)
+    → (L → Option DayValue → Arrival R W → L → Type 0) → (L → Connection R W → L → Type 0)
+    → (N → L → N → Type 0) → (R → Option Bytes) → (W → Option Bytes) → Clients N L R W
+clients_of may_listen may_come may_release may_close remaining contents = record {
+  may_listen = may_listen;
+  may_come = may_come;
+  may_release = may_release;
+  may_close = may_close;
+  remaining = remaining;
+  contents = contents;
+}
 
--- these came to a port at which the program listened
-abbrev pub CameTo : {L R W : Type 0} → Clients L R W → ℕ → Option DayValue → List (Arrival R W) → Type 0
-CameTo {L} clients port told came =
-    (l : L) × (clients.may_listen port (Some l) × ((left : L) × Come clients.may_come told l came left))
+module _ {N L R W : Type 0} (clients : Clients N L R W) where
+  -- A client was served in a state, which it left for another, and then released to the listener to which it had come.
+  -- The turn has its day, and what was seen of its reader and its writer: as it came, and as it was released.
+  pub record IsServedClient (s : State) (l : L) (came : Connection R W) (t : Turn) (s' : State) (l' : L) : Type 0 where
+    pub day : t.day ≡ came.day
+    pub seen : t.seen ≡ heard clients.remaining came.reader
+    pub out : t.out ≡ clients.contents came.writer
+    pub served : IsServedTurn s t s'
+    pub left : Connection R W
+    pub same : left.day ≡ came.day
+    pub seen' : t.seen' ≡ heard clients.remaining left.reader
+    pub out' : Keeps t.out' (clients.contents left.writer)
+    pub released : clients.may_release l left l'
 
--- How waiting for so many clients at a port ended: so many came; the last that came is the loss of what listened; there
--- was no port; or the first line couldn't be printed, so that nobody was awaited.
-abbrev pub HasEnded : {L R W : Type 0} → Clients L R W → ℕ → Option DayValue → ℕ → List (Arrival R W) → Ending
-    → Type 0
-HasEnded clients port told most came AllCame =
-    CameTo clients port told came × ((length came ≡ most) × (is_lost came ≡ false))
-HasEnded clients port told most came NetworkLost =
-    CameTo clients port told came × ((length came ≤ most) × (is_lost came ≡ true))
-HasEnded clients port told most came NoPort = clients.may_listen port None × (came ≡ [])
-HasEnded clients port told most came Unheard = CameTo clients port told came × (came ≡ [])
+  module _ (told : Option DayValue) where
+    -- this came to a listener, on the day that is given
+    abbrev pub Comes : L → Arrival R W → L → Type 0
+    Comes l arrival l' = clients.may_come l told arrival l' × IsOnDay told arrival
+
+    -- The clients among what came to a listener were served one after the other: each as it came, in the state that
+    -- the one before it left; and the state and the listener that the last left. Nobody is waited for once what
+    -- listened is lost.
+    abbrev pub ServesEach : State → L → List (Arrival R W) → List Turn → State → L → Type 0
+    ServesEach s l [] [] end l' = (end ≡ s) × (l' ≡ l)
+    ServesEach s l (Failed ∷ rest) turns end l' =
+        (next : L) × (Comes l Failed next × ServesEach s next rest turns end l')
+    ServesEach s l (Lost ∷ []) [] end l' = (end ≡ s) × Comes l Lost l'
+    ServesEach s l (Client came ∷ rest) (t ∷ turns) end l' =
+        (held : L) × (Comes l (Client came) held × ((mid : State) × ((next : L)
+        × (IsServedClient s held came t mid next × ServesEach mid next rest turns end l'))))
+    ServesEach s l _ _ end l' = ⊥
+
+    -- Of so many clients that were awaited at a listener, some came and were served one after the other, of whatever
+    -- kind their readers and writers are. These are all, unless what listened was lost.
+    pub record AreServed (most : ℕ) (s : State) (l : L) (lost : Bool) (end : State) (l' : L) : Type 0 where
+      pub came : List (Arrival R W)
+      pub turns : List Turn
+      pub one_by_one : ServesEach s l came turns end l'
+      pub few : length came ≤ most
+      pub found : lost ≡ is_lost came
+      pub all : lost ≡ false → length came ≡ most
+
+    -- the program listened at a port, served the clients that came there, and closed it
+    pub record AreServedAt (port : ℕ) (network : N) (s : State) (came : List (Arrival R W)) (turns : List Turn)
+        (end : State) (network' : N) : Type 0 where
+      pub listener : L
+      pub listening : N
+      pub listens : clients.may_listen network port (Some listener) listening
+      pub last : L
+      pub one_by_one : ServesEach s listener came turns end last
+      pub closes : clients.may_close listening last network'
+
+    -- How waiting for so many clients at a port ended: so many came; the last that came is the loss of what listened;
+    -- there was no port; or the first line couldn't be printed, so that nobody was awaited.
+    abbrev pub HasEnded : ℕ → ℕ → N → State → List (Arrival R W) → List Turn → State → N → Ending → Type 0
+    HasEnded port most network s came turns end network' AllCame =
+        AreServedAt port network s came turns end network' × ((length came ≡ most) × (is_lost came ≡ false))
+    HasEnded port most network s came turns end network' NetworkLost =
+        AreServedAt port network s came turns end network' × ((length came ≤ most) × (is_lost came ≡ true))
+    HasEnded port most network s came turns end network' NoPort =
+        clients.may_listen network port None network' × ((came ≡ []) × ((turns ≡ []) × (end ≡ s)))
+    HasEnded port most network s came turns end network' Unheard =
+        AreServedAt port network s came turns end network' × (came ≡ [])

@@ -1,6 +1,6 @@
 //! Clients that connect: they come from a network, and are served one after the other.
 
-pub mod arrivals;
+pub mod arrival;
 pub mod memory_network;
 pub mod network;
 pub mod serving;

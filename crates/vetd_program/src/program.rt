@@ -1,11 +1,14 @@
 //! The program's commands: one run, and one table.
-ghost use Rattle.std.specs.Prelude.{◌≡◌, ◌+◌, Err, map};
+ghost use Rattle.std.specs.Prelude.{◌≡◌, ◌≢◌, ◌+◌, Err, map};
+ghost use Rattle.std.specs.Io.KnownBytes.{Keeps};
 ghost use Rattle.vet_base.specs.declared.limits.TheConstants.{MOST_READS};
 ghost use Rattle.vet_requests.specs.Input.{TakesAtMost, heard};
-ghost use Rattle.vetd_program.specs.Program.{AnswersAs, AsksNoInput, IsUntoldAs, command_of};
+ghost use Rattle.vetd_program.specs.Program.{AnswersAs, AsksNoInput, AsksNothing, IsUntoldAs, command_of};
 ghost use Rattle.vetd_program.specs.Serving.{clients_of};
 ghost use Rattle.vetd_commands.specs.Making.{FoundBy, GivenBy};
 ghost use Rattle.vetd_words.specs.Answer.{IsWritten};
+ghost use Rattle.vetd_words.specs.declared.asked.CommandKind.{CommandKind as CommandKindValue};
+ghost use Rattle.vetd_words.specs.Words.{AskForHelp, AskForNoHelp};
 
 use crate::clients::network::Network;
 use crate::serve_run::serve_run;
@@ -88,11 +91,13 @@ pub fn program_run<
 ) -> DatabaseRun<S>
     ensures written { IsWritten
         (AnswersAs S.Store (GivenBy (D.may_give databases.old)) (FoundBy (D.may_find databases.old))
-        (clients_of (N.may_listen network.old) N.may_come N.Reader.remaining N.Writer.Write.contents)
+        (clients_of N.may_listen N.may_come N.may_release N.may_close N.Reader.remaining N.Writer.Write.contents)
+        network.old network.new
         (heard R.remaining reader.old) (heard R.remaining reader.new)
         (map T.text words.now) result.conn (command_of (map T.text words.now)))
         (IsUntoldAs S.Store (GivenBy (D.may_give databases.old)) (FoundBy (D.may_find databases.old))
-        (clients_of (N.may_listen network.old) N.may_come N.Reader.remaining N.Writer.Write.contents)
+        (clients_of N.may_listen N.may_come N.may_release N.may_close N.Reader.remaining N.Writer.Write.contents)
+        network.old network.new
         (heard R.remaining reader.old) (heard R.remaining reader.new)
         (map T.text words.now) result.conn (command_of (map T.text words.now)))
         result.status (W.contents writer.old) (W.contents writer.new)
@@ -103,6 +108,16 @@ pub fn program_run<
         (heard R.remaining reader.old) (heard R.remaining reader.new) }
     ensures unread { AsksNoInput (command_of (map T.text words.now)) (map T.text words.now) → reader.new ≡ reader.old }
     ensures endless { result.status ≡ Err IoFault.Endless → reader.new.made ≡ MOST_READS }
+
+    // Only `serve` uses the network, and `class` and `read` use no database.
+    ensures alone { command_of (map T.text words.now) ≢ ProgramCommand.Serve → network.new ≡ network.old }
+    ensures unopened { (kind : CommandKindValue) → command_of (map T.text words.now) ≡ ProgramCommand.File kind
+        → databases.new ≡ databases.old }
+
+    // Help and the version go to the output, and what is wrong with the words to the errors.
+    ensures help { AskForHelp (map T.text words.now) → Keeps (E.contents errors.old) (E.contents errors.new) }
+    ensures wrong { AsksNothing (command_of (map T.text words.now)) (map T.text words.now)
+        → AskForNoHelp (map T.text words.now) → Keeps (W.contents writer.old) (W.contents writer.new) }
 {
     let command = ProgramCommand::of_words(words);
     run_as::<T, S, K, D, N, R, W, E>(
@@ -132,11 +147,13 @@ fn run_as<
 ) -> DatabaseRun<S>
     ensures written { IsWritten
         (AnswersAs S.Store (GivenBy (D.may_give databases.old)) (FoundBy (D.may_find databases.old))
-        (clients_of (N.may_listen network.old) N.may_come N.Reader.remaining N.Writer.Write.contents)
+        (clients_of N.may_listen N.may_come N.may_release N.may_close N.Reader.remaining N.Writer.Write.contents)
+        network.old network.new
         (heard R.remaining reader.old) (heard R.remaining reader.new)
         (map T.text words.now) result.conn command)
         (IsUntoldAs S.Store (GivenBy (D.may_give databases.old)) (FoundBy (D.may_find databases.old))
-        (clients_of (N.may_listen network.old) N.may_come N.Reader.remaining N.Writer.Write.contents)
+        (clients_of N.may_listen N.may_come N.may_release N.may_close N.Reader.remaining N.Writer.Write.contents)
+        network.old network.new
         (heard R.remaining reader.old) (heard R.remaining reader.new)
         (map T.text words.now) result.conn command)
         result.status (W.contents writer.old) (W.contents writer.new)
@@ -147,6 +164,16 @@ fn run_as<
         (heard R.remaining reader.old) (heard R.remaining reader.new) }
     ensures unread { AsksNoInput command (map T.text words.now) → reader.new ≡ reader.old }
     ensures endless { result.status ≡ Err IoFault.Endless → reader.new.made ≡ MOST_READS }
+
+    // Only `serve` uses the network, and `class` and `read` use no database.
+    ensures alone { command ≢ ProgramCommand.Serve → network.new ≡ network.old }
+    ensures unopened { (kind : CommandKindValue) → command ≡ ProgramCommand.File kind
+        → databases.new ≡ databases.old }
+
+    // Help and the version go to the output, and what is wrong with the words to the errors.
+    ensures help { AskForHelp (map T.text words.now) → Keeps (E.contents errors.old) (E.contents errors.new) }
+    ensures wrong { AsksNothing command (map T.text words.now)
+        → AskForNoHelp (map T.text words.now) → Keeps (W.contents writer.old) (W.contents writer.new) }
 {
     match command {
         ProgramCommand::File(kind) => DatabaseRun {

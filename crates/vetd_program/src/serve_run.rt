@@ -1,6 +1,6 @@
 //! A register is served over HTTP, by the words of a serve command.
-ghost use Rattle.std.specs.Prelude.{◌≡◌, ◌≢◌, ◌≤◌, IfErr, IfOk, MatchResult, Ok, OnErr, OnOk, Some, false, map, ⊤};
-ghost use Rattle.std.specs.Io.KnownBytes.{Appends};
+ghost use Rattle.std.specs.Prelude.{◌≡◌, ◌≢◌, ◌≤◌, IfErr, IfOk, MatchResult, Ok, OnErr, OnOk, Some, false, map};
+ghost use Rattle.std.specs.Io.KnownBytes.{Appends, Keeps};
 ghost use Rattle.sqlite.specs.Held.{state};
 ghost use Rattle.vet_register.specs.Sound.{IsBalanced};
 ghost use Rattle.vet_register.specs.State.{start};
@@ -12,17 +12,16 @@ ghost use Rattle.vet_store.specs.Runs.{IsOfStore};
 ghost use Rattle.vet_store.specs.Tied.{IsTied};
 ghost use Rattle.vetd_commands.specs.Making.{FoundBy};
 ghost use Rattle.vetd_words.specs.Answer.{IsWritten, network_line};
-ghost use Rattle.vetd_words.specs.ServeAsked.{serve_asked};
+ghost use Rattle.vetd_words.specs.ServeAsked.{AsksServe, ServeAsked, serve_asked};
+ghost use Rattle.vetd_words.specs.Words.{AskForHelp, AskForNoHelp};
 ghost use Rattle.vetd_program.specs.ServeRun.{Answered, AnswersServe, IsServeAt, IsServeInMemory, IsServeOn};
 ghost use Rattle.vetd_program.specs.ServeRun.{IsServeOver, IsSittingOf, IsUnserved, IsUnservedAt, IsUnservedOver};
 ghost use Rattle.vetd_program.specs.ServeRun.{day_told, on_day};
 ghost use Rattle.vetd_program.specs.DoneTurns.{LeavesWhereShut};
-ghost use Rattle.vetd_program.specs.Serving.{AreServed, clients_of, replied};
-ghost use Rattle.vetd_words.specs.declared.serve_words.TheConstants.{MOST_CONNECTIONS};
+ghost use Rattle.vetd_program.specs.Serving.{clients_of};
 
-use crate::clients::arrivals::Arrivals;
 use crate::clients::network::Network;
-use crate::clients::serving::{Sitting, serve_each};
+use crate::clients::serving::serve_each;
 use crate::serve_lines::ServeLines;
 use sqlite::{Alter, Connection};
 use std::alloc::Global;
@@ -81,12 +80,19 @@ pub fn serve_run<
 ) -> DatabaseRun<S>
     ensures written { IsWritten
         (AnswersServe S.Store (FoundBy (D.may_find databases.old))
-        (clients_of (N.may_listen network.old) N.may_come N.Reader.remaining N.Writer.Write.contents)
+        (clients_of N.may_listen N.may_come N.may_release N.may_close N.Reader.remaining N.Writer.Write.contents)
+        network.old network.new
         (map T.text words.now) result.conn)
-        (IsUnserved S.Store (FoundBy (D.may_find databases.old)) (map T.text words.now) result.conn)
+        ((network.new ≡ network.old)
+        × IsUnserved S.Store (FoundBy (D.may_find databases.old)) (map T.text words.now) result.conn)
         result.status (W.contents writer.old) (W.contents writer.new)
         (E.contents errors.old) (E.contents errors.new) }
     ensures faults { IfErr result.status (λ fault. (fault ≢ IoFault.Input) × (fault ≢ IoFault.Endless)) }
+
+    // Help and the version go to the output, and what is wrong with the words to the errors.
+    ensures help { AskForHelp (map T.text words.now) → Keeps (E.contents errors.old) (E.contents errors.new) }
+    ensures wrong { ((asked : ServeAsked) → AsksServe (map T.text words.now) asked → ⊥)
+        → AskForNoHelp (map T.text words.now) → Keeps (W.contents writer.old) (W.contents writer.new) }
 {
     match serve_words(alloc, words) {
         Ok(asked) => serve_on::<S, K, D, N, W, E>(alloc, asked, network, databases, writer, errors),
@@ -106,11 +112,12 @@ fn serve_on<S: Alter + Drop, K: Keeper, D: Databases<S>, N: Network, W: Write, E
     writer: &mut W,
     errors: &mut E,
 ) -> DatabaseRun<S>
-    requires { asked.connections ≤ MOST_CONNECTIONS }
     ensures written { IsWritten (Answered (λ answer. IsServeOn S.Store (FoundBy (D.may_find databases.old))
-        (clients_of (N.may_listen network.old) N.may_come N.Reader.remaining N.Writer.Write.contents)
+        (clients_of N.may_listen N.may_come N.may_release N.may_close N.Reader.remaining N.Writer.Write.contents)
+        network.old network.new
         (serve_asked asked.entry) (day_told (serve_asked asked.entry).day) answer result.conn))
-        (IsUnservedAt S.Store (FoundBy (D.may_find databases.old)) (serve_asked asked.entry).path result.conn)
+        ((network.new ≡ network.old)
+        × IsUnservedAt S.Store (FoundBy (D.may_find databases.old)) (serve_asked asked.entry).path result.conn)
         result.status (W.contents writer.old) (W.contents writer.new)
         (E.contents errors.old) (E.contents errors.new) }
     ensures faults { IfErr result.status (λ fault. (fault ≢ IoFault.Input) × (fault ≢ IoFault.Endless)) }
@@ -162,11 +169,12 @@ fn serve_file<S: Alter + Drop, K: Keeper, D: Databases<S>, N: Network, W: Write,
     writer: &mut W,
     errors: &mut E,
 ) -> DatabaseRun<S>
-    requires { service.connections ≤ MOST_CONNECTIONS }
     ensures written { IsWritten (Answered (λ answer. IsServeAt S.Store (FoundBy (D.may_find databases.old))
-        (clients_of (N.may_listen network.old) N.may_come N.Reader.remaining N.Writer.Write.contents)
+        (clients_of N.may_listen N.may_come N.may_release N.may_close N.Reader.remaining N.Writer.Write.contents)
+        network.old network.new
         service path.now answer result.conn))
-        (IsUnservedAt S.Store (FoundBy (D.may_find databases.old)) (Some path.now) result.conn)
+        ((network.new ≡ network.old)
+        × IsUnservedAt S.Store (FoundBy (D.may_find databases.old)) (Some path.now) result.conn)
         result.status (W.contents writer.old) (W.contents writer.new)
         (E.contents errors.old) (E.contents errors.new) }
     ensures faults { IfErr result.status (λ fault. (fault ≢ IoFault.Input) × (fault ≢ IoFault.Endless)) }
@@ -198,11 +206,11 @@ fn serve_opened<S: Alter + Drop, K: Keeper, N: Network, W: Write, E: Write>(
     errors: &mut E,
 ) -> (Result<u8, IoFault>, Connection<S>)
     requires outside { conn.in_transaction ≡ false }
-    requires few { service.connections ≤ MOST_CONNECTIONS }
     ensures written { IsWritten (Answered (λ answer. IsServeOver S.Store
-        (clients_of (N.may_listen network.old) N.may_come N.Reader.remaining N.Writer.Write.contents)
+        (clients_of N.may_listen N.may_come N.may_release N.may_close N.Reader.remaining N.Writer.Write.contents)
+        network.old network.new
         service conn answer result.1))
-        (IsUnservedOver S.Store conn result.1)
+        ((network.new ≡ network.old) × IsUnservedOver S.Store conn result.1)
         result.0 (W.contents writer.old) (W.contents writer.new)
         (E.contents errors.old) (E.contents errors.new) }
     ensures faults { IfErr result.0 (λ fault. (fault ≢ IoFault.Input) × (fault ≢ IoFault.Endless)) }
@@ -228,9 +236,9 @@ fn serve_memory<K: Keeper, N: Network, W: Write, E: Write>(
     writer: &mut W,
     errors: &mut E,
 ) -> Result<u8, IoFault>
-    requires { service.connections ≤ MOST_CONNECTIONS }
     ensures written { IsWritten (Answered (IsServeInMemory
-        (clients_of (N.may_listen network.old) N.may_come N.Reader.remaining N.Writer.Write.contents) service)) ⊤
+        (clients_of N.may_listen N.may_come N.may_release N.may_close N.Reader.remaining N.Writer.Write.contents)
+        network.old network.new service)) (network.new ≡ network.old)
         result (W.contents writer.old) (W.contents writer.new)
         (E.contents errors.old) (E.contents errors.new) }
     ensures faults { IfErr result (λ fault. (fault ≢ IoFault.Input) × (fault ≢ IoFault.Endless)) }
@@ -259,7 +267,7 @@ fn new_in_memory<K: Keeper>(alloc: Global) -> Result<Store<MemoryFiles, K>, Refu
     }
 }
 
-/// Serves an open register at a port.
+/// Serves an open register at a port, and stops listening there.
 fn serve_at_port<S: Alter + Drop, K: Keeper, N: Network, W: Write, E: Write>(
     alloc: Global,
     store: &mut Store<S, K>,
@@ -268,12 +276,12 @@ fn serve_at_port<S: Alter + Drop, K: Keeper, N: Network, W: Write, E: Write>(
     writer: &mut W,
     errors: &mut E,
 ) -> Result<u8, IoFault>
-    requires { service.connections ≤ MOST_CONNECTIONS }
     ensures written { IsWritten (Answered (IsSittingOf
-        (clients_of (N.may_listen network.old) N.may_come N.Reader.remaining N.Writer.Write.contents) service
+        (clients_of N.may_listen N.may_come N.may_release N.may_close N.Reader.remaining N.Writer.Write.contents)
+        network.old network.new service
         (LeavesWhereShut store.old.shut store.new.shut (state S.Store store.new.conn) store.new.register.state)
         store.old.register.state store.new.register.state))
-        (store.new ≡ store.old) result (W.contents writer.old) (W.contents writer.new)
+        ((network.new ≡ network.old) × (store.new ≡ store.old)) result (W.contents writer.old) (W.contents writer.new)
         (E.contents errors.old) (E.contents errors.new) }
     ensures faults { IfErr result (λ fault. (fault ≢ IoFault.Input) × (fault ≢ IoFault.Endless)) }
     ensures tables { IsTied (state S.Store store.new.conn) store.new.shut (rows_of store.new.register.state) }
@@ -283,43 +291,22 @@ fn serve_at_port<S: Alter + Drop, K: Keeper, N: Network, W: Write, E: Write>(
     headline_holds(store);
     let mut room = ServeRoom::new(alloc)?;
     let mut lines = ServeLines::of_port(alloc, service.port)?;
-    let listener = match network.listen(service.port) {
+    let mut listener = match network.listen(service.port) {
         Some(listener) => listener,
         None => return tell_network(errors),
     };
-    write_whole(writer, lines.listening.as_bytes())?;
-    let sitting = serve_clients(alloc, &mut room, store, service, network, listener);
+    if let Err(fault) = write_whole(writer, lines.listening.as_bytes()) {
+        network.close(listener);
+        return Err(fault);
+    }
+    let sitting = serve_each(alloc, &mut room, store, network, &mut listener, &service);
+    network.close(listener);
+    headline_holds(store);
     if sitting.lost {
         return tell_network(errors);
     }
     write_whole(writer, lines.served(sitting.served).as_bytes())?;
     Ok(PRINTED)
-}
-
-/// Serves the clients that connect to a listener.
-fn serve_clients<S: Alter, K: Keeper, N: Network>(
-    alloc: Global,
-    room: &mut ServeRoom,
-    store: &mut Store<S, K>,
-    service: Service,
-    network: &N,
-    listener: N::Listener,
-) -> Sitting
-    requires { service.connections ≤ MOST_CONNECTIONS }
-    ensures served { (clients : AreServed N.may_come N.Reader.remaining N.Writer.Write.contents listener service.day
-        service.connections result.lost store.old.register.state store.new.register.state)
-        × ((result.served ≡ replied clients.turns) × LeavesWhereShut store.old.shut store.new.shut
-        (state S.Store store.new.conn) store.new.register.state clients.turns) }
-    ensures tables { IsTied (state S.Store store.new.conn) store.new.shut (rows_of store.new.register.state) }
-    ensures others { OthersStay (state S.Store store.old.conn) (state S.Store store.new.conn) }
-    ensures classes { HasClassesOfChains store.new.register.state }
-    ensures adds_up { AddsUp store.new.register.state }
-    ensures balance { IsBalanced store.new.register.state }
-{
-    let arrivals = Arrivals::new(alloc, network, listener, service.day, service.connections);
-    let sitting = serve_each(alloc, room, store, arrivals);
-    headline_holds(store);
-    sitting
 }
 
 /// The classes of a store's register are those that chains of entries give the least demand, they add up to it, and

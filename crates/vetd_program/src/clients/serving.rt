@@ -2,26 +2,28 @@
 //!
 //! **Each that is replied to is a step of the machine, as where all are at hand at once. What comes of one never keeps
 //! the next from being served.**
-ghost use Rattle.std.specs.Prelude.{◌≡◌, ◌≤◌, [], ◌∷◌, IfSome, IsTrue, List, false, is_none, true};
-ghost use Rattle.std.specs.Iterator.{DrainsIf, IsFinite, size};
+ghost use Rattle.std.specs.Prelude.{◌≡◌, ◌≤◌, [], ◌∷◌, IfSome, IsTrue, List, is_none};
+ghost use Rattle.std.specs.Io.KnownBytes.{Keeps};
 ghost use Rattle.sqlite.specs.Held.{state};
 ghost use Rattle.vet_rows.specs.RowsOf.{rows_of};
 ghost use Rattle.vet_store.specs.Beside.{OthersStay};
 ghost use Rattle.vet_store.specs.Tied.{IsTied};
 ghost use Rattle.vetd_program.specs.DoneTurns.{LeavesWhereShut};
 ghost use Rattle.vetd_program.specs.HangingUp.{awaits_rest};
-ghost use Rattle.vetd_program.specs.Serving.{IsServedTurn, IsTurnOf, ServesEach, Turn, is_lost, replied};
-ghost use Rattle.vetd_program.specs.declared.clients.arrivals.Arrival.{Arrival as ArrivalValue};
-ghost use Rattle.vetd_words.specs.declared.serve_words.TheConstants.{MOST_CONNECTIONS};
+ghost use Rattle.vetd_program.specs.Serving.{AreServed, IsServedClient, ServesEach, Turn, clients_of, is_lost, replied};
+ghost use Rattle.vetd_program.specs.Serving.{whole};
+ghost use Rattle.vetd_program.specs.declared.clients.arrival.Arrival.{Arrival as ArrivalValue};
 
-use crate::clients::arrivals::Arrival;
-use crate::clients::network::HangUp;
+use crate::clients::arrival::Arrival;
+use crate::clients::network::{HangUp, Network};
+use crate::serve_run::Service;
 use sqlite::Alter;
 use std::alloc::Global;
-use std::io::Read;
+use vet_base::day::Day;
 use vet_graph::keeper::Keeper;
-use vet_http::serve::{Connection, serve_in};
+use vet_http::serve::{Connection, Served, serve_in};
 use vet_http::serve_room::ServeRoom;
+use vet_requests::io_fault::IoFault;
 use vet_requests::status::Status;
 use vet_store::store::Store;
 
@@ -32,33 +34,30 @@ pub struct Sitting {
     pub lost: bool,
 }
 
-/// Serves connections one after the other as they come, whatever becomes of each, until none comes or what listened is
-/// lost. Asks for arrivals that end, 1,000,000 at most.
-pub fn serve_each<S: Alter, K: Keeper, R: Read + Drop, W: HangUp + Drop, I>(
+/// Serves the clients that connect to a listener, one after the other as they come, whatever becomes of each, until as
+/// many came as are awaited or what listened is lost. Each is released to the listener before the next is waited for.
+pub fn serve_each<S: Alter, K: Keeper, N: Network>(
     alloc: Global,
     room: &mut ServeRoom,
     store: &mut Store<S, K>,
-    arrivals: I,
+    network: &N,
+    listener: &mut N::Listener,
+    service: &Service,
 ) -> Sitting
-where
-    I: Iterator<Item = Arrival<R, W>> + Drop,
-    requires can { I.can_next arrivals }
-    requires ends { IsFinite (I.remaining arrivals) }
-    requires few { size (I.remaining arrivals) ≤ MOST_CONNECTIONS }
-    ensures served { (came : List (ArrivalValue R W)) × ((turns : List Turn)
-        × (ServesEach R.remaining W.Write.contents store.old.register.state came turns
-        store.new.register.state × ((result.served ≡ replied turns) × ((result.lost ≡ is_lost came)
-        × (DrainsIf I.next_gives (result.lost ≡ false) arrivals came
-        × LeavesWhereShut store.old.shut store.new.shut (state S.Store store.new.conn) store.new.register.state
-        turns))))) }
+    ensures served { (clients : AreServed
+        (clients_of N.may_listen N.may_come N.may_release N.may_close N.Reader.remaining N.Writer.Write.contents)
+        service.now.day service.now.connections store.old.register.state listener.old result.lost
+        store.new.register.state listener.new)
+        × ((result.served ≡ replied clients.turns) × LeavesWhereShut store.old.shut store.new.shut
+        (state S.Store store.new.conn) store.new.register.state clients.turns) }
     ensures tables { IsTied (state S.Store store.new.conn) store.new.shut (rows_of store.new.register.state) }
     ensures closed { IsTrue store.old.shut → store.new ≡ store.old }
     ensures others { OthersStay (state S.Store store.old.conn) (state S.Store store.new.conn) }
 {
     store.tables_are_of_register();
     let mut served = 0;
-    'arrivals: for arrival in arrivals {
-        match serve_arrival(alloc, room, store, arrival) {
+    'clients: for _place in 0..service.connections {
+        match serve_next(alloc, room, store, network, listener, service.day) {
             Some(replied) => served += replied,
             None => return Sitting { served, lost: true },
         }
@@ -69,60 +68,80 @@ where
     }
 }
 
-/// Serves what came, if it is a client: 1 where it had its whole reply, else 0, and `None` if what listened is lost.
-fn serve_arrival<S: Alter, K: Keeper, R: Read + Drop, W: HangUp + Drop>(
+/// Serves what comes next to a listener, if it is a client: 1 where it had its whole reply, else 0, and `None` if what
+/// listened is lost.
+fn serve_next<S: Alter, K: Keeper, N: Network>(
     alloc: Global,
     room: &mut ServeRoom,
     store: &mut Store<S, K>,
-    arrival: Arrival<R, W>,
+    network: &N,
+    listener: &mut N::Listener,
+    day: Option<Day>,
 ) -> Option<u32>
-    ensures served { IfSome result (λ whole. (turns : List Turn)
-        × (ServesEach R.remaining W.Write.contents store.old.register.state (arrival ∷ []) turns
-        store.new.register.state × ((whole ≡ replied turns) × LeavesWhereShut store.old.shut store.new.shut
-        (state S.Store store.new.conn) store.new.register.state turns))) }
+    ensures served { (arrival : ArrivalValue N.Reader N.Writer) × ((turns : List Turn) × (ServesEach
+        (clients_of N.may_listen N.may_come N.may_release N.may_close N.Reader.remaining N.Writer.Write.contents) day
+        store.old.register.state listener.old (arrival ∷ []) turns store.new.register.state listener.new
+        × ((is_none result ≡ is_lost (arrival ∷ [])) × (IfSome result (λ whole. whole ≡ replied turns)
+        × LeavesWhereShut store.old.shut store.new.shut (state S.Store store.new.conn) store.new.register.state
+        turns)))) }
     ensures few { IfSome result (λ replied. replied ≤ 1) }
-    ensures found { is_none result ≡ is_lost (arrival ∷ []) }
-    ensures lost { is_none result ≡ true → store.new ≡ store.old }
     ensures tables { IsTied (state S.Store store.new.conn) store.new.shut (rows_of store.new.register.state) }
     ensures closed { IsTrue store.old.shut → store.new ≡ store.old }
     ensures others { OthersStay (state S.Store store.old.conn) (state S.Store store.new.conn) }
 {
     store.tables_are_of_register();
-    match arrival {
-        Arrival::Client(connection) => Some(serve_client(alloc, room, store, connection)),
+    match network.accept(alloc, listener, day) {
+        Arrival::Client(client) => Some(serve_client(
+            alloc, room, store, network, listener, client,
+        )),
         Arrival::Failed => Some(0),
         Arrival::Lost => None,
     }
 }
 
-/// Serves a client, and hangs up: 1 where it had its whole reply, else 0. One that ends in a fault is let go.
-fn serve_client<S: Alter, K: Keeper, R: Read + Drop, W: HangUp + Drop>(
+/// Serves a client, and releases it to the listener: 1 where it had its whole reply, else 0.
+fn serve_client<S: Alter, K: Keeper, N: Network>(
     alloc: Global,
     room: &mut ServeRoom,
     store: &mut Store<S, K>,
-    connection: Connection<R, W>,
+    network: &N,
+    listener: &mut N::Listener,
+    client: Connection<N::Reader, N::Writer>,
 ) -> u32
-    ensures served { (turn : Turn) × (IsTurnOf R.remaining W.Write.contents connection turn
-        × (IsServedTurn store.old.register.state turn store.new.register.state × ((result ≡ replied (turn ∷ []))
-        × LeavesWhereShut store.old.shut store.new.shut (state S.Store store.new.conn) store.new.register.state
-        (turn ∷ [])))) }
+    ensures served { (turn : Turn) × (IsServedClient
+        (clients_of N.may_listen N.may_come N.may_release N.may_close N.Reader.remaining N.Writer.Write.contents)
+        store.old.register.state listener.old client turn store.new.register.state listener.new
+        × ((result ≡ replied (turn ∷ [])) × LeavesWhereShut store.old.shut store.new.shut
+        (state S.Store store.new.conn) store.new.register.state (turn ∷ []))) }
     ensures few { result ≤ 1 }
     ensures tables { IsTied (state S.Store store.new.conn) store.new.shut (rows_of store.new.register.state) }
     ensures closed { IsTrue store.old.shut → store.new ≡ store.old }
     ensures others { OthersStay (state S.Store store.old.conn) (state S.Store store.new.conn) }
 {
-    let mut connection = connection;
-    let day = connection.day;
-    match serve_in(
+    let mut client = client;
+    let day = client.day;
+    let served = serve_in(
         alloc,
         room,
         store,
         day,
-        &mut connection.reader,
-        &mut connection.writer,
-    ) {
+        &mut client.reader,
+        &mut client.writer,
+    );
+    let replied = end_reply(&mut client.writer, &served);
+    network.release(listener, client);
+    replied
+}
+
+/// Hangs up where a client had its whole reply: 1. Of one that ended in a fault nothing more is written or read: 0.
+fn end_reply<W: HangUp>(writer: &mut W, served: &Result<Served, IoFault>) -> u32
+    ensures count { result ≡ whole (served.now ∷ []) }
+    ensures few { result ≤ 1 }
+    ensures kept { Keeps (W.Write.contents writer.old) (W.Write.contents writer.new) }
+{
+    match served {
         Ok(served) => {
-            connection.writer.hang_up(may_await(served.status));
+            writer.hang_up(may_await(served.status));
             1
         }
         Err(_) => 0,

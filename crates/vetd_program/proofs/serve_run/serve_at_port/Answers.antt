@@ -1,5 +1,5 @@
 -- What was printed as clients were served, from what each step wrote.
-use Rattle.std.proofs.Common.{◌≡◌, ◌∙◌, [], Bool, ap, subst}
+use Rattle.std.proofs.Common.{◌≡◌, ◌∙◌, [], Bool, ap, refl, subst}
 use Rattle.std.proofs.KnownBytes.{Appends-nil}
 use Rattle.sqlite.specs.Held.{state}
 use Rattle.vetd_program.proofs.DoneTurnLemmas.{never_shut}
@@ -21,93 +21,107 @@ returns-in-None-clause-written g c =
     let told = c.tell_network.ensures in
     let conn = state g.S.Store store.conn in
     let leaves = LeavesWhereShut store.shut store.shut conn s in
-    let clients = clients_of (g.N.Network.may_listen c.args.network.now) g.N.Network.may_come
-    g.N.Reader.Read.remaining g.N.Writer.Write.contents in
-    lost_written clients c.args.service leaves s s (store ≡ store) [] out out _ _ NoPort tt
-    (no_port clients c.args.service leaves s classes (never_shut store.shut conn s []) c.in-None.ensures)
+    let network = c.args.network.now in
+    let network' = c.listen.new.self in
+    let clients = clients_of g.N.Network.may_listen g.N.Network.may_come g.N.Network.may_release
+    g.N.Network.may_close g.N.Reader.Read.remaining g.N.Writer.Write.contents in
+    lost_written clients network network' c.args.service leaves s s ((network' ≡ network) × (store ≡ store)) [] out out
+    _ _ NoPort tt
+    (no_port clients network network' c.args.service leaves s classes (never_shut store.shut conn s [])
+    c.in-None.ensures)
     c.tell_network.result (Appends-nil out) told.status told.told told.part told.faults
 
-pub returns-in_err-write_whole-clause-written : goal.returns-in_err-write_whole-clause-written
-returns-in_err-write_whole-clause-written g c =
+pub returns-in-Err-clause-written : goal.returns-in-Err-clause-written
+returns-in-Err-clause-written g c =
     let held = c.headline_holds.ensures in
     let classes = classes_of c.args.store.now.register.state held.classes held.adds_up held.balance in
     let store = c.args.store.now in
-    let written = c.in_err-write_whole.ensures in
+    let written = c.in-Err.ensures in
     let conn = state g.S.Store store.conn in
     let s = store.register.state in
-    let clients = clients_of (g.N.Network.may_listen c.args.network.now) g.N.Network.may_come
-    g.N.Reader.Read.remaining g.N.Writer.Write.contents in
-    unheard clients c.args.service (LeavesWhereShut store.shut store.shut conn s) s c.in-Some.listener
-    c.in-Some.ensures classes
-    (never_shut store.shut conn s []) (store ≡ store) c.from_residual-in_err-write_whole.result
-    c.in_err-write_whole.field-0.0 c.as_bytes.result.now _ _ _
-    (c.as_bytes.ensures.value ∙ c.in_ok-lines.ensures.listening) c.from_residual-in_err-write_whole.ensures.1
-    written.faults written.part
+    let network' = c.close.new.self in
+    let clients = clients_of g.N.Network.may_listen g.N.Network.may_come g.N.Network.may_release
+    g.N.Network.may_close g.N.Reader.Read.remaining g.N.Writer.Write.contents in
+    unheard clients c.args.network.now network' c.args.service (LeavesWhereShut store.shut store.shut conn s) s
+    c.in-Some.listener c.in-Some.listener c.listen.new.self c.in-Some.ensures c.close.ensures refl classes
+    (never_shut store.shut conn s []) ((network' ≡ c.args.network.now) × (store ≡ store)) _ c.in-Err.fault
+    c.as_bytes.result.now _ _ _ (c.as_bytes.ensures.value ∙ c.in_ok-lines.ensures.listening) refl written.faults
+    written.part
 
 pub returns-then-sitting-clause-written : goal.returns-then-sitting-clause-written
 returns-then-sitting-clause-written g c =
+    let clients = clients_of g.N.Network.may_listen g.N.Network.may_come g.N.Network.may_release
+    g.N.Network.may_close g.N.Reader.Read.remaining g.N.Writer.Write.contents in
     let first = c.args.store.now in
-    let last = c.serve_clients-sitting.new.store in
-    let held = c.serve_clients-sitting.ensures in
+    let last = c.serve_each-sitting.new.store in
+    let held = c.headline_holds-2.ensures in
     let classes = classes_of last.register.state held.classes held.adds_up held.balance in
+    let conn = state g.S.Store last.conn in
+    let end = last.register.state in
+    let network' = c.close-2.new.self in
     let told = c.tell_network-then-sitting.ensures in
-    let conn = state g.S.Store last.conn in
-    let end = last.register.state in
-    let lost = c.if-sitting.true in
-    let served = subst (λ (lost : Bool). (served : AreServed g.N.Network.may_come g.N.Reader.Read.remaining
-    g.N.Writer.Write.contents c.in-Some.listener c.args.service.day c.args.service.connections lost
-    first.register.state end) × ((c.serve_clients-sitting.result.served ≡ replied served.turns)
-    × LeavesWhereShut first.shut last.shut conn end served.turns)) lost c.serve_clients-sitting.ensures.served in
-    let clients = clients_of (g.N.Network.may_listen c.args.network.now) g.N.Network.may_come
-    g.N.Reader.Read.remaining g.N.Writer.Write.contents in
-    lost_in_between clients c.args.service (LeavesWhereShut first.shut last.shut conn end) first.register.state end
-    classes (last ≡ first) c.in-Some.listener c.in-Some.ensures served.0 served.1.1 c.as_bytes.result.now
-    c.tell_network-then-sitting.result _ _ _ _ (c.as_bytes.ensures.value ∙ c.in_ok-lines.ensures.listening)
-    c.in_ok-write_whole.ensures.whole told.status told.told told.part told.faults
+    let served = subst (λ (lost : Bool). (served : AreServed clients c.args.service.day c.args.service.connections
+    first.register.state c.in-Some.listener lost end c.serve_each-sitting.new.listener)
+    × ((c.serve_each-sitting.result.served ≡ replied served.turns)
+    × LeavesWhereShut first.shut last.shut conn end served.turns)) c.if-sitting.true
+    c.serve_each-sitting.ensures.served in
+    lost_in_between clients c.args.network.now network' c.args.service
+    (LeavesWhereShut first.shut last.shut conn end) first.register.state c.in-Some.listener
+    c.serve_each-sitting.new.listener c.listen.new.self c.in-Some.ensures c.close-2.ensures end classes
+    ((network' ≡ c.args.network.now) × (last ≡ first)) served.0 served.1.1
+    c.as_bytes.result.now c.tell_network-then-sitting.result _ _ _ _
+    (c.as_bytes.ensures.value ∙ c.in_ok-lines.ensures.listening) c.in_default.ensures.whole told.status told.told told.part
+    told.faults
 
-pub returns-in_err-write_whole-2-clause-written : goal.returns-in_err-write_whole-2-clause-written
-returns-in_err-write_whole-2-clause-written g c =
+pub returns-in_err-write_whole-clause-written : goal.returns-in_err-write_whole-clause-written
+returns-in_err-write_whole-clause-written g c =
+    let clients = clients_of g.N.Network.may_listen g.N.Network.may_come g.N.Network.may_release
+    g.N.Network.may_close g.N.Reader.Read.remaining g.N.Writer.Write.contents in
     let first = c.args.store.now in
-    let last = c.serve_clients-sitting.new.store in
-    let held = c.serve_clients-sitting.ensures in
+    let last = c.serve_each-sitting.new.store in
+    let held = c.headline_holds-2.ensures in
     let classes = classes_of last.register.state held.classes held.adds_up held.balance in
     let conn = state g.S.Store last.conn in
     let end = last.register.state in
-    let kept = c.if-sitting.false in
-    let served = subst (λ (lost : Bool). (served : AreServed g.N.Network.may_come g.N.Reader.Read.remaining
-    g.N.Writer.Write.contents c.in-Some.listener c.args.service.day c.args.service.connections lost
-    first.register.state end) × ((c.serve_clients-sitting.result.served ≡ replied served.turns)
-    × LeavesWhereShut first.shut last.shut conn end served.turns)) kept c.serve_clients-sitting.ensures.served in
-    let written = c.in_err-write_whole-2.ensures in
-    let clients = clients_of (g.N.Network.may_listen c.args.network.now) g.N.Network.may_come
-    g.N.Reader.Read.remaining g.N.Writer.Write.contents in
-    sat_in_part clients c.args.service (LeavesWhereShut first.shut last.shut conn end) first.register.state end classes
-    (last ≡ first) c.in-Some.listener c.in-Some.ensures served.0 served.1.1
+    let network' = c.close-2.new.self in
+    let served = subst (λ (lost : Bool). (served : AreServed clients c.args.service.day c.args.service.connections
+    first.register.state c.in-Some.listener lost end c.serve_each-sitting.new.listener)
+    × ((c.serve_each-sitting.result.served ≡ replied served.turns)
+    × LeavesWhereShut first.shut last.shut conn end served.turns)) c.if-sitting.false
+    c.serve_each-sitting.ensures.served in
+    let written = c.in_err-write_whole.ensures in
+    sat_in_part clients c.args.network.now network' c.args.service
+    (LeavesWhereShut first.shut last.shut conn end) first.register.state c.in-Some.listener
+    c.serve_each-sitting.new.listener c.listen.new.self c.in-Some.ensures c.close-2.ensures end classes
+    ((network' ≡ c.args.network.now) × (last ≡ first)) served.0 served.1.1
     c.as_bytes.result.now c.as_bytes-2.result.now (c.as_bytes.ensures.value ∙ c.in_ok-lines.ensures.listening)
     (c.as_bytes-2.ensures.value ∙ c.served.ensures ∙ ap served_line served.1.0)
-    c.from_residual-in_err-write_whole-2.result c.in_err-write_whole-2.field-0.0 _ _ _ _
-    c.from_residual-in_err-write_whole-2.ensures.1 written.faults c.in_ok-write_whole.ensures.whole written.part
+    c.from_residual-in_err-write_whole.result c.in_err-write_whole.field-0.0 _ _ _ _
+    c.from_residual-in_err-write_whole.ensures.1 written.faults c.in_default.ensures.whole written.part
 
 pub returns-clause-written : goal.returns-clause-written
 returns-clause-written g c =
+    let clients = clients_of g.N.Network.may_listen g.N.Network.may_come g.N.Network.may_release
+    g.N.Network.may_close g.N.Reader.Read.remaining g.N.Writer.Write.contents in
     let first = c.args.store.now in
-    let last = c.serve_clients-sitting.new.store in
-    let held = c.serve_clients-sitting.ensures in
+    let last = c.serve_each-sitting.new.store in
+    let held = c.headline_holds-2.ensures in
     let classes = classes_of last.register.state held.classes held.adds_up held.balance in
     let conn = state g.S.Store last.conn in
     let end = last.register.state in
-    let kept = c.if-sitting.false in
-    let served = subst (λ (lost : Bool). (served : AreServed g.N.Network.may_come g.N.Reader.Read.remaining
-    g.N.Writer.Write.contents c.in-Some.listener c.args.service.day c.args.service.connections lost
-    first.register.state end) × ((c.serve_clients-sitting.result.served ≡ replied served.turns)
-    × LeavesWhereShut first.shut last.shut conn end served.turns)) kept c.serve_clients-sitting.ensures.served in
-    let clients = clients_of (g.N.Network.may_listen c.args.network.now) g.N.Network.may_come
-    g.N.Reader.Read.remaining g.N.Writer.Write.contents in
-    sat_whole clients c.args.service (LeavesWhereShut first.shut last.shut conn end) first.register.state end classes
-    (last ≡ first) c.in-Some.listener c.in-Some.ensures served.0 served.1.1
+    let network' = c.close-2.new.self in
+    let served = subst (λ (lost : Bool). (served : AreServed clients c.args.service.day c.args.service.connections
+    first.register.state c.in-Some.listener lost end c.serve_each-sitting.new.listener)
+    × ((c.serve_each-sitting.result.served ≡ replied served.turns)
+    × LeavesWhereShut first.shut last.shut conn end served.turns)) c.if-sitting.false
+    c.serve_each-sitting.ensures.served in
+    sat_whole clients c.args.network.now network' c.args.service
+    (LeavesWhereShut first.shut last.shut conn end) first.register.state c.in-Some.listener
+    c.serve_each-sitting.new.listener c.listen.new.self c.in-Some.ensures c.close-2.ensures end classes
+    ((network' ≡ c.args.network.now) × (last ≡ first)) served.0 served.1.1
     c.as_bytes.result.now c.as_bytes-2.result.now (c.as_bytes.ensures.value ∙ c.in_ok-lines.ensures.listening)
     (c.as_bytes-2.ensures.value ∙ c.served.ensures ∙ ap served_line served.1.0) _ _ _ _
-    c.in_ok-write_whole.ensures.whole c.in_ok-write_whole-2.ensures.whole
+    c.in_default.ensures.whole c.in_ok-write_whole.ensures.whole
 
 -- ---- all else in the database
 

@@ -1,5 +1,5 @@
 -- What came of serving a register that was opened, or why none was.
-use Rattle.std.proofs.Common.{◌≡◌, Bool, ap, inl, subst, sym}
+use Rattle.std.proofs.Common.{◌≡◌, Bool, ap, inl, refl, subst, sym}
 use Rattle.sqlite.specs.Held.{state}
 use Rattle.vet_store.specs.Beside.{OthersStay}
 use Rattle.vetd_words.specs.Answer.{IsWritten, Refuses}
@@ -18,11 +18,12 @@ returns-in-Err-clause-written g c =
     let is = is_not_opened g.S.Store conn c.in-Err.refused.conn after c.in-Err.refused.refusal refusal
     c.into_parts-refusal.ensures.refusal c.into_parts-refusal.ensures.conn c.in-Err.ensures.foreign
     c.in-Err.ensures.none c.in-Err.ensures.refused c.in-Err.ensures.as_before c.in-Err.ensures.crash in
-    let clients = clients_of (g.N.Network.may_listen c.args.network.now) g.N.Network.may_come
-    g.N.Reader.Read.remaining g.N.Writer.Write.contents in
-    is_told (λ answer. IsServeOver g.S.Store clients c.args.service conn answer after) (IsUnservedOver g.S.Store conn
-    after)
-    (Refuses refusal) is (inl (refusal, is)) c.report.result _ _ _ _ c.report.ensures.says c.report.ensures.part
+    let clients = clients_of g.N.Network.may_listen g.N.Network.may_come g.N.Network.may_release
+    g.N.Network.may_close g.N.Reader.Read.remaining g.N.Writer.Write.contents in
+    let network = c.args.network.now in
+    is_told (λ answer. IsServeOver g.S.Store clients network network c.args.service conn answer after)
+    ((network ≡ network) × IsUnservedOver g.S.Store conn after) (Refuses refusal) (is, refl)
+    (refl, inl (refusal, is)) c.report.result _ _ _ _ c.report.ensures.says c.report.ensures.part
     c.report.ensures.silent
 
 pub returns-in-Ok-clause-written : goal.returns-in-Ok-clause-written
@@ -38,18 +39,21 @@ returns-in-Ok-clause-written g c =
     let out' = g.W.Write.contents c.serve_at_port-status.new.writer in
     let errors = g.E.Write.contents c.args.errors.now in
     let errors' = g.E.Write.contents c.serve_at_port-status.new.errors in
-    let clients = clients_of (g.N.Network.may_listen c.args.network.now) g.N.Network.may_come
-    g.N.Reader.Read.remaining g.N.Writer.Write.contents in
-    over_opened g.S.Store clients c.args.service c.args.conn (last ≡ first) first.conn last.conn after register end
-    last.shut
+    let clients = clients_of g.N.Network.may_listen g.N.Network.may_come g.N.Network.may_release
+    g.N.Network.may_close g.N.Reader.Read.remaining g.N.Writer.Write.contents in
+    let network = c.args.network.now in
+    let network' = c.serve_at_port-status.new.network in
+    over_opened g.S.Store clients network network' c.args.service c.args.conn first.conn last.conn after register end
+    last.shut (last ≡ first)
     (is_opened g.S.Store c.args.conn first.conn register c.in-Ok.ensures.sound c.in-Ok.ensures.held
     c.in-Ok.ensures.found c.in-Ok.ensures.only c.in-Ok.ensures.unchanged c.in-Ok.ensures.crash)
     (ap (λ s. s.conn)) closed c.close.ensures.tables
     (subst (λ k. OthersStay (state g.S.Store first.conn) (state g.S.Store k)) (sym closed) h.others)
     c.serve_at_port-status.result out out' errors errors'
-    (subst (λ (shut : Bool). IsWritten (Answered (IsSittingOf clients c.args.service
-    (LeavesWhereShut shut last.shut (state g.S.Store after) end) register end)) (last ≡ first)
+    (subst (λ (shut : Bool). IsWritten (Answered (IsSittingOf clients network network' c.args.service
+    (LeavesWhereShut shut last.shut (state g.S.Store after) end) register end)) ((network' ≡ network) × (last ≡ first))
     c.serve_at_port-status.result out out' errors errors') c.in-Ok.ensures.tables.0
-    (subst (λ k. IsWritten (Answered (IsSittingOf clients c.args.service
-    (LeavesWhereShut first.shut last.shut (state g.S.Store k) end) register end)) (last ≡ first)
+    (subst (λ k. IsWritten (Answered (IsSittingOf clients network network' c.args.service
+    (LeavesWhereShut first.shut last.shut (state g.S.Store k) end) register end))
+    ((network' ≡ network) × (last ≡ first))
     c.serve_at_port-status.result out out' errors errors') (sym closed) h.written))
