@@ -9,6 +9,7 @@ pub mod ImportLaws
 pub mod ImportMarks
 pub mod JoinedWords
 pub mod Judging
+pub mod LastRemoved
 pub mod MappedCriteria
 pub mod MappedNames
 pub mod NumberAmong

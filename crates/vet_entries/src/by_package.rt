@@ -11,8 +11,9 @@
 //! entry of another source. And own entries are found as if there were no peers.
 //!
 //! A number tells an entry for ever, and rises along the list. A new entry has the greatest number, so it comes last
-//! and moves none. Its place goes among those of its package. To take an entry out moves those behind it, and lowers
-//! the places that point to them. Both undo each other, so an edit can be made, and taken back, with no memory at all.
+//! and moves none. Its place goes among those of its package, behind the others. To take an entry out moves those
+//! behind it, and lowers the places that point to them; the last one goes as cheaply as it came. Both undo each other,
+//! so an edit can be made, and taken back, with no memory at all.
 //!
 //! How a peer is held. It has its settings with its map (`peer_settings`, `criteria_map`) and what was imported from
 //! it (`holding`). That is its criteria as it defines them, and such a list of entries, in its own words. A peer's
@@ -157,7 +158,9 @@ impl ByPackage {
         put(&mut self.entries, place, held);
     }
 
-    /// Takes out the entry at a place. Costs two passes over all places, and a move of the entries behind it.
+    /// Takes out the entry at a place. Where it is the last one, costs two binary searches and a move of the places
+    /// behind its own in the order of packages; in front of other entries, two passes over all places, and a move of
+    /// those entries.
     pub(crate) fn remove(&mut self, place: usize) -> HeldEntry
         requires { place < length self.old.entries }
         ensures value { result ≡ slice_index_or self.old.entries place result }
@@ -165,8 +168,7 @@ impl ByPackage {
         ensures back { AreByNumber (insert self.new.entries place result) }
         ensures room { self.new.room ≡ self.old.room + 1 }
     {
-        self.order.retain(|other| *other != place);
-        close_gap(&mut self.order, place);
+        take_out(&mut self.order, self.entries.as_slice(), place);
         self.entries.remove(place)
     }
 }
@@ -269,6 +271,35 @@ fn move_up(order: &mut Vec<usize>, len: usize, place: usize)
     for i in 0..order.len() {
         order[i] = up(place, order[i], len);
     }
+}
+
+// Takes the place of an entry out of the order.
+fn take_out(order: &mut Vec<usize>, entries: &[HeldEntry], place: usize)
+    requires by_package { IsByPackage entries.now order.old.items }
+    requires place { place < length entries.now }
+    ensures by_package { IsByPackage (remove entries.now place) order.new.items }
+    ensures len { vec_len order.new ≡ vec_len order.old - 1 }
+    ensures capacity { vec_capacity order.new ≡ vec_capacity order.old }
+{
+    if place + 1 == entries.len() {
+        take_out_last(order, entries, place);
+    } else {
+        order.retain(|other| *other != place);
+        close_gap(order, place);
+    }
+}
+
+// Takes the last entry's place out of the order. It is the greatest, so it is the last of its package's, and no other
+// is lowered.
+fn take_out_last(order: &mut Vec<usize>, entries: &[HeldEntry], last: usize)
+    requires by_package { IsByPackage entries.now order.old.items }
+    requires last { last + 1 ≡ length entries.now }
+    ensures by_package { IsByPackage (remove entries.now last) order.new.items }
+    ensures len { vec_len order.new ≡ vec_len order.old - 1 }
+    ensures capacity { vec_capacity order.new ≡ vec_capacity order.old }
+{
+    let (_, behind) = range_of(entries, order.as_slice(), &entries[last].entry.package);
+    let _ = order.remove(behind - 1);
 }
 
 // Moves the places behind one down by one.

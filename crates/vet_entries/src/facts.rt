@@ -459,9 +459,9 @@ impl EntryFacts {
         Ok(Edit::Publishers(change))
     }
 
-    /// Makes an edit, and answers the one that undoes it. An insert behind all entries costs three binary
-    /// searches, and a move of the places behind its own in the order of packages, which are numbers; an insert
-    /// in front of entries, or a remove, passes over the places of all entries, and moves those behind it.
+    /// Makes an edit, and answers the one that undoes it. An insert behind all entries costs three binary searches, and
+    /// a move of the places behind its own in the order of packages, which are numbers; a remove of the last one costs
+    /// two and such a move. In front of entries either passes over the places of all, and moves those behind it.
     /// Records of a package are exchanged as a whole; a package or a peer that comes or goes moves those behind it,
     /// and so does a peer whose settings or content are exchanged.
     pub fn apply(&mut self, edit: Edit) -> Edit
