@@ -22,6 +22,7 @@ pub mod PublisherLaws
 pub mod Records
 pub mod Removed
 pub mod RisingNumbers
+pub mod SaidOnce
 pub mod SameContent
 pub mod SetInOrder
 pub mod SortedPlaces

@@ -1,5 +1,5 @@
 -- Entries, each once (ours).
-use Rattle.std.specs.Prelude.{List, [], ◌∷◌, if◌then◌else◌}
+use Rattle.std.specs.Prelude.{Bool, not, List, [], ◌∷◌, if◌then◌else◌}
 use Rattle.std.specs.List.{list_any}
 use Rattle.vet_entries.specs.declared.entry.Entry.{Entry}
 use Rattle.vet_entries.specs.Entry.{entry_eq}
@@ -12,3 +12,8 @@ firsts seen (e ∷ es) = if list_any (entry_eq e) seen then firsts seen es else 
 -- each entry once, at its first place, in order
 abbrev pub distinct : List Entry → List Entry
 distinct es = firsts [] es
+
+-- of each entry, whether it is not among those seen before or in front of it
+abbrev pub are_firsts : List Entry → List Entry → List Bool
+are_firsts seen [] = []
+are_firsts seen (e ∷ es) = not (list_any (entry_eq e) seen) ∷ are_firsts (e ∷ seen) es

@@ -7,6 +7,8 @@ pub mod DistinctLaws
 pub mod Encodings
 pub mod Entry
 pub mod EntryLaws
+pub mod EntryOrder
+pub mod EntryOrderLaws
 pub mod Facts
 pub mod FactsEncodings
 pub mod HeldPeer

@@ -19,8 +19,8 @@
 //! it (`holding`). That is its criteria as it defines them, and such a list of entries, in its own words. A peer's
 //! words become one's own criteria once a plan (`local_criteria`), so no command has to keep them in step.
 //!
-//! How an import goes (`import`). Held entries go into a table of hashes, and those that come are looked up. A mark
-//! for each says what comes again and what is new. If all comes again, nothing is new and the criteria are the same,
+//! How an import goes (`import`). Held entries are put in order by what they say, and those that come are sought among
+//! them. A mark for each says what comes again and what is new. If all comes again, nothing is new and the criteria are the same,
 //! the content is held already. Else what is held after it is made whole. It is copies of the held entries that come
 //! again, with their old numbers, and then the new ones with the next numbers. So the list stands by number without a
 //! sort.

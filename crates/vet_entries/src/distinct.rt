@@ -1,34 +1,37 @@
 //! Entries, each once.
-ghost use Rattle.std.specs.HashSet.{contains, IsFromIterResult, Updates};
+ghost use Rattle.std.specs.BTreeSet.{IsFromIterResult};
 ghost use Rattle.std.specs.List.{AllPairs};
-ghost use Rattle.std.specs.Prelude.{◌≡◌, ◌≢◌, ◌↔◌, IfOk, IsTrue, map, not, OnOk, true};
-ghost use Rattle.vet_entries.specs.Entry.{entry_eq, own};
-ghost use Rattle.vet_entries.specs.Distinct.{distinct};
+ghost use Rattle.std.specs.Prelude.{◌≡◌, ◌≢◌, ◌↔◌, [], IfOk, IsTrue, map};
+ghost use Rattle.vet_entries.specs.Entry.{own};
+ghost use Rattle.vet_entries.specs.EntryOrder.{entry_cmp};
+ghost use Rattle.vet_entries.specs.Distinct.{are_firsts, distinct};
 
 use crate::entry::Entry;
 use crate::facts::HeldEntry;
 use crate::said::Said;
 use std::alloc::{AllocError, Global};
-use std::collections::HashSet;
+use std::collections::BTreeSet;
 
-/// Each of some entries once, at its first place, in order. Costs a copy and one look-up by a hash for each
-/// entry, and holds the copies of those that it keeps until it is done.
+/// Each of some entries once, at its first place, in order. Costs a search among those before it for each entry, and
+/// copies none.
 pub fn distinct(alloc: Global, entries: Vec<Entry>) -> Result<Vec<Entry>, AllocError>
     ensures { IfOk result (λ v. v.items ≡ distinct entries.items) }
 {
-    let mut seen = HashSet::new(alloc);
+    let marks = are_firsts(alloc, entries.as_slice())?;
     let mut kept = Vec::new(alloc);
+    let mut place = 0;
     'entries: for entry in entries {
-        let is_new = see(&mut seen, &entry)?;
-        if is_new {
+        let is_first = marks[place];
+        place += 1;
+        if is_first {
             kept.push(entry)?;
         }
     }
     Ok(kept)
 }
 
-/// Whether no two of some held entries say the same, whosever they are. Costs one look-up by a hash for each, and
-/// copies none.
+/// Whether no two of some held entries say the same, whosever they are. Costs a search among those before it for each,
+/// and copies none.
 pub fn are_distinct(alloc: Global, held: &[HeldEntry]) -> Result<bool, AllocError>
     ensures { IfOk result (λ distinct.
         IsTrue distinct ↔ AllPairs (λ a b. a ≢ b) (map (λ h. own h.entry) held.now)) }
@@ -37,17 +40,21 @@ pub fn are_distinct(alloc: Global, held: &[HeldEntry]) -> Result<bool, AllocErro
     Ok(said.len() == held.len())
 }
 
-// What some held entries say, each thing once.
-fn said_by<'a>(alloc: Global, held: &'a [HeldEntry]) -> Result<HashSet<Said<'a>>, AllocError>
-    ensures { IfOk result (λ said. IsFromIterResult entry_eq (map (λ h. own h.entry) held.now) said) }
+// Of each of some entries, whether none in front of it is the same.
+fn are_firsts(alloc: Global, entries: &[Entry]) -> Result<Vec<bool>, AllocError>
+    ensures { IfOk result (λ marks. marks.items ≡ are_firsts [] entries.now) }
 {
-    held.iter().map(|held| Said::of(&held.entry)).collect(alloc)
+    let mut seen = BTreeSet::new(alloc);
+    let mut marks = Vec::with_capacity(alloc, entries.len())?;
+    'entries: for entry in entries {
+        marks.push(seen.insert(entry)?)?;
+    }
+    Ok(marks)
 }
 
-// Sees an entry, and tells whether none equal to it was seen before.
-fn see(seen: &mut HashSet<Entry>, entry: &Entry) -> Result<bool, AllocError>
-    ensures new { IfOk result (λ is_new. contains entry_eq seen.old entry.now ≡ not is_new) }
-    ensures seen { OnOk result (Updates entry_eq seen.old seen.new entry.now true) }
+// What some held entries say, each thing once.
+fn said_by<'a>(alloc: Global, held: &'a [HeldEntry]) -> Result<BTreeSet<Said<'a>>, AllocError>
+    ensures { IfOk result (λ said. IsFromIterResult entry_cmp (map (λ h. own h.entry) held.now) said) }
 {
-    Ok(seen.insert(entry.clone()?)?)
+    held.iter().map(|held| Said::of(&held.entry)).collect(alloc)
 }

@@ -3,14 +3,15 @@ ghost use Rattle.std.specs.Prelude.{◌≡◌, ◌↔◌, IfOk, IsTrue};
 ghost use Rattle.vet_entries.specs.Entry.{entry_eq, of_source, own, says_same};
 
 use crate::kind::Kind;
+use crate::order::{said_cmp, source_cmp};
 use std::alloc::AllocError;
-use std::hash::Hash;
+use std::cmp::Ordering;
 use vet_base::name::{Name, PackageName};
 use vet_base::names::Names;
 use vet_base::text::Text;
 
 /// Whose an entry is.
-#[derive(Clone, Hash)]
+#[derive(Clone)]
 pub enum Source {
     /// The organisation's own.
     Own,
@@ -53,16 +54,8 @@ impl Eq for Source {
     ghost laws = { decided source_eq source_eq-Decides };
 }
 
-#[derived]
-impl Hash for Source {
-    ghost use Rattle.std.specs.Hash as fed;
-    ghost use Rattle.vet_entries.specs.EntryLaws.{source_eq-Decides};
-
-    ghost respects_eq = { (fed.same_Alike _ source_eq-Decides).fed };
-}
-
-/// An entry: a package, what is said of it, and for which criteria.
-#[derive(Hash)]
+/// An entry: a package, what is said of it, and for which criteria. Entries are ordered by source, package, kind,
+/// criteria and notes.
 pub struct Entry {
     pub source: Source,
     pub package: PackageName,
@@ -158,12 +151,37 @@ impl Eq for Entry {
     ghost laws = { decided entry_eq entry_eq-Decides };
 }
 
-#[derived]
-impl Hash for Entry {
-    ghost use Rattle.std.specs.Hash as fed;
-    ghost use Rattle.vet_entries.specs.EntryLaws.{entry_eq-Decides};
+impl PartialOrd for Entry {
+    ghost use Rattle.std.specs.Cmp.{po};
+    ghost use Rattle.std.specs.Ordering.{as_partial_cmp};
+    ghost use Rattle.vet_entries.specs.EntryOrder.{entry_cmp};
+    ghost use Rattle.vet_entries.specs.EntryOrderLaws.{entries_tie, entry_cmp_total};
 
-    ghost respects_eq = { (fed.same_Alike _ entry_eq-Decides).fed };
+    ghost partial_cmp = { as_partial_cmp entry_cmp };
+
+    ghost laws = { po entry_cmp_total entries_tie };
+
+    fn partial_cmp(&self, other: &Entry) -> Option<Ordering> {
+        Some(self.cmp(other))
+    }
+}
+
+impl Ord for Entry {
+    ghost use Rattle.std.specs.Prelude.{refl};
+    ghost use Rattle.vet_entries.specs.EntryOrder.{entry_cmp};
+    ghost use Rattle.vet_entries.specs.EntryOrderLaws.{entries_tie, entry_cmp_total};
+
+    ghost cmp = { entry_cmp };
+
+    ghost total = { entry_cmp_total };
+
+    ghost matches_partial_cmp = { λ a b. refl };
+
+    ghost matches_eq = { entries_tie };
+
+    fn cmp(&self, other: &Entry) -> Ordering {
+        source_cmp(&self.source, &other.source).then(said_cmp(self, other))
+    }
 }
 
 // A copy of some notes, if there are any.

@@ -3,7 +3,7 @@
 //!
 //! **An import holds the content's entries, each once: those that come again keep their numbers, and the new ones
 //! get the next numbers in the order of reading. The same holds of one's own entries.**
-ghost use Rattle.std.specs.HashMap.{get};
+ghost use Rattle.std.specs.BTreeMap.{get};
 ghost use Rattle.std.specs.List.{All, list_all, list_any};
 ghost use Rattle.std.specs.Option.{unwrap_or};
 ghost use Rattle.std.specs.Prelude.{◌≡◌, ◌==◌, ◌<◌, ◌+◌, ◌^◌, ◌++◌, ◌&&◌, ◌||◌, Bool, IfErr, IfOk, None, OnOk, Some};
@@ -14,6 +14,7 @@ ghost use Rattle.vet_entries.specs.declared.entry.Entry.{Entry};
 ghost use Rattle.vet_entries.specs.declared.entry.Source.TheVariants.{Own, Peer};
 ghost use Rattle.vet_entries.specs.declared.facts.HeldEntry.{HeldEntry};
 ghost use Rattle.vet_entries.specs.Entry.{entry_eq, of_source, own};
+ghost use Rattle.vet_entries.specs.EntryOrder.{entry_cmp};
 ghost use Rattle.vet_entries.specs.HeldPeer.{imported};
 ghost use Rattle.vet_entries.specs.Import.{compared, compared_own};
 ghost use Rattle.vet_entries.specs.ImportLaws.{ImportHoldsEachOnce, ImportHoldsItsContent, ImportKeepsNumbers};
@@ -27,7 +28,7 @@ use crate::holding::Holding;
 use crate::peer_content::PeerContent;
 use crate::said::Said;
 use std::alloc::{AllocError, Global};
-use std::collections::HashMap;
+use std::collections::BTreeMap;
 use std::marker::Model;
 use vet_base::definitions::Definitions;
 use vet_base::name::Name;
@@ -85,8 +86,8 @@ impl Comparison {
     }
 }
 
-/// How a content stands to what is held of a peer. Costs two look-ups by a hash of each held entry and, where any is
-/// held, one of each entry; and copies of the criteria, but of no entry. Refused: `NoMemory`.
+/// How a content stands to what is held of a peer. Costs two searches among those held for each held entry, and one for
+/// each entry; and copies of the criteria, but of no entry. Refused: `NoMemory`.
 pub fn compare(
     alloc: Global,
     name: &Name,
@@ -135,8 +136,8 @@ pub fn holding_after(
     Holding::of(alloc, definitions_of(alloc, content)?, entries)
 }
 
-/// How some entries, as one's own, stand to one's own that are held. Costs two look-ups by a hash of each held entry
-/// and, where any is held, one of each entry; copies no entry. Refused: `NoMemory`.
+/// How some entries, as one's own, stand to one's own that are held. Costs two searches among those held for each held
+/// entry, and one for each entry; copies no entry. Refused: `NoMemory`.
 pub fn compare_own(
     alloc: Global,
     held: &[HeldEntry],
@@ -211,11 +212,11 @@ pub fn import_takes_entries()
 {}
 
 // The held entries by what they say, of which none was seen yet.
-fn unseen<'a>(alloc: Global, held: &'a [HeldEntry]) -> Result<HashMap<Said<'a>, bool>, AllocError>
+fn unseen<'a>(alloc: Global, held: &'a [HeldEntry]) -> Result<BTreeMap<Said<'a>, bool>, AllocError>
     ensures { IfOk result (λ seen. (q : Entry)
-        → get entry_eq seen q ≡ (if list_any (λ h. entry_eq (own h.entry) q) held.now then Some false else None)) }
+        → get entry_cmp seen q ≡ (if list_any (λ h. entry_eq (own h.entry) q) held.now then Some false else None)) }
 {
-    let mut seen = HashMap::with_capacity(alloc, held.len())?;
+    let mut seen = BTreeMap::new(alloc);
     'entries: for entry in held {
         seen.insert(Said::of(&entry.entry), false)?;
     }
@@ -225,13 +226,13 @@ fn unseen<'a>(alloc: Global, held: &'a [HeldEntry]) -> Result<HashMap<Said<'a>, 
 // Sees some entries, and tells of each whether it is not held.
 fn see<'a>(
     alloc: Global,
-    seen: &mut HashMap<Said<'a>, bool>,
+    seen: &mut BTreeMap<Said<'a>, bool>,
     entries: &'a [Entry],
 ) -> Result<Vec<bool>, AllocError>
     ensures fresh { IfOk result (λ fresh.
-        fresh.items ≡ map (λ e. is_none (get entry_eq seen.old (own e))) entries.now) }
-    ensures seen { OnOk result ((q : Entry) → get entry_eq seen.new q
-        ≡ option_map (λ before. before || list_any (λ e. entry_eq (own e) q) entries.now) (get entry_eq seen.old q)) }
+        fresh.items ≡ map (λ e. is_none (get entry_cmp seen.old (own e))) entries.now) }
+    ensures seen { OnOk result ((q : Entry) → get entry_cmp seen.new q
+        ≡ option_map (λ before. before || list_any (λ e. entry_eq (own e) q) entries.now) (get entry_cmp seen.old q)) }
 {
     let mut fresh = Vec::new(alloc);
     'entries: for entry in entries {
@@ -241,15 +242,12 @@ fn see<'a>(
     Ok(fresh)
 }
 
-// Sees an entry, and tells whether it is held. Where nothing is held, its hash is not taken.
-fn see_one<'a>(seen: &mut HashMap<Said<'a>, bool>, entry: &'a Entry) -> bool
-    ensures held { result ≡ is_some (get entry_eq seen.old (own entry.now)) }
-    ensures seen { (q : Entry) → get entry_eq seen.new q
-        ≡ option_map (λ before. before || entry_eq (own entry.now) q) (get entry_eq seen.old q) }
+// Sees an entry, and tells whether it is held.
+fn see_one<'a>(seen: &mut BTreeMap<Said<'a>, bool>, entry: &'a Entry) -> bool
+    ensures held { result ≡ is_some (get entry_cmp seen.old (own entry.now)) }
+    ensures seen { (q : Entry) → get entry_cmp seen.new q
+        ≡ option_map (λ before. before || entry_eq (own entry.now) q) (get entry_cmp seen.old q) }
 {
-    if seen.is_empty() {
-        return false;
-    }
     match seen.get_mut(&Said::of(entry)) {
         Some(mark) => {
             *mark = true;
@@ -262,11 +260,11 @@ fn see_one<'a>(seen: &mut HashMap<Said<'a>, bool>, entry: &'a Entry) -> bool
 // Of each held entry, whether it was seen.
 fn seen_again<'a>(
     alloc: Global,
-    seen: &HashMap<Said<'a>, bool>,
+    seen: &BTreeMap<Said<'a>, bool>,
     held: &'a [HeldEntry],
 ) -> Result<Vec<bool>, AllocError>
     ensures { IfOk result (λ again. again.items
-        ≡ map (λ h. unwrap_or (get entry_eq seen.now (own h.entry)) false) held.now) }
+        ≡ map (λ h. unwrap_or (get entry_cmp seen.now (own h.entry)) false) held.now) }
 {
     let mut again = Vec::new(alloc);
     'entries: for entry in held {
@@ -276,8 +274,8 @@ fn seen_again<'a>(
 }
 
 // Whether a held entry was seen.
-fn was_seen<'a>(seen: &HashMap<Said<'a>, bool>, held: &'a HeldEntry) -> bool
-    ensures { result ≡ unwrap_or (get entry_eq seen.now (own held.now.entry)) false }
+fn was_seen<'a>(seen: &BTreeMap<Said<'a>, bool>, held: &'a HeldEntry) -> bool
+    ensures { result ≡ unwrap_or (get entry_cmp seen.now (own held.now.entry)) false }
 {
     match seen.get(&Said::of(&held.entry)) {
         Some(seen) => *seen,

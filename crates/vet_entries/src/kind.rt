@@ -4,7 +4,6 @@ ghost use Rattle.vet_entries.specs.Kind.{grants_same, no_audit};
 
 use crate::user::User;
 use std::alloc::{AllocError, Global};
-use std::hash::Hash;
 use vet_base::day::Day;
 use vet_base::delta::Delta;
 use vet_base::req::Req;
@@ -12,7 +11,7 @@ use vet_base::texts::Texts;
 use vet_base::version::VetVersion;
 
 /// Who made an audit, and whether others may import it (The Cargo Vet Book, audit entries).
-#[derive(Clone, PartialEq, Eq, Hash)]
+#[derive(Clone, PartialEq, Eq)]
 pub struct Audit {
     /// Who reviewed, in the order of their bytes, each once.
     pub who: Texts,
@@ -41,17 +40,9 @@ impl Audit {
     }
 }
 
-#[derived]
-impl Hash for Audit {
-    ghost use Rattle.std.specs.Hash as fed;
-    ghost use Rattle.vet_entries.specs.KindLaws.{audit_eq-Decides};
-
-    ghost respects_eq = { (fed.same_Alike _ audit_eq-Decides).fed };
-}
-
 /// Who vouches for what a user publishes, and whether that is to be renewed (The Cargo Vet Book, wildcard
 /// audits).
-#[derive(Clone, PartialEq, Eq, Hash)]
+#[derive(Clone, PartialEq, Eq)]
 pub struct Grant {
     /// Who vouches, in the order of their bytes, each once.
     pub who: Texts,
@@ -65,17 +56,9 @@ impl Drop for Grant {
     }
 }
 
-#[derived]
-impl Hash for Grant {
-    ghost use Rattle.std.specs.Hash as fed;
-    ghost use Rattle.vet_entries.specs.KindLaws.{grant_eq-Decides};
-
-    ghost respects_eq = { (fed.same_Alike _ grant_eq-Decides).fed };
-}
-
 /// What a user of crates.io published from a first day to a last, both included (The Cargo Vet Book, wildcard
 /// audits and trusted publishers). A window that ends before it begins has no day.
-#[derive(Clone, Copy, Hash)]
+#[derive(Clone, Copy)]
 pub struct Window {
     pub user: User,
     pub first: Day,
@@ -104,17 +87,8 @@ impl Eq for Window {
     ghost laws = { decided window_eq window_eq-Decides };
 }
 
-#[derived]
-impl Hash for Window {
-    ghost use Rattle.std.specs.Hash as fed;
-    ghost use Rattle.vet_entries.specs.KindLaws.{window_eq-Decides};
-
-    ghost respects_eq = { (fed.same_Alike _ window_eq-Decides).fed };
-}
-
 /// What an entry says of its package. Each kind holds what goes with it and nothing else: who vouches, and
 /// what it tells tools.
-#[derive(Hash)]
 pub enum Kind {
     /// This version was reviewed in full (The Cargo Vet Book, audit entries: `version`).
     Full(VetVersion, Audit),
@@ -219,12 +193,4 @@ impl Eq for Kind {
     ghost use Rattle.vet_entries.specs.KindLaws.{kind_eq-Decides};
 
     ghost laws = { decided kind_eq kind_eq-Decides };
-}
-
-#[derived]
-impl Hash for Kind {
-    ghost use Rattle.std.specs.Hash as fed;
-    ghost use Rattle.vet_entries.specs.KindLaws.{kind_eq-Decides};
-
-    ghost respects_eq = { (fed.same_Alike _ kind_eq-Decides).fed };
 }

@@ -25,6 +25,7 @@ pub mod judge;
 pub mod kind;
 pub mod laws;
 pub mod local_criteria;
+mod order;
 pub mod peer_content;
 pub mod peer_settings;
 mod peers;

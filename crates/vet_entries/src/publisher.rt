@@ -103,7 +103,7 @@ impl Ord for Publisher {
 }
 
 // How two days compare: by their numbers, and each number names one day.
-fn day_cmp(a: Day, b: Day) -> Ordering
+pub(crate) fn day_cmp(a: Day, b: Day) -> Ordering
     ensures { result ≡ calendar_cmp a b }
 {
     if a == b {
@@ -113,7 +113,7 @@ fn day_cmp(a: Day, b: Day) -> Ordering
 }
 
 // How two texts compare by their bytes, where none stands before one.
-fn text_cmp(a: &Option<Text>, b: &Option<Text>) -> Ordering
+pub(crate) fn text_cmp(a: &Option<Text>, b: &Option<Text>) -> Ordering
     ensures { result ≡ option_cmp (slice_cmp nat_cmp) a.now b.now }
 {
     match (a, b) {

@@ -2,11 +2,13 @@
 ghost use Rattle.std.specs.Prelude.{◌≡◌};
 ghost use Rattle.vet_entries.specs.Entry.{entry_eq, own};
 
-use crate::entry::{Entry, Source};
-use std::hash::{Hash, Hasher};
+use crate::entry::Entry;
+use crate::order::said_cmp;
+use std::cmp::Ordering;
 use std::marker::Model;
 
-/// A lent entry, seen as one of one's own. Two are equal where their entries say the same.
+/// A lent entry, seen as one of one's own. Two are equal where their entries say the same, and ordered by what these
+/// say.
 #[derive(Drop)]
 pub(crate) struct Said<'a> {
     entry: &'a Entry,
@@ -55,19 +57,35 @@ impl<'a> Eq for Said<'a> {
     ghost laws = { decided entry_eq entry_eq-Decides };
 }
 
-impl<'a> Hash for Said<'a> {
-    ghost use Rattle.std.specs.Hash as fed;
-    ghost use Rattle.vet_entries.specs.EntryLaws.{entry_eq-Decides};
+impl<'a> PartialOrd for Said<'a> {
+    ghost use Rattle.std.specs.Cmp.{po};
+    ghost use Rattle.std.specs.Ordering.{as_partial_cmp};
+    ghost use Rattle.vet_entries.specs.EntryOrder.{entry_cmp};
+    ghost use Rattle.vet_entries.specs.EntryOrderLaws.{entries_tie, entry_cmp_total};
 
-    ghost hash_input = { ⟦<Entry as Hash>⟧.hash_input };
+    ghost partial_cmp = { as_partial_cmp entry_cmp };
 
-    ghost respects_eq = { (fed.same_Alike _ entry_eq-Decides).fed };
+    ghost laws = { po entry_cmp_total entries_tie };
 
-    fn hash<H: Hasher>(&self, state: &mut H) {
-        Source::Own.hash(state);
-        self.entry.package.hash(state);
-        self.entry.kind.hash(state);
-        self.entry.criteria.hash(state);
-        self.entry.notes.hash(state);
+    fn partial_cmp(&self, other: &Said<'a>) -> Option<Ordering> {
+        Some(self.cmp(other))
+    }
+}
+
+impl<'a> Ord for Said<'a> {
+    ghost use Rattle.std.specs.Prelude.{refl};
+    ghost use Rattle.vet_entries.specs.EntryOrder.{entry_cmp};
+    ghost use Rattle.vet_entries.specs.EntryOrderLaws.{entries_tie, entry_cmp_total};
+
+    ghost cmp = { entry_cmp };
+
+    ghost total = { entry_cmp_total };
+
+    ghost matches_partial_cmp = { λ a b. refl };
+
+    ghost matches_eq = { entries_tie };
+
+    fn cmp(&self, other: &Said<'a>) -> Ordering {
+        said_cmp(self.entry, other.entry)
     }
 }

@@ -4,7 +4,6 @@ ghost use Rattle.std.specs.Cmp.{nat_cmp_total, nat_eq_equiv, partial_equiv_from_
 ghost use Rattle.std.specs.Ordering.{as_partial_cmp, nat_cmp};
 
 use std::cmp::Ordering;
-use std::hash::Hash;
 use std::marker::Model;
 
 /// The last number of a user.
@@ -12,7 +11,7 @@ pub const LAST_USER: u64 = 9_223_372_036_854_775_807;
 
 /// A user of crates.io (The Cargo Vet Book, wildcard audits): a number from 0 to 2^63 - 1. Users are equal,
 /// and ordered, by their numbers.
-#[derive(Clone, Copy, Hash)]
+#[derive(Clone, Copy)]
 pub struct User {
     number: u64,
 }

@@ -17,7 +17,7 @@ use vet_entries::facts::{EntryFacts, HeldEntry};
 use vet_entries::held_peer::HeldPeer;
 
 /// Whether entries are sound as those of a source, where this is the next number. Asks that their numbers rise. Costs
-/// one look-up by a hash for each.
+/// a search among those before it for each.
 pub(crate) fn check_entries(
     alloc: Global,
     source: &Source,

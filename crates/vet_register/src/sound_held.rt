@@ -34,7 +34,8 @@ use vet_entries::facts::EntryFacts;
 use vet_entries::held_peer::HeldPeer;
 use vet_entries::publisher_records::PackagePublishers;
 
-/// Whether facts of packages are sound, where this is the next number. Costs two look-ups by a hash for each entry.
+/// Whether facts of packages are sound, where this is the next number. Costs a search and a look-up by a hash for each
+/// entry.
 pub(crate) fn check_facts(alloc: Global, facts: &EntryFacts, next: u64) -> Result<(), Refusal>
     ensures { Checks (AreSound facts.now.content next) result }
 {

@@ -26,8 +26,8 @@ use vet_entries::held_peer::HeldPeer;
 use vet_entries::holding::Holding;
 use vet_entries::kind::{Audit, Kind};
 
-/// Whether each peer is sound, where this is the next number. Costs one look-up by a hash for each entry, and copies of
-/// the criteria.
+/// Whether each peer is sound, where this is the next number. Costs a search among those before it for each entry,
+/// and copies of the criteria.
 pub(crate) fn check_each_peer(alloc: Global, peers: &[HeldPeer], next: u64) -> Result<(), Refusal>
     ensures { Checks (All (IsSoundPeer next) peers.now) result }
 {

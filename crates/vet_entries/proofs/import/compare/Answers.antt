@@ -1,10 +1,10 @@
 use Rattle.std.proofs.Common.{◌≡◌, ◌&&◌, ◌==◌, length, map, ap, ◌∙◌}
-use Rattle.std.specs.HashMap.{get}
+use Rattle.std.specs.BTreeMap.{get}
 use Rattle.std.specs.List.{filter, list_all}
 use Rattle.vet_base.specs.Defined.{defined}
 use Rattle.vet_base.specs.Definitions.{criteria_eq}
 use Rattle.vet_entries.specs.declared.entry.Source.TheVariants.{Peer}
-use Rattle.vet_entries.specs.Entry.{entry_eq}
+use Rattle.vet_entries.specs.EntryOrder.{entry_cmp}
 use Rattle.vet_entries.specs.HeldPeer.{as_peers}
 use Rattle.vet_entries.specs.Replaced.{comes_again, is_new}
 use Rattle.vet_entries.proofs.ImportCompared.{marks_compared, pass_again, pass_fresh}
@@ -15,8 +15,8 @@ returns-clause-ok c =
     let name = c.args.name.now in
     let held = c.args.held.now in
     let content = c.args.content.now in
-    let before = get entry_eq c.in_ok-seen.seen in
-    let after = get entry_eq c.see.new.seen in
+    let before = get entry_cmp c.in_ok-seen.seen in
+    let after = get entry_cmp c.see.new.seen in
     let fresh : c.in_ok-fresh.fresh.items ≡ map (is_new held.entries) (as_peers name content.entries) =
     c.in_ok-fresh.ensures.fresh ∙ pass_fresh (Peer name) held.entries content.entries c.requires _ _ before
     c.entries.ensures.value c.entries-2.ensures.value c.in_ok-seen.ensures in

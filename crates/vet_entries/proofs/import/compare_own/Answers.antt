@@ -1,8 +1,8 @@
 use Rattle.std.proofs.Common.{◌≡◌, ◌&&◌, ◌==◌, length, map, refl, sym, ap, ◌∙◌}
-use Rattle.std.specs.HashMap.{get}
+use Rattle.std.specs.BTreeMap.{get}
 use Rattle.std.specs.List.{filter}
 use Rattle.vet_entries.specs.declared.entry.Source.TheVariants.{Own}
-use Rattle.vet_entries.specs.Entry.{entry_eq}
+use Rattle.vet_entries.specs.EntryOrder.{entry_cmp}
 use Rattle.vet_entries.specs.Replaced.{as_of, comes_again, is_new}
 use Rattle.vet_entries.proofs.ImportCompared.{all_of, marks_compared_own, pass_again, pass_fresh}
 use Rattle.vet_entries.proofs.import.compare_own.Goals as goal
@@ -12,8 +12,8 @@ pub returns-clause-ok : goal.returns-clause-ok
 returns-clause-ok c =
     let held = c.args.held.now in
     let entries = c.args.entries.now in
-    let before = get entry_eq c.in_ok-seen.seen in
-    let after = get entry_eq c.see.new.seen in
+    let before = get entry_cmp c.in_ok-seen.seen in
+    let after = get entry_cmp c.see.new.seen in
     let none = c.count-new_count.result == 0 in
     let fresh : c.in_ok-fresh.fresh.items ≡ map (is_new held) (as_of Own entries) =
     c.in_ok-fresh.ensures.fresh ∙ pass_fresh Own held entries c.requires held entries before refl refl

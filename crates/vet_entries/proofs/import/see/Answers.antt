@@ -1,8 +1,9 @@
 use Rattle.std.proofs.Common.{◌++◌, ◌∷◌, [], ◌||◌, not, is_none, is_some, option_map, take, sym, ap, ◌∙◌}
-use Rattle.std.specs.HashMap.{get}
+use Rattle.std.specs.BTreeMap.{get}
 use Rattle.std.specs.List.{list_any}
 use Rattle.vet_entries.specs.declared.entry.Entry.{Entry}
 use Rattle.vet_entries.specs.Entry.{entry_eq, own}
+use Rattle.vet_entries.specs.EntryOrder.{entry_cmp}
 use Rattle.vet_entries.proofs.ImportMarks.{any_more, map_more, mark_more, not_found, found_alike}
 use Rattle.vet_entries.proofs.import.see.Goals as goal
 
@@ -11,7 +12,7 @@ entries-preserved c =
     let entries = c.args.entries.now in
     let i = c.entries.entry-index in
     let x = c.entry-item.result in
-    let old = get entry_eq c.args.seen.now in
+    let old = get entry_cmp c.args.seen.now in
     let so_far = (λ (q : Entry). list_any (λ e. entry_eq (own e) q) (take i entries)) in (
       c.in_ok-push.ensures.items
           ∙ ap (λ b. c.entries.fresh.items ++ not b ∷ [])

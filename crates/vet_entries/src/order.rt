@@ -1,0 +1,134 @@
+//! How entries are ordered by what they say, so that each is found among many by a search.
+//!
+//! By an order and not by a hash: the kit's hash tables have a seed that everybody knows, so whoever writes a file
+//! could make entries that all have the same hash.
+ghost use Rattle.std.specs.Prelude.{◌≡◌};
+ghost use Rattle.vet_entries.specs.EntryOrder.{audit_cmp, delta_cmp, flag_cmp, grant_cmp, grants_cmp, kind_cmp};
+ghost use Rattle.vet_entries.specs.EntryOrder.{kind_rank, names_cmp, said_cmp, source_cmp, window_cmp};
+
+use crate::entry::{Entry, Source};
+use crate::kind::{Audit, Grant, Kind, Window};
+use crate::publisher::{day_cmp, text_cmp};
+use std::cmp::Ordering;
+use vet_base::delta::Delta;
+use vet_base::names::Names;
+use vet_base::texts::Texts;
+
+// How two sources compare: one's own before a peer's, and these by the peer's name.
+pub(crate) fn source_cmp(a: &Source, b: &Source) -> Ordering
+    ensures { result ≡ source_cmp a.now b.now }
+{
+    match (a, b) {
+        (Source::Own, Source::Own) => Ordering::Equal,
+        (Source::Own, Source::Peer(_)) => Ordering::Less,
+        (Source::Peer(_), Source::Own) => Ordering::Greater,
+        (Source::Peer(a), Source::Peer(b)) => a.cmp(b),
+    }
+}
+
+// How two entries compare by what they say, whosever they are.
+pub(crate) fn said_cmp(a: &Entry, b: &Entry) -> Ordering
+    ensures { result ≡ said_cmp a.now b.now }
+{
+    a.package
+        .cmp(&b.package)
+        .then(kind_cmp(&a.kind, &b.kind))
+        .then(names_cmp(&a.criteria, &b.criteria))
+        .then(text_cmp(&a.notes, &b.notes))
+}
+
+fn kind_cmp(a: &Kind, b: &Kind) -> Ordering
+    ensures { result ≡ kind_cmp a.now b.now }
+{
+    match (a, b) {
+        (Kind::Full(v, a), Kind::Full(w, b)) => v.cmp(w).then(audit_cmp(a, b)),
+        (Kind::Delta(c, a), Kind::Delta(d, b)) => delta_cmp(c, d).then(audit_cmp(a, b)),
+        (Kind::Violation(q, a), Kind::Violation(r, b)) => q.cmp(r).then(audit_cmp(a, b)),
+        _ => grants_cmp(a, b),
+    }
+}
+
+// How two kinds compare that are not audits of one kind.
+fn grants_cmp(a: &Kind, b: &Kind) -> Ordering
+    ensures { result ≡ grants_cmp a.now b.now }
+{
+    match (a, b) {
+        (Kind::Wildcard(v, a), Kind::Wildcard(w, b)) => window_cmp(v, w).then(grant_cmp(a, b)),
+        (Kind::Trusted(v), Kind::Trusted(w)) => window_cmp(v, w),
+        (
+            Kind::Exemption {
+                version: v,
+                suggest: a,
+            },
+            Kind::Exemption {
+                version: w,
+                suggest: b,
+            },
+        ) => v.cmp(w).then(flag_cmp(*a, *b)),
+        _ => rank(a).cmp(&rank(b)),
+    }
+}
+
+// The place of a kind among the kinds.
+fn rank(kind: &Kind) -> u8
+    ensures { result ≡ kind_rank kind.now }
+{
+    match kind {
+        Kind::Full(_, _) => 0,
+        Kind::Delta(_, _) => 1,
+        Kind::Violation(_, _) => 2,
+        Kind::Wildcard(_, _) => 3,
+        Kind::Trusted(_) => 4,
+        Kind::Exemption {
+            version: _,
+            suggest: _,
+        } => 5,
+    }
+}
+
+fn audit_cmp(a: &Audit, b: &Audit) -> Ordering
+    ensures { result ≡ audit_cmp a.now b.now }
+{
+    texts_cmp(&a.who, &b.who).then(flag_cmp(a.importable, b.importable))
+}
+
+fn grant_cmp(a: &Grant, b: &Grant) -> Ordering
+    ensures { result ≡ grant_cmp a.now b.now }
+{
+    texts_cmp(&a.who, &b.who).then(flag_cmp(a.renew, b.renew))
+}
+
+fn window_cmp(a: &Window, b: &Window) -> Ordering
+    ensures { result ≡ window_cmp a.now b.now }
+{
+    a.user
+        .cmp(&b.user)
+        .then(day_cmp(a.first, b.first))
+        .then(day_cmp(a.last, b.last))
+}
+
+fn delta_cmp(a: &Delta, b: &Delta) -> Ordering
+    ensures { result ≡ delta_cmp a.now b.now }
+{
+    a.from.cmp(&b.from).then(a.to.cmp(&b.to))
+}
+
+// How two sets of names compare: by their members in order.
+fn names_cmp(a: &Names, b: &Names) -> Ordering
+    ensures { result ≡ names_cmp a.now b.now }
+{
+    a.as_slice().cmp(b.as_slice())
+}
+
+fn texts_cmp(a: &Texts, b: &Texts) -> Ordering
+    ensures { result ≡ names_cmp a.now b.now }
+{
+    a.as_slice().cmp(b.as_slice())
+}
+
+// How two answers compare: none, then no, then yes.
+fn flag_cmp(a: Option<bool>, b: Option<bool>) -> Ordering
+    ensures { result ≡ flag_cmp a b }
+{
+    a.cmp(&b)
+}
