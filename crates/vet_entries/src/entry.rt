@@ -180,7 +180,7 @@ impl Ord for Entry {
     ghost matches_eq = { entries_tie };
 
     fn cmp(&self, other: &Entry) -> Ordering {
-        source_cmp(&self.source, &other.source).then(said_cmp(self, other))
+        source_cmp(&self.source, &other.source).then_with(|| said_cmp(self, other))
     }
 }
 

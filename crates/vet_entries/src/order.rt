@@ -32,18 +32,18 @@ pub(crate) fn said_cmp(a: &Entry, b: &Entry) -> Ordering
 {
     a.package
         .cmp(&b.package)
-        .then(kind_cmp(&a.kind, &b.kind))
-        .then(names_cmp(&a.criteria, &b.criteria))
-        .then(text_cmp(&a.notes, &b.notes))
+        .then_with(|| kind_cmp(&a.kind, &b.kind))
+        .then_with(|| names_cmp(&a.criteria, &b.criteria))
+        .then_with(|| text_cmp(&a.notes, &b.notes))
 }
 
 fn kind_cmp(a: &Kind, b: &Kind) -> Ordering
     ensures { result ≡ kind_cmp a.now b.now }
 {
     match (a, b) {
-        (Kind::Full(v, a), Kind::Full(w, b)) => v.cmp(w).then(audit_cmp(a, b)),
-        (Kind::Delta(c, a), Kind::Delta(d, b)) => delta_cmp(c, d).then(audit_cmp(a, b)),
-        (Kind::Violation(q, a), Kind::Violation(r, b)) => q.cmp(r).then(audit_cmp(a, b)),
+        (Kind::Full(v, a), Kind::Full(w, b)) => v.cmp(w).then_with(|| audit_cmp(a, b)),
+        (Kind::Delta(c, a), Kind::Delta(d, b)) => delta_cmp(c, d).then_with(|| audit_cmp(a, b)),
+        (Kind::Violation(q, a), Kind::Violation(r, b)) => q.cmp(r).then_with(|| audit_cmp(a, b)),
         _ => grants_cmp(a, b),
     }
 }
@@ -110,7 +110,7 @@ fn window_cmp(a: &Window, b: &Window) -> Ordering
 fn delta_cmp(a: &Delta, b: &Delta) -> Ordering
     ensures { result ≡ delta_cmp a.now b.now }
 {
-    a.from.cmp(&b.from).then(a.to.cmp(&b.to))
+    a.from.cmp(&b.from).then_with(|| a.to.cmp(&b.to))
 }
 
 // How two sets of names compare: by their members in order.
