@@ -1,4 +1,4 @@
--- What a pass over hashes tells of held entries and of those of a content.
+-- What a pass over entries in order tells of held ones and of those of a content.
 use Rattle.std.proofs.Common.{◌≡◌, ℕ, ◌==◌, Bool, true, false, cond, not, ◌&&◌, ◌||◌, List, [], ◌∷◌, length, map}
 use Rattle.std.proofs.Common.{get_or, suc, Option, Some, None, is_none, option_map, refl, sym, ap, ◌∙◌, arith}
 use Rattle.std.specs.List.{All, filter, list_all, list_any}
