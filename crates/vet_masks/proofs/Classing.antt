@@ -1,5 +1,6 @@
 -- What the searches of a package say of its versions.
-use Rattle.std.proofs.Common.{◌≡◌, ◌↔◌, ◌<◌, ℕ, Bool, true, false, List, [], Option, Some, None, get_or, is_some, length}
+use Rattle.std.proofs.Common.{◌≡◌, ◌↔◌, ◌<◌, ℕ, Bool, true, false, List, [], Option, Some, None, get_or, is_some}
+use Rattle.std.proofs.Common.{length}
 use Rattle.std.proofs.Common.{unwrap_or, Vec, Global, refl, sym, ap, ◌∙◌, arith, inl, inr}
 use Rattle.std.specs.FinSet as set
 use Rattle.std.specs.List.{Contains}
@@ -17,7 +18,8 @@ use Rattle.vet_graph.specs.ClassAtLaws.{class_at-unique}
 use Rattle.vet_graph.specs.declared.class.Class.TheVariants.{Exempted, Full, Partial, Unvetted}
 use Rattle.vet_masks.specs.declared.classes.PackageClasses.{PackageClasses}
 use Rattle.vet_masks.specs.declared.index.Ends.{Ends}
-use Rattle.vet_masks.specs.Classes.{AreClasses, AreReached, IsFound, LeadToNone, bars_nothing, exempt_number, held_at, held_by}
+use Rattle.vet_masks.specs.Classes.{AreClasses, AreReached, IsFound, LeadToNone, bars_nothing, exempt_number}
+use Rattle.vet_masks.specs.Classes.{held_at, held_by}
 use Rattle.vet_masks.specs.Classes.{is_taken_by, is_wanted, takes_each}
 use Rattle.vet_masks.specs.Exempt.{exempt_versions, place_in}
 use Rattle.vet_masks.specs.Index.{ends_of, no_ends, number_of}
@@ -67,8 +69,8 @@ module _ (steps : List Step) (condemned : Condemned) (p : PackageClasses) (f : I
   number-low v n e =
       omega (arith, f.exempt.count, (place-at (number_of (numbers_in p.index) v) versions n (place-of v n e)).0)
 
-  pub number-apart : (v : VersionValue) → is_some (numbers_in p.index v) ≡ true → (s : Step) → Contains steps s → (n : ℕ)
-      → number s.target ≡ Some n → number v ≡ Some n → s.target ≡ v
+  pub number-apart : (v : VersionValue) → is_some (numbers_in p.index v) ≡ true → (s : Step) → Contains steps s
+      → (n : ℕ) → number s.target ≡ Some n → number v ≡ Some n → s.target ≡ v
   number-apart v known s k n d e =
       let numbers = numbers_in p.index in
       let same : number_of numbers s.target ≡ number_of numbers v =
@@ -87,8 +89,8 @@ module _ (steps : List Step) (condemned : Condemned) (p : PackageClasses) (h : A
 
     vouched : (i : ℕ) → i < length p.clean.items → (has c (held_at p.clean.items i n) ≡ true)
         ↔ IsVouched steps condemned (is_taken_by (number steps condemned p h.found) (rule_of i)) c v
-    vouched i l = reached-vouched steps p.index condemned (is_taken_by (number steps condemned p h.found) (rule_of i)) (held_by p.clean.items i)
-        h.found.index (h.found.clean i l).reaches v n known c
+    vouched i l = reached-vouched steps p.index condemned (is_taken_by (number steps condemned p h.found) (rule_of i))
+        (held_by p.clean.items i) h.found.index (h.found.clean i l).reaches v n known c
 
     pub full-iff : (has c (held_at p.clean.items 0 n) ≡ true) ↔ IsFull steps condemned c v
     full-iff = (
@@ -117,7 +119,8 @@ module _ (steps : List Step) (condemned : Condemned) (p : PackageClasses) (h : A
         w.0,
         w.1,
         w.2,
-        ends-reviewed steps (number steps condemned p h.found) (rule_of r.0) c v w.0 w.1 (ap (skips (rule_of r.0)) (sym exempt-at) ∙ r.2) w.3,
+        ends-reviewed steps (number steps condemned p h.found) (rule_of r.0) c v w.0 w.1
+            (ap (skips (rule_of r.0)) (sym exempt-at) ∙ r.2) w.3,
       )),
       λ w. (let t = review-takes steps h.found.starts (number steps condemned p h.found)
           p.exempt.count (length p.clean.items) h.enough (numbered steps condemned p h.found) c v
@@ -132,7 +135,8 @@ module _ (steps : List Step) (condemned : Condemned) (p : PackageClasses) (h : A
     pub chain-iff : (held : Vec CriteriaSet Global) → AreReached steps p.index bars_nothing takes_each held.items
         → (has c (get_or held.items n set.empty) ≡ true) ↔ HasChain steps c v
     chain-iff held r =
-        let same = reached-vouched steps p.index bars_nothing takes_each held.items h.found.index r.reaches v n known c in (
+        let same =
+        reached-vouched steps p.index bars_nothing takes_each held.items h.found.index r.reaches v n known c in (
           λ e. (let w = same.0 e in (w.0, w.1)),
           λ w. same.1 (w.0, w.1, λ k d l. refl, λ k d l. refl),
         )
@@ -146,8 +150,8 @@ module _ (steps : List Step) (condemned : Condemned) (p : PackageClasses) (h : A
     ]
 
     -- what the first search reached at the version, as it was read there
-    pub first-at : (l : Vec CriteriaSet Global) → l ≡ get_or p.clean.items 0 l → (s : CriteriaSet) → s ≡ get_or l.items n s
-        → has c (held_at p.clean.items 0 n) ≡ has c s
+    pub first-at : (l : Vec CriteriaSet Global) → l ≡ get_or p.clean.items 0 l → (s : CriteriaSet)
+        → s ≡ get_or l.items n s → has c (held_at p.clean.items 0 n) ≡ has c s
     first-at l is s at =
         let same = held-is p.clean.items 0 l h.enough.some is in
         let low : n < length l.items = omega (

@@ -1,5 +1,6 @@
 -- The places of versions among those to which exempt steps lead.
-use Rattle.std.proofs.Common.{◌≡◌, ◌≢◌, ◌&&◌, ◌||◌, ◌==◌, ◌+◌, ◌<◌, ◌≤◌, ℕ, zero, suc, Bool, true, false, not, cond, List}
+use Rattle.std.proofs.Common.{◌≡◌, ◌≢◌, ◌&&◌, ◌||◌, ◌==◌, ◌+◌, ◌<◌, ◌≤◌, ℕ, zero, suc, Bool, true, false, not, cond}
+use Rattle.std.proofs.Common.{List}
 use Rattle.std.proofs.Common.{[], ◌∷◌, ◌++◌, Option, Some, None, get_or, length, option_map, is_some, take, drop}
 use Rattle.std.proofs.Common.{set as setn, refl, sym, ap, ◌∙◌, arith, eqb-true, eq-eqb, inl, inr}
 use Rattle.std.proofs.lemmas.Bool.{cases_Bool, cases_eq, false≢true, ne_eqb}
@@ -150,7 +151,8 @@ push_last versions m = elim (cases_Bool (is_some (place_in m versions))) [
     is_none (Some x) h = absurd (false≢true (sym h))
 
 -- an exempt step's version has a place
-target_in : (versions : List ℕ) (e : Ends) → e.exempt ≡ true → is_some (place_in e.target (with_target versions e)) ≡ true
+target_in : (versions : List ℕ) (e : Ends) → e.exempt ≡ true
+    → is_some (place_in e.target (with_target versions e)) ≡ true
 target_in versions e h = elim (cases_Bool (is_in e.target versions)) [
   | inl there ↦ ap (λ vs. is_some (place_in e.target vs)) (adds-nothing versions e
       (λ i. h i && not (there i)))

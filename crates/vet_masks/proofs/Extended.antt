@@ -47,15 +47,20 @@ used-onward steps n c h =
     ap (list_any f) (sym (take-append-drop n steps)) ∙ list_any-append f (take n steps) (drop n steps)
     ∙ or_true (list_any f (take n steps)) (list_any f (drop n steps)) h
 
+-- the versions of the first steps keep their numbers
+pub first-ends : (steps : List Step) (n : ℕ) (old new : Index) → IsIndex (take n steps) old → IsIndex steps new
+    → Keeps (numbers_in old) (numbers_in new) → old.ends.items ≡ take n new.ends.items
+first-ends steps n old new h k keeps = h.ends
+    ∙ ends-kept (take n steps) (numbers_in old) (numbers_in new) keeps h.named
+    ∙ sym (ap (take n) k.ends ∙ take-map (ends_of (numbers_in new)) n steps)
+
 -- what was spent for the first steps, all of it passed on, was spent for these
 pub spent-before : (steps : List Step) (n : ℕ) (old new : Index) (held : List Places)
     → IsIndex (take n steps) old → IsIndex steps new → Keeps (numbers_in old) (numbers_in new)
     → spent (size most old.used) held old.ends.items ≤ spent (size most new.used) held (take n new.ends.items)
 spent-before steps n old new held h k keeps =
-    let ends : old.ends.items ≡ take n new.ends.items = h.ends
-    ∙ ends-kept (take n steps) (numbers_in old) (numbers_in new) keeps h.named
-    ∙ sym (ap (take n) k.ends ∙ take-map (ends_of (numbers_in new)) n steps) in
-    rw (← ends) (spent-grows (size most old.used) (size most new.used) held held old.ends.items
+    rw (← first-ends steps n old new h k keeps)
+    (spent-grows (size most old.used) (size most new.used) held held old.ends.items
     (size-le most old.used new.used (λ c e. k.used c ∙ used-onward steps n c (sym (h.used c) ∙ e)))
     (λ i. omega arith))
 

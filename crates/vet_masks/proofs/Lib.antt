@@ -7,7 +7,9 @@ pub mod Extended
 pub mod Extending
 pub mod FirstSteps
 pub mod Flags
+pub mod Growing
 pub mod Indexing
+pub mod Judging
 pub mod Onward
 pub mod Passing
 pub mod Popped

@@ -1,5 +1,6 @@
 -- What was found of a package's versions (ours).
-use Rattle.std.specs.Prelude.{◌≡◌, ◌<◌, ◌≤◌, ◌+◌, ◌&&◌, ◌||◌, ℕ, Bool, true, false, not, List, [], ◌∷◌, Option, Some, None, map}
+use Rattle.std.specs.Prelude.{◌≡◌, ◌<◌, ◌≤◌, ◌+◌, ◌&&◌, ◌||◌, ℕ, Bool, true, false, not, List, [], ◌∷◌, Option}
+use Rattle.std.specs.Prelude.{Some, None, map}
 use Rattle.std.specs.Prelude.{◌++◌, MatchOption, Vec, get_or, length}
 use Rattle.std.specs.Option.{option_map_or}
 use Rattle.std.specs.BTreeMap.{get}
@@ -74,9 +75,22 @@ unfoldable pub spent_by : ℕ → List (List Places) → List Ends → ℕ
 spent_by u [] ends = 0
 spent_by u (held ∷ rest) ends = spent u held ends + spent_by u rest ends
 
+-- what each search through no condemned version reached
+abbrev pub held_by_all : List (Vec CriteriaSet Global) → List (List Places)
+held_by_all searches = map (λ l. l.items) searches
+
+-- what the search through any version reached, if there is one
+abbrev pub held_if_any : Option (Vec CriteriaSet Global) → List (List Places)
+held_if_any any = option_map_or (λ l. l.items ∷ []) any []
+
 -- what each search reached
 abbrev pub all_held : PackageClasses → List (List Places)
-all_held p = option_map_or (λ any. any.items ∷ []) p.any [] ++ map (λ l. l.items) p.clean.items
+all_held p = held_if_any p.any ++ held_by_all p.clean.items
+
+-- where there is a search through any version, this is what it reached; where there is none, none is wanted
+abbrev pub IsAny : List Step → Condemned → Index → Option (Vec CriteriaSet Global) → Type 0
+IsAny steps condemned index any = MatchOption any (LeadToNone condemned steps)
+    (λ l. AreReached steps index bars_nothing takes_each l.items)
 
 -- this was found of a package with these steps and condemned versions, by so many looks at most
 pub record IsFound (steps : List Step) (condemned : Condemned) (p : PackageClasses) : Type 0 where
@@ -87,10 +101,10 @@ pub record IsFound (steps : List Step) (condemned : Condemned) (p : PackageClass
   pub exempt : AreExemptNumbers p.index.ends.items p.exempt
   pub versions : length p.exempt.numbers.items ≡ length p.index.after.items
   pub few : length p.clean.items ≤ p.exempt.count + 2
+  pub below : length p.clean.items < 130
   pub clean : (i : ℕ) → i < length p.clean.items → AreReached steps p.index condemned
       (is_taken_by (exempt_number p.index p.exempt.numbers.items) (rule_of i)) (held_by p.clean.items i)
-  pub any : MatchOption p.any (LeadToNone condemned steps)
-      (λ any. AreReached steps p.index bars_nothing takes_each any.items)
+  pub any : IsAny steps condemned p.index p.any
   pub looks : p.looks.count ≤ length steps + spent_by (size most p.index.used) (all_held p) p.index.ends.items
 
 -- and it is enough for the class of each version

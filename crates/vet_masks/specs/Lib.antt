@@ -1,6 +1,7 @@
 pub mod Classes
 pub mod Counted
 pub mod Exempt
+pub mod Growing
 pub mod Index
 pub mod Looked
 pub mod Masks

@@ -14,6 +14,7 @@
 
 mod classes;
 mod exempt;
+mod grown;
 mod index;
 pub mod looks;
 mod masks;

@@ -33,6 +33,17 @@ impl Looks {
         Looks { steps, count: 0 }
     }
 
+    // Others, with the count of these.
+    pub(crate) fn over_others(&self, steps: Vec<Step>) -> Looks
+        ensures steps { result.steps ≡ steps.items }
+        ensures count { result.count ≡ self.now.count }
+    {
+        Looks {
+            steps,
+            count: self.count,
+        }
+    }
+
     /// How many steps there are. Takes no memory.
     pub fn len(&self) -> usize
         ensures { result ≡ length self.now.steps }

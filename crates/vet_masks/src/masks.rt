@@ -5,7 +5,8 @@
 //!
 //! Why a search ends, and how often it looks at a step. Each turn of a version passes on at least one criterion more,
 //! and no criterion passes twice along a step. So each look at a step is paid by a criterion.
-ghost use Rattle.std.specs.Prelude.{◌≡◌, ◌+◌, ◌*◌, ◌-◌, ◌^◌, ◌<◌, ◌≤◌, ◌&&◌, ℕ, true, false, not, IfOk, IfErr, [], Some};
+ghost use Rattle.std.specs.Prelude.{◌≡◌, ◌+◌, ◌*◌, ◌-◌, ◌^◌, ◌<◌, ◌≤◌, ◌&&◌, ℕ, true, false, not, IfOk, IfErr, []};
+ghost use Rattle.std.specs.Prelude.{Some};
 ghost use Rattle.std.specs.Prelude.{get_or, length, set};
 ghost use Rattle.std.specs.Prelude.{take as taken};
 ghost use Rattle.std.specs.FinSet as places;

@@ -3,7 +3,7 @@
 //! A chain starts from nothing once, so it has at most one exempt step, its first. A chain that ends in a review may
 //! start with an exempt step to another version alone. Number the versions that have an exempt step: two different
 //! numbers differ in some binary digit. So for each digit, and for each of its two values, one search takes the exempt
-//! steps to the versions whose number has that digit. That is two searches for each digit, and not one for each version.
+//! steps to the versions whose number has that digit. That is two searches a digit, and not one a version.
 ghost use Rattle.std.specs.Prelude.{◌≡◌, ◌⊎◌, ◌+◌, ◌-◌, ◌^◌, ◌<◌, ◌≤◌};
 ghost use Rattle.vet_masks.specs.Rules.{AreEnough, has_digit, rule_of, skips};
 

@@ -176,7 +176,7 @@ fn skipped_by(alloc: Global, index: &Index, skip: &Skip<'_>) -> Result<Vec<bool>
 }
 
 // The same flag for each of some versions.
-fn all_flags(alloc: Global, flag: bool, count: usize) -> Result<Vec<bool>, Refusal>
+pub(crate) fn all_flags(alloc: Global, flag: bool, count: usize) -> Result<Vec<bool>, Refusal>
     ensures ok { IfOk result (λ flags. flags.items ≡ replicate count flag) }
     ensures memory { IfErr result (λ e. e ≡ Refusal.NoMemory) }
 {

@@ -1,4 +1,5 @@
-use Rattle.std.proofs.Common.{◌++◌, ◌∷◌, ◌<◌, ◌-◌, [], None, Option, ℕ, get_or, length, replicate, take, sym, ap, ◌∙◌, subst, arith}
+use Rattle.std.proofs.Common.{◌++◌, ◌∷◌, ◌<◌, ◌-◌, [], None, Option, ℕ, get_or, length, replicate, take, sym, ap}
+use Rattle.std.proofs.Common.{◌∙◌, subst, arith}
 use Rattle.std.proofs.lemmas.List.{length-append, length-replicate, length-take-le, take_more}
 use Rattle.vet_masks.specs.Exempt.{AreExemptNumbers}
 use Rattle.vet_masks.proofs.Copies.{get_or-filled}
@@ -35,7 +36,8 @@ add-requires-clause-count c =
       arith,
       c.steps.invariant.numbers.count,
       most-behind [] (take c.steps.place ends),
-      length-take-le c.steps.place ends (omega (arith, c.steps-test.true, c.len-place-end.ensures, c.args.index.now.ends.ok)),
+      length-take-le c.steps.place ends
+          (omega (arith, c.steps-test.true, c.len-place-end.ensures, c.args.index.now.ends.ok)),
       c.args.index.now.ends.ok,
       c.args.index.now.ends.small,
     )
