@@ -13,6 +13,7 @@ pub mod Judging
 pub mod Onward
 pub mod Passing
 pub mod Popped
+pub mod Same
 pub mod Sizes
 pub mod Sounds
 pub mod Taken

@@ -3,6 +3,7 @@ pub mod Counted
 pub mod Exempt
 pub mod Growing
 pub mod Index
+pub mod Kept
 pub mod Looked
 pub mod Masks
 pub mod Reached

@@ -16,6 +16,7 @@ mod classes;
 mod exempt;
 mod grown;
 mod index;
+mod kept;
 pub mod looks;
 mod masks;
 mod reach;

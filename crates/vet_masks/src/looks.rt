@@ -1,8 +1,9 @@
 //! Steps that can be seen only by looks, which are counted.
-ghost use Rattle.std.specs.Prelude.{◌≡◌, ◌-◌, ◌^◌, ◌<◌, length, Some, slice_get};
+ghost use Rattle.std.specs.Prelude.{◌≡◌, ◌↔◌, ◌-◌, ◌^◌, ◌<◌, IsTrue, length, Some, slice_get, take};
 ghost use Rattle.std.specs.Borrow.{sem};
 ghost use Rattle.vet_masks.specs.Looked.{CountsOne};
 
+use crate::kept::is_same_set;
 use std::marker::Model;
 use vet_entries::step::Step;
 
@@ -44,6 +45,21 @@ impl Looks {
         }
     }
 
+    // Whether these are the first of some steps. Compares them, and shows none.
+    pub(crate) fn are_first_of(&self, steps: &[Step]) -> bool
+        ensures { IsTrue result ↔ (take (length self.now.steps) steps.now ≡ self.now.steps) }
+    {
+        if steps.len() < self.steps.len() {
+            return false;
+        }
+        'steps: for place in 0..self.steps.len() {
+            if !is_same(&self.steps[place], &steps[place]) {
+                return false;
+            }
+        }
+        true
+    }
+
     /// How many steps there are. Takes no memory.
     pub fn len(&self) -> usize
         ensures { result ≡ length self.now.steps }
@@ -69,4 +85,20 @@ impl Looks {
         self.count += 1;
         &self.steps[place]
     }
+}
+
+// Whether two steps are the same.
+fn is_same(step: &Step, other: &Step) -> bool
+    ensures { IsTrue result ↔ (step.now ≡ other.now) }
+{
+    if step.origin != other.origin {
+        return false;
+    }
+    if step.target != other.target {
+        return false;
+    }
+    if step.exempt != other.exempt {
+        return false;
+    }
+    is_same_set(&step.criteria, &other.criteria)
 }

@@ -1,0 +1,126 @@
+//! What is kept of a package from one change to the next.
+ghost use Rattle.std.specs.Prelude.{◌≡◌, ◌↔◌, ◌≤◌, ℕ, IfOk, IfErr, IsTrue, List, length, take};
+ghost use Rattle.std.specs.List.{All};
+ghost use Rattle.vet_entries.specs.Condemned.{condemned_by};
+ghost use Rattle.vet_entries.specs.declared.step.Step.{Step};
+ghost use Rattle.vet_graph.specs.Chain.{Condemned};
+ghost use Rattle.vet_masks.specs.Classes.{AreJudged, IsFound, StartsExempt};
+ghost use Rattle.vet_masks.specs.Kept.{IsGrown, IsKept};
+
+use crate::classes::PackageClasses;
+use std::alloc::Global;
+use vet_base::criteria_set::CriteriaSet;
+use vet_base::refusal::Refusal;
+use vet_entries::condemned::{Violation, condemned_by};
+use vet_entries::judge::merged;
+use vet_entries::step::Step;
+
+// What was found of a package, and the violations by which its versions were judged, those of one requirement as one.
+#[derive(Drop)]
+pub(crate) struct KeptPackage {
+    pub(crate) violations: Vec<Violation>,
+    pub(crate) classes: PackageClasses,
+}
+
+impl KeptPackage {
+    // Of these steps and violations, of which nothing is kept.
+    pub(crate) fn found(
+        alloc: Global,
+        steps: Vec<Step>,
+        violations: &[Violation],
+    ) -> Result<KeptPackage, Refusal>
+        requires starts { All StartsExempt steps.items }
+        ensures kept { IfOk result (IsKept steps.items (condemned_by violations.now)) }
+        ensures memory { IfErr result (λ e. e ≡ Refusal.NoMemory) }
+    {
+        let violations = merged(alloc, violations)?;
+        let nothing = PackageClasses::nothing(alloc);
+        let classes = nothing.extended(alloc, steps, violations.as_slice())?;
+        Ok(KeptPackage {
+            violations,
+            classes,
+        })
+    }
+
+    // Of these steps and violations, from what is kept: extended where the package has grown, and otherwise found anew.
+    pub(crate) fn after(
+        &self,
+        alloc: Global,
+        steps: Vec<Step>,
+        violations: &[Violation],
+    ) -> Result<KeptPackage, Refusal>
+        requires starts { All StartsExempt steps.items }
+        requires kept { (old_steps : List Step) × (old : Condemned) × IsKept old_steps old self.now }
+        ensures kept { IfOk result (IsKept steps.items (condemned_by violations.now)) }
+        ensures looks { IfOk result (λ k. IsGrown steps.items (condemned_by violations.now) self.now
+            → self.now.classes.looks.count ≤ k.classes.looks.count) }
+        ensures memory { IfErr result (λ e. e ≡ Refusal.NoMemory) }
+    {
+        let merged = merged(alloc, violations)?;
+        if !self.has_grown(steps.as_slice(), merged.as_slice()) {
+            return KeptPackage::found(alloc, steps, merged.as_slice());
+        }
+        let classes = self.classes.extended(alloc, steps, merged.as_slice())?;
+        Ok(KeptPackage {
+            violations: merged,
+            classes,
+        })
+    }
+
+    // Whether these steps are those that are kept and then none or more, and these violations condemn each version that
+    // the kept ones name as it was condemned. Violations that are the same need no look at versions.
+    fn has_grown(&self, steps: &[Step], violations: &[Violation]) -> bool
+        requires kept { (old_steps : List Step) × (old : Condemned) × IsKept old_steps old self.now }
+        ensures { IsTrue result ↔ IsGrown steps.now (condemned_by violations.now) self.now }
+    {
+        if !self.classes.looks.are_first_of(steps) {
+            return false;
+        }
+        are_same(self.violations.as_slice(), violations) || self.classes.are_judged_by(violations)
+    }
+}
+
+impl PackageClasses {
+    // Whether violations condemn each version that steps name for the criteria that are held of it.
+    fn are_judged_by(&self, violations: &[Violation]) -> bool
+        requires { (steps : List Step) × (condemned : Condemned) × IsFound steps condemned self.now }
+        ensures { IsTrue result ↔ AreJudged self.now.index (condemned_by violations.now) self.now.condemned.items }
+    {
+        'versions: for (version, number) in self.index.numbers.iter() {
+            let condemned = condemned_by(violations, version);
+            if !is_same_set(&condemned, &self.condemned[*number]) {
+                return false;
+            }
+        }
+        true
+    }
+}
+
+// Whether two lists of violations are the same.
+fn are_same(held: &[Violation], violations: &[Violation]) -> bool
+    ensures { IsTrue result → held.now ≡ violations.now }
+{
+    if held.len() != violations.len() {
+        return false;
+    }
+    'violations: for place in 0..held.len() {
+        if !is_same(&held[place], &violations[place]) {
+            return false;
+        }
+    }
+    true
+}
+
+// Whether two violations are the same.
+fn is_same(held: &Violation, violation: &Violation) -> bool
+    ensures { IsTrue result ↔ (held.now ≡ violation.now) }
+{
+    held.requirement == violation.requirement && is_same_set(&held.criteria, &violation.criteria)
+}
+
+// Whether two sets are the same.
+pub(crate) fn is_same_set(set: &CriteriaSet, other: &CriteriaSet) -> bool
+    ensures { IsTrue result ↔ (set.now ≡ other.now) }
+{
+    !set.exceeds(other) && !other.exceeds(set)
+}
