@@ -16,6 +16,7 @@ pub mod Popped
 pub mod Same
 pub mod Sizes
 pub mod Sounds
+pub mod Spending
 pub mod Taken
 pub mod Used
 pub mod Whole

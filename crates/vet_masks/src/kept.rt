@@ -1,15 +1,17 @@
 //! What is kept of a package from one change to the next.
-ghost use Rattle.std.specs.Prelude.{◌≡◌, ◌↔◌, ◌≤◌, ℕ, IfOk, IfErr, IsTrue, List, length, take};
+ghost use Rattle.std.specs.Prelude.{◌≡◌, ◌↔◌, ◌+◌, ◌*◌, ◌≤◌, ℕ, IfOk, IfErr, IsTrue, List, length, take};
 ghost use Rattle.std.specs.List.{All};
 ghost use Rattle.vet_entries.specs.Condemned.{condemned_by};
 ghost use Rattle.vet_entries.specs.declared.step.Step.{Step};
 ghost use Rattle.vet_graph.specs.Chain.{Condemned};
 ghost use Rattle.vet_masks.specs.Classes.{AreJudged, IsFound, StartsExempt};
 ghost use Rattle.vet_masks.specs.Kept.{IsGrown, IsKept};
+ghost use Rattle.vet_masks.specs.Reached.{used_below};
 
 use crate::classes::PackageClasses;
 use std::alloc::Global;
 use vet_base::criteria_set::CriteriaSet;
+use vet_base::limits::MOST_CRITERIA;
 use vet_base::refusal::Refusal;
 use vet_entries::condemned::{Violation, condemned_by};
 use vet_entries::judge::merged;
@@ -65,6 +67,16 @@ impl KeptPackage {
             violations: merged,
             classes,
         })
+    }
+
+    // How many looks were made at the package's steps, since what was found of it was last found anew. Where e versions
+    // have an exempt step, that is at most e + 3 searches, each of a look at each step and one more for each criterion.
+    pub(crate) fn looks(&self) -> u128
+        ensures value { result ≡ self.now.classes.looks.count }
+        ensures bound { (steps : List Step) (condemned : Condemned) → IsKept steps condemned self.now
+            → result ≤ (self.now.classes.exempt.count + 3) * (length steps * (used_below MOST_CRITERIA steps + 1)) }
+    {
+        self.classes.looks.count()
     }
 
     // Whether these steps are those that are kept and then none or more, and these violations condemn each version that

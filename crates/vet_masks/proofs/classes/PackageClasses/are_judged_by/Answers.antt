@@ -65,8 +65,8 @@ versions-preserved c =
       next = tt;
       finite = tt;
       known = All-tail IsKnown (v, n) c.next.new.self all;
-      each = judged-kept (numbers_in c.args.self.now.index) _ f.index.numbering (condemned_by c.args.violations.now) sets
-          v n known c.next.new.self (rw c.in-Some.ensures.steps at c.versions.invariant.each)
+      each = judged-kept (numbers_in c.args.self.now.index) _ f.index.numbering (condemned_by c.args.violations.now)
+          sets v n known c.next.new.self (rw c.in-Some.ensures.steps at c.versions.invariant.each)
           (λ q. ap (has q) (get_or_default sets n set.empty c.index.result.now
           (omega (arith, f.index.numbering.below v n known, f.judged.count)) ∙ sym c.index.ensures
           ∙ sym (c.is_same_set.ensures.0 c.if-not-is_same_set.false)) ∙ c.condemned_by-condemned.ensures q);
