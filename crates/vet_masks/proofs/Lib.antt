@@ -11,12 +11,14 @@ pub mod Growing
 pub mod Indexing
 pub mod Judging
 pub mod Onward
+pub mod PackageMoves
 pub mod Passing
 pub mod Popped
 pub mod Same
 pub mod Sizes
 pub mod Sounds
 pub mod Spending
+pub mod Standings
 pub mod Taken
 pub mod Used
 pub mod Whole

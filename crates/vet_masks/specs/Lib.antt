@@ -8,4 +8,5 @@ pub mod Looked
 pub mod Masks
 pub mod Reached
 pub mod Rules
+pub mod Standings
 pub mod Vouched

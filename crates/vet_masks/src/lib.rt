@@ -22,3 +22,4 @@ mod masks;
 mod reach;
 mod rule;
 pub mod search;
+mod standing;
