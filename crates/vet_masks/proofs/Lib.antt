@@ -12,6 +12,7 @@ pub mod Indexing
 pub mod Judging
 pub mod Onward
 pub mod PackageMoves
+pub mod Parts
 pub mod Passing
 pub mod Popped
 pub mod Same

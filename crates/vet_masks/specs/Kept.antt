@@ -1,8 +1,12 @@
 -- What is kept of a package from one change to the next (ours).
-use Rattle.std.specs.Prelude.{◌≡◌, List, length, take}
+use Rattle.std.specs.Prelude.{◌≡◌, List, length, map, take}
 use Rattle.vet_entries.specs.Condemned.{condemned_by}
+use Rattle.vet_base.specs.Criteria.{Criteria}
+use Rattle.vet_demand.specs.declared.pair.Pair.{Pair}
 use Rattle.vet_entries.specs.declared.step.Step.{Step}
 use Rattle.vet_graph.specs.Chain.{Condemned}
+use Rattle.vet_graph.specs.declared.standing.Stand.{Stand}
+use Rattle.vet_graph.specs.StandingOf.{class_by}
 use Rattle.vet_masks.specs.declared.kept.KeptPackage.{KeptPackage}
 use Rattle.vet_masks.specs.Classes.{AreClasses, AreJudged}
 
@@ -16,3 +20,8 @@ pub record IsKept (steps : List Step) (condemned : Condemned) (k : KeptPackage) 
 pub record IsGrown (steps : List Step) (condemned : Condemned) (k : KeptPackage) : Type 0 where
   pub first : take (length k.classes.looks.steps) steps ≡ k.classes.looks.steps
   pub judged : AreJudged k.classes.index condemned k.classes.condemned.items
+
+-- pairs with their classes, by their package's steps and condemned versions
+abbrev pub stands_by : Criteria → List Step → Condemned → List Pair → List Stand
+stands_by criteria steps condemned pairs =
+    map (λ p. record { pair = p; class = class_by criteria steps condemned p }) pairs

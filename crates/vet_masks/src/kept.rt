@@ -5,17 +5,22 @@ ghost use Rattle.vet_entries.specs.Condemned.{condemned_by};
 ghost use Rattle.vet_entries.specs.declared.step.Step.{Step};
 ghost use Rattle.vet_graph.specs.Chain.{Condemned};
 ghost use Rattle.vet_masks.specs.Classes.{AreJudged, IsFound, StartsExempt};
-ghost use Rattle.vet_masks.specs.Kept.{IsGrown, IsKept};
+ghost use Rattle.vet_graph.specs.StandingOf.{class_by};
+ghost use Rattle.vet_masks.specs.Kept.{IsGrown, IsKept, stands_by};
 ghost use Rattle.vet_masks.specs.Reached.{used_below};
 
 use crate::classes::PackageClasses;
 use std::alloc::Global;
 use vet_base::criteria_set::CriteriaSet;
+use vet_base::criteria_table::CriteriaTable;
 use vet_base::limits::MOST_CRITERIA;
 use vet_base::refusal::Refusal;
+use vet_demand::pair::Pair;
 use vet_entries::condemned::{Violation, condemned_by};
 use vet_entries::judge::merged;
 use vet_entries::step::Step;
+use vet_graph::class::Class;
+use vet_graph::standing::Stand;
 
 // What was found of a package, and the violations by which its versions were judged, those of one requirement as one.
 #[derive(Drop)]
@@ -67,6 +72,51 @@ impl KeptPackage {
             violations: merged,
             classes,
         })
+    }
+
+    // Pairs of the package, each with its class.
+    pub(crate) fn stands(
+        &self,
+        alloc: Global,
+        criteria: &CriteriaTable,
+        pairs: &[Pair],
+    ) -> Result<Vec<Stand>, Refusal>
+        requires { (steps : List Step) × (condemned : Condemned) × IsKept steps condemned self.now }
+        ensures stands { IfOk result (λ stands. (steps : List Step) (condemned : Condemned)
+            → IsKept steps condemned self.now → stands.items ≡ stands_by criteria.now steps condemned pairs.now) }
+        ensures memory { IfErr result (λ e. e ≡ Refusal.NoMemory) }
+    {
+        let mut stands = Vec::new(alloc);
+        'pairs: for place in 0..pairs.len() {
+            stands.push(self.stand(criteria, &pairs[place])?)?;
+        }
+        Ok(stands)
+    }
+
+    // A pair of the package with its class.
+    fn stand(&self, criteria: &CriteriaTable, pair: &Pair) -> Result<Stand, Refusal>
+        requires { (steps : List Step) × (condemned : Condemned) × IsKept steps condemned self.now }
+        ensures ok { IfOk result (λ stand. (steps : List Step) (condemned : Condemned) → IsKept steps condemned self.now
+            → stand ≡ record { pair = pair.now; class = class_by criteria.now steps condemned pair.now }) }
+        ensures memory { IfErr result (λ e. e ≡ Refusal.NoMemory) }
+    {
+        let class = self.class(criteria, pair);
+        Ok(Stand {
+            pair: pair.clone()?,
+            class,
+        })
+    }
+
+    // The class of a pair of the package: the last one where the table lacks its criterion.
+    fn class(&self, criteria: &CriteriaTable, pair: &Pair) -> Class
+        requires { (steps : List Step) × (condemned : Condemned) × IsKept steps condemned self.now }
+        ensures { (steps : List Step) (condemned : Condemned) → IsKept steps condemned self.now
+            → result ≡ class_by criteria.now steps condemned pair.now }
+    {
+        match criteria.place(&pair.criterion) {
+            Some(place) => self.classes.class(place, &pair.version),
+            None => Class::Unvetted,
+        }
     }
 
     // How many looks were made at the package's steps, since what was found of it was last found anew. Where e versions
