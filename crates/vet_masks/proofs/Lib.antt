@@ -1,6 +1,7 @@
 pub mod Barring
 pub mod Classing
 pub mod Copies
+pub mod Counting
 pub mod Digits
 pub mod ExemptVersions
 pub mod Extended
@@ -20,6 +21,7 @@ pub mod Sizes
 pub mod Sounds
 pub mod Spending
 pub mod Standings
+pub mod StepsOf
 pub mod Taken
 pub mod Used
 pub mod Whole

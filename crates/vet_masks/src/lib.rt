@@ -13,6 +13,7 @@
 #![tactic(auto)]
 
 mod classes;
+mod counts;
 mod exempt;
 mod grown;
 mod index;
