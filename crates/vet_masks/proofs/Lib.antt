@@ -11,6 +11,7 @@ pub mod Flags
 pub mod Growing
 pub mod Indexing
 pub mod Judging
+pub mod Keeping
 pub mod Onward
 pub mod PackageMoves
 pub mod Parts

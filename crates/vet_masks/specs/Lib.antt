@@ -6,6 +6,7 @@ pub mod Index
 pub mod Kept
 pub mod Looked
 pub mod Masks
+pub mod Packages
 pub mod Reached
 pub mod Rules
 pub mod Standings

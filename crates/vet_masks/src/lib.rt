@@ -20,6 +20,7 @@ mod index;
 mod kept;
 pub mod looks;
 mod masks;
+mod packages;
 mod reach;
 mod rule;
 pub mod search;
