@@ -45,8 +45,7 @@ abbrev pub delta_step : Places → Delta → Step
 delta_step criteria delta = record { origin = Some delta.from; target = delta.to; criteria = criteria; exempt = false }
 
 -- the steps of a kind: a full entry gives one, from nothing to its version, and an exemption the same, exempt; a delta
--- gives
--- one between its versions; a wildcard entry and a trusted one give those of their windows, and a violation none
+-- gives one between its versions; a wildcard entry and a trusted one give those of their windows; and a violation none
 abbrev pub kind_steps : Places → List Publisher → Kind → List Step
 kind_steps criteria records (Full version audit) = first_step criteria false version ∷ []
 kind_steps criteria records (kind.Delta delta audit) = delta_step criteria delta ∷ []
