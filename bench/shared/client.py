@@ -9,6 +9,10 @@ from shared.registers import compare
 CLIENT = os.path.join(os.path.dirname(os.path.dirname(os.path.abspath(__file__))), "client.c")
 
 
+class Unanswered(RuntimeError):
+    """A request had no reply: a connection lasts 30 seconds."""
+
+
 class Answers(NamedTuple):
     """What a server took for a request, in us: of a processor, and by the client's clock. How long a processor had
     worked for it before, in ms. Then the status and the body of each reply."""
@@ -32,11 +36,14 @@ class Client:
         words = [self.program, str(server.port), str(server.process.pid)]
         done = subprocess.run(words, input=text, capture_output=True, timeout=400)
         if done.returncode != 0:
-            raise RuntimeError(f"{server.process.args[0]}: status {done.returncode}: {done.stderr.decode()}")
+            raise Unanswered(f"no reply: status {done.returncode}: {done.stderr.decode().strip()}")
         times, _, rest = done.stdout.partition(b"\n")
         wall, before, after = map(int, times.split())
-        told = [(reply[9:12], reply.partition(b"\r\n\r\n")[2]) for reply in replies_in(rest)]
-        compare("replies", len(told), len(requests))
+        replies = list(replies_in(rest))
+        compare("replies", len(replies), len(requests))
+        if not all(replies):
+            raise Unanswered("no reply")
+        told = [(reply[9:12], reply.partition(b"\r\n\r\n")[2]) for reply in replies]
         return Answers((after - before) / 1e3 / len(told), wall / 1e3 / len(told), before / 1e6, told)
 
 

@@ -67,11 +67,15 @@ class Register:
         return self.run("apply", "--day", DAY, text=text)
 
 
-def run(measure, description):
-    """Runs a bench of the program, in a folder of its own. The status of the script."""
+def run(measure, description, parts=()):
+    """Runs a bench of the program, in a folder of its own. If it has parts, it is given those that are asked for. The
+    status of the script."""
     reader = argparse.ArgumentParser(description=description)
     reader.add_argument("--vetd", default=VETD, help="the program, if it is not the one of this repository")
-    vetd = reader.parse_args().vetd
+    if parts:
+        reader.add_argument("--only", action="append", choices=parts, help="a part; may be repeated")
+    words = reader.parse_args()
+    vetd, asked = words.vetd, [words.only or list(parts)] if parts else []
     if not os.path.exists(vetd):
         print(f"{os.path.relpath(vetd, ROOT)} is not built: `rt run` in its crate builds it")
         return 1
@@ -79,7 +83,7 @@ def run(measure, description):
     os.makedirs(FOLDER, exist_ok=True)
     with tempfile.TemporaryDirectory(dir=FOLDER) as folder:
         try:
-            measure(report, os.path.abspath(vetd), folder)
+            measure(report, os.path.abspath(vetd), folder, *asked)
         except (AssertionError, OSError, RuntimeError, ValueError, subprocess.SubprocessError) as fault:
             print(fault)
             return 1
