@@ -10,6 +10,7 @@ import time
 import tomllib
 
 DAY = "2026-11-28"
+# in two runs, 85.3 and 82.5
 READING = 84
 # at 99,000 entries and 20,000 demanded pairs
 LARGEST = {
