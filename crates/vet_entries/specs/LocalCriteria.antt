@@ -1,7 +1,8 @@
 -- What the words of each source are in one's own table, as it is found once for many entries (ours).
 --
--- Local criteria are found once for many entries (LocalCriteria, AreLocal).
-use Rattle.std.specs.Prelude.{ℕ, ◌≡◌, ◌<◌, List, [], ◌∷◌, Some, if◌then◌else◌, length, slice_index_or}
+-- Local criteria are found once for many entries (LocalCriteria, AreLocal): those of one's own words at once, and
+-- those of a peer's when they are first asked for, so that a slot is empty until then (HoldsWords).
+use Rattle.std.specs.Prelude.{ℕ, ◌≡◌, ◌<◌, List, [], ◌∷◌, Option, Some, IfSome, if◌then◌else◌, length, slice_index_or}
 use Rattle.std.specs.FinMap as map
 use Rattle.std.specs.FinSet as set
 use Rattle.vet_base.specs.Closures.{AreClosures}
@@ -39,9 +40,13 @@ AreWords table peer words =
     (name : Name) (p : ℕ) → place_of peer.content.table name ≡ Some p
     → slice_index_or words.stands p set.empty ≡ stands_for table peer name
 
--- the closures of one's own table, and the words of each peer
+-- the slot of a peer is empty, or has the peer's words in it
+abbrev pub HoldsWords : Criteria → HeldPeer → Option PeerWords → Type 0
+HoldsWords table peer slot = IfSome slot (AreWords table peer)
+
+-- the closures of one's own table, and a slot for the words of each peer
 pub record AreLocal (facts : Facts) (local : LocalCriteria) : Type 0 where
   pub own : AreClosures facts.criteria local.own
   pub many : length local.peers.items ≡ length facts.peers
-  pub peers : (i : ℕ) (d : HeldPeer) (e : PeerWords) → i < length facts.peers
-      → AreWords facts.criteria (slice_index_or facts.peers i d) (slice_index_or local.peers.items i e)
+  pub peers : (i : ℕ) (d : HeldPeer) (e : Option PeerWords) → i < length facts.peers
+      → HoldsWords facts.criteria (slice_index_or facts.peers i d) (slice_index_or local.peers.items i e)

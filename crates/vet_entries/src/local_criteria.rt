@@ -5,14 +5,15 @@
 //!
 //! All that one criterion of a peer implies there is found once, and so is what that stands for here. A name that
 //! the peer doesn't define implies nothing there, so the map alone says what it is. An entry then costs a look for
-//! each name, and one closure.
-ghost use Rattle.std.specs.Prelude.{◌≡◌, ◌<◌, ℕ, None, Some, [], length, slice_index_or, IfOk, IfErr};
+//! each name, and one closure. Nothing is found of a peer until an entry of that peer is looked at.
+ghost use Rattle.std.specs.Prelude.{◌≡◌, ◌<◌, ℕ, None, Some, [], length, replicate, slice_index_or, IfOk, IfErr};
 ghost use Rattle.std.specs.FinMap as table;
 ghost use Rattle.std.specs.FinSet as set;
 ghost use Rattle.vet_base.specs.Closures.{AreClosures};
 ghost use Rattle.vet_base.specs.Criteria.{closure_of, placed};
 ghost use Rattle.vet_base.specs.Names.{members};
-ghost use Rattle.vet_entries.specs.LocalCriteria.{AreLocal, AreWords, all_beyond, direct, mapped_beyond, stands_for};
+ghost use Rattle.vet_entries.specs.LocalCriteria.{AreLocal, AreWords, HoldsWords, all_beyond, direct, mapped_beyond};
+ghost use Rattle.vet_entries.specs.LocalCriteria.{stands_for};
 ghost use Rattle.vet_entries.specs.Mapped.{mapped, mapped_name};
 ghost use Rattle.vet_entries.specs.PeerWords.{local_criteria};
 ghost use Rattle.vet_entries.specs.declared.held_peer.HeldPeer.{HeldPeer};
@@ -20,7 +21,7 @@ ghost use Rattle.vet_entries.specs.declared.held_peer.HeldPeer.{HeldPeer};
 use crate::criteria_map::CriteriaMap;
 use crate::facts::EntryFacts;
 use crate::held_peer::HeldPeer;
-use std::alloc::Global;
+use std::alloc::{AllocError, Global};
 use vet_base::closures::{Closures, union_at};
 use vet_base::criteria_set::CriteriaSet;
 use vet_base::criteria_table::{CriteriaTable, is_built_in};
@@ -30,11 +31,11 @@ use vet_base::name::Name;
 use vet_base::names::Names;
 use vet_base::refusal::Refusal;
 
-/// What the words of one's own and of each peer are in one's own table, found once for many packages. A change of
-/// the table or of a peer makes it void.
+/// What the words of one's own and of each peer are in one's own table, for many packages: one's own are found at
+/// once, and those of a peer when they are first asked for. A change of the table or of a peer makes it void.
 pub struct LocalCriteria {
     own: Closures,
-    peers: Vec<PeerWords>,
+    peers: Vec<Option<PeerWords>>,
 }
 
 impl Drop for LocalCriteria {
@@ -51,20 +52,15 @@ struct PeerWords {
 }
 
 impl LocalCriteria {
-    /// What the words of all sources are. Costs the closures of each peer's criteria, and a look in the peer's map
-    /// for each name that they imply. Refused: `NoMemory`.
+    /// What one's own words are, and room for those of each peer, of which nothing is found yet. Costs the closures
+    /// of one's own table. Refused: `NoMemory`.
     pub fn of(alloc: Global, facts: &EntryFacts) -> Result<LocalCriteria, Refusal>
         ensures ok { IfOk result (AreLocal facts.now.content) }
         ensures memory { IfErr result (λ e. e ≡ Refusal.NoMemory) }
     {
-        let criteria = facts.criteria();
-        let mut peers = Vec::new(alloc);
-        for peer in facts.peers() {
-            peers.push(PeerWords::of(criteria, peer))?;
-        }
         Ok(LocalCriteria {
-            own: criteria.closures(),
-            peers,
+            own: facts.criteria().closures(),
+            peers: empty_slots(alloc, facts.peers().len())?,
         })
     }
 
@@ -83,18 +79,53 @@ impl LocalCriteria {
         self.own.close(&facts.criteria().set_of(names))
     }
 
-    /// The local criteria of some names of the peer at a place. Costs a look for each, and takes no memory.
-    pub(crate) fn of_peer(&self, facts: &EntryFacts, place: usize, names: &Names) -> CriteriaSet
-        requires local { AreLocal facts.now.content self.now }
+    /// The local criteria of some names of the peer at a place. Costs a look for each, and the first time also the
+    /// closures of the peer's criteria, and a look in the peer's map for each name that they imply. Takes no memory.
+    pub(crate) fn of_peer(&mut self, facts: &EntryFacts, place: usize, names: &Names) -> CriteriaSet
+        requires local { AreLocal facts.now.content self.old }
         requires place { place < length facts.now.content.peers }
-        ensures { (d : HeldPeer) → result ≡ local_criteria facts.now.content.criteria
+        ensures criteria { (d : HeldPeer) → result ≡ local_criteria facts.now.content.criteria
             (Some (slice_index_or facts.now.content.peers place d)) names.now }
+        ensures local { AreLocal facts.now.content self.new }
     {
         let criteria = facts.criteria();
         let peer = &facts.peers()[place];
-        let stands = self.peers[place].of_names(criteria, peer, names);
+        let stands = stand_by(&mut self.peers[place], criteria, peer, names);
         self.own.close(&stands)
     }
+}
+
+// So many slots, with nothing in them.
+fn empty_slots<T: Drop>(alloc: Global, count: usize) -> Result<Vec<Option<T>>, AllocError>
+    ensures { IfOk result (λ slots. slots.items ≡ replicate count None) }
+{
+    let mut slots = Vec::with_capacity(alloc, count)?;
+    'slots: for _place in 0..count {
+        slots.push(None)?;
+    }
+    Ok(slots)
+}
+
+// What some names of a peer stand for with all that they imply there, by the words in the peer's slot. If there are
+// none yet, they are found and put there.
+fn stand_by(
+    slot: &mut Option<PeerWords>,
+    criteria: &CriteriaTable,
+    peer: &HeldPeer,
+    names: &Names,
+) -> CriteriaSet
+    requires { HoldsWords criteria.now peer.now slot.old }
+    ensures stands { result ≡ placed criteria.now
+        (mapped peer.now.settings.map (closure_of peer.now.content.table names.now)) }
+    ensures words { HoldsWords criteria.now peer.now slot.new }
+{
+    if let Some(words) = &*slot {
+        return words.of_names(criteria, peer, names);
+    }
+    let words = PeerWords::of(criteria, peer);
+    let stands = words.of_names(criteria, peer, names);
+    *slot = Some(words);
+    stands
 }
 
 /// What a peer's violation names in one's own words, unclosed: no closure on either side. Takes no memory.

@@ -43,8 +43,8 @@ impl Drop for Step {
 }
 
 /// The steps of a package, by the numbers of the entries that give them and, of one entry, in the order of the
-/// publisher records: its own entries and those of each peer that does not exclude it. Costs what finding the
-/// local criteria does, and then what `steps_by` does. Refused: `NoMemory`.
+/// publisher records: its own entries and those of each peer that does not exclude it. Costs the closures of one's
+/// own table, and then what `steps_by` does. Refused: `NoMemory`.
 pub fn steps_of(
     alloc: Global,
     package: &PackageName,
@@ -53,23 +53,25 @@ pub fn steps_of(
     ensures ok { IfOk result (λ steps. steps.items ≡ steps_of facts.now.content «package».now) }
     ensures memory { IfErr result (λ e. e ≡ Refusal.NoMemory) }
 {
-    let local = LocalCriteria::of(alloc, facts)?;
-    steps_by(alloc, package, facts, &local)
+    let mut local = LocalCriteria::of(alloc, facts)?;
+    steps_by(alloc, package, facts, &mut local)
 }
 
-/// The same by local criteria that were found before. Costs two binary searches among the own entries and two
-/// among those of each peer, a search for each name of each of the package's entries, and a sort of these by
-/// their numbers. Each window among them costs a look at each of the package's publisher records. Refused:
+/// The same by local criteria, of which those that were found before are not found again. Costs two binary searches
+/// among the own entries and two among those of each peer, a search for each name of each of the package's entries,
+/// and a sort of these by their numbers. A peer of whose words nothing was found, and which has such an entry, costs
+/// the closures of its criteria. Each window costs a look at each of the package's publisher records. Refused:
 /// `NoMemory`.
 pub fn steps_by(
     alloc: Global,
     package: &PackageName,
     facts: &EntryFacts,
-    local: &LocalCriteria,
+    local: &mut LocalCriteria,
 ) -> Result<Vec<Step>, Refusal>
-    requires { AreLocal facts.now.content local.now }
+    requires { AreLocal facts.now.content local.old }
     ensures ok { IfOk result (λ steps. steps.items ≡ steps_of facts.now.content «package».now) }
     ensures memory { IfErr result (λ e. e ≡ Refusal.NoMemory) }
+    ensures local { AreLocal facts.now.content local.new }
 {
     let mut entries = entries_of(alloc, package, facts)?;
     entries.sort_by_key(|entry| entry.held.number)?;
@@ -154,12 +156,13 @@ fn all_steps(
     taken: &[Taken<'_>],
     records: &[Publisher],
     facts: &EntryFacts,
-    local: &LocalCriteria,
+    local: &mut LocalCriteria,
 ) -> Result<Vec<Step>, AllocError>
-    requires local { AreLocal facts.now.content local.now }
+    requires local { AreLocal facts.now.content local.old }
     requires peers { All (HasPeer facts.now.content.peers) taken.now }
-    ensures { IfOk result (λ steps. steps.items ≡ flat_map (entry_steps facts.now.content.criteria records.now)
+    ensures steps { IfOk result (λ steps. steps.items ≡ flat_map (entry_steps facts.now.content.criteria records.now)
         (all_sourced facts.now.content.peers taken.now)) }
+    ensures local { AreLocal facts.now.content local.new }
 {
     let mut steps = Vec::new(alloc);
     for entry in taken {
@@ -170,11 +173,13 @@ fn all_steps(
 }
 
 // The local criteria of an entry.
-fn criteria_of(entry: &Taken<'_>, facts: &EntryFacts, local: &LocalCriteria) -> CriteriaSet
-    requires local { AreLocal facts.now.content local.now }
+fn criteria_of(entry: &Taken<'_>, facts: &EntryFacts, local: &mut LocalCriteria) -> CriteriaSet
+    requires local { AreLocal facts.now.content local.old }
     requires peer { HasPeer facts.now.content.peers entry.now }
-    ensures { result ≡ local_criteria facts.now.content.criteria (peer_at facts.now.content.peers entry.now.peer)
+    ensures criteria { result
+        ≡ local_criteria facts.now.content.criteria (peer_at facts.now.content.peers entry.now.peer)
         entry.now.held.now.entry.criteria }
+    ensures local { AreLocal facts.now.content local.new }
 {
     match entry.peer {
         None => local.of_own(facts, &entry.held.entry.criteria),

@@ -39,11 +39,12 @@ pub(crate) fn found_steps(
     alloc: Global,
     package: &PackageName,
     facts: &EntryFacts,
-    local: &LocalCriteria,
+    local: &mut LocalCriteria,
 ) -> Result<PackageSteps, Refusal>
-    requires { AreLocal facts.now.content local.now }
+    requires { AreLocal facts.now.content local.old }
     ensures steps { IfOk result (AreStepsOf facts.now.content «package».now) }
     ensures memory { IfErr result (λ e. e ≡ Refusal.NoMemory) }
+    ensures local { AreLocal facts.now.content local.new }
 {
     let steps = steps_by(alloc, package, facts, local)?;
     let violations = violations_by(alloc, package, facts, local.own())?;

@@ -14,14 +14,14 @@ use vet_entries::facts::EntryFacts;
 use vet_entries::local_criteria::LocalCriteria;
 
 /// The class of a pair by these facts: `Unvetted` where the table lacks its criterion. Finds the local criteria
-/// of all sources and the steps of the package, and searches these at most four times. Refused: `NoMemory`.
+/// of the package's entries and its steps, and searches these at most four times. Refused: `NoMemory`.
 pub fn class_of_pair(alloc: Global, facts: &EntryFacts, pair: &Pair) -> Result<Class, Refusal>
     ensures is { IfOk result (IsClassOfPair facts.now.content pair.now) }
     ensures ok { IfOk result (λ class. class ≡ class_of_pair facts.now.content pair.now) }
     ensures memory { IfErr result (λ e. e ≡ Refusal.NoMemory) }
 {
-    let local = LocalCriteria::of(alloc, facts)?;
-    let found = found_steps(alloc, &pair.package, facts, &local)?;
+    let mut local = LocalCriteria::of(alloc, facts)?;
+    let found = found_steps(alloc, &pair.package, facts, &mut local)?;
     class_by(alloc, facts, &found, pair)
 }
 

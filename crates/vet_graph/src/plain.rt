@@ -94,8 +94,8 @@ impl Keeper for PlainKeeper {
         })
     }
 
-    /// Finds every class anew, whatever is touched. Finds the local criteria of all sources once, and the steps
-    /// and the violations of each package once, and searches them at most four times for each of its pairs.
+    /// Finds every class anew, whatever is touched. Finds the local criteria of each source at most once, and the
+    /// steps and the violations of each package once, and searches them at most four times for each of its pairs.
     /// Refused: `NoMemory`.
     #[tactic(auto, using(crate::proofs::Standings::standing_in_order))]
     fn plan(
@@ -150,11 +150,11 @@ fn stands_of(alloc: Global, facts: &EntryFacts, demand: &[Pair]) -> Result<Vec<S
     ensures ok { IfOk result (λ s. s.items ≡ standing_of facts.now.content demand.now) }
     ensures memory { IfErr result (λ e. e ≡ Refusal.NoMemory) }
 {
-    let local = LocalCriteria::of(alloc, facts)?;
+    let mut local = LocalCriteria::of(alloc, facts)?;
     let mut standing = Vec::new(alloc);
     let mut held: Option<PackageSteps> = None;
     'pairs: for pair in demand {
-        let found = package_steps(alloc, held, &pair.package, facts, &local)?;
+        let found = package_steps(alloc, held, &pair.package, facts, &mut local)?;
         standing.push(stand_of(alloc, facts, &found, pair)?)?;
         held = Some(found);
     }
@@ -167,12 +167,13 @@ fn package_steps(
     held: Option<PackageSteps>,
     package: &PackageName,
     facts: &EntryFacts,
-    local: &LocalCriteria,
+    local: &mut LocalCriteria,
 ) -> Result<PackageSteps, Refusal>
-    requires local { AreLocal facts.now.content local.now }
+    requires local { AreLocal facts.now.content local.old }
     requires held { IfSome held (λ h. AreStepsOf facts.now.content h.«package» h) }
     ensures steps { IfOk result (AreStepsOf facts.now.content «package».now) }
     ensures memory { IfErr result (λ e. e ≡ Refusal.NoMemory) }
+    ensures local { AreLocal facts.now.content local.new }
 {
     if let Some(found) = held {
         if found.package == *package {

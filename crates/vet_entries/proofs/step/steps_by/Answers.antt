@@ -23,7 +23,7 @@ returns-clause-ok c =
     let same = always_returns_same _ _ _ (λ a r f k. search rules) in
     let sorted = sorted_by_number number taken c.sort_by_key.new.self.items
     (c.in_ok-sort_by_key.ensures.sorted number same) (c.sort_by_key.ensures.stable number same) in
-    c.in_ok-all_steps.ensures
+    c.in_ok-all_steps.ensures.steps
     ∙ ap (λ ts. flat_map (entry_steps content.criteria c.records_of-records.result.now) (all_sourced content.peers ts))
     (c.as_slice.ensures.value ∙ sorted)
     ∙ ap (flat_map (entry_steps content.criteria c.records_of-records.result.now))

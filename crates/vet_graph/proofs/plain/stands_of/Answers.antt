@@ -8,4 +8,5 @@ pairs-preserved c = (
       ∙ sym (standing_push c.args.facts.now.content c.args.demand.now c.pairs.pair-index c.pair-item.result
       c.pairs-test.true (sym c.pair-item.is)),
   rw (← c.in_ok-found.ensures.steps.named) at c.in_ok-found.ensures.steps,
+  c.package_steps.ensures.local,
 )

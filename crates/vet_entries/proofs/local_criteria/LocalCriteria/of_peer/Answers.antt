@@ -7,8 +7,8 @@ use Rattle.vet_entries.specs.PeerWords.{local_criteria}
 use Rattle.vet_entries.specs.declared.held_peer.HeldPeer.{HeldPeer}
 use Rattle.vet_entries.proofs.local_criteria.LocalCriteria.of_peer.Goals as goal
 
-pub returns : goal.returns
-returns c d =
+pub returns-clause-criteria : goal.returns-clause-criteria
+returns-clause-criteria c d =
     let table = c.args.facts.now.content.criteria in
     let peers = c.args.facts.now.content.peers in
     let place = c.args.place in
@@ -18,5 +18,6 @@ returns c d =
     ∙ get_or_default peers place peer e c.requires.place in
     let there = closure_of peer.content.table names in
     c.close.ensures.closure table (mapped peer.settings.map there) c.requires.local.own
-    (c.of_names-stands.ensures ∙ ap (λ t. placed t (mapped peer.settings.map there)) c.criteria-criteria.ensures.value)
+    (c.stand_by-stands.ensures.stands
+    ∙ ap (λ t. placed t (mapped peer.settings.map there)) c.criteria-criteria.ensures.value)
     ∙ ap (λ (p : HeldPeer). local_criteria table (Some p) names) (same d)
