@@ -4,6 +4,7 @@ pub mod Edits
 pub mod EntriesBack
 pub mod Firsts
 pub mod Gathered
+pub mod GivenByKey
 pub mod ImportCompared
 pub mod ImportLaws
 pub mod ImportMarks
@@ -24,6 +25,8 @@ pub mod Removed
 pub mod RisingNumbers
 pub mod SaidOnce
 pub mod SameContent
+pub mod SameOfPackage
+pub mod SameSteps
 pub mod SetInOrder
 pub mod SortedPlaces
 pub mod Sourcing

@@ -33,6 +33,8 @@ pub mod Publishers
 pub mod PublishersLaws
 pub mod Replaced
 pub mod ReplacedLaws
+pub mod SameOf
+pub mod SameOfLaws
 pub mod Source
 pub mod Step
 pub mod Taken

@@ -1,0 +1,110 @@
+-- What follows for a package that is the same in two facts, and which changes leave a package the same (ours).
+use Rattle.std.specs.Prelude.{ℕ, ◌≡◌, ◌≢◌, ◌++◌, ◌∷◌, [], List, Some, Contains, false, filter, not}
+use Rattle.std.specs.FinSet as set
+use Rattle.std.specs.List.{list_any}
+use Rattle.std.specs.Ordering.{nat_cmp}
+use Rattle.std.specs.Cmp.Lexicographic.{slice_cmp}
+use Rattle.vet_base.specs.Keyed.{IsByKey}
+use Rattle.vet_base.specs.Version.{VersionValue}
+use Rattle.vet_base.specs.Words.{Name}
+use Rattle.vet_entries.specs.declared.facts.HeldEntry.{HeldEntry}
+use Rattle.vet_entries.specs.declared.held_peer.HeldPeer.{HeldPeer}
+use Rattle.vet_entries.specs.declared.peer_settings.PeerSettings.{PeerSettings}
+use Rattle.vet_entries.specs.declared.publisher.Publisher.{Publisher}
+use Rattle.vet_entries.specs.ByPackage.{is_of}
+use Rattle.vet_entries.specs.Condemned.{is_condemned}
+use Rattle.vet_entries.specs.Facts.{Facts}
+use Rattle.vet_entries.specs.HeldPeer.{holding_or_none, peer_name, peer_of, with_content, with_peer, with_settings}
+use Rattle.vet_entries.specs.HeldPeer.{without_peer}
+use Rattle.vet_entries.specs.Holding.{HoldingValue}
+use Rattle.vet_entries.specs.Numbered.{AreByNumber, has_number}
+use Rattle.vet_entries.specs.PublisherRecords.{with_records}
+use Rattle.vet_entries.specs.SameOf.{IsSameOf, worded_from}
+use Rattle.vet_entries.specs.Step.{steps_of}
+
+-- a package that is the same has the same steps
+abbrev pub SameHasSameSteps : Type 0
+SameHasSameSteps = (name : Name) (old new : Facts) → IsSameOf name old new → steps_of old name ≡ steps_of new name
+
+-- and the same versions of it are condemned
+abbrev pub SameIsCondemnedTheSame : Type 0
+SameIsCondemnedTheSame = (name : Name) (old new : Facts) → IsSameOf name old new
+    → (c : ℕ) (v : VersionValue) → is_condemned old name c v ≡ is_condemned new name c v
+
+-- each package is the same where nothing changes
+abbrev pub SameByItself : Type 0
+SameByItself = (name : Name) (facts : Facts) → IsSameOf name facts facts
+
+-- and after two changes that each leave it the same
+abbrev pub SameOnward : Type 0
+SameOnward = (name : Name) (a b c : Facts) → IsSameOf name a b → IsSameOf name b c → IsSameOf name a c
+
+-- ---- own entries and records
+
+-- an own entry more leaves all other packages the same
+abbrev pub EntryAddedKeepsOthers : Type 0
+EntryAddedKeepsOthers = (facts : Facts) (held : HeldEntry) (name : Name) → name ≢ held.entry.«package»
+    → IsSameOf name facts (record facts { entries = facts.entries ++ held ∷ [] })
+
+-- and so does the one of a number less
+abbrev pub EntryDroppedKeepsOthers : Type 0
+EntryDroppedKeepsOthers = (facts : Facts) (n : ℕ) (held : HeldEntry) (name : Name) → AreByNumber facts.entries
+    → Contains facts.entries held → held.number ≡ n → name ≢ held.entry.«package»
+    → IsSameOf name facts (record facts { entries = filter (λ h. not (has_number n h)) facts.entries })
+
+-- publisher records of one package leave all others the same
+abbrev pub RecordsKeepOthers : Type 0
+RecordsKeepOthers = (facts : Facts) (other : Name) (records : List Publisher) (name : Name) → name ≢ other
+    → IsSameOf name facts (record facts { publishers = with_records other records facts.publishers })
+
+-- ---- peers
+
+-- the peers stand in the order of their names
+abbrev pub HasPeersByName : Facts → Type 0
+HasPeersByName facts = IsByKey (slice_cmp nat_cmp) peer_name facts.peers
+
+-- a peer has no entry of a package
+abbrev pub HasNoneOf : Name → HoldingValue → Type 0
+HasNoneOf name content = list_any (is_of name) content.entries ≡ false
+
+-- what is held of the peer of a name, if it is held
+abbrev pub content_of : Facts → Name → HoldingValue
+content_of facts peer = holding_or_none (peer_of facts.peers peer)
+
+-- a peer set in place of the one of its name leaves a package the same of which both give the same
+abbrev pub PeerKeepsWhatIsWordedTheSame : Type 0
+PeerKeepsWhatIsWordedTheSame = (facts : Facts) (peer : HeldPeer) (name : Name) → HasPeersByName facts
+    → worded_from name (peer_of facts.peers (peer_name peer)) ≡ worded_from name (Some peer)
+    → IsSameOf name facts (record facts { peers = with_peer peer facts.peers })
+
+-- settings of a peer leave a package the same of which the peer has no entry
+abbrev pub SettingsKeepOthers : Type 0
+SettingsKeepOthers = (facts : Facts) (settings : PeerSettings) (name : Name) → HasPeersByName facts
+    → HasNoneOf name (content_of facts settings.name)
+    → IsSameOf name facts (record facts { peers = with_settings settings facts.peers })
+
+-- settings with the map as it was leave a package the same that is excluded before and after, or neither
+abbrev pub ExclusionsKeepOthers : Type 0
+ExclusionsKeepOthers = (facts : Facts) (held : HeldPeer) (settings : PeerSettings) (name : Name) → HasPeersByName facts
+    → peer_of facts.peers settings.name ≡ Some held → settings.map ≡ held.settings.map
+    → set.contains settings.exclude name ≡ set.contains held.settings.exclude name
+    → IsSameOf name facts (record facts { peers = with_settings settings facts.peers })
+
+-- another content of a peer leaves a package the same of which the peer has no entry before and after
+abbrev pub ContentKeepsOthers : Type 0
+ContentKeepsOthers = (facts : Facts) (peer : Name) (content : HoldingValue) (name : Name) → HasPeersByName facts
+    → HasNoneOf name (content_of facts peer) → HasNoneOf name content
+    → IsSameOf name facts (record facts { peers = with_content peer content facts.peers })
+
+-- another content with the same criteria leaves a package the same of which it has the same entries
+abbrev pub ContentKeepsSameEntries : Type 0
+ContentKeepsSameEntries = (facts : Facts) (peer : Name) (content : HoldingValue) (name : Name) → HasPeersByName facts
+    → content.table ≡ (content_of facts peer).table
+    → filter (is_of name) content.entries ≡ filter (is_of name) (content_of facts peer).entries
+    → IsSameOf name facts (record facts { peers = with_content peer content facts.peers })
+
+-- a peer less leaves a package the same of which the peer had no entry
+abbrev pub PeerDroppedKeepsOthers : Type 0
+PeerDroppedKeepsOthers = (facts : Facts) (peer : Name) (name : Name) → HasPeersByName facts
+    → HasNoneOf name (content_of facts peer)
+    → IsSameOf name facts (record facts { peers = without_peer peer facts.peers })
