@@ -7,7 +7,7 @@ use Rattle.std.proofs.lemmas.List.{append_assoc, append-nil, get_or_default, map
 use Rattle.std.proofs.lemmas.List.Elements.{All-append, All-cons, All-nil}
 use Rattle.vet_entries.specs.declared.facts.HeldEntry.{HeldEntry}
 use Rattle.vet_entries.specs.declared.held_peer.HeldPeer.{HeldPeer}
-use Rattle.vet_entries.specs.declared.step.Taken.{Taken}
+use Rattle.vet_entries.specs.declared.package_entries.Taken.{Taken}
 use Rattle.vet_entries.specs.ByPackage.{gathered}
 use Rattle.vet_entries.specs.Source.{sourced_at}
 use Rattle.vet_entries.specs.Step.{SourcedEntry}

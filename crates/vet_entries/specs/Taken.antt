@@ -1,8 +1,11 @@
--- Entries as they are lent, each with the place of its peer (ours).
-use Rattle.std.specs.Prelude.{ℕ, ◌<◌, List, Option, None, Some, IfSome, length, map, slice_get}
+-- Entries as they are lent, each with the place of its peer, and those of one package (ours).
+use Rattle.std.specs.Prelude.{ℕ, ◌≡◌, ◌<◌, List, Option, None, Some, IfSome, length, map, slice_get}
+use Rattle.std.specs.List.{All}
 use Rattle.vet_entries.specs.declared.held_peer.HeldPeer.{HeldPeer}
-use Rattle.vet_entries.specs.declared.step.Taken.{Taken}
-use Rattle.vet_entries.specs.Step.{SourcedEntry}
+use Rattle.vet_entries.specs.declared.package_entries.PackageEntries.{PackageEntries}
+use Rattle.vet_entries.specs.declared.package_entries.Taken.{Taken}
+use Rattle.vet_entries.specs.Facts.{Facts}
+use Rattle.vet_entries.specs.Step.{SourcedEntry, entries_of}
 
 -- the peer at a place, or none for what is one's own
 abbrev pub peer_at : List HeldPeer → Option ℕ → Option HeldPeer
@@ -19,3 +22,8 @@ all_sourced peers taken = map (sourced_entry peers) taken
 -- the peer of an entry is there
 abbrev pub HasPeer : List HeldPeer → Taken → Type 0
 HasPeer peers t = IfSome t.peer (λ place. place < length peers)
+
+-- they are the entries of their package, and the peer of each is there
+pub record AreEntriesOf (facts : Facts) (held : PackageEntries) : Type 0 where
+  pub entries : all_sourced facts.peers held.taken.items ≡ entries_of facts held.«package».now
+  pub peers : All (HasPeer facts.peers) held.taken.items

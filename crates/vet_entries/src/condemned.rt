@@ -1,6 +1,6 @@
 //! What violations condemn.
 ghost use Rattle.std.specs.Prelude.{◌≡◌, ◌||◌, ◌&&◌, ◌++◌, ℕ, IfOk, IfErr, OnOk};
-ghost use Rattle.std.specs.List.{flat_map, list_any};
+ghost use Rattle.std.specs.List.{list_any};
 ghost use Rattle.std.specs.Option.{option_copied};
 ghost use Rattle.vet_base.specs.Closures.{AreClosures};
 ghost use Rattle.vet_base.specs.Criteria.{leads_to, placed};
@@ -15,6 +15,7 @@ use crate::facts::{EntryFacts, HeldEntry};
 use crate::held_peer::HeldPeer;
 use crate::kind::Kind;
 use crate::local_criteria::mapped_set;
+use crate::package_entries::PackageEntries;
 use crate::source::{Source, entries_taken, own_entries};
 use std::alloc::{AllocError, Global};
 use vet_base::closures::Closures;
@@ -101,9 +102,8 @@ impl Drop for Violation {
 }
 
 /// The violations of a package: one's own, then those of each peer that does not exclude it, each by the
-/// numbers of the entries. With them each version of the package is judged without a further look at its
-/// entries (`violations_condemn`). Costs the closures of the table, and then what `violations_by` does.
-/// Refused: `NoMemory`.
+/// numbers of the entries. Costs the closures of the table, and then what `PackageEntries::of` and `violations`
+/// do. Refused: `NoMemory`.
 pub fn violations_of(
     alloc: Global,
     package: &PackageName,
@@ -112,31 +112,8 @@ pub fn violations_of(
     ensures ok { IfOk result (λ v. v.items ≡ violations_of facts.now.content «package».now) }
     ensures memory { IfErr result (λ e. e ≡ Refusal.NoMemory) }
 {
-    violations_by(alloc, package, facts, &facts.criteria().closures())
-}
-
-/// The same by closures that were found before. Costs two binary searches among the own entries and two among
-/// those of each peer, and a look at each of the package's. Each violation costs a look at each closure, and
-/// the searches for its names that `condemned` tells. Refused: `NoMemory`.
-pub fn violations_by(
-    alloc: Global,
-    package: &PackageName,
-    facts: &EntryFacts,
-    closures: &Closures,
-) -> Result<Vec<Violation>, Refusal>
-    requires { AreClosures facts.now.content.criteria closures.now }
-    ensures ok { IfOk result (λ v. v.items ≡ violations_of facts.now.content «package».now) }
-    ensures memory { IfErr result (λ e. e ≡ Refusal.NoMemory) }
-{
-    let mut violations = Vec::new(alloc);
-    let criteria = facts.criteria();
-    let own = own_entries(package, facts);
-    add_violations(&mut violations, &own, criteria, closures)?;
-    for peer in facts.peers() {
-        let taken = entries_taken(package, peer);
-        add_violations(&mut violations, &taken, criteria, closures)?;
-    }
-    Ok(violations)
+    let entries = PackageEntries::of(alloc, package, facts)?;
+    entries.violations(alloc, facts, &facts.criteria().closures())
 }
 
 /// The criteria for which a version is condemned by some violations. Takes no memory, and looks at each of
@@ -158,27 +135,8 @@ pub fn violations_condemn()
     led_to();
 }
 
-// Adds the violations among the entries of a source.
-fn add_violations(
-    violations: &mut Vec<Violation>,
-    source: &Source<'_>,
-    criteria: &CriteriaTable,
-    closures: &Closures,
-) -> Result<(), AllocError>
-    requires within { IsWithin source.now }
-    requires closures { AreClosures criteria.now closures.now }
-    ensures { OnOk result (violations.new.items ≡ violations.old.items
-        ++ flat_map (violation_in criteria.now) (entries_from source.now)) }
-{
-    for place in source.places {
-        let held = &source.entries[*place];
-        add_violation(violations, source.peer, held, criteria, closures)?;
-    }
-    Ok(())
-}
-
-// Adds the violation that an entry of a peer or one's own is, if it is one.
-fn add_violation(
+/// Adds the violation that an entry of a peer or one's own is, if it is one.
+pub(crate) fn add_violation(
     violations: &mut Vec<Violation>,
     peer: Option<&HeldPeer>,
     held: &HeldEntry,

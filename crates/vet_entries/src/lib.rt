@@ -26,6 +26,7 @@ pub mod kind;
 pub mod laws;
 pub mod local_criteria;
 mod order;
+pub mod package_entries;
 pub mod peer_content;
 pub mod peer_settings;
 mod peers;

@@ -11,11 +11,12 @@ use std::alloc::Global;
 use std::collections::BTreeMap;
 use vet_base::name::PackageName;
 use vet_base::refusal::Refusal;
-use vet_entries::condemned::{Violation, violations_by};
+use vet_entries::condemned::Violation;
 use vet_entries::facts::EntryFacts;
 use vet_entries::judge::{judge, merged};
 use vet_entries::local_criteria::LocalCriteria;
-use vet_entries::step::{Step, steps_by};
+use vet_entries::package_entries::PackageEntries;
+use vet_entries::step::Step;
 
 // What is known of one package: its steps, each with what condemns its target, and its violations.
 pub(crate) struct PackageSteps {
@@ -46,8 +47,9 @@ pub(crate) fn found_steps(
     ensures memory { IfErr result (λ e. e ≡ Refusal.NoMemory) }
     ensures local { AreLocal facts.now.content local.new }
 {
-    let steps = steps_by(alloc, package, facts, local)?;
-    let violations = violations_by(alloc, package, facts, local.own())?;
+    let entries = PackageEntries::of(alloc, package, facts)?;
+    let violations = entries.violations(alloc, facts, local.own())?;
+    let steps = entries.into_steps(alloc, facts, local)?;
     let guarded = guarded(alloc, steps, violations.as_slice())?;
     Ok(PackageSteps {
         package: package.clone()?,

@@ -5,7 +5,7 @@ use Rattle.std.specs.List.{All}
 use Rattle.vet_entries.specs.declared.held_peer.HeldPeer.{HeldPeer}
 use Rattle.vet_entries.specs.Source.{sourced_at}
 use Rattle.vet_entries.specs.Taken.{HasPeer, all_sourced}
-use Rattle.vet_entries.proofs.step.add_of_peer.Given as goal
+use Rattle.vet_entries.proofs.package_entries.add_of_peer.Given as goal
 
 abbrev pub invariant-loop-place : goal.invariant-loop-place
 invariant-loop-place l =

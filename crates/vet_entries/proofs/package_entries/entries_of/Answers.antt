@@ -2,7 +2,7 @@ use Rattle.std.proofs.Common.{◌<◌, None, length, ap, arith}
 use Rattle.vet_entries.specs.Step.{sourced, taken_from}
 use Rattle.vet_entries.specs.Taken.{all_sourced}
 use Rattle.vet_entries.proofs.Sourcing.{one_more_given}
-use Rattle.vet_entries.proofs.step.entries_of.Goals as goal
+use Rattle.vet_entries.proofs.package_entries.entries_of.Goals as goal
 
 pub loop-place-preserved : goal.loop-place-preserved
 loop-place-preserved c =

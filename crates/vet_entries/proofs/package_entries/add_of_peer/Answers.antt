@@ -6,7 +6,7 @@ use Rattle.vet_entries.specs.Step.{taken_from}
 use Rattle.vet_entries.specs.Taken.{HasPeer, all_sourced}
 use Rattle.vet_entries.proofs.NumberAmong.{within_same}
 use Rattle.vet_entries.proofs.Sourcing.{All-push, one_more_sourced}
-use Rattle.vet_entries.proofs.step.add_of_peer.Goals as goal
+use Rattle.vet_entries.proofs.package_entries.add_of_peer.Goals as goal
 
 pub loop-place-preserved : goal.loop-place-preserved
 loop-place-preserved c =

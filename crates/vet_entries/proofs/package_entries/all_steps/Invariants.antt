@@ -4,7 +4,7 @@ use Rattle.std.specs.List.{flat_map}
 use Rattle.vet_entries.specs.LocalCriteria.{AreLocal}
 use Rattle.vet_entries.specs.Step.{entry_steps}
 use Rattle.vet_entries.specs.Taken.{all_sourced}
-use Rattle.vet_entries.proofs.step.all_steps.Given as goal
+use Rattle.vet_entries.proofs.package_entries.all_steps.Given as goal
 
 abbrev pub invariant-loop-entry : goal.invariant-loop-entry
 invariant-loop-entry l = record {

@@ -2,22 +2,22 @@ use Rattle.std.proofs.Common.{rules, ℕ, refl, sym, ap, subst, ◌∙◌}
 use Rattle.std.specs.List.{All, flat_map}
 use Rattle.std.proofs.lemmas.Fn.{always_returns_same}
 use Rattle.std.proofs.lemmas.List.Sorted.{All-permutation}
-use Rattle.vet_entries.specs.declared.step.Taken.{Taken}
+use Rattle.vet_entries.specs.declared.package_entries.Taken.{Taken}
 use Rattle.vet_entries.specs.Step.{SourcedEntry, by_number, entries_of, entry_steps}
 use Rattle.vet_entries.specs.Taken.{HasPeer, all_sourced, sourced_entry}
 use Rattle.vet_entries.proofs.ByNumber.{map-by_number, sorted_by_number}
-use Rattle.vet_entries.proofs.step.steps_by.Goals as goal
+use Rattle.vet_entries.proofs.package_entries.PackageEntries.into_steps.Goals as goal
 
 pub all_steps-requires-clause-peers : goal.all_steps-requires-clause-peers
 all_steps-requires-clause-peers c =
     let P = HasPeer c.args.facts.now.content.peers in
     subst (All P) (sym c.as_slice.ensures.value)
-    (All-permutation P _ _ c.sort_by_key.ensures.permutation c.in_ok-entries.ensures.peers)
+    (All-permutation P _ _ c.sort_by_key.ensures.permutation c.requires.entries.peers)
 
 pub returns-clause-ok : goal.returns-clause-ok
 returns-clause-ok c =
     let content = c.args.facts.now.content in
-    let taken = c.in_ok-entries.entries.items in
+    let taken = c.args.self.taken.items in
     let number : Taken → ℕ = λ t. t.held.now.number in
     let of_source : SourcedEntry → ℕ = λ e. e.held.number in
     let same = always_returns_same _ _ _ (λ a r f k. search rules) in
@@ -28,6 +28,6 @@ returns-clause-ok c =
     (c.as_slice.ensures.value ∙ sorted)
     ∙ ap (flat_map (entry_steps content.criteria c.records_of-records.result.now))
     (map-by_number (sourced_entry content.peers) number of_source (λ t. refl) taken
-    ∙ ap (by_number of_source) c.in_ok-entries.ensures.entries)
+    ∙ ap (by_number of_source) c.requires.entries.entries)
     ∙ ap (λ rs. flat_map (entry_steps content.criteria rs)
-    (by_number of_source (entries_of content c.args.«package».now))) c.records_of-records.ensures.value
+    (by_number of_source (entries_of content c.args.self.«package».now))) c.records_of-records.ensures.value

@@ -3,7 +3,7 @@ use Rattle.std.proofs.Common.{◌≡◌, ◌++◌, None, take}
 use Rattle.std.specs.List.{All, flat_map}
 use Rattle.vet_entries.specs.Step.{sourced, taken_from}
 use Rattle.vet_entries.specs.Taken.{HasPeer, all_sourced}
-use Rattle.vet_entries.proofs.step.entries_of.Given as goal
+use Rattle.vet_entries.proofs.package_entries.entries_of.Given as goal
 
 abbrev pub invariant-loop-place : goal.invariant-loop-place
 invariant-loop-place l =
