@@ -45,6 +45,12 @@ pub slot-stays : (o : Option (Option KeptPackage)) (s : Option KeptPackage) (b :
 slot-stays o s true e = refl
 slot-stays o s false e = e
 
+-- what is put in a slot is kept
+pub slot-put : (o : Option (Option KeptPackage)) (kept : KeptPackage) (b : Bool)
+    → in_slot (cond b (Some (Some kept)) o) ≡ cond b (Some kept) (in_slot o)
+slot-put o kept true = refl
+slot-put o kept false = refl
+
 -- one package more is kept
 pub kept-next : (facts : Facts) (one : KeptChange) (rest : List KeptChange) (old : Slots)
     → IsKeptOf facts one.«package» one.kept

@@ -104,7 +104,8 @@ moves-none (s ∷ a) = moves-at Equal s s _ _ _ (pair_cmp s.pair s.pair) (tied_i
 -- ---- package by package
 
 -- a name before all packages is that of none
-slot-behind : (packages : List PackageStands) (name : Name) → AreBehind name packages → has_slot packages name ≡ false
+pub slot-behind : (packages : List PackageStands) (name : Name) → AreBehind name packages
+    → has_slot packages name ≡ false
 slot-behind [] name h = refl
 slot-behind (q ∷ rest) name h =
     ap (λ b. b || has_slot rest name) (ap is_eq (All-head (λ p. slice_cmp nat_cmp name p.«package» ≡ Less) q rest h))
@@ -199,7 +200,7 @@ slots-skip q rest changed h slots k d l =
     ap (λ b. b || has_slot rest c.«package») (sym (ap is_eq greater)) ∙ slots k d l
 
 -- packages stay in order, with the same names
-all-by_package : (packages changed : List PackageStands) → AreByPackage packages → AreByPackage changed
+pub all-by_package : (packages changed : List PackageStands) → AreByPackage packages → AreByPackage changed
     → HaveSlots packages changed → AreByPackage (with_all packages changed)
 all-by_package packages [] h g slots = h
 all-by_package packages (c ∷ changed) h g slots =

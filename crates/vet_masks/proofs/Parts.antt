@@ -40,10 +40,10 @@ keeps-none p [] h = refl
 keeps-none p (x ∷ xs) h = ap (λ b. cond b (x ∷ filter p xs) (filter p xs)) (All-head (λ y. p y ≡ false) x xs h)
     ∙ keeps-none p xs (All-tail (λ y. p y ≡ false) x xs h)
 
-is-named : (a b : Name) → a ≡ b → bytes_eq a b ≡ true
+pub is-named : (a b : Name) → a ≡ b → bytes_eq a b ≡ true
 is-named a b e = (bytes_eq-Decides a b).1 e
 
-other-named : (a b : Name) → a ≢ b → bytes_eq a b ≡ false
+pub other-named : (a b : Name) → a ≢ b → bytes_eq a b ≡ false
 other-named a b d = elim (cases_Bool (bytes_eq a b)) [
   | inl same ↦ absurd (d ((bytes_eq-Decides a b).0 same))
   | inr other ↦ other
@@ -111,7 +111,7 @@ part-classes f own (p ∷ rest) name = ap (λ b. cond b (f p ∷ part name (map 
 
 -- ---- standings with the same parts are the same
 
-all-back : {X Y : Type 0} (P : Y → Type 0) (f : X → Y) (xs : List X) → All P (map f xs) → All (λ x. P (f x)) xs
+pub all-back : {X Y : Type 0} (P : Y → Type 0) (f : X → Y) (xs : List X) → All P (map f xs) → All (λ x. P (f x)) xs
 all-back P f [] h = All-nil (λ x. P (f x))
 all-back P f (x ∷ xs) h =
     All-cons (λ y. P (f y)) x xs (All-head P (f x) (map f xs) h) (all-back P f xs (All-tail P (f x) (map f xs) h))

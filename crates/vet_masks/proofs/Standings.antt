@@ -242,7 +242,7 @@ has-in_slots (e ∷ rest) name = by (is_at (slice_cmp nat_cmp name) e.0) (has-in
     by true h = refl
     by false h = h
 
-packages-in : (entries : List (Name × Vec Stand Global))
+pub packages-in : (entries : List (Name × Vec Stand Global))
     → map (λ (p : PackageStands). p.«package») (in_slots entries) ≡ keys_of entries
 packages-in [] = refl
 packages-in (e ∷ rest) = ap (λ ks. e.0 ∷ ks) (packages-in rest)
@@ -384,7 +384,7 @@ slot-kept packages name stands m h = slot-at packages name stands m
     by false b e = e
 
 -- a package without a slot has no stands
-stands-none : (packages : List PackageStands) (name : Name) → has_slot packages name ≡ false
+pub stands-none : (packages : List PackageStands) (name : Name) → has_slot packages name ≡ false
     → stands_at packages name ≡ []
 stands-none [] name h = refl
 stands-none (q ∷ rest) name h = by (is_at (slice_cmp nat_cmp name) q.«package») h (stands-none rest name)

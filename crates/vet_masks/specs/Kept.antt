@@ -1,5 +1,5 @@
 -- What is kept of a package from one change to the next (ours).
-use Rattle.std.specs.Prelude.{◌≡◌, List, length, map, take}
+use Rattle.std.specs.Prelude.{◌≡◌, Bool, List, length, map, take, true}
 use Rattle.vet_entries.specs.Condemned.{condemned_by}
 use Rattle.vet_base.specs.Criteria.{Criteria}
 use Rattle.vet_demand.specs.declared.pair.Pair.{Pair}
@@ -20,6 +20,10 @@ pub record IsKept (steps : List Step) (condemned : Condemned) (k : KeptPackage) 
 pub record IsGrown (steps : List Step) (condemned : Condemned) (k : KeptPackage) : Type 0 where
   pub first : take (length k.classes.looks.steps) steps ≡ k.classes.looks.steps
   pub judged : AreJudged k.classes.index condemned k.classes.condemned.items
+
+-- what is kept of a package goes on: the table of criteria is the same, and the package has grown
+abbrev pub GoesOn : Bool → List Step → Condemned → KeptPackage → Type 0
+GoesOn same_criteria steps condemned k = (same_criteria ≡ true) × IsGrown steps condemned k
 
 -- pairs with their classes, by their package's steps and condemned versions
 abbrev pub stands_by : Criteria → List Step → Condemned → List Pair → List Stand

@@ -3,6 +3,7 @@ pub mod Counted
 pub mod Exempt
 pub mod Growing
 pub mod Index
+pub mod Keeper
 pub mod Kept
 pub mod Looked
 pub mod Masks
@@ -10,4 +11,5 @@ pub mod Packages
 pub mod Reached
 pub mod Rules
 pub mod Standings
+pub mod Tables
 pub mod Vouched

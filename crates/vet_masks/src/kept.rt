@@ -6,7 +6,7 @@ ghost use Rattle.vet_entries.specs.declared.step.Step.{Step};
 ghost use Rattle.vet_graph.specs.Chain.{Condemned};
 ghost use Rattle.vet_masks.specs.Classes.{AreJudged, IsFound, StartsExempt};
 ghost use Rattle.vet_graph.specs.StandingOf.{class_by};
-ghost use Rattle.vet_masks.specs.Kept.{IsGrown, IsKept, stands_by};
+ghost use Rattle.vet_masks.specs.Kept.{GoesOn, IsGrown, IsKept, stands_by};
 ghost use Rattle.vet_masks.specs.Reached.{used_below};
 
 use crate::classes::PackageClasses;
@@ -29,6 +29,31 @@ pub(crate) struct KeptPackage {
     pub(crate) classes: PackageClasses,
 }
 
+// What is kept of a package after a change, and how many looks were made for it.
+#[derive(Drop)]
+pub(crate) struct Searched {
+    pub(crate) kept: KeptPackage,
+    pub(crate) looks: u128,
+}
+
+impl Searched {
+    // A package of these steps and violations, of which nothing was found before.
+    pub(crate) fn anew(
+        alloc: Global,
+        steps: Vec<Step>,
+        violations: &[Violation],
+    ) -> Result<Searched, Refusal>
+        requires starts { All StartsExempt steps.items }
+        ensures kept { IfOk result (λ s. IsKept steps.items (condemned_by violations.now) s.kept) }
+        ensures looks { IfOk result (λ s. s.looks ≡ s.kept.classes.looks.count) }
+        ensures memory { IfErr result (λ e. e ≡ Refusal.NoMemory) }
+    {
+        let kept = KeptPackage::found(alloc, steps, violations)?;
+        let looks = kept.classes.looks.count();
+        Ok(Searched { kept, looks })
+    }
+}
+
 impl KeptPackage {
     // Of these steps and violations, of which nothing is kept.
     pub(crate) fn found(
@@ -49,29 +74,35 @@ impl KeptPackage {
         })
     }
 
-    // Of these steps and violations, from what is kept: extended where the package has grown, and otherwise found anew.
+    // Of these steps and violations, from what is kept: extended where the table of criteria is the same and the
+    // package has grown, and otherwise found anew.
     pub(crate) fn after(
         &self,
         alloc: Global,
+        same_criteria: bool,
         steps: Vec<Step>,
         violations: &[Violation],
-    ) -> Result<KeptPackage, Refusal>
+    ) -> Result<Searched, Refusal>
         requires starts { All StartsExempt steps.items }
         requires kept { (old_steps : List Step) × (old : Condemned) × IsKept old_steps old self.now }
-        ensures kept { IfOk result (IsKept steps.items (condemned_by violations.now)) }
-        ensures looks { IfOk result (λ k. IsGrown steps.items (condemned_by violations.now) self.now
-            → self.now.classes.looks.count ≤ k.classes.looks.count) }
+        ensures kept { IfOk result (λ s. IsKept steps.items (condemned_by violations.now) s.kept) }
+        ensures grown { IfOk result (λ s. GoesOn same_criteria steps.items (condemned_by violations.now) self.now
+            → self.now.classes.looks.count + s.looks ≡ s.kept.classes.looks.count) }
+        ensures anew { IfOk result (λ s. ¬ GoesOn same_criteria steps.items (condemned_by violations.now) self.now
+            → s.looks ≡ s.kept.classes.looks.count) }
         ensures memory { IfErr result (λ e. e ≡ Refusal.NoMemory) }
     {
         let merged = merged(alloc, violations)?;
-        if !self.has_grown(steps.as_slice(), merged.as_slice()) {
-            return KeptPackage::found(alloc, steps, merged.as_slice());
+        if !self.goes_on(same_criteria, steps.as_slice(), merged.as_slice()) {
+            return Searched::anew(alloc, steps, merged.as_slice());
         }
         let classes = self.classes.extended(alloc, steps, merged.as_slice())?;
-        Ok(KeptPackage {
+        let looks = classes.looks.count() - self.classes.looks.count();
+        let kept = KeptPackage {
             violations: merged,
             classes,
-        })
+        };
+        Ok(Searched { kept, looks })
     }
 
     // Pairs of the package, each with its class.
@@ -127,6 +158,17 @@ impl KeptPackage {
             → result ≤ (self.now.classes.exempt.count + 3) * (length steps * (used_below MOST_CRITERIA steps + 1)) }
     {
         self.classes.looks.count()
+    }
+
+    // Whether what is kept goes on.
+    fn goes_on(&self, same_criteria: bool, steps: &[Step], violations: &[Violation]) -> bool
+        requires kept { (old_steps : List Step) × (old : Condemned) × IsKept old_steps old self.now }
+        ensures { IsTrue result ↔ GoesOn same_criteria steps.now (condemned_by violations.now) self.now }
+    {
+        if !same_criteria {
+            return false;
+        }
+        self.has_grown(steps, violations)
     }
 
     // Whether these steps are those that are kept and then none or more, and these violations condemn each version that

@@ -12,16 +12,21 @@
 //! since both criteria pass along a step together.
 #![tactic(auto)]
 
+mod changes;
 mod classes;
 mod counts;
+mod demanded;
 mod exempt;
 mod grown;
 mod index;
+pub mod keeper;
 mod kept;
 pub mod looks;
 mod masks;
+mod names;
 mod packages;
 mod reach;
 mod rule;
 pub mod search;
 mod standing;
+mod table;

@@ -1,17 +1,18 @@
 //! What is kept of packages, by name.
 //!
 //! A package of which nothing is kept may have a slot, so that memory for it can be taken before it is kept.
-ghost use Rattle.std.specs.Prelude.{◌≡◌, IfErr, IfSome, None, OnErr, OnOk, Some, cond, false, is_some, true};
-ghost use Rattle.std.specs.BTreeMap.{get};
+ghost use Rattle.std.specs.Prelude.{◌≡◌, ◌++◌, IfErr, IfSome, None, OnErr, OnOk, Some, cond, false, is_some, true};
+ghost use Rattle.std.specs.BTreeMap.{get, keys};
 ghost use Rattle.std.specs.Cmp.Lexicographic.{slice_cmp};
 ghost use Rattle.std.specs.Ordering.{eq_by_cmp, nat_cmp};
 ghost use Rattle.std.specs.List.{All};
 ghost use Rattle.std.specs.Option.{option_copied};
 ghost use Rattle.vet_base.specs.Words.{Name};
 ghost use Rattle.vet_entries.specs.Facts.{Facts};
-ghost use Rattle.vet_masks.specs.Packages.{IsKeptOf, has_kept_slot, is_changed, kept_at};
+ghost use Rattle.vet_masks.specs.Packages.{IsKeptOf, has_kept_slot, is_changed, kept_at, put_at};
 
 use crate::kept::KeptPackage;
+use crate::names::add_keys;
 use std::alloc::Global;
 use std::collections::BTreeMap;
 use vet_base::name::PackageName;
@@ -23,11 +24,12 @@ pub(crate) struct KeptPackages {
     packages: BTreeMap<PackageName, Option<KeptPackage>>,
 }
 
-// A package, and what is kept of it after a change.
+// A package, what is kept of it after a change, and how many looks were made for that.
 #[derive(Drop)]
 pub(crate) struct KeptChange {
     pub(crate) package: PackageName,
     pub(crate) kept: KeptPackage,
+    pub(crate) looks: u128,
 }
 
 impl KeptPackages {
@@ -38,6 +40,14 @@ impl KeptPackages {
         KeptPackages {
             packages: BTreeMap::new(alloc),
         }
+    }
+
+    // Adds the names of the packages that have a slot.
+    pub(crate) fn add_names(&self, names: &mut Vec<PackageName>) -> Result<(), Refusal>
+        ensures names { OnOk result (names.new.items ≡ names.old.items ++ keys self.now.packages) }
+        ensures memory { IfErr result (λ e. e ≡ Refusal.NoMemory) }
+    {
+        add_keys(names, &self.packages)
     }
 
     // What is kept of a package.
@@ -67,13 +77,18 @@ impl KeptPackages {
     // Keeps what is new of some packages, each of which has a slot. Takes no memory.
     pub(crate) fn exchange(&mut self, changed: Vec<KeptChange>)
         requires { All (λ c. has_kept_slot self.old c.«package» ≡ true) changed.items }
+        ensures at { (name : Name) → kept_at self.new name ≡ put_at changed.items name (kept_at self.old name) }
         ensures kept { (facts : Facts) → All (λ c. IsKeptOf facts c.«package» c.kept) changed.items
             → ((name : Name) → is_changed changed.items name ≡ false
             → IfSome (kept_at self.old name) (IsKeptOf facts name))
             → (name : Name) → IfSome (kept_at self.new name) (IsKeptOf facts name) }
     {
         'packages: for one in changed {
-            let KeptChange { package, kept } = one;
+            let KeptChange {
+                package,
+                kept,
+                looks: _,
+            } = one;
             put(&mut self.packages, package, kept);
         }
     }

@@ -5,7 +5,7 @@
 //! Packages are in the order of their names, and so the stands of all of them, one package after the other, are the
 //! standing in the order of pairs. A package without a demanded pair may have a slot, which holds no stand. So memory
 //! for a package can be taken before its stands are exchanged.
-ghost use Rattle.std.specs.Prelude.{◌≡◌, [], IfErr, OnOk, is_some, true};
+ghost use Rattle.std.specs.Prelude.{◌≡◌, ◌++◌, [], IfErr, OnOk, is_some, map, true};
 ghost use Rattle.std.specs.BTreeMap.{IsOrdered, get, insert_entry};
 ghost use Rattle.std.specs.Cmp.Lexicographic.{slice_cmp};
 ghost use Rattle.std.specs.List.{All};
@@ -15,6 +15,7 @@ ghost use Rattle.vet_graph.specs.Standing.{IsStanding, class_in, counts_of};
 ghost use Rattle.vet_masks.specs.Standings.{AreByPackage, AreOfPackage, all_stands, changes_in, has_slot};
 ghost use Rattle.vet_masks.specs.Standings.{stands_at, with_all};
 
+use crate::names::add_keys;
 use std::alloc::Global;
 use std::collections::BTreeMap;
 use std::marker::Model;
@@ -58,6 +59,21 @@ impl Standing {
             packages: BTreeMap::new(alloc),
             counts: counts_of(&[]),
         }
+    }
+
+    // Packages are in the order of their names, each with stands of its own. Costs nothing.
+    pub(crate) fn is_by_package(&self)
+        ensures { AreByPackage self.now }
+    {
+        let _ = &self.packages;
+    }
+
+    // Adds the names of the packages that have a slot.
+    pub(crate) fn add_names(&self, names: &mut Vec<PackageName>) -> Result<(), Refusal>
+        ensures names { OnOk result (names.new.items ≡ names.old.items ++ map (λ p. p.«package») self.now) }
+        ensures memory { IfErr result (λ e. e ≡ Refusal.NoMemory) }
+    {
+        add_keys(names, &self.packages)
     }
 
     // The stands of a package, in the order of their pairs.

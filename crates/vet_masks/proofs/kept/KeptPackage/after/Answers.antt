@@ -10,7 +10,7 @@ extended-requires-clause-found c =
     let f = c.requires.kept.2.classes.found in
     let old = c.requires.kept.1 in
     let told : IsGrown c.as_slice.result.now (condemned_by c.as_slice-2.result.now) c.args.self.now =
-    c.has_grown.ensures.0 c.if-not-has_grown.false in
+    (c.goes_on.ensures.0 c.if-not-goes_on.false).1 in
     let grown = rw c.as_slice.ensures.value at told in
     let same : condemned_by c.as_slice-2.result.now ≡ condemned_by c.as_slice-3.result.now =
     ap condemned_by (c.as_slice-2.ensures.value ∙ sym c.as_slice-3.ensures.value) in (

@@ -1,12 +1,12 @@
-use Rattle.std.proofs.Common.{◌≡◌, IfSome, is_some, true, sym, ap, subst, ◌∙◌}
+use Rattle.std.proofs.Common.{◌≡◌, IfSome, is_some, true, refl, sym, ap, subst, ◌∙◌}
 use Rattle.std.specs.BTreeMap.{get}
 use Rattle.std.specs.Cmp.Lexicographic.{slice_cmp}
-use Rattle.std.specs.Ordering.{nat_cmp}
+use Rattle.std.specs.Ordering.{eq_by_cmp, nat_cmp}
 use Rattle.std.proofs.lemmas.List.{nil_from_length}
 use Rattle.std.proofs.lemmas.List.Elements.{All-head, All-tail, All-weaker}
 use Rattle.vet_masks.specs.declared.packages.KeptChange.{KeptChange}
-use Rattle.vet_masks.specs.Packages.{IsKeptOf, has_kept_slot, in_slot, is_changed}
-use Rattle.vet_masks.proofs.Keeping.{kept-next, slot-stays}
+use Rattle.vet_masks.specs.Packages.{IsKeptOf, has_kept_slot, in_slot, is_changed, kept_at, put_at}
+use Rattle.vet_masks.proofs.Keeping.{kept-next, slot-put, slot-stays}
 use Rattle.vet_masks.proofs.packages.KeptPackages.exchange.Goals as goal
 
 pub packages-init : goal.packages-init
@@ -16,6 +16,7 @@ packages-init c =
       next = tt;
       finite = tt;
       slots = rw all c.requires;
+      at = λ name. rw all refl;
       kept = λ facts own others. rw all (own, others);
     }
 
@@ -36,6 +37,9 @@ packages-preserved c =
       finite = tt;
       slots = All-weaker HasSlot HasNow (λ d h. ap is_some (c.put.ensures d.«package») ∙ slot-stays _ _ _ h) rest
           (All-tail HasSlot one rest (rw steps at c.packages.invariant.slots));
+      at = λ name. ap (put_at rest name) (ap in_slot (c.put.ensures name)
+          ∙ slot-put (old name) one.kept (eq_by_cmp (slice_cmp nat_cmp) one.«package» name))
+          ∙ (rw steps at c.packages.invariant.at name);
       kept = λ facts own others. (let IsOwn = λ (d : KeptChange). IsKeptOf facts d.«package» d.kept in
           let so_far = rw steps at (c.packages.invariant.kept facts own others) in (
             All-tail IsOwn one rest so_far.0,
@@ -46,6 +50,9 @@ packages-preserved c =
 
 pub returns : goal.returns
 returns c = record {
+  at = λ name. (let none = nil_from_length c.packages.one-iterator.rest.items
+      (sym c.packages.one-iterator.rest.ok.0 ∙ c.in-None.ensures.steps.0) in
+      sym (ap (λ rest. put_at rest name (kept_at c.packages.self name)) none) ∙ c.packages.invariant.at name);
   kept = λ facts own others name. (let none = nil_from_length c.packages.one-iterator.rest.items
       (sym c.packages.one-iterator.rest.ok.0 ∙ c.in-None.ensures.steps.0) in
       (c.packages.invariant.kept facts own others).1 name (ap (λ rest. is_changed rest name) none));
