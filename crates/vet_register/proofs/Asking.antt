@@ -127,10 +127,10 @@ module _ {K : Type 0} (r : RegisterView K) (day : DayValue) (a : Action) where
   refusal_exact false U t f h = exact_exactly U t f h
 
   -- the effect of what is accepted in a state that stays, if what is held after it is sound
-  pub effect_is : (s : State) (e : Effect) → r.state ≡ s → edited e.edit s.held ≡ held_after s a
+  pub effect_is : (s : State) (e : Effect) → r.state ≡ s → edited e.edit s.held ≡ held_after s day a
       → desk_edited e.desk s.desk ≡ desk_by s day a → e.number ≡ number_given s a → e.next_entry ≡ number_after s a
-      → Fits e.edit (held_room r) → HoldsDesk e.desk (desk_room r) → IsSoundHeld (held_after s a) (number_after s a) →
-      IsEffect r day a e
+      → Fits e.edit (held_room r) → HoldsDesk e.desk (desk_room r)
+      → IsSoundHeld (held_after s day a) (number_after s a) → IsEffect r day a e
   effect_is s e stays held desk number next fits holds sound =
       subst (λ (t : State). IsEffect (record { state = t; keeper = r.keeper; room = r.room }) day a e) (sym stays)
       (record {
@@ -144,9 +144,9 @@ module _ {K : Type 0} (r : RegisterView K) (day : DayValue) (a : Action) where
       })
 
   -- that of an edit of what is held, where the desk stays
-  pub held_effect : (s : State) (e : Effect) → r.state ≡ s → edited e.edit s.held ≡ held_after s a
+  pub held_effect : (s : State) (e : Effect) → r.state ≡ s → edited e.edit s.held ≡ held_after s day a
       → e.desk ≡ None → desk_by s day a ≡ s.desk → e.number ≡ number_given s a → e.next_entry ≡ number_after s a
-      → Fits e.edit (held_room r) → IsSoundHeld (held_after s a) (number_after s a) → IsEffect r day a e
+      → Fits e.edit (held_room r) → IsSoundHeld (held_after s day a) (number_after s a) → IsEffect r day a e
   held_effect s e stays held none desk number next fits sound =
       effect_is s e stays held (desk_stays e.desk s.desk (desk_by s day a) none desk) number next fits
       (subst (λ o. HoldsDesk o (desk_room r)) (sym none) tt) sound
@@ -154,11 +154,11 @@ module _ {K : Type 0} (r : RegisterView K) (day : DayValue) (a : Action) where
   -- that of an edit of facts, where all else stays, if criteria and publisher records are sound after it
   pub facts_effect : (s : State) (change : Edit) (number : Option ℕ) (next : ℕ) → r.state ≡ s → IsSound s → judged s
       day a ≡ Ok Accepted
-      → IsGivenContent a → facts.edited change s.held.facts ≡ facts_after s a
+      → IsGivenContent a → facts.edited change s.held.facts ≡ facts_after s day a
       → s.held.policies ≡ policies_by a s.held.policies → s.held.projects ≡ projects_by a s.held.projects
       → s.held.settings ≡ settings_by a s.held.settings → desk_by s day a ≡ s.desk → number ≡ number_given s a
       → next ≡ number_after s a → facts.Fits change (held_room r).facts
-      → IsTable (facts_after s a).criteria → ArePublishers (facts_after s a).publishers
+      → IsTable (facts_after s day a).criteria → ArePublishers (facts_after s day a).publishers
       → IsEffect r day a (record { edit = edit.Facts change; desk = None; number = number; next_entry = next })
   facts_effect s change number next stays sound told given becomes policies projects settings desk numbered follows
       fits is are =

@@ -145,7 +145,7 @@ some_mapped f (Some x) = refl
 -- an effect of a command to the desk is its effect
 pub desk_effective : {K : Type 0} (r : RegisterView K) (s : State) (day : DayValue) (command : DeskCommand)
     (change : DeskChange) (e : Effect) → r.state ≡ s → IsSound s
-    → judged s day (Desk command) ≡ Ok Accepted → IsDeskChange (desk_room r) day command change → IsDeskEffect r
+    → judged s day (Desk command) ≡ Ok Accepted → IsDeskChange (desk_room r) day command change → IsDeskEffect r day
     command change e → IsEffect r day (Desk command) e
 desk_effective r s day command change e stays sound told prepared h =
     let here : IsSound r.state = subst IsSound (sym stays) sound in

@@ -59,8 +59,8 @@ beside s day a = record {
   numbers = numbers_given s a;
   number = number_given s a;
   desk = desk_by s day a;
-  criteria = (facts_after s a).criteria;
-  publishers = (facts_after s a).publishers;
+  criteria = (facts_after s day a).criteria;
+  publishers = (facts_after s day a).publishers;
 }
 
 -- nothing, and all of it
@@ -95,10 +95,10 @@ module _ {K : Type 0} {was now : RegisterView K} (same : was ≡ now) (sound : I
     (a : Action) (given : IsGivenContent a) (told : judged now.state day a ≡ Ok Accepted) where
   -- an edit for which room is taken, while what is held stays
   pub edit_is : (held : HeldValue) (keeper : K) (room : Rooms) (change : HeldEdit) (number : Option ℕ) (next : ℕ)
-      → held ≡ was.state.held → edited change was.state.held ≡ held_after was.state a
+      → held ≡ was.state.held → edited change was.state.held ≡ held_after was.state day a
       → desk_by was.state day a ≡ was.state.desk → number ≡ number_given was.state a
       → next ≡ number_after was.state a → Fits change (held_with held room.held)
-      → IsTable (facts_after was.state a).criteria → ArePublishers (facts_after was.state a).publishers
+      → IsTable (facts_after was.state day a).criteria → ArePublishers (facts_after was.state day a).publishers
       → IsEffect (record { state = record was.state { held = held }; keeper = keeper; room = room }) day a
       (record { edit = change; desk = None; number = number; next_entry = next })
   edit_is held keeper room change number next stays becomes desk numbered follows fits is are =
@@ -109,9 +109,9 @@ module _ {K : Type 0} {was now : RegisterView K} (same : was ≡ now) (sound : I
 
   -- an edit for which none is taken
   pub edit_is_still : (change : HeldEdit) (number : Option ℕ) (next : ℕ)
-      → edited change was.state.held ≡ held_after was.state a → desk_by was.state day a ≡ was.state.desk
+      → edited change was.state.held ≡ held_after was.state day a → desk_by was.state day a ≡ was.state.desk
       → number ≡ number_given was.state a → next ≡ number_after was.state a → Fits change (held_room was)
-      → IsTable (facts_after was.state a).criteria → ArePublishers (facts_after was.state a).publishers
+      → IsTable (facts_after was.state day a).criteria → ArePublishers (facts_after was.state day a).publishers
       → IsEffect now day a (record { edit = change; desk = None; number = number; next_entry = next })
   edit_is_still change number next becomes desk numbered follows fits is are =
       subst
@@ -120,13 +120,13 @@ module _ {K : Type 0} {was now : RegisterView K} (same : was ≡ now) (sound : I
       (edit_is was.state.held was.keeper was.room change number next refl becomes desk numbered follows fits is are)
 
   module _ (change : HeldEdit) (plain : beside was.state day a ≡ untouched was.state)
-      (becomes : edited change was.state.held ≡ held_after was.state a) where
-    table_stays : IsTable (facts_after was.state a).criteria
-    table_stays = as_before IsTable (facts_after was.state a).criteria was.state.held.facts.criteria
+      (becomes : edited change was.state.held ≡ held_after was.state day a) where
+    table_stays : IsTable (facts_after was.state day a).criteria
+    table_stays = as_before IsTable (facts_after was.state day a).criteria was.state.held.facts.criteria
         (λ i. (plain i).criteria) sound.held.facts.criteria
 
-    publishers_stay : ArePublishers (facts_after was.state a).publishers
-    publishers_stay = as_before ArePublishers (facts_after was.state a).publishers was.state.held.facts.publishers
+    publishers_stay : ArePublishers (facts_after was.state day a).publishers
+    publishers_stay = as_before ArePublishers (facts_after was.state day a).publishers was.state.held.facts.publishers
         (λ i. (plain i).publishers) sound.held.facts.publishers
 
     number_stays : was.state.next_entry ≡ number_after was.state a
@@ -151,12 +151,13 @@ module _ {K : Type 0} {was now : RegisterView K} (same : was ≡ now) (sound : I
         edit_is_still change None was.state.next_entry becomes (λ i. (plain i).desk)
         none_told number_stays fits table_stays publishers_stay
 
-  module _ (others : held_after was.state a ≡ record was.state.held { facts = facts_after was.state a })
-      (change : Edit) (becomes : facts.edited change was.state.held.facts ≡ facts_after was.state a)
-      (is : IsTable (facts_after was.state a).criteria) (are : ArePublishers (facts_after was.state a).publishers) where
-    in_facts : edited (edit.Facts change) was.state.held ≡ held_after was.state a
+  module _ (others : held_after was.state day a ≡ record was.state.held { facts = facts_after was.state day a })
+      (change : Edit) (becomes : facts.edited change was.state.held.facts ≡ facts_after was.state day a)
+      (is : IsTable (facts_after was.state day a).criteria)
+      (are : ArePublishers (facts_after was.state day a).publishers) where
+    in_facts : edited (edit.Facts change) was.state.held ≡ held_after was.state day a
     in_facts = alike (edited (edit.Facts change) was.state.held)
-        (record was.state.held { facts = facts_after was.state a }) (held_after was.state a)
+        (record was.state.held { facts = facts_after was.state day a }) (held_after was.state day a)
         (λ i. record was.state.held { facts = becomes i }) others
 
     -- an edit of facts for which room is taken

@@ -96,7 +96,7 @@ module _ (s : State) (day : DayValue) (h : IsSound s) where
   abbrev criteria : Criteria
   criteria = s.held.facts.criteria
 
-  pub sound_desk : (a : Action) → Passed s day a → IsSoundAtDesk (facts_after s a).criteria (desk_by s day a)
+  pub sound_desk : (a : Action) → Passed s day a → IsSoundAtDesk (facts_after s day a).criteria (desk_by s day a)
       (number_after s a)
   sound_desk (SetCriterion c) p =
       same_desk s _ _ h.desk (omega arith)

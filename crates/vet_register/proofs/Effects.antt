@@ -71,14 +71,14 @@ not_held None (Err r) e = cc e
 not_held (Some n) t e = absurd (false≢true (ap accepts e))
 
 pub record Passed (s : State) (day : DayValue) (a : Action) : Type 0 where
-  pub held : held_as s a ≡ None
+  pub held : held_as s day a ≡ None
   pub limits : limits s a ≡ Ok tt
   pub references : references s a ≡ Ok tt
   pub rules : rules s day a ≡ Ok tt
 
 pub passed : (s : State) (day : DayValue) (a : Action) → judged s day a ≡ Ok Accepted → Passed s day a
 passed s day a e =
-    let free = not_held (held_as s a) (checked s day a) e in
+    let free = not_held (held_as s day a) (checked s day a) e in
     let l = then_told (limits s a) (λ _. references s a >>= λ _. rules s day a) tt free.1 in
     let r = then_told (references s a) (λ _. rules s day a) tt l.1 in
     record { held = free.0; limits = l.0; references = r.0; rules = r.1 }
@@ -310,7 +310,7 @@ IsGivenContent _ = Unit {0}
 -- the entries after a command
 entries_after : (s : State) (day : DayValue) (a : Action) → Passed s day a → IsGivenContent a → AreEntries Own
     s.held.facts.entries s.next_entry
-    → AreEntries Own (facts_after s a).entries (number_after s a)
+    → AreEntries Own (facts_after s day a).entries (number_after s a)
 entries_after s day (SetCriterion c) p given h = later_entries Own s.held.facts.entries s.next_entry _ (omega arith) h
 entries_after s day (RemoveCriterion n) p given h = later_entries Own s.held.facts.entries s.next_entry _
     (omega arith) h
@@ -349,8 +349,8 @@ stay s m above h = own_changed s.held.facts.entries s.held.facts.entries s.held.
 -- the peers after a command
 peers_after : (s : State) (day : DayValue) (a : Action) → Passed s day a → AreEntries Own s.held.facts.entries
     s.next_entry → IsGivenContent a
-    → PeersSound s.held.facts.entries s.held.facts.peers s.next_entry → PeersSound (facts_after s a).entries
-    (facts_after s a).peers (number_after s a)
+    → PeersSound s.held.facts.entries s.held.facts.peers s.next_entry → PeersSound (facts_after s day a).entries
+    (facts_after s day a).peers (number_after s a)
 peers_after s day (SetCriterion c) p own given h = stay s _ (omega arith) h
 peers_after s day (RemoveCriterion n) p own given h = stay s _ (omega arith) h
 peers_after s day (AddEntry e) p mine given h = added_beside s (Some e) h
@@ -405,7 +405,7 @@ import_counted s name content h is few (Some x) e some =
 
 counted_after : (s : State) (day : DayValue) (a : Action) → Passed s day a → AreEntries Own s.held.facts.entries
     s.next_entry → IsGivenContent a → PeersSound s.held.facts.entries s.held.facts.peers s.next_entry
-    → entries_total s.held.facts ≤ MOST_ENTRIES → entries_total (facts_after s a) ≤ MOST_ENTRIES
+    → entries_total s.held.facts ≤ MOST_ENTRIES → entries_total (facts_after s day a) ≤ MOST_ENTRIES
 counted_after s day (SetCriterion c) p own given h few = few
 counted_after s day (RemoveCriterion n) p own given h few = few
 counted_after s day (AddEntry e) p mine given h few = added_counted s (Some e) (λ x same. entry_passed s e p.limits) few
@@ -436,8 +436,8 @@ counted_after s day ClosePeriod p own given h few = few
 pub sound_effect : (s : State) (day : DayValue) (a : Action) → judged s day a ≡ Ok Accepted → AreSound s.held.facts
     s.next_entry
     → AreKnownTo s.held.facts.criteria s.desk.reviews → IsGivenContent a
-    → IsTable (facts_after s a).criteria → ArePublishers (facts_after s a).publishers → AreSound (facts_after s a)
-    (number_after s a)
+    → IsTable (facts_after s day a).criteria → ArePublishers (facts_after s day a).publishers
+    → AreSound (facts_after s day a) (number_after s a)
 sound_effect s day a e h at given is are =
     let p = passed s day a e in
     let now : PeersSound s.held.facts.entries s.held.facts.peers s.next_entry = record

@@ -53,7 +53,7 @@ same_publishers n (Some e) facts = refl
 -- the policies after a command
 policies_after : (s : State) (day : DayValue) (a : Action) → Passed s day a → IsGivenContent a → ArePolicies
     s.held.facts.criteria s.held.policies
-    → ArePolicies (facts_after s a).criteria (policies_by a s.held.policies)
+    → ArePolicies (facts_after s day a).criteria (policies_by a s.held.policies)
 policies_after s day (SetCriterion c) p given h = record
     { by_key = h.by_key; known = known_by_more s.held.facts.criteria s.held.policies h.known c.name c; few = h.few }
 policies_after s day (RemoveCriterion n) p given h =
@@ -132,8 +132,8 @@ projects_after s day ClosePeriod p h = h
 -- all that is held after a command, if its criteria and its publisher records are sound, and what is imported is
 -- what a reader gives
 pub sound_held : (s : State) (day : DayValue) (a : Action) → judged s day a ≡ Ok Accepted → IsSound s → IsGivenContent a
-    → IsTable (facts_after s a).criteria → ArePublishers (facts_after s a).publishers → IsSoundHeld (held_after s a)
-    (number_after s a)
+    → IsTable (facts_after s day a).criteria → ArePublishers (facts_after s day a).publishers
+    → IsSoundHeld (held_after s day a) (number_after s a)
 sound_held s day a told h given is are =
     let p = passed s day a told in
     record {

@@ -160,7 +160,7 @@ with_known facts n (Some e) new k = record {
 -- what is named is known after the command too
 pub known_after : (s : State) (day : DayValue) (a : Action) → AreKnown s.held.facts → AreKnownTo s.held.facts.criteria
     s.desk.reviews → references s a ≡ Ok tt → rules s day a ≡ Ok tt
-    → AreKnown (facts_after s a)
+    → AreKnown (facts_after s day a)
 known_after s day (SetCriterion c) k at r u = record {
   own = All-weaker (HasKnownCriteria s.held.facts.criteria) _
       (λ h. stays_known s.held.facts.criteria c h.entry.criteria) s.held.facts.entries k.own;

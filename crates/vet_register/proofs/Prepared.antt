@@ -25,7 +25,7 @@ use Rattle.vet_register.proofs.Soundness.{MoveLaws, sound_after}
 
 -- what the parts of a change are in a state, but for its edits, its demand and its update
 pub record AreParts {K U : Type 0} (s : State) (c : Command) (change : Change K U) : Type 0 where
-  pub fit : moves_fit s c.action ≡ Ok tt
+  pub fit : moves_fit s c.day c.action ≡ Ok tt
   pub moves : moves_by change.recording s.moves ≡ moves_after s c
   pub first : first_by change.recording s.first ≡ first_after s c.action
   pub step : change.step ≡ s.step + 1
@@ -33,7 +33,7 @@ pub record AreParts {K U : Type 0} (s : State) (c : Command) (change : Change K 
   pub outcome : change.outcome ≡ outcome_of s c
 
 becomes_next : {K U : Type 0} (s : State) (c : Command) (change : Change K U) → AreParts s c change → edited
-    change.edit s.held ≡ held_after s c.action
+    change.edit s.held ≡ held_after s c.day c.action
     → desk_edited change.desk s.desk ≡ desk_by s c.day c.action → changed change s ≡ next s c
 becomes_next s c change parts held desk = λ i. record {
   held = held i;
@@ -48,13 +48,13 @@ becomes_next s c change parts held desk = λ i. record {
 -- a change of these parts is the step of a command that is accepted
 pub is_step : {K U : Type 0} → MoveLaws → (keeping : Keeping K U) (s : State) (c : Command) (change : Change K U) →
     IsSound s
-    → judged s c.day c.action ≡ Ok Accepted → IsSoundHeld (held_after s c.action) (number_after s c.action) → AreParts
-    s c change
-    → edited change.edit s.held ≡ held_after s c.action → desk_edited change.desk s.desk ≡ desk_by s c.day c.action
-    → demand_by change.demand (demanded s) ≡ demand_in (held_after s c.action)
-    → keeping.touched_of change.update ≡ touched_by s c.action → IsStep keeping s c change
+    → judged s c.day c.action ≡ Ok Accepted → IsSoundHeld (held_after s c.day c.action) (number_after s c.action)
+    → AreParts s c change → edited change.edit s.held ≡ held_after s c.day c.action
+    → desk_edited change.desk s.desk ≡ desk_by s c.day c.action
+    → demand_by change.demand (demanded s) ≡ demand_in (held_after s c.day c.action)
+    → keeping.touched_of change.update ≡ touched_by s c.day c.action → IsStep keeping s c change
 is_step laws keeping s c change sound told held parts by desk demand touches = record {
-  accepts = ap (λ t. t >>= fitting s c.action) told ∙ ap (λ t. t >>= λ _. Ok Accepted) parts.fit;
+  accepts = ap (λ t. t >>= fitting s c.day c.action) told ∙ ap (λ t. t >>= λ _. Ok Accepted) parts.fit;
   becomes = becomes_next s c change parts by desk;
   sound = sound_after laws s c sound told parts.fit held;
   demand = demand;
@@ -64,19 +64,19 @@ is_step laws keeping s c change sound told held parts by desk demand touches = r
 
 -- a command that is accepted but for its moves is refused where these do not fit
 pub fit_told : (s t : State) (c : Command) (f : Refusal) → t ≡ s → judged s c.day c.action ≡ Ok Accepted →
-    (f ≡ NoMemory) ⊎ (moves_fit t c.action ≡ Err f)
+    (f ≡ NoMemory) ⊎ (moves_fit t c.day c.action ≡ Err f)
     → (f ≡ NoMemory) ⊎ (verdict s c ≡ Err f)
 fit_told s t c f same told (inl lacks) = inl lacks
 fit_told s t c f same told (inr h) =
-    inr (ap (λ t. t >>= fitting s c.action) told ∙ ap (λ t. t >>= λ _. Ok Accepted)
-    (subst (λ (z : State). moves_fit z c.action ≡ Err f) same h))
+    inr (ap (λ t. t >>= fitting s c.day c.action) told ∙ ap (λ t. t >>= λ _. Ok Accepted)
+    (subst (λ (z : State). moves_fit z c.day c.action ≡ Err f) same h))
 
 -- and told so where they fit
-pub fits_told : (s t : State) (c : Command) → t ≡ s → judged s c.day c.action ≡ Ok Accepted → moves_fit t c.action ≡
-    Ok tt → verdict s c ≡ Ok Accepted
+pub fits_told : (s t : State) (c : Command) → t ≡ s → judged s c.day c.action ≡ Ok Accepted
+    → moves_fit t c.day c.action ≡ Ok tt → verdict s c ≡ Ok Accepted
 fits_told s t c same told h =
-    ap (λ t. t >>= fitting s c.action) told ∙ ap (λ t. t >>= λ _. Ok Accepted)
-    (subst (λ (z : State). moves_fit z c.action ≡ Ok tt) same h)
+    ap (λ t. t >>= fitting s c.day c.action) told ∙ ap (λ t. t >>= λ _. Ok Accepted)
+    (subst (λ (z : State). moves_fit z c.day c.action ≡ Ok tt) same h)
 
 -- ---- what was prepared before
 

@@ -41,7 +41,7 @@ use Rattle.vet_register.proofs.Effects.{passed}
 -- the verdict of an action by whether a test finds held what it asks for
 abbrev told_if : State → DayValue → Action → Bool → Told Answer
 told_if s day a b = held_or (cond b (Some None) (let none : Option (Option ℕ) = None in none)) (checked s day a) >>=
-    fitting s a
+    fitting s day a
 
 module _ (s : State) (day : DayValue) (a : Action) where
   abbrev c : Command
@@ -50,12 +50,13 @@ module _ (s : State) (day : DayValue) (a : Action) where
   changes_nothing : verdict s c ≡ Ok (Already None) → ChangesNothing s c
   changes_nothing told = (told, ap (left s c) told)
 
-  never_already : (t : Told (Unit {0})) (n : Option ℕ) → ((t >>= λ _. Ok Accepted) >>= fitting s a) ≡ Ok (Already n) → ⊥
+  never_already : (t : Told (Unit {0})) (n : Option ℕ)
+      → ((t >>= λ _. Ok Accepted) >>= fitting s day a) ≡ Ok (Already n) → ⊥
   never_already (Err e) n h = cc h
   never_already (Ok u) n h = by (fit_of s a) h
     where
       fit_of : State → Action → Told (Unit {0})
-      fit_of s a = moves_fit s a
+      fit_of s a = moves_fit s day a
 
       by : (t : Told (Unit {0})) → (t >>= λ _. Ok Accepted) ≡ Ok (Already n) → ⊥
       by (Err e) h = cc h
@@ -94,10 +95,11 @@ same_as_of source xs ys same = (
       (map_in (of_source source) xs m.0 (same.1 m.0 m.1.0))),
 )
 
-pub judged_accepted : (s : State) (a : Action) (t : Told Answer) → (t >>= fitting s a) ≡ Ok Accepted → t ≡ Ok Accepted
-judged_accepted s a (Err e) h = cc h
-judged_accepted s a (Ok (Already n)) h = cc h
-judged_accepted s a (Ok Accepted) h = refl
+pub judged_accepted : (s : State) (day : DayValue) (a : Action) (t : Told Answer)
+    → (t >>= fitting s day a) ≡ Ok Accepted → t ≡ Ok Accepted
+judged_accepted s day a (Err e) h = cc h
+judged_accepted s day a (Ok (Already n)) h = cc h
+judged_accepted s day a (Ok Accepted) h = refl
 
 -- the peer that is held after its import
 held_after : (peers : List HeldPeer) (name : List ℕ) (n : ℕ) (content : PeerContentValue) (o : Option HeldPeer) →
@@ -112,7 +114,7 @@ held_after peers name n content (Some x) e some =
 
 pub repeated_is_already : RepeatedImportIsAlready
 repeated_is_already s day later name content again is repeats criteria entries told =
-    let p = passed s day (ImportPeer name content) (judged_accepted s (ImportPeer name content) _ told) in
+    let p = passed s day (ImportPeer name content) (judged_accepted s day (ImportPeer name content) _ told) in
     let o = peer_of s.held.facts.peers name in
     let some : is_none o ≡ false = not_refused (is_none o) UnknownPeer p.references in
     let held = held_after s.held.facts.peers name s.next_entry content o refl some in

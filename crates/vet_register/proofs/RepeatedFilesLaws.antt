@@ -8,6 +8,7 @@ use Rattle.std.proofs.lemmas.List.Folds.{list_all-map}
 use Rattle.vet_base.specs.declared.criterion.Criterion.{Criterion}
 use Rattle.vet_base.specs.declared.refusal.Refusal.TheVariants.{UnknownPeer}
 use Rattle.vet_base.specs.CriteriaChanges.{is_built_in, known}
+use Rattle.vet_base.specs.Day.{DayValue}
 use Rattle.vet_base.specs.Defined.{defined}
 use Rattle.vet_base.specs.FurtherCriteria.{further}
 use Rattle.vet_base.specs.Gives.{refuse_if}
@@ -106,9 +107,9 @@ module _ (peers : List HeldPeer) (f again : FilesValue) (is : IsFiles f)
       (peers_after next peers f.contents ps) (one_says k p) (each_says next ps)
 
 -- files that say the same as others say what is held after these
-say_what_is_left : (s : State) (f again : FilesValue) → IsFiles f → SayTheSame again f → each_is_set f ≡ true →
-    SayWhatIsHeld (held_after s (ReplaceFiles f)) again
-say_what_is_left s f again is same set =
+say_what_is_left : (s : State) (day : DayValue) (f again : FilesValue) → IsFiles f → SayTheSame again f → each_is_set f
+    ≡ true → SayWhatIsHeld (held_after s day (ReplaceFiles f)) again
+say_what_is_left s day f again is same set =
     let facts = s.held.facts in
     let k = s.next_entry + new_own facts f in
     record {
@@ -127,12 +128,12 @@ say_what_is_left s f again is same set =
 pub repeated_files_are_already : RepeatedFilesAreAlready
 repeated_files_are_already s day later f again sound is are same told =
     let a = ReplaceFiles f in
-    let accepted = judged_accepted s a (judged s day a) told in
+    let accepted = judged_accepted s day a (judged s day a) told in
     let p = passed s day a accepted in
     let fit = files_fit s f p.limits in
     let defines = told_is_table f.criteria (files_table f is fit.criteria (files_know f p.references)) in
     let held = sound_held s day a accepted sound is defines (files_records f is fit.records) in
     let just = just_where_held (next s (replace_on day f)) later (ReplaceFiles again)
-    (has_files (held_after s a) again) refl in
-    just.1 ((files_decided (held_after s a) (number_after s a) held again are).1
-    (say_what_is_left s f again is same (set_accepted f p.references)))
+    (has_files (held_after s day a) again) refl in
+    just.1 ((files_decided (held_after s day a) (number_after s a) held again are).1
+    (say_what_is_left s day f again is same (set_accepted f p.references)))

@@ -47,9 +47,9 @@ same_changes step day [] = refl
 same_changes step day (m ∷ moves) = ap (λ ms. m ∷ ms) (same_changes step day moves)
 
 pub changes-append : (s : State) (c : Command) → changes_of (s.moves ++ records_of s c) ≡ changes_of s.moves ++
-    moves_of s c.action
+    moves_of s c.day c.action
 changes-append s c = map-append (λ m. m.change) s.moves (records_of s c) ∙ ap (λ ms. changes_of s.moves ++ ms)
-    (same_changes (s.step + 1) c.day (moves_of s c.action))
+    (same_changes (s.step + 1) c.day (moves_of s c.day c.action))
 
 pub same_pairs : (facts : Facts) (demand : List Pair) → pairs_of (standing_of facts demand) ≡ demand
 same_pairs facts [] = refl
@@ -75,8 +75,9 @@ sound_standing least held next h =
     standing_in_order held.facts (demand_in held)
     (least held.projects held.policies held.facts.criteria h.facts.criteria h.policies.known).in_order
 
-moves_sound : MoveLaws → (s : State) (c : Command) → moves_fit s c.action ≡ Ok tt → IsSoundHeld s.held s.next_entry
-    → IsSoundHeld (held_after s c.action) (number_after s c.action) → AreInOrder s.moves s.step s.moves_limit
+moves_sound : MoveLaws → (s : State) (c : Command) → moves_fit s c.day c.action ≡ Ok tt
+    → IsSoundHeld s.held s.next_entry → IsSoundHeld (held_after s c.day c.action) (number_after s c.action)
+    → AreInOrder s.moves s.step s.moves_limit
     → AreInOrder (moves_after s c) (s.step + 1) s.moves_limit
 moves_sound laws s c fit before after h = by (ends_period c.action) fit
   where
@@ -88,18 +89,18 @@ moves_sound laws s c fit before after h = by (ends_period c.action) fit
           arith;
     }
 
-    recorded_behind : nat_lt s.moves_limit (length s.moves + length (moves_of s c.action)) ≡ false → AreInOrder
+    recorded_behind : nat_lt s.moves_limit (length s.moves + length (moves_of s c.day c.action)) ≡ false → AreInOrder
         (s.moves ++ records_of s c) (s.step + 1) s.moves_limit
     recorded_behind room =
-        let made = laws.differences (standing s) (standing_in (held_after s c.action))
+        let made = laws.differences (standing s) (standing_in (held_after s c.day c.action))
         (sound_standing laws.least s.held s.next_entry before)
-        (sound_standing laws.least (held_after s c.action) (number_after s c.action) after) in
+        (sound_standing laws.least (held_after s c.day c.action) (number_after s c.action) after) in
         let more = records_of s c in
         let at_step : All (IsOf (s.step + 1)) more = All-map (IsOf (s.step + 1)) (recorded (s.step + 1) c.day)
-        (moves_of s c.action) (λ k d l. refl) in
+        (moves_of s c.day c.action) (λ k d l. refl) in
         record {
           in_order = AllPairs-append ComesBefore s.moves more h.in_order
-              (AllPairs-map (recorded (s.step + 1) c.day) ComesBefore (moves_of s c.action)
+              (AllPairs-map (recorded (s.step + 1) c.day) ComesBefore (moves_of s c.day c.action)
               (λ i j d l m. inr (refl, made.in_order i j d l m)))
               (All-weaker (IsBy s.step) (λ m. All (ComesBefore m) more)
               (λ m e. All-weaker (IsOf (s.step + 1)) (ComesBefore m) (λ n at. inl (omega (arith, at, e))) more
@@ -108,32 +109,32 @@ moves_sound laws s c fit before after h = by (ends_period c.action) fit
               (All-weaker (IsBy s.step) (IsBy (s.step + 1)) (λ m e. omega (arith, e)) s.moves h.steps)
               (All-weaker (IsOf (s.step + 1)) (IsBy (s.step + 1)) (λ m e. omega (arith, e)) more at_step);
           few = rw (length-append s.moves more, length-map)
-              (ltb-false s.moves_limit (length s.moves + length (moves_of s c.action)) room);
+              (ltb-false s.moves_limit (length s.moves + length (moves_of s c.day c.action)) room);
         }
 
-    by : (b : Bool) → refuse_if (nat_lt s.moves_limit (cond b 0 (length s.moves + length (moves_of s c.action))))
+    by : (b : Bool) → refuse_if (nat_lt s.moves_limit (cond b 0 (length s.moves + length (moves_of s c.day c.action))))
         MovesFull ≡ Ok tt
         → AreInOrder (cond b [] (s.moves ++ records_of s c)) (s.step + 1) s.moves_limit
     by true fit = ended
     by false fit = recorded_behind (not_refused _ MovesFull fit)
 
 -- the end of a period leaves what is held
-ends_only : (s : State) (a : Action) → ends_period a ≡ true → held_after s a ≡ s.held
-ends_only s (SetCriterion c) h = cc h
-ends_only s (RemoveCriterion n) h = cc h
-ends_only s (AddEntry e) h = cc h
-ends_only s (DropEntry n) h = cc h
-ends_only s (SetPeer settings) h = cc h
-ends_only s (DropPeer n) h = cc h
-ends_only s (ImportPeer n content) h = cc h
-ends_only s (SetPublishers n records) h = cc h
-ends_only s (SetPolicy policy) h = cc h
-ends_only s (DropPolicy key) h = cc h
-ends_only s (LoadProject project) h = cc h
-ends_only s (DropProject n) h = cc h
-ends_only s (ReplaceFiles f) h = cc h
-ends_only s (Desk command) h = cc h
-ends_only s ClosePeriod h = refl
+ends_only : (s : State) (day : DayValue) (a : Action) → ends_period a ≡ true → held_after s day a ≡ s.held
+ends_only s day (SetCriterion c) h = cc h
+ends_only s day (RemoveCriterion n) h = cc h
+ends_only s day (AddEntry e) h = cc h
+ends_only s day (DropEntry n) h = cc h
+ends_only s day (SetPeer settings) h = cc h
+ends_only s day (DropPeer n) h = cc h
+ends_only s day (ImportPeer n content) h = cc h
+ends_only s day (SetPublishers n records) h = cc h
+ends_only s day (SetPolicy policy) h = cc h
+ends_only s day (DropPolicy key) h = cc h
+ends_only s day (LoadProject project) h = cc h
+ends_only s day (DropProject n) h = cc h
+ends_only s day (ReplaceFiles f) h = cc h
+ends_only s day (Desk command) h = cc h
+ends_only s day ClosePeriod h = refl
 
 pub counted_in : (class : Class) (stands : List Stand) → count_in class (counts_of stands) ≡ count_of class stands
 counted_in Conflicting stands = refl
@@ -146,26 +147,27 @@ balance_sound : MoveLaws → (s : State) (c : Command) → IsBalanced s → IsBa
 balance_sound laws s c b class = by (ends_period c.action) refl
   where
     goes_on : count_in class s.first + arrivals_of class (changes_of (s.moves ++ records_of s c))
-        ≡ count_of class (standing_in (held_after s c.action)) + departures_of class
+        ≡ count_of class (standing_in (held_after s c.day c.action)) + departures_of class
         (changes_of (s.moves ++ records_of s c))
     goes_on =
-        let law = laws.balance class (standing s) (standing_in (held_after s c.action)) in
-        let a = laws.arrivals class (changes_of s.moves) (moves_of s c.action) in
-        let d = laws.departures class (changes_of s.moves) (moves_of s c.action) in
+        let law = laws.balance class (standing s) (standing_in (held_after s c.day c.action)) in
+        let a = laws.arrivals class (changes_of s.moves) (moves_of s c.day c.action) in
+        let d = laws.departures class (changes_of s.moves) (moves_of s c.day c.action) in
         rw (changes-append s c, a, d) (omega (arith, b class, law))
 
     by : (e : Bool) → ends_period c.action ≡ e → count_in class (cond e (counts_of (standing s)) s.first) +
         arrivals_of class (changes_of (cond e [] (s.moves ++ records_of s c)))
-        ≡ count_of class (standing_in (held_after s c.action)) + departures_of class
+        ≡ count_of class (standing_in (held_after s c.day c.action)) + departures_of class
         (changes_of (cond e [] (s.moves ++ records_of s c)))
     by true ends = ap (λ n. n + 0)
-        (counted_in class (standing s) ∙ ap (λ h. count_of class (standing_in h)) (sym (ends_only s c.action ends)))
+        (counted_in class (standing s)
+        ∙ ap (λ h. count_of class (standing_in h)) (sym (ends_only s c.day c.action ends)))
     by false goes = goes_on
 
 -- the state after a command that was judged, and whose moves fit, if what is held then is sound
 pub sound_after : MoveLaws → (s : State) (c : Command) → IsSound s → judged s c.day c.action ≡ Ok Accepted → moves_fit
-    s c.action ≡ Ok tt
-    → IsSoundHeld (held_after s c.action) (number_after s c.action) → IsSound (next s c)
+    s c.day c.action ≡ Ok tt
+    → IsSoundHeld (held_after s c.day c.action) (number_after s c.action) → IsSound (next s c)
 sound_after laws s c h e fit held =
     let p = passed s c.day c.action e in
     record {

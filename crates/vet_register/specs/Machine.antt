@@ -20,7 +20,8 @@
 -- number. SetPeer sets the settings of a peer. DropPeer takes the peer out with all that is held of it. ImportPeer
 -- imports its content, as the peer's whatever source the entries name. SetPublishers sets the records of its package
 -- (effect). SetPolicy and LoadProject put a policy or a project where its key or name belongs, in place of the one
--- that is there. DropPolicy and DropProject take it out (policies_by, projects_by, held_after).
+-- that is there. DropPolicy and DropProject take it out (policies_by, projects_by, held_after). What a command does is
+-- told its day beside its action; what is held after it is the same on each day.
 use Rattle.std.specs.Prelude.{ℕ, ◌+◌, ◌++◌, not, Bool, true, false, List, [], ◌∷◌, Option, Some, None, if◌then◌else◌}
 use Rattle.std.specs.Prelude.{length, filter, map}
 use Rattle.std.specs.Option.{option_map_or}
@@ -76,24 +77,25 @@ with_entry number None facts = facts
 with_entry number (Some entry) facts =
     record facts { entries = facts.entries ++ (record { number = number; entry = own entry }) ∷ [] }
 
--- the effect of a command in a state on the facts of packages
-abbrev pub effect : State → Action → Facts → Facts
-effect s (SetCriterion c) facts = record facts { criteria = table.insert facts.criteria c.name c }
-effect s (RemoveCriterion name) facts = record facts { criteria = table.remove facts.criteria name }
-effect s (AddEntry entry) facts = with_entry s.next_entry (Some entry) facts
-effect s (DropEntry n) facts = record facts { entries = filter (λ h. not (has_number n h)) facts.entries }
-effect s (SetPeer settings) facts = record facts { peers = with_settings settings facts.peers }
-effect s (DropPeer name) facts = record facts { peers = without_peer name facts.peers }
-effect s (ImportPeer name content) facts =
+-- the effect of a command in a state, on its day, on the facts of packages
+abbrev pub effect : State → DayValue → Action → Facts → Facts
+effect s day (SetCriterion c) facts = record facts { criteria = table.insert facts.criteria c.name c }
+effect s day (RemoveCriterion name) facts = record facts { criteria = table.remove facts.criteria name }
+effect s day (AddEntry entry) facts = with_entry s.next_entry (Some entry) facts
+effect s day (DropEntry n) facts = record facts { entries = filter (λ h. not (has_number n h)) facts.entries }
+effect s day (SetPeer settings) facts = record facts { peers = with_settings settings facts.peers }
+effect s day (DropPeer name) facts = record facts { peers = without_peer name facts.peers }
+effect s day (ImportPeer name content) facts =
     record facts { peers = with_content name (imported name s.next_entry content (held_of facts name)) facts.peers }
-effect s (SetPublishers name records) facts = record facts { publishers = with_records name records facts.publishers }
-effect s (SetPolicy policy) facts = facts
-effect s (DropPolicy key) facts = facts
-effect s (LoadProject project) facts = facts
-effect s (DropProject name) facts = facts
-effect s (ReplaceFiles files) facts = facts_of_files s.next_entry files facts
-effect s (Desk command) facts = with_entry s.next_entry (added_by s command) facts
-effect s ClosePeriod facts = facts
+effect s day (SetPublishers name records) facts =
+    record facts { publishers = with_records name records facts.publishers }
+effect s day (SetPolicy policy) facts = facts
+effect s day (DropPolicy key) facts = facts
+effect s day (LoadProject project) facts = facts
+effect s day (DropProject name) facts = facts
+effect s day (ReplaceFiles files) facts = facts_of_files s.next_entry files facts
+effect s day (Desk command) facts = with_entry s.next_entry (added_by s command) facts
+effect s day ClosePeriod facts = facts
 
 -- its effect on the policies
 abbrev pub policies_by : Action → List KeyedPolicy → List KeyedPolicy
@@ -114,13 +116,13 @@ settings_by (ReplaceFiles files) settings = tool_of_files files
 settings_by _ settings = settings
 
 -- the facts after a command
-abbrev pub facts_after : State → Action → Facts
-facts_after s action = effect s action s.held.facts
+abbrev pub facts_after : State → DayValue → Action → Facts
+facts_after s day action = effect s day action s.held.facts
 
 -- what is held after a command
-abbrev pub held_after : State → Action → HeldValue
-held_after s action = record {
-  facts = facts_after s action;
+abbrev pub held_after : State → DayValue → Action → HeldValue
+held_after s day action = record {
+  facts = facts_after s day action;
   policies = policies_by action s.held.policies;
   projects = projects_by action s.held.projects;
   settings = settings_by action s.held.settings;
@@ -132,12 +134,12 @@ desk_by s day (Desk command) = desk_after day (entry_number s command) command s
 desk_by s day _ = s.desk
 
 -- the moves of a command: the pairs whose class differs before and after it
-abbrev pub moves_of : State → Action → List Move
-moves_of s action = moves_between (standing s) (standing_in (held_after s action))
+abbrev pub moves_of : State → DayValue → Action → List Move
+moves_of s day action = moves_between (standing s) (standing_in (held_after s day action))
 
 -- the packages that a command touches: today all
-abbrev pub touched_by : State → Action → Touched
-touched_by s action = touched.All
+abbrev pub touched_by : State → DayValue → Action → Touched
+touched_by s day action = touched.All
 
 -- the number that a command is told: that of the entry that it makes, of a review that it opens, or of the entry of one
 -- that it finishes; an import tells none, nor do files
@@ -166,7 +168,7 @@ recorded step day change = record { step = step; day = day; change = change }
 
 -- the moves that a command records
 abbrev pub records_of : State → Command → List RecordedMove
-records_of s c = map (recorded (s.step + 1) c.day) (moves_of s c.action)
+records_of s c = map (recorded (s.step + 1) c.day) (moves_of s c.day c.action)
 
 -- a command ends the period: another begins, with the counts that are present, and without a move
 abbrev pub ends_period : Action → Bool
@@ -181,13 +183,13 @@ abbrev pub moves_after : State → Command → List RecordedMove
 moves_after s c = if ends_period c.action then [] else s.moves ++ records_of s c
 
 -- how many moves these are
-abbrev pub count_after : State → Action → ℕ
-count_after s action = if ends_period action then 0 else length s.moves + length (moves_of s action)
+abbrev pub count_after : State → DayValue → Action → ℕ
+count_after s day action = if ends_period action then 0 else length s.moves + length (moves_of s day action)
 
 -- the state after an accepted command
 abbrev pub next : State → Command → State
 next s c = record s {
-  held = held_after s c.action;
+  held = held_after s c.day c.action;
   desk = desk_by s c.day c.action;
   step = s.step + 1;
   next_entry = number_after s c.action;
@@ -197,4 +199,4 @@ next s c = record s {
 
 -- what an accepted command is told: its step, its number, and how many moves it made
 abbrev pub outcome_of : State → Command → Outcome
-outcome_of s c = Done (s.step + 1) (number_given s c.action) (length (moves_of s c.action))
+outcome_of s c = Done (s.step + 1) (number_given s c.action) (length (moves_of s c.day c.action))

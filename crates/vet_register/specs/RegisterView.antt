@@ -105,7 +105,7 @@ pub record IsStep {K U : Type 0} (keeping : Keeping K U) (s : State) (c : Comman
   pub becomes : changed change s ≡ next s c
   pub sound : IsSound (next s c)
   pub demand : demand_by change.demand (demanded s) ≡ demanded (next s c)
-  pub touches : keeping.touched_of change.update ≡ touched_by s c.action
+  pub touches : keeping.touched_of change.update ≡ touched_by s c.day c.action
   pub outcome : change.outcome ≡ outcome_of s c
 
 -- this register prepared the change for the command on this state, and its keeper planned the update for the next
@@ -146,18 +146,18 @@ IsExact true told answer = (answer ≡ Err NoMemory) ⊎ IsExactly told answer
 
 -- an effect is that of a command which was checked, on its day: its edits fit, and what is held after it is sound
 pub record IsEffect {K : Type 0} (r : RegisterView K) (day : DayValue) (action : Action) (e : Effect) : Type 0 where
-  pub held : edited e.edit r.state.held ≡ held_after r.state action
+  pub held : edited e.edit r.state.held ≡ held_after r.state day action
   pub desk : desk_edited e.desk r.state.desk ≡ desk_by r.state day action
   pub number : e.number ≡ number_given r.state action
   pub next_entry : e.next_entry ≡ number_after r.state action
-  pub sound : IsSoundHeld (held_after r.state action) (number_after r.state action)
+  pub sound : IsSoundHeld (held_after r.state day action) (number_after r.state action)
   pub fits : Fits e.edit (held_room r)
   pub holds : HoldsDesk e.desk (desk_room r)
 
--- an effect is that of a command to the desk which changes this there
-pub record IsDeskEffect {K : Type 0} (r : RegisterView K) (command : DeskCommand) (change : DeskChange) (e : Effect)
-    : Type 0 where
-  pub held : edited e.edit r.state.held ≡ held_after r.state (Desk command)
+-- an effect is that of a command to the desk, on its day, which changes this there
+pub record IsDeskEffect {K : Type 0} (r : RegisterView K) (day : DayValue) (command : DeskCommand) (change : DeskChange)
+    (e : Effect) : Type 0 where
+  pub held : edited e.edit r.state.held ≡ held_after r.state day (Desk command)
   pub desk : e.desk ≡ Some (record { change = change; entry = entry_number r.state command })
   pub number : e.number ≡ number_told r.state command
   pub next_entry : e.next_entry ≡ number_after r.state (Desk command)

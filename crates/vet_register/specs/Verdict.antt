@@ -55,7 +55,7 @@
 -- - ClosePeriod: 18 step, and nothing else; it leaves no moves, so 25 never comes.
 --
 -- After these, for each: 25 where after it more moves would be recorded than the limit (moves_fit, count_after).
--- Else it is accepted. Group by group these are held_as, limits, references, rules (which alone asks for the day)
+-- Else it is accepted. Group by group these are held_as, limits, references, rules (which alone depend on the day)
 -- and moves_fit. Limits, references and rules together are checked, and with held_as before them judged. That is
 -- what is told before the moves are known. What is told where nothing refuses is an Answer, already or accepted. 29
 -- may come in place of 6, whose name is copied, and of what is told once all checks are passed. It comes in place
@@ -115,18 +115,18 @@ use Rattle.vet_register.specs.State.{State, demanded}
 use Rattle.vet_register.specs.Machine.{count_after, numbers_given}
 
 -- under which number a command's content is held already
-abbrev pub held_as : State → Action → Option (Option ℕ)
-held_as s (SetCriterion c) = if is_held s.held.facts.criteria c then Some None else None
-held_as s (AddEntry entry) = option_map (λ n. Some n) (number_of s.held.facts.entries entry)
-held_as s (SetPeer settings) = if has_settings s.held.facts.peers settings then Some None else None
-held_as s (ImportPeer name content) = if has_content s.held.facts.peers name content then Some None else None
-held_as s (SetPublishers name records) =
+abbrev pub held_as : State → DayValue → Action → Option (Option ℕ)
+held_as s day (SetCriterion c) = if is_held s.held.facts.criteria c then Some None else None
+held_as s day (AddEntry entry) = option_map (λ n. Some n) (number_of s.held.facts.entries entry)
+held_as s day (SetPeer settings) = if has_settings s.held.facts.peers settings then Some None else None
+held_as s day (ImportPeer name content) = if has_content s.held.facts.peers name content then Some None else None
+held_as s day (SetPublishers name records) =
     if publishers_eq (records_of s.held.facts.publishers name) records then Some None else None
-held_as s (SetPolicy policy) = if has_policy s.held.policies policy then Some None else None
-held_as s (LoadProject project) = if has_project s.held.projects project then Some None else None
-held_as s (ReplaceFiles files) = if has_files s.held files then Some None else None
-held_as s (Desk command) = if desk_held s.desk command then Some None else None
-held_as s _ = None
+held_as s day (SetPolicy policy) = if has_policy s.held.policies policy then Some None else None
+held_as s day (LoadProject project) = if has_project s.held.projects project then Some None else None
+held_as s day (ReplaceFiles files) = if has_files s.held files then Some None else None
+held_as s day (Desk command) = if desk_held s.desk command then Some None else None
+held_as s day _ = None
 
 -- there is a step for a command
 abbrev pub step_limit : State → Told (Unit {0})
@@ -311,17 +311,17 @@ wants_memory s _ = false
 
 -- what a command is told, before its moves are known
 abbrev pub judged : State → DayValue → Action → Told Answer
-judged s day action = held_or (held_as s action) (checked s day action)
+judged s day action = held_or (held_as s day action) (checked s day action)
 
 -- the moves that are recorded after a command are not too many
-abbrev pub moves_fit : State → Action → Told (Unit {0})
-moves_fit s action = refuse_if (nat_lt s.moves_limit (count_after s action)) MovesFull
+abbrev pub moves_fit : State → DayValue → Action → Told (Unit {0})
+moves_fit s day action = refuse_if (nat_lt s.moves_limit (count_after s day action)) MovesFull
 
 -- what is accepted is so where its moves fit
-abbrev pub fitting : State → Action → Answer → Told Answer
-fitting s action (Already number) = Ok (Already number)
-fitting s action Accepted = moves_fit s action >>= λ _. Ok Accepted
+abbrev pub fitting : State → DayValue → Action → Answer → Told Answer
+fitting s day action (Already number) = Ok (Already number)
+fitting s day action Accepted = moves_fit s day action >>= λ _. Ok Accepted
 
 -- what a command is told
 abbrev pub verdict : State → Command → Told Answer
-verdict s c = judged s c.day c.action >>= fitting s c.action
+verdict s c = judged s c.day c.action >>= fitting s c.day c.action

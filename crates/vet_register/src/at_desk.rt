@@ -4,6 +4,7 @@
 //! A review that is finished adds its entry, unless an equal own one is held. Whether one is shows once the entry is
 //! made: so the limits of a finished review come last of all.
 ghost use Rattle.std.specs.Prelude.{◌≡◌, ◌+◌, ◌++◌, ◌∷◌, ◌≤◌, [], IfErr, IfOk, None, Ok, Some, false};
+ghost use Rattle.vet_base.specs.Day.{DayValue};
 ghost use Rattle.vet_base.specs.Gives.{Answers, Gives};
 ghost use Rattle.vet_base.specs.declared.limits.TheConstants.{LAST_NUMBER};
 ghost use Rattle.vet_desk.specs.Desk.{entry_of};
@@ -107,7 +108,7 @@ impl<K: Keeper> Register<K> {
         requires asked { asked_before self.old.state command.now ≡ Ok tt }
         requires entry { entry_in change ≡ entry_of self.old.state.desk command.now }
         ensures told { Gives (λ e. tt) (limits_after_rules self.old.state command.now) result }
-        ensures effect { IfOk result (IsDeskEffect self.new command.now change) }
+        ensures effect { (day : DayValue) → IfOk result (IsDeskEffect self.new day command.now change) }
         ensures state { self.new.state ≡ self.old.state }
         ensures keeper { self.new.keeper ≡ self.old.keeper }
         ensures room_stays { KeepsRoom self.old self.new }

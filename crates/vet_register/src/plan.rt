@@ -162,8 +162,9 @@ impl<K: Keeper> Register<K> {
         requires step { step_limit self.old.state ≡ Ok tt }
         requires number { number ≡ number_given self.old.state command.now.action }
         requires next_entry { next_entry ≡ number_after self.old.state command.now.action }
-        requires moves { K.keeping.moves_of planned.update ≡ moves_of self.old.state command.now.action }
-        ensures told { Gives (λ c. tt) (moves_fit self.old.state command.now.action) result }
+        requires moves { K.keeping.moves_of planned.update
+            ≡ moves_of self.old.state command.now.day command.now.action }
+        ensures told { Gives (λ c. tt) (moves_fit self.old.state command.now.day command.now.action) result }
         ensures edit { IfOk result (λ c. c.edit ≡ planned.edit) }
         ensures desk { IfOk result (λ c. c.desk ≡ desk) }
         ensures demand { IfOk result (λ c. c.demand ≡ planned.demand) }
@@ -195,8 +196,8 @@ impl<K: Keeper> Register<K> {
         moves: &[Move],
     ) -> Result<Recording, Refusal>
         requires step { step_limit self.old.state ≡ Ok tt }
-        requires moves { moves.now ≡ moves_of self.old.state command.now.action }
-        ensures told { Gives (λ r. tt) (moves_fit self.old.state command.now.action) result }
+        requires moves { moves.now ≡ moves_of self.old.state command.now.day command.now.action }
+        ensures told { Gives (λ r. tt) (moves_fit self.old.state command.now.day command.now.action) result }
         ensures moves { IfOk result (λ r. moves_by r self.old.state.moves ≡ moves_after self.old.state command.now) }
         ensures first { IfOk result (λ r. first_by r self.old.state.first
             ≡ first_after self.old.state command.now.action) }
@@ -222,8 +223,8 @@ impl<K: Keeper> Register<K> {
     ) -> Result<Vec<RecordedMove>, Refusal>
         requires step { step_limit self.old.state ≡ Ok tt }
         requires stays { ends_period command.now.action ≡ false }
-        requires moves { moves.now ≡ moves_of self.old.state command.now.action }
-        ensures told { Gives (λ r. tt) (moves_fit self.old.state command.now.action) result }
+        requires moves { moves.now ≡ moves_of self.old.state command.now.day command.now.action }
+        ensures told { Gives (λ r. tt) (moves_fit self.old.state command.now.day command.now.action) result }
         ensures records { IfOk result (λ r. r.items ≡ records_of self.old.state command.now) }
         ensures room { IfOk result (λ r. length r.items ≤ self.new.room.moves) }
         ensures state { self.new.state ≡ self.old.state }

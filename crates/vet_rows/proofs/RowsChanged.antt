@@ -107,22 +107,22 @@ still before (m ∷ moves) are =
     (let h = are.each 0 m (omega arith) in absurd (h.2 (h.0 ∙ sym h.1)))
 
 -- the end of a period leaves what is held
-ends_only : (s : State) (a : Action) → ends_period a ≡ true → held_after s a ≡ s.held
-ends_only s (action.SetCriterion c) h = cc h
-ends_only s (action.RemoveCriterion n) h = cc h
-ends_only s (action.AddEntry e) h = cc h
-ends_only s (action.DropEntry n) h = cc h
-ends_only s (action.SetPeer settings) h = cc h
-ends_only s (action.DropPeer n) h = cc h
-ends_only s (action.ImportPeer n content) h = cc h
-ends_only s (action.SetPublishers n records) h = cc h
-ends_only s (action.SetPolicy policy) h = cc h
-ends_only s (action.DropPolicy key) h = cc h
-ends_only s (action.LoadProject project) h = cc h
-ends_only s (action.DropProject n) h = cc h
-ends_only s (action.ReplaceFiles f) h = cc h
-ends_only s (action.Desk command) h = cc h
-ends_only s action.ClosePeriod h = refl
+ends_only : (s : State) (day : DayValue) (a : Action) → ends_period a ≡ true → held_after s day a ≡ s.held
+ends_only s day (action.SetCriterion c) h = cc h
+ends_only s day (action.RemoveCriterion n) h = cc h
+ends_only s day (action.AddEntry e) h = cc h
+ends_only s day (action.DropEntry n) h = cc h
+ends_only s day (action.SetPeer settings) h = cc h
+ends_only s day (action.DropPeer n) h = cc h
+ends_only s day (action.ImportPeer n content) h = cc h
+ends_only s day (action.SetPublishers n records) h = cc h
+ends_only s day (action.SetPolicy policy) h = cc h
+ends_only s day (action.DropPolicy key) h = cc h
+ends_only s day (action.LoadProject project) h = cc h
+ends_only s day (action.DropProject n) h = cc h
+ends_only s day (action.ReplaceFiles f) h = cc h
+ends_only s day (action.Desk command) h = cc h
+ends_only s day action.ClosePeriod h = refl
 
 -- pairs of what is told of items are pairs of the items
 pairs_unmap : {X Y : Type 0} (f : X → Y) (R : Y → Y → Type 0) (xs : List X) → AllPairs R (map f xs)
@@ -212,11 +212,11 @@ module _ {K U : Type 0} (differences : MovesAreDifferences) (least : DemandIsLea
   after_up : IsStanding (standing after)
   after_up = sound_standing least after.held after.next_entry sound_after.held
 
-  held_is : after.held ≡ held_after s c.action
+  held_is : after.held ≡ held_after s c.day c.action
   held_is = ap (λ (x : State). x.held) is.step.becomes
 
   -- the moves of the command are those from the one standing to the other
-  between : AreMoves (standing s) (standing after) (moves_of s c.action)
+  between : AreMoves (standing s) (standing after) (moves_of s c.day c.action)
   between =
       subst (λ h. AreMoves (standing s) (standing after) (moves_between (standing s) (standing_in h))) held_is
       (differences (standing s) (standing after) standing_up after_up)
@@ -225,14 +225,14 @@ module _ {K U : Type 0} (differences : MovesAreDifferences) (least : DemandIsLea
   same_changes step day [] = refl
   same_changes step day (m ∷ moves) = ap (λ ms. m ∷ ms) (same_changes step day moves)
 
-  nothing_moves : ends_period c.action ≡ true → moves_of s c.action ≡ []
+  nothing_moves : ends_period c.action ≡ true → moves_of s c.day c.action ≡ []
   nothing_moves ends =
-      let same = ends_only s c.action ends in
-      still (standing s) (moves_of s c.action)
-      (subst (λ st. AreMoves (standing s) st (moves_of s c.action)) (ap standing_in (held_is ∙ same)) between)
+      let same = ends_only s c.day c.action ends in
+      still (standing s) (moves_of s c.day c.action)
+      (subst (λ st. AreMoves (standing s) st (moves_of s c.day c.action)) (ap standing_in (held_is ∙ same)) between)
 
   -- what is recorded are the moves of the command
-  changes_are : changes_of more ≡ moves_of s c.action
+  changes_are : changes_of more ≡ moves_of s c.day c.action
   changes_are = by change.recording (ap (λ (x : State). x.moves) is.step.becomes)
     where
       none : (moves : List Move) (step : ℕ) → map (recorded step c.day) moves ≡ [] → moves ≡ []
@@ -240,14 +240,14 @@ module _ {K U : Type 0} (differences : MovesAreDifferences) (least : DemandIsLea
       none (m ∷ moves) step e = absurd (cc e)
 
       by : (recording : Recording) → moves_by recording s.moves ≡ moves_after s c
-          → changes_of (recorded_moves recording) ≡ moves_of s c.action
+          → changes_of (recorded_moves recording) ≡ moves_of s c.day c.action
       by (Behind behind) e = elim (more_is s.moves behind.items (records_of s c) (ends_period c.action) e) [
         | inl ended ↦ ap changes_of ended.1 ∙ sym (nothing_moves ended.0)
-        | inr goes_on ↦ ap changes_of goes_on.1 ∙ same_changes (s.step + 1) c.day (moves_of s c.action)
+        | inr goes_on ↦ ap changes_of goes_on.1 ∙ same_changes (s.step + 1) c.day (moves_of s c.day c.action)
       ]
       by (Anew counts) e = elim (none_more s.moves (records_of s c) (ends_period c.action) e) [
         | inl ended ↦ sym (nothing_moves ended)
-        | inr nothing ↦ sym (none (moves_of s c.action) (s.step + 1) nothing)
+        | inr nothing ↦ sym (none (moves_of s c.day c.action) (s.step + 1) nothing)
       ]
 
   are_moves : AreMoves (standing s) (standing after) (changes_of more)
@@ -272,7 +272,7 @@ module _ {K U : Type 0} (differences : MovesAreDifferences) (least : DemandIsLea
           → IsIn m (recorded_moves recording) → m.step ≡ s.step + 1
       by (Behind behind) e j = elim (more_is s.moves behind.items (records_of s c) (ends_period c.action) e) [
         | inl ended ↦ absurd (subst (IsIn m) ended.1 j)
-        | inr goes_on ↦ (let x = in_map (recorded (s.step + 1) c.day) (moves_of s c.action) m
+        | inr goes_on ↦ (let x = in_map (recorded (s.step + 1) c.day) (moves_of s c.day c.action) m
             (subst (IsIn m) goes_on.1 j) in
             ap (λ (y : RecordedMove). y.step) x.1.1)
       ]
@@ -337,7 +337,8 @@ module _ {K U : Type 0} (differences : MovesAreDifferences) (least : DemandIsLea
   -- ---- rows of the standing that go or come
 
   -- a row of a recorded move is that of a move of the command
-  of_moves : (x : StandingRow) (m : RecordedMove) → IsIn m more → x ≡ moved_row m → IsOfMove (moves_of s c.action) x
+  of_moves : (x : StandingRow) (m : RecordedMove) → IsIn m more → x ≡ moved_row m
+      → IsOfMove (moves_of s c.day c.action) x
   of_moves x m i e = (
     m.change,
     (
@@ -350,9 +351,9 @@ module _ {K U : Type 0} (differences : MovesAreDifferences) (least : DemandIsLea
   )
 
   pub standing_named : (x : RowChange) → IsIn x (exchanges (rows_going s change) (rows_coming s change))
-      → IsOfMoves (moves_of s c.action) x
+      → IsOfMoves (moves_of s c.day c.action) x
   standing_named =
-      only_standing (moves_of s c.action) (rows_going s change) (rows_coming s change)
+      only_standing (moves_of s c.day c.action) (rows_going s change) (rows_coming s change)
       (λ x i. (let m = in_map moved_row (filter leaves more) x i in
       of_moves x m.0 (in_filter leaves more m.0 m.1.0).0 m.1.1))
       (λ x i. (let m = in_map moved_row (filter stands more) x i in

@@ -74,7 +74,8 @@ pub fn row_changes<K: Keeper>(
         (rows_of (next register.now.state command))) }
     ensures standing { IfOk result (λ changes. (command : CommandValue)
         → IsPrepared K.keeping register.now command change.now
-        → (c : RowChange) → IsIn c changes.items → IsOfMoves (moves_of register.now.state command.action) c) }
+        → (c : RowChange) → IsIn c changes.items
+        → IsOfMoves (moves_of register.now.state command.day command.action) c) }
     ensures memory { IfErr result (λ e. e ≡ Refusal.NoMemory) }
 {
     moves_are_differences();

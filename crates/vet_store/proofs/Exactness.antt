@@ -2,6 +2,7 @@
 use Rattle.std.proofs.Common.{◌≡◌, ◌⊎◌, ◌∙◌, ℕ, Bool, true, false, Ok, Err, Option, ap, inl, inr, refl, sym}
 use Rattle.std.proofs.lemmas.Bool.{true≢false}
 use Rattle.vet_base.proofs.Telling.{never_refuses, refuses_too}
+use Rattle.vet_base.specs.Day.{DayValue}
 use Rattle.vet_base.specs.Gives.{Told, ◌>>=◌}
 use Rattle.vet_base.specs.declared.refusal.Refusal.{Refusal}
 use Rattle.vet_base.specs.declared.refusal.Refusal.TheVariants.{NoMemory}
@@ -30,11 +31,11 @@ pub would_be_done : (s : State) (c : Command) → verdict s c ≡ Ok Accepted �
 would_be_done s c accepts = let is : is_done (told s c) ≡ true = ap is_done (told_by s c (Ok Accepted) accepts) in rw is
 
 -- and was accepted before its moves were known
-judged_accepted : (s : State) (action : Action) (judgement : Told Answer)
-    → (judgement >>= fitting s action) ≡ Ok Accepted → judgement ≡ Ok Accepted
-judged_accepted s action (Err e) h = cc h
-judged_accepted s action (Ok (Already number)) h = cc h
-judged_accepted s action (Ok Accepted) h = refl
+judged_accepted : (s : State) (day : DayValue) (action : Action) (judgement : Told Answer)
+    → (judgement >>= fitting s day action) ≡ Ok Accepted → judgement ≡ Ok Accepted
+judged_accepted s day action (Err e) h = cc h
+judged_accepted s day action (Ok (Already number)) h = cc h
+judged_accepted s day action (Ok Accepted) h = refl
 
 by_acceptance : (wants : Bool) (judgement : Told Answer) (answer : Told Outcome) → judgement ≡ Ok Accepted
     → AnswersBy wants judgement answer
@@ -45,7 +46,7 @@ by_acceptance false judgement answer is = rw is tt
 pub exact_accepted : (s : State) (c : Command) (answer : Told Outcome) → verdict s c ≡ Ok Accepted → IsExact s c answer
 exact_accepted s c answer accepts = record {
   judgement = by_acceptance (wants_memory s c.action) (judged s c.day c.action) answer
-      (judged_accepted s c.action (judged s c.day c.action) accepts);
+      (judged_accepted s c.day c.action (judged s c.day c.action) accepts);
   verdict = λ not. absurd
       (true≢false (sym (ap is_done (told_by s c (Ok Accepted) accepts)) ∙ not));
 }

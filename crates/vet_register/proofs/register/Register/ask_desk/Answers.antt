@@ -56,7 +56,8 @@ returns-clause-asked g c =
     let prepared : IsDeskChange (desk_room c.desk_effect.new.self) c.args.day command c.in_ok-change.change =
     c.desk_effect.ensures.room_stays.1.1 c.args.day command c.in_ok-change.change c.in_ok-change.ensures.change in
     let is = desk_effective c.desk_effect.new.self state c.args.day command c.in_ok-change.change c.in_ok-effect.effect
-    (c.desk_effect.ensures.state ∙ c.desk_change.ensures.state) sound told prepared c.in_ok-effect.ensures.effect in
+    (c.desk_effect.ensures.state ∙ c.desk_change.ensures.state) sound told prepared
+    (c.in_ok-effect.ensures.effect c.args.day) in
     exactly _ _ _ (wants_memory state (action.Desk command)) _ _ (effective _ _ _ _ _ told is)
 
 pub returns-clause-room_stays : goal.returns-clause-room_stays

@@ -48,7 +48,7 @@ change-requires-clause-moves g c =
     let asks = effect_of c.args.self.now.state c.args.command.now c.in-Effect.is c.in_ok-number.ensures.asked in
     c.in_ok-planned-in-Effect.ensures.moves
     ∙ ap (λ h. moves_between (standing c.asked_by.new.self.state) (standing_in h)) asks.1.held
-    ∙ ap (λ (t : State). moves_of t c.args.command.now.action) (sym c.plan.ensures.state)
+    ∙ ap (λ (t : State). moves_of t c.args.command.now.day c.args.command.now.action) (sym c.plan.ensures.state)
 
 pub returns-in_err-change-in-Effect-clause-told : goal.returns-in_err-change-in-Effect-clause-told
 returns-in_err-change-in-Effect-clause-told g c =
@@ -111,7 +111,7 @@ returns-in_ok-change-in-Effect-clause-prepared g c =
     (ap g.K.Keeper.keeping.touched_of made.update ∙ planned.touched) in
     let left : Held = held_room c.change.new.self in
     let room : held_room c.plan.new.self ≡ left = λ i. held_with ((sym made.state i).held) (sym made.held_room i) in
-    let after = held_after s action in
+    let after = held_after s command.day action in
     let plans : g.K.Keeper.keeping.plans c.plan.new.self.keeper change.update after.facts (demand_in after) = subst
     (λ u. g.K.Keeper.keeping.plans c.plan.new.self.keeper u after.facts (demand_in after)) (sym made.update)
     (subst (λ h. g.K.Keeper.keeping.plans c.plan.new.self.keeper c.in_ok-planned-in-Effect.planned.update h.facts

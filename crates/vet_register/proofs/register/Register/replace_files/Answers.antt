@@ -71,9 +71,9 @@ returns-clause-asked g c day =
     (c.in_ok-comparison.ensures day) in
     let fit = files_fit state files (passed state day asks accepted.told).limits in
     let made = c.in_ok-held.ensures in
-    let facts : c.in_ok-held.held.facts.content ≡ facts_after state asks =
-    made.facts ∙ ap (λ (r : RegisterView _). facts_after r.state asks) c.self.view_is in
-    let becomes : edited (edit.Files c.in_ok-held.held) state.held ≡ held_after state asks =
+    let facts : c.in_ok-held.held.facts.content ≡ facts_after state day asks =
+    made.facts ∙ ap (λ (r : RegisterView _). facts_after r.state day asks) c.self.view_is in
+    let becomes : edited (edit.Files c.in_ok-held.held) state.held ≡ held_after state day asks =
     (λ i. record {
       facts = facts i;
       policies = made.policies i;
