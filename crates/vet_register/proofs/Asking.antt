@@ -29,17 +29,21 @@ use Rattle.vet_register.specs.declared.command.Action.TheVariants.{RemoveCriteri
 use Rattle.vet_register.specs.declared.edits.Asked.{Asked}
 use Rattle.vet_register.specs.declared.edits.Asked.TheVariants as asked
 use Rattle.vet_register.specs.declared.edits.Effect.{Effect}
+use Rattle.vet_register.specs.declared.touching.Touching.{Touching}
+use Rattle.vet_register.specs.declared.touching.Touching.TheVariants as touching
+use Rattle.vet_graph.specs.declared.touched.Touched.{Touched}
 use Rattle.vet_register.specs.declared.verdict.Answer.{Answer}
 use Rattle.vet_register.specs.declared.verdict.Answer.TheVariants.{Already, Accepted}
 use Rattle.vet_register.specs.declared.held.HeldEdit.TheVariants as edit
-use Rattle.vet_register.specs.Held.{Fits, edited, held_with}
+use Rattle.vet_register.specs.Held.{Fits, demand_in, edited, held_with}
 use Rattle.vet_register.specs.Changes.{desk_edited}
 use Rattle.vet_register.specs.Machine.{desk_by, facts_after, held_after, number_after, number_given, policies_by}
-use Rattle.vet_register.specs.Machine.{projects_by, settings_by}
+use Rattle.vet_register.specs.Machine.{projects_by, settings_by, touched_by}
 use Rattle.vet_register.specs.RegisterView.{AsksBy, AsksExactly, HoldsDesk, IsEffect, IsExact, IsExactly}
-use Rattle.vet_register.specs.RegisterView.{RegisterView, desk_room, held_room}
+use Rattle.vet_register.specs.RegisterView.{RegisterView, SaysTouched, desk_room, held_room}
 use Rattle.vet_register.specs.Sound.{ArePublishers, IsSound, IsSoundHeld}
-use Rattle.vet_register.specs.State.{State}
+use Rattle.vet_register.specs.State.{State, demanded}
+use Rattle.vet_register.specs.Touches.{touched_with}
 use Rattle.vet_register.specs.Verdict.{is_used, judged, publisher_limit, step_limit}
 use Rattle.vet_register.proofs.Effects.{IsGivenContent, passed}
 use Rattle.vet_register.proofs.HeldEffects.{sound_held}
@@ -58,6 +62,12 @@ accepted_exact {K} {U} wants t answer told = by wants
     by : (wants : Bool) → IsExact wants t answer
     by true = inr accepted_so
     by false = accepted_so
+
+-- what is touched is said by these packages, where they are known
+pub known_touched : (s : State) (day : DayValue) (a : Action) (t : Touching) (x : Touched) → t ≡ touching.Known x
+    → x ≡ touched_by s day a → SaysTouched s day a t
+known_touched s day a t x is same =
+    ap (λ (u : Touching). touched_with u (demanded s) (demand_in (held_after s day a))) is ∙ same
 
 -- the desk stays where nothing is edited there. Lemmas that combine paths have variables for all that a command makes
 -- of a state: antt writes out what it finds for an implicit argument, and there that is a case for each command.
@@ -128,13 +138,15 @@ module _ {K : Type 0} (r : RegisterView K) (day : DayValue) (a : Action) where
 
   -- the effect of what is accepted in a state that stays, if what is held after it is sound
   pub effect_is : (s : State) (e : Effect) → r.state ≡ s → edited e.edit s.held ≡ held_after s day a
-      → desk_edited e.desk s.desk ≡ desk_by s day a → e.number ≡ number_given s a → e.next_entry ≡ number_after s a
+      → SaysTouched s day a e.touching → desk_edited e.desk s.desk ≡ desk_by s day a → e.number ≡ number_given s a
+      → e.next_entry ≡ number_after s a
       → Fits e.edit (held_room r) → HoldsDesk e.desk (desk_room r)
       → IsSoundHeld (held_after s day a) (number_after s a) → IsEffect r day a e
-  effect_is s e stays held desk number next fits holds sound =
+  effect_is s e stays held touches desk number next fits holds sound =
       subst (λ (t : State). IsEffect (record { state = t; keeper = r.keeper; room = r.room }) day a e) (sym stays)
       (record {
         held = held;
+        touches = touches;
         desk = desk;
         number = number;
         next_entry = next;
@@ -145,25 +157,29 @@ module _ {K : Type 0} (r : RegisterView K) (day : DayValue) (a : Action) where
 
   -- that of an edit of what is held, where the desk stays
   pub held_effect : (s : State) (e : Effect) → r.state ≡ s → edited e.edit s.held ≡ held_after s day a
-      → e.desk ≡ None → desk_by s day a ≡ s.desk → e.number ≡ number_given s a → e.next_entry ≡ number_after s a
+      → SaysTouched s day a e.touching → e.desk ≡ None → desk_by s day a ≡ s.desk → e.number ≡ number_given s a
+      → e.next_entry ≡ number_after s a
       → Fits e.edit (held_room r) → IsSoundHeld (held_after s day a) (number_after s a) → IsEffect r day a e
-  held_effect s e stays held none desk number next fits sound =
-      effect_is s e stays held (desk_stays e.desk s.desk (desk_by s day a) none desk) number next fits
+  held_effect s e stays held touches none desk number next fits sound =
+      effect_is s e stays held touches (desk_stays e.desk s.desk (desk_by s day a) none desk) number next fits
       (subst (λ o. HoldsDesk o (desk_room r)) (sym none) tt) sound
 
   -- that of an edit of facts, where all else stays, if criteria and publisher records are sound after it
-  pub facts_effect : (s : State) (change : Edit) (number : Option ℕ) (next : ℕ) → r.state ≡ s → IsSound s → judged s
-      day a ≡ Ok Accepted
+  pub facts_effect : (s : State) (change : Edit) (t : Touching) (number : Option ℕ) (next : ℕ) → r.state ≡ s → IsSound s
+      → judged s day a ≡ Ok Accepted
       → IsGivenContent a → facts.edited change s.held.facts ≡ facts_after s day a
+      → SaysTouched s day a t
       → s.held.policies ≡ policies_by a s.held.policies → s.held.projects ≡ projects_by a s.held.projects
       → s.held.settings ≡ settings_by a s.held.settings → desk_by s day a ≡ s.desk → number ≡ number_given s a
       → next ≡ number_after s a → facts.Fits change (held_room r).facts
       → IsTable (facts_after s day a).criteria → ArePublishers (facts_after s day a).publishers
-      → IsEffect r day a (record { edit = edit.Facts change; desk = None; number = number; next_entry = next })
-  facts_effect s change number next stays sound told given becomes policies projects settings desk numbered follows
-      fits is are =
-      held_effect s (record { edit = edit.Facts change; desk = None; number = number; next_entry = next }) stays
-      (λ i. record { facts = becomes i; policies = policies i; projects = projects i; settings = settings i }) refl
+      → IsEffect r day a
+      (record { edit = edit.Facts change; touching = t; desk = None; number = number; next_entry = next })
+  facts_effect s change t number next stays sound told given becomes touches policies projects settings desk numbered
+      follows fits is are =
+      held_effect s (record { edit = edit.Facts change; touching = t; desk = None; number = number; next_entry = next })
+      stays (λ i. record { facts = becomes i; policies = policies i; projects = projects i; settings = settings i })
+      touches refl
       desk numbered follows fits
       (sound_held s day a told sound given is are)
 

@@ -155,6 +155,7 @@ desk_effective r s day command change e stays sound told prepared h =
     let facts = r.state.held.facts in
     record {
       held = h.held;
+      touches = h.touches;
       desk = ap (λ o. desk_edited o r.state.desk) h.desk ∙ prepared.step.becomes (entry_number r.state command);
       number = h.number;
       next_entry = h.next_entry;

@@ -1,6 +1,7 @@
 -- An entry that is dropped is the one at its number's place.
 use Rattle.std.proofs.Common.{◌≡◌, ℕ, suc, ◌<◌, ◌≤◌, Bool, true, false, not, cond, ltb, is_some, List, [], ◌∷◌, length}
-use Rattle.std.proofs.Common.{filter, Some, None, IfErr, Ok, Err, refl, sym, ap, subst, ◌∙◌, arith, eqb-true, inl, inr}
+use Rattle.std.proofs.Common.{filter, get_or, Some, None, IfErr, Ok, Err, refl, sym, ap, subst, ◌∙◌, arith, eqb-true}
+use Rattle.std.proofs.Common.{inl, inr}
 use Rattle.std.specs.List.{All, AllPairs, list_any, position, position_or_len, remove}
 use Rattle.std.proofs.lemmas.Bool.{cases_Bool, false≢true, lt-ltb, le-ltb, ltb-true}
 use Rattle.std.proofs.lemmas.List.Elements.{All-head, All-tail}
@@ -78,6 +79,39 @@ dropped n place entries rise e =
     (position_or_len (has_number n) entries) place e in
     ap (remove entries) (sym at.1) ∙ dropped_at n entries rise
     (ltb-true (position_or_len (has_number n) entries) (length entries) at.0)
+
+-- none of those later has the number
+none_later : (n : ℕ) (held : HeldEntry) (entries : List HeldEntry) → has_number n held ≡ true → All (Rise held) entries
+    → filter (has_number n) entries ≡ []
+none_later n held [] is later = refl
+none_later n held (h ∷ entries) is later = elim (cases_Bool (has_number n h)) [
+  | inl same ↦ (let above = All-head (Rise held) h entries later in let a : held.number ≡ n = eqb-true held.number n
+      is in let b : h.number ≡ n = eqb-true h.number n same in absurd (omega (arith, above, a, b)))
+  | inr other ↦ rw other (none_later n held entries is (All-tail (Rise held) h entries later))
+]
+
+alone_at : (n : ℕ) (entries : List HeldEntry) (d : HeldEntry) → AllPairs Rise entries
+    → position_or_len (has_number n) entries < length entries
+    → filter (has_number n) entries ≡ get_or entries (position_or_len (has_number n) entries) d ∷ []
+alone_at n [] d rise l = absurd (omega (arith, l))
+alone_at n (h ∷ entries) d rise l = elim (cases_Bool (has_number n h)) [
+  | inl same ↦ rw same (ap (λ es. h ∷ es) (none_later n h entries same (AllPairs-head Rise h entries rise)))
+  | inr other ↦
+      (let place : position_or_len (has_number n) (h ∷ entries) ≡ suc (position_or_len (has_number n) entries) = rw
+      other (omega arith) in
+      let kept : filter (has_number n) (h ∷ entries) ≡ filter (has_number n) entries = rw other refl in
+      let rest = alone_at n entries d (AllPairs-tail Rise h entries rise) (omega (arith, l, place)) in
+      kept ∙ rest ∙ sym (ap (λ k. get_or (h ∷ entries) k d ∷ []) place))
+]
+
+-- where numbers rise, the entry at the place of a number is the only one of it
+pub alone : (n place : ℕ) (entries : List HeldEntry) (d : HeldEntry) → AllPairs Rise entries
+    → place_of entries n ≡ Some place → filter (has_number n) entries ≡ get_or entries place d ∷ []
+alone n place entries d rise e =
+    let at = some_place (has_number n) (ltb (position_or_len (has_number n) entries) (length entries))
+    (position_or_len (has_number n) entries) place e in
+    alone_at n entries d rise (ltb-true (position_or_len (has_number n) entries) (length entries) at.0)
+    ∙ ap (λ k. get_or entries k d ∷ []) at.1
 
 -- ---- what a command that drops an entry is told
 

@@ -5,6 +5,7 @@ pub mod Balancing
 pub mod Beginnings
 pub mod Checked
 pub mod ClassOfFileLemmas
+pub mod DemandsWalked
 pub mod DeskAsked
 pub mod DeskEffects
 pub mod Drops
@@ -32,5 +33,7 @@ pub mod SoundMoves
 pub mod SoundNumbers
 pub mod SoundPeers
 pub mod Soundness
+pub mod TouchesLaws
 pub mod Turns
 pub mod UnknownNames
+pub mod Untouched

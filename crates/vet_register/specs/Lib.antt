@@ -25,4 +25,6 @@ pub mod StateEncodings
 pub mod ToldInOrder
 pub mod ToolSettings
 pub mod ToolSettingsLaws
+pub mod Touches
+pub mod Untouched
 pub mod Verdict

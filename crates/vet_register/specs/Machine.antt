@@ -21,7 +21,8 @@
 -- imports its content, as the peer's whatever source the entries name. SetPublishers sets the records of its package
 -- (effect). SetPolicy and LoadProject put a policy or a project where its key or name belongs, in place of the one
 -- that is there. DropPolicy and DropProject take it out (policies_by, projects_by, held_after). What a command does is
--- told its day beside its action; what is held after it is the same on each day.
+-- told its day beside its action; what is held after it is the same on each day. The keeper is told which packages it
+-- touches (touched_by).
 use Rattle.std.specs.Prelude.{ℕ, ◌+◌, ◌++◌, not, Bool, true, false, List, [], ◌∷◌, Option, Some, None, if◌then◌else◌}
 use Rattle.std.specs.Prelude.{length, filter, map}
 use Rattle.std.specs.Option.{option_map_or}
@@ -55,9 +56,12 @@ use Rattle.vet_register.specs.declared.command.Outcome.{Outcome}
 use Rattle.vet_register.specs.declared.command.Outcome.TheVariants.{Done}
 use Rattle.vet_register.specs.declared.moves.RecordedMove.{RecordedMove}
 use Rattle.vet_register.specs.AtDesk.{added_by, entry_number, number_told}
-use Rattle.vet_register.specs.Held.{HeldValue, standing_in, with_policy, with_project, without_policy, without_project}
+use Rattle.vet_register.specs.Held.{HeldValue, demand_in, standing_in, with_policy, with_project, without_policy}
+use Rattle.vet_register.specs.Held.{without_project}
 use Rattle.vet_register.specs.Replacing.{facts_of_files, new_of_files, tool_of_files}
-use Rattle.vet_register.specs.State.{State, standing}
+use Rattle.vet_register.specs.State.{State, demanded, standing}
+use Rattle.vet_register.specs.Touches.{entry_package, held_package, only_at, package_added, packages_between}
+use Rattle.vet_register.specs.Touches.{packages_of_peer}
 use Rattle.vet_register.specs.declared.tool_settings.ToolSettings.{ToolSettings}
 
 -- a command and what it asks for, as values
@@ -137,9 +141,28 @@ desk_by s day _ = s.desk
 abbrev pub moves_of : State → DayValue → Action → List Move
 moves_of s day action = moves_between (standing s) (standing_in (held_after s day action))
 
--- the packages that a command touches: today all
+-- the packages at which a command changes the demand
+abbrev pub demand_touched : State → DayValue → Action → Touched
+demand_touched s day action = only_at (packages_between (demanded s) (demand_in (held_after s day action)))
+
+-- the packages that a command touches
 abbrev pub touched_by : State → DayValue → Action → Touched
-touched_by s day action = touched.All
+touched_by s day (SetCriterion c) = touched.All
+touched_by s day (RemoveCriterion name) = touched.All
+touched_by s day (AddEntry entry) = only_at (package_added (Some entry))
+touched_by s day (DropEntry n) = only_at (map held_package (filter (has_number n) s.held.facts.entries))
+touched_by s day (SetPeer settings) = only_at (packages_of_peer s.held.facts settings.name)
+touched_by s day (DropPeer name) = only_at (packages_of_peer s.held.facts name)
+touched_by s day (ImportPeer name content) =
+    only_at (packages_of_peer s.held.facts name ++ map entry_package content.entries)
+touched_by s day (SetPublishers name records) = only_at (name ∷ [])
+touched_by s day (SetPolicy policy) = demand_touched s day (SetPolicy policy)
+touched_by s day (DropPolicy key) = demand_touched s day (DropPolicy key)
+touched_by s day (LoadProject project) = demand_touched s day (LoadProject project)
+touched_by s day (DropProject name) = demand_touched s day (DropProject name)
+touched_by s day (ReplaceFiles files) = touched.All
+touched_by s day (Desk command) = only_at (package_added (added_by s command))
+touched_by s day ClosePeriod = only_at []
 
 -- the number that a command is told: that of the entry that it makes, of a review that it opens, or of the entry of one
 -- that it finishes; an import tells none, nor do files

@@ -36,6 +36,7 @@ use Rattle.vet_register.specs.declared.command.Command.{Command}
 use Rattle.vet_register.specs.declared.edits.Asked.{Asked}
 use Rattle.vet_register.specs.declared.edits.Asked.TheVariants as asked
 use Rattle.vet_register.specs.declared.edits.Effect.{Effect}
+use Rattle.vet_register.specs.declared.touching.Touching.{Touching}
 use Rattle.vet_register.specs.declared.verdict.Answer.{Answer}
 use Rattle.vet_register.specs.declared.verdict.Answer.TheVariants.{Already, Accepted}
 use Rattle.vet_register.specs.declared.held.Held.{Held}
@@ -45,6 +46,7 @@ use Rattle.vet_register.specs.Held.{Fits, HeldRoom, HeldValue, HoldsRoomOf, dema
 use Rattle.vet_register.specs.Machine.{desk_by, held_after, next, number_after, number_given, outcome_of, touched_by}
 use Rattle.vet_register.specs.Sound.{IsSound, IsSoundHeld}
 use Rattle.vet_register.specs.State.{State, demanded}
+use Rattle.vet_register.specs.Touches.{touched_with}
 use Rattle.vet_register.specs.Verdict.{verdict, wants_memory}
 
 -- for how much more of what is held, of what is at the desk, and for how many more recorded moves, there is room
@@ -144,9 +146,16 @@ abbrev pub IsExact : {K U : Type 0} → Bool → Told Answer → Result (Prepare
 IsExact false told answer = IsExactly told answer
 IsExact true told answer = (answer ≡ Err NoMemory) ⊎ IsExactly told answer
 
--- an effect is that of a command which was checked, on its day: its edits fit, and what is held after it is sound
+-- what is known of the packages that a command touches says which they are, once the demand after it is known
+abbrev pub SaysTouched : State → DayValue → Action → Touching → Type 0
+SaysTouched s day action t =
+    touched_with t (demanded s) (demand_in (held_after s day action)) ≡ touched_by s day action
+
+-- an effect is that of a command which was checked, on its day: it says what is touched, its edits fit, and what is
+-- held after it is sound
 pub record IsEffect {K : Type 0} (r : RegisterView K) (day : DayValue) (action : Action) (e : Effect) : Type 0 where
   pub held : edited e.edit r.state.held ≡ held_after r.state day action
+  pub touches : SaysTouched r.state day action e.touching
   pub desk : desk_edited e.desk r.state.desk ≡ desk_by r.state day action
   pub number : e.number ≡ number_given r.state action
   pub next_entry : e.next_entry ≡ number_after r.state action
@@ -158,6 +167,7 @@ pub record IsEffect {K : Type 0} (r : RegisterView K) (day : DayValue) (action :
 pub record IsDeskEffect {K : Type 0} (r : RegisterView K) (day : DayValue) (command : DeskCommand) (change : DeskChange)
     (e : Effect) : Type 0 where
   pub held : edited e.edit r.state.held ≡ held_after r.state day (Desk command)
+  pub touches : SaysTouched r.state day (Desk command) e.touching
   pub desk : e.desk ≡ Some (record { change = change; entry = entry_number r.state command })
   pub number : e.number ≡ number_told r.state command
   pub next_entry : e.next_entry ≡ number_after r.state (Desk command)

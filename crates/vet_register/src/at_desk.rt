@@ -16,13 +16,16 @@ ghost use Rattle.vet_register.specs.Held.{Fits, edited};
 ghost use Rattle.vet_register.specs.RegisterView.{Asks, IsDeskEffect, KeepsRoom, desk_room, held_room};
 ghost use Rattle.vet_register.specs.Verdict.{asked_before, entry_limits, judged, limits_after_rules, step_before_rules};
 ghost use Rattle.vet_register.specs.Verdict.{step_limit};
+ghost use Rattle.vet_register.specs.Touches.{only_at, package_added};
 ghost use Rattle.vet_register.specs.declared.command.Action.TheVariants as action;
 ghost use Rattle.vet_register.specs.declared.held.HeldEdit.TheVariants as edit;
+ghost use Rattle.vet_register.specs.declared.touching.Touching.TheVariants as touch;
 
 use crate::change::DeskEdit;
 use crate::edits::{Asked, Effect};
 use crate::held::HeldEdit;
 use crate::register::Register;
+use crate::touching::{none_touched, package_touched};
 use crate::verdict::check_entry_limit;
 use std::alloc::Global;
 use vet_base::day::Day;
@@ -51,7 +54,7 @@ impl<K: Keeper> Register<K> {
         }
         self.check_command(command)?;
         let change = self.desk_change(alloc, day, command)?;
-        let effect = self.desk_effect(command, change)?;
+        let effect = self.desk_effect(alloc, command, change)?;
         Ok(Asked::Effect(effect))
     }
 
@@ -104,7 +107,12 @@ impl<K: Keeper> Register<K> {
 
     // The effect of a command that changes this at the desk: the entry of a review that it finishes is added, unless an
     // equal one is held.
-    fn desk_effect(&mut self, command: &DeskCommand, change: DeskChange) -> Result<Effect, Refusal>
+    fn desk_effect(
+        &mut self,
+        alloc: Global,
+        command: &DeskCommand,
+        change: DeskChange,
+    ) -> Result<Effect, Refusal>
         requires asked { asked_before self.old.state command.now ≡ Ok tt }
         requires entry { entry_in change ≡ entry_of self.old.state.desk command.now }
         ensures told { Gives (λ e. tt) (limits_after_rules self.old.state command.now) result }
@@ -115,14 +123,15 @@ impl<K: Keeper> Register<K> {
     {
         match change.entry() {
             Some(entry) => match self.held.facts.number_of(entry) {
-                Some(number) => self.finished_as(number, change),
+                Some(number) => self.finished_as(alloc, number, change),
                 None => {
                     let own = self.new_entry(entry)?;
-                    self.finished_by(own, change)
+                    self.finished_by(alloc, own, change)
                 }
             },
             None => Ok(Effect {
                 edit: HeldEdit::Nothing,
+                touching: none_touched(alloc),
                 number: self.number_opened(command),
                 desk: Some(DeskEdit {
                     change,
@@ -145,10 +154,11 @@ impl<K: Keeper> Register<K> {
     }
 
     // The effect of finishing a review where an equal entry is held under a number.
-    fn finished_as(&self, number: u64, change: DeskChange) -> Result<Effect, Refusal>
+    fn finished_as(&self, alloc: Global, number: u64, change: DeskChange) -> Result<Effect, Refusal>
         ensures told { Gives (λ e. tt) (step_limit self.now.state) result }
         ensures effect { IfOk result (λ e. e ≡ record {
           edit = edit.Nothing;
+          touching = touch.Known (only_at []);
           desk = Some (record { change = change; entry = Some number });
           number = Some number;
           next_entry = self.now.state.next_entry;
@@ -157,6 +167,7 @@ impl<K: Keeper> Register<K> {
         self.check_step()?;
         Ok(Effect {
             edit: HeldEdit::Nothing,
+            touching: none_touched(alloc),
             desk: Some(DeskEdit {
                 change,
                 entry: Some(number),
@@ -178,7 +189,12 @@ impl<K: Keeper> Register<K> {
     }
 
     // The effect of finishing a review with an entry that is added.
-    fn finished_by(&mut self, own: Entry, change: DeskChange) -> Result<Effect, Refusal>
+    fn finished_by(
+        &mut self,
+        alloc: Global,
+        own: Entry,
+        change: DeskChange,
+    ) -> Result<Effect, Refusal>
         requires { self.old.state.next_entry ≤ LAST_NUMBER }
         ensures held { IfOk result (λ e. edited e.edit self.old.state.held ≡ record self.old.state.held {
           facts = record self.old.state.held.facts {
@@ -186,6 +202,7 @@ impl<K: Keeper> Register<K> {
                 ++ (record { number = self.old.state.next_entry; entry = own }) ∷ [];
           };
         }) }
+        ensures touching { IfOk result (λ e. e.touching ≡ touch.Known (only_at (package_added (Some own)))) }
         ensures desk { IfOk result
             (λ e. e.desk ≡ Some (record { change = change; entry = Some self.old.state.next_entry })) }
         ensures number { IfOk result (λ e. e.number ≡ Some self.old.state.next_entry) }
@@ -197,7 +214,9 @@ impl<K: Keeper> Register<K> {
         ensures room_stays { KeepsRoom self.old self.new }
     {
         let number = self.next_entry;
+        let touching = package_touched(alloc, &own.package)?;
         Ok(Effect {
+            touching,
             edit: HeldEdit::Facts(self.held.facts.edit_adding(number, own)?),
             desk: Some(DeskEdit {
                 change,

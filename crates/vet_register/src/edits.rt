@@ -1,6 +1,6 @@
 //! What an accepted command does to what is held: one function a command, which asks for the verdict and then makes
 //! the edit, and room for it. What is held stays.
-ghost use Rattle.std.specs.Prelude.{◌≡◌, ◌<◌, ◌+◌, ◌^◌, Ok, IfOk, IfErr};
+ghost use Rattle.std.specs.Prelude.{◌≡◌, ◌<◌, ◌+◌, ◌^◌, ◌++◌, Ok, IfOk, IfErr, map as mapped};
 ghost use Rattle.std.specs.FinMap as map;
 ghost use Rattle.vet_base.specs.Criteria.{IsTable};
 ghost use Rattle.vet_base.specs.CriteriaChanges.{remove_verdict, set_verdict};
@@ -11,6 +11,8 @@ ghost use Rattle.vet_entries.specs.Import.{compared};
 ghost use Rattle.vet_register.specs.Machine.{held_of};
 ghost use Rattle.vet_register.specs.declared.command.Action.TheVariants as action;
 ghost use Rattle.vet_register.specs.RegisterView.{Asks, KeepsRoom};
+ghost use Rattle.vet_register.specs.Touches.{entry_package, only_at, packages_of_peer};
+ghost use Rattle.vet_register.specs.declared.touching.Touching.TheVariants as touch;
 ghost use Rattle.vet_register.specs.Verdict.{judged};
 
 use crate::change::DeskEdit;
@@ -18,6 +20,7 @@ use crate::command::{Action, Command};
 use crate::files_held::files_held;
 use crate::held::HeldEdit;
 use crate::register::Register;
+use crate::touching::{Touching, entries_touched, none_touched, package_touched};
 use crate::verdict::Answer;
 use std::alloc::{AllocError, Global};
 use vet_base::criteria_table::CriteriaTable;
@@ -36,12 +39,14 @@ use vet_entries::peer_settings::PeerSettings;
 use vet_entries::publishers::Publishers;
 use vet_files::files_content::FilesContent;
 use vet_graph::keeper::Keeper;
+use vet_graph::touched::Touched;
 
-/// Edits of what is held and of the desk, unless that stays; the number that a command is told, and the next number of
-/// an entry after it.
+/// Edits of what is held and of the desk, unless that stays; the packages that are touched; the number that a command
+/// is told, and the next number of an entry after it.
 #[derive(Drop)]
 pub struct Effect {
     pub(crate) edit: HeldEdit,
+    pub(crate) touching: Touching,
     pub(crate) desk: Option<DeskEdit>,
     pub(crate) number: Option<u64>,
     pub(crate) next_entry: u64,
@@ -68,13 +73,13 @@ impl<K: Keeper> Register<K> {
         match &command.action {
             Action::SetCriterion(criterion) => self.set_criterion(criterion),
             Action::RemoveCriterion(name) => self.remove_criterion(name),
-            Action::AddEntry(entry) => self.add_entry(command.day, entry),
-            Action::DropEntry(number) => self.drop_entry(*number),
+            Action::AddEntry(entry) => self.add_entry(alloc, command.day, entry),
+            Action::DropEntry(number) => self.drop_entry(alloc, *number),
             Action::SetPeer(settings) => self.set_peer(alloc, settings),
-            Action::DropPeer(name) => self.drop_peer(name),
+            Action::DropPeer(name) => self.drop_peer(alloc, name),
             Action::ImportPeer(name, content) => self.import_peer(alloc, name, content),
             Action::SetPublishers(package, publishers) => {
-                self.set_publishers(package, publishers)
+                self.set_publishers(alloc, package, publishers)
             }
             Action::SetPolicy(policy) => self.set_policy(policy),
             Action::DropPolicy(key) => self.drop_policy(key),
@@ -82,7 +87,7 @@ impl<K: Keeper> Register<K> {
             Action::DropProject(name) => self.drop_project(name),
             Action::ReplaceFiles(files) => self.replace_files(alloc, files),
             Action::Desk(asked) => self.ask_desk(alloc, command.day, asked),
-            Action::ClosePeriod => self.close_period(),
+            Action::ClosePeriod => self.close_period(alloc),
         }
     }
 
@@ -99,6 +104,7 @@ impl<K: Keeper> Register<K> {
         let table = with_criterion(self.held.facts.criteria(), criterion)?;
         Ok(Asked::Effect(Effect {
             edit: HeldEdit::Facts(self.held.facts.edit_of_criteria(table)),
+            touching: Touching::Known(Touched::All),
             desk: None,
             number: None,
             next_entry: self.next_entry,
@@ -116,13 +122,14 @@ impl<K: Keeper> Register<K> {
         let table = without_criterion(self.held.facts.criteria(), name)?;
         Ok(Asked::Effect(Effect {
             edit: HeldEdit::Facts(self.held.facts.edit_of_criteria(table)),
+            touching: Touching::Known(Touched::All),
             desk: None,
             number: None,
             next_entry: self.next_entry,
         }))
     }
 
-    fn add_entry(&mut self, day: Day, entry: &Entry) -> Result<Asked, Refusal>
+    fn add_entry(&mut self, alloc: Global, day: Day, entry: &Entry) -> Result<Asked, Refusal>
         ensures asked { Asks self.old.state self.new day (action.AddEntry entry.now)
             (judged self.old.state day (action.AddEntry entry.now)) result }
         ensures state { self.new.state ≡ self.old.state }
@@ -133,15 +140,17 @@ impl<K: Keeper> Register<K> {
             return Ok(Asked::Already(number));
         }
         let own = entry.to_own()?;
+        let touching = package_touched(alloc, &entry.package)?;
         Ok(Asked::Effect(Effect {
             edit: HeldEdit::Facts(self.held.facts.edit_adding(self.next_entry, own)?),
+            touching,
             desk: None,
             number: Some(self.next_entry),
             next_entry: self.next_entry + 1,
         }))
     }
 
-    fn drop_entry(&mut self, number: u64) -> Result<Asked, Refusal>
+    fn drop_entry(&mut self, alloc: Global, number: u64) -> Result<Asked, Refusal>
         ensures asked { (day : DayValue) → Asks self.old.state self.new day (action.DropEntry number)
             (judged self.old.state day (action.DropEntry number)) result }
         ensures state { self.new.state ≡ self.old.state }
@@ -149,8 +158,11 @@ impl<K: Keeper> Register<K> {
         ensures room_stays { KeepsRoom self.old self.new }
     {
         let place = self.judge_drop(number)?;
+        let dropped = &self.held.facts.entries()[place];
+        let touching = package_touched(alloc, &dropped.entry.package)?;
         Ok(Asked::Effect(Effect {
             edit: HeldEdit::Facts(self.held.facts.edit_dropping(place)),
+            touching,
             desk: None,
             number: None,
             next_entry: self.next_entry,
@@ -167,16 +179,18 @@ impl<K: Keeper> Register<K> {
         if let Answer::Already(number) = self.judge_settings(settings)? {
             return Ok(Asked::Already(number));
         }
+        let touching = self.peer_touched(alloc, &settings.name, &[])?;
         let copy = settings.clone()?;
         Ok(Asked::Effect(Effect {
             edit: HeldEdit::Facts(self.held.facts.edit_of_settings(alloc, copy)?),
+            touching,
             desk: None,
             number: None,
             next_entry: self.next_entry,
         }))
     }
 
-    fn drop_peer(&mut self, name: &Name) -> Result<Asked, Refusal>
+    fn drop_peer(&mut self, alloc: Global, name: &Name) -> Result<Asked, Refusal>
         ensures asked { (day : DayValue) → Asks self.old.state self.new day (action.DropPeer name.now)
             (judged self.old.state day (action.DropPeer name.now)) result }
         ensures state { self.new.state ≡ self.old.state }
@@ -184,8 +198,10 @@ impl<K: Keeper> Register<K> {
         ensures room_stays { KeepsRoom self.old self.new }
     {
         self.judge_peer_drop(name)?;
+        let touching = self.peer_touched(alloc, name, &[])?;
         Ok(Asked::Effect(Effect {
             edit: HeldEdit::Facts(self.held.facts.edit_dropping_peer(name)),
+            touching,
             desk: None,
             number: None,
             next_entry: self.next_entry,
@@ -210,13 +226,32 @@ impl<K: Keeper> Register<K> {
         };
         let next_entry = self.next_entry + comparison.new_count() as u64;
         let after = self.holding_after(alloc, name, content, &comparison)?;
+        let touching = self.peer_touched(alloc, name, content.entries())?;
         let copy = copied(name)?;
         Ok(Asked::Effect(Effect {
             edit: HeldEdit::Facts(self.held.facts.edit_of_content(copy, after)),
+            touching,
             desk: None,
             number: None,
             next_entry,
         }))
+    }
+
+    // The packages of what is held of a peer, and of other entries, are touched.
+    fn peer_touched(
+        &self,
+        alloc: Global,
+        name: &Name,
+        others: &[Entry],
+    ) -> Result<Touching, Refusal>
+        ensures ok { IfOk result (λ t. t ≡ touch.Known
+            (only_at (packages_of_peer self.now.state.held.facts name.now ++ mapped entry_package others.now))) }
+        ensures memory { IfErr result (λ e. e ≡ Refusal.NoMemory) }
+    {
+        match self.held.facts.peer(name) {
+            Some(peer) => entries_touched(alloc, peer.content.entries(), others),
+            None => entries_touched(alloc, &[], others),
+        }
     }
 
     // What is held of a peer after an import.
@@ -251,6 +286,7 @@ impl<K: Keeper> Register<K> {
 
     fn set_publishers(
         &mut self,
+        alloc: Global,
         package: &PackageName,
         publishers: &Publishers,
     ) -> Result<Asked, Refusal>
@@ -264,9 +300,11 @@ impl<K: Keeper> Register<K> {
         if let Answer::Already(number) = self.judge_publishers(package, publishers)? {
             return Ok(Asked::Already(number));
         }
+        let touching = package_touched(alloc, package)?;
         self.held.facts.records_stay_in_order(package, publishers);
         Ok(Asked::Effect(Effect {
             edit: HeldEdit::Facts(self.held.facts.publishers_edit(package, publishers)?),
+            touching,
             desk: None,
             number: None,
             next_entry: self.next_entry,
@@ -285,6 +323,7 @@ impl<K: Keeper> Register<K> {
         }
         Ok(Asked::Effect(Effect {
             edit: self.held.edit_of_policy(policy)?,
+            touching: Touching::ByDemand,
             desk: None,
             number: None,
             next_entry: self.next_entry,
@@ -301,6 +340,7 @@ impl<K: Keeper> Register<K> {
         self.judge_policy_drop(key)?;
         Ok(Asked::Effect(Effect {
             edit: self.held.edit_dropping_policy(key),
+            touching: Touching::ByDemand,
             desk: None,
             number: None,
             next_entry: self.next_entry,
@@ -320,6 +360,7 @@ impl<K: Keeper> Register<K> {
         let copy = project.clone()?;
         Ok(Asked::Effect(Effect {
             edit: self.held.edit_of_project(copy)?,
+            touching: Touching::ByDemand,
             desk: None,
             number: None,
             next_entry: self.next_entry,
@@ -336,6 +377,7 @@ impl<K: Keeper> Register<K> {
         self.judge_project_drop(name)?;
         Ok(Asked::Effect(Effect {
             edit: self.held.edit_dropping_project(name),
+            touching: Touching::ByDemand,
             desk: None,
             number: None,
             next_entry: self.next_entry,
@@ -357,19 +399,21 @@ impl<K: Keeper> Register<K> {
         let held = files_held(alloc, self.next_entry, &self.held.facts, files, &comparison)?;
         Ok(Asked::Effect(Effect {
             edit: HeldEdit::Files(held),
+            touching: Touching::Known(Touched::All),
             desk: None,
             number: None,
             next_entry,
         }))
     }
 
-    fn close_period(&self) -> Result<Asked, Refusal>
+    fn close_period(&self, alloc: Global) -> Result<Asked, Refusal>
         ensures { (day : DayValue) → Asks self.now.state self.now day action.ClosePeriod
             (judged self.now.state day action.ClosePeriod) result }
     {
         self.check_step()?;
         Ok(Asked::Effect(Effect {
             edit: HeldEdit::Nothing,
+            touching: none_touched(alloc),
             desk: None,
             number: None,
             next_entry: self.next_entry,

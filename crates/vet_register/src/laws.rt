@@ -10,6 +10,7 @@ ghost use Rattle.vet_register.specs.RepeatedFiles.{HeldFilesAreAlready, Repeated
 ghost use Rattle.vet_register.specs.Repeats.{HeldContentIsAlready, RepeatedImportIsAlready};
 ghost use Rattle.vet_register.specs.ToldInOrder.{FinishedIsHeldBeforeStep, NumberBeforeCriteria, PeriodAsksForStep};
 ghost use Rattle.vet_register.specs.ToldInOrder.{ReviewsBeforeStep, StepBeforeNumber};
+ghost use Rattle.vet_register.specs.Untouched.{UntouchedClassesStay, UntouchedStays};
 
 /// An import from a held peer changes nothing just where its criteria and its entries are those held, in whatever
 /// order.
@@ -30,6 +31,13 @@ pub fn held_files_are_already()
 /// After files were put in place, files that say the same, each list in whatever order, change nothing.
 pub fn repeated_files_are_already()
     ensures { RepeatedFilesAreAlready }
+{}
+
+/// Outside of the packages that a command touches, the steps, the condemned versions and the demanded pairs stay, and
+/// unless it touches all of them, the criteria stay too. So the classes of their pairs stay.
+pub fn untouched_stays()
+    ensures depends { UntouchedStays }
+    ensures classes { UntouchedClassesStay }
 {}
 
 /// Faults of a review that is opened, or finished, are told in this order.

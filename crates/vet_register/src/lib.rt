@@ -33,4 +33,5 @@ mod sound_numbers;
 mod sound_peers;
 pub mod state;
 pub mod tool_settings;
+mod touching;
 mod verdict;

@@ -17,6 +17,7 @@ ghost use Rattle.vet_register.specs.Machine.{number_given, outcome_of, records_o
 ghost use Rattle.vet_register.specs.RegisterView.{KeepsReady, KeepsRoom, held_room};
 ghost use Rattle.vet_register.specs.Sound.{IsSoundHeld};
 ghost use Rattle.vet_register.specs.State.{demanded, standing};
+ghost use Rattle.vet_register.specs.Touches.{touched_with};
 ghost use Rattle.vet_register.specs.Verdict.{moves_fit, step_limit};
 ghost use Rattle.vet_register.specs.declared.command.Outcome.TheVariants as outcome;
 
@@ -25,6 +26,7 @@ use crate::command::{Command, Outcome};
 use crate::held::{Held, HeldEdit, held_edits_fit_with_more_room};
 use crate::moves::{RecordedMove, Recording, record};
 use crate::register::Register;
+use crate::touching::{Touching, touched_between};
 use std::alloc::Global;
 use vet_base::refusal::Refusal;
 use vet_demand::demand::Demand;
@@ -103,16 +105,18 @@ impl<K: Keeper> Planned<K> {
 }
 
 impl<K: Keeper> Register<K> {
-    /// The demand and the standing that an edit asks for, where this is touched. What is held stays.
+    /// The demand and the standing that an edit asks for, where these packages are touched. What is held stays.
     pub(crate) fn plan(
         &mut self,
         alloc: Global,
-        touched: &Touched,
+        touching: Touching,
         edit: HeldEdit,
     ) -> Result<Planned<K>, Refusal>
         requires fits { Fits edit (held_room self.old) }
         requires sound { (next : ℕ) × IsSoundHeld (edited edit self.old.state.held) next }
-        requires outside { SameOutside touched.now self.old.state.held.facts (demanded self.old.state)
+        requires outside { SameOutside
+            (touched_with touching (demanded self.old.state) (demand_in (edited edit self.old.state.held)))
+            self.old.state.held.facts (demanded self.old.state)
             (edited edit self.old.state.held).facts (demand_in (edited edit self.old.state.held)) }
         ensures edit { IfOk result (λ p.
             edited p.edit self.old.state.held ≡ edited edit self.old.state.held) }
@@ -123,7 +127,8 @@ impl<K: Keeper> Register<K> {
             (edited edit self.old.state.held).facts (demand_in (edited edit self.old.state.held))) }
         ensures moves { IfOk result (λ p. K.keeping.moves_of p.update
             ≡ moves_between (standing self.old.state) (standing_in (edited edit self.old.state.held))) }
-        ensures touched { IfOk result (λ p. K.keeping.touched_of p.update ≡ touched.now) }
+        ensures touched { IfOk result (λ p. K.keeping.touched_of p.update
+            ≡ touched_with touching (demanded self.old.state) (demand_in (edited edit self.old.state.held))) }
         ensures memory { IfErr result (λ e. e ≡ Refusal.NoMemory) }
         ensures state { self.new.state ≡ self.old.state }
         ensures room_stays { KeepsRoom self.old self.new }
@@ -134,7 +139,7 @@ impl<K: Keeper> Register<K> {
         let back = self.held.apply(edit);
         let found = find_standing(
             alloc,
-            touched,
+            touching,
             &self.held,
             &self.demand,
             keeps,
@@ -244,7 +249,7 @@ impl<K: Keeper> Register<K> {
 // The demand of what is held, where it may be another than this, and the standing by both.
 fn find_standing<K: Keeper>(
     alloc: Global,
-    touched: &Touched,
+    touching: Touching,
     held: &Held,
     before: &Demand,
     keeps: bool,
@@ -254,13 +259,15 @@ fn find_standing<K: Keeper>(
     requires policies { PoliciesAreKnown held.now.facts.content.criteria held.now.policies.items }
     requires kept { IsTrue keeps → before.now ≡ demand_in (content_of held.now) }
     requires outside { (old_facts : Facts) × (old_demand : List Pair) × K.keeping.keeps keeper.old old_facts old_demand
-        × SameOutside touched.now old_facts old_demand held.now.facts.content (demand_in (content_of held.now)) }
+        × SameOutside (touched_with touching before.now (demand_in (content_of held.now))) old_facts old_demand
+        held.now.facts.content (demand_in (content_of held.now)) }
     ensures demand { IfOk result (λ s. demand_by s.demand before.now ≡ demand_in (content_of held.now)) }
     ensures plans { IfOk result (λ s. K.keeping.plans keeper.new s.update
         held.now.facts.content (demand_in (content_of held.now))) }
     ensures moves { IfOk result (λ s. K.keeping.moves_of s.update
         ≡ moves_between (K.keeping.standing keeper.old) (standing_in (content_of held.now))) }
-    ensures touched { IfOk result (λ s. K.keeping.touched_of s.update ≡ touched.now) }
+    ensures touched { IfOk result (λ s. K.keeping.touched_of s.update
+        ≡ touched_with touching before.now (demand_in (content_of held.now))) }
     ensures memory { IfErr result (λ e. e ≡ Refusal.NoMemory) }
     ensures standing { K.keeping.standing keeper.new ≡ K.keeping.standing keeper.old }
     ensures keeps { (facts : Facts) (demand : List Pair)
@@ -270,7 +277,8 @@ fn find_standing<K: Keeper>(
 {
     demanded_are_known();
     if keeps {
-        let update = keeper.plan(alloc, touched, &held.facts, before)?;
+        let touched = touched_by(alloc, touching, before, before)?;
+        let update = keeper.plan(alloc, &touched, &held.facts, before)?;
         return Ok(Found {
             demand: None,
             update,
@@ -282,9 +290,26 @@ fn find_standing<K: Keeper>(
         &held.policies,
         held.facts.criteria(),
     )?;
-    let update = keeper.plan(alloc, touched, &held.facts, &found)?;
+    let touched = touched_by(alloc, touching, before, &found)?;
+    let update = keeper.plan(alloc, &touched, &held.facts, &found)?;
     Ok(Found {
         demand: Some(found),
         update,
     })
+}
+
+// The packages that are touched, where the demand before and after is this.
+fn touched_by(
+    alloc: Global,
+    touching: Touching,
+    before: &Demand,
+    after: &Demand,
+) -> Result<Touched, Refusal>
+    ensures ok { IfOk result (λ t. t ≡ touched_with touching before.now after.now) }
+    ensures memory { IfErr result (λ e. e ≡ Refusal.NoMemory) }
+{
+    match touching {
+        Touching::Known(touched) => Ok(touched),
+        Touching::ByDemand => touched_between(alloc, before.pairs(), after.pairs()),
+    }
 }

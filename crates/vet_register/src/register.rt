@@ -22,8 +22,9 @@
 //! - The verdict (`verdict`; of files `files_verdict`, of the desk `at_desk`): is it held already, limits, references,
 //!   rules. It takes memory for the name of an unknown criterion. To compare an import or files, and to make the entry
 //!   of a finished review, it takes more.
-//! - The edit (`edits`, `at_desk`): copies of what is set or added, and room for it. Commands that drop something take
-//!   none, nor does ClosePeriod.
+//! - The edit (`edits`, `at_desk`): copies of what is set or added, and room for it, and the names of the packages that
+//!   are touched (`touching`). Commands that drop a policy, a project or a criterion take none here, nor does
+//!   ClosePeriod.
 //! - The plan (`plan`): the demand after the edit, the standing by it, and the moves to that. Between an edit and its
 //!   undo the demand is found anew, unless the edit keeps it (`keeps_demand`).
 //! - The change (`plan`): whether the moves fit, copies of those to record, and room for them.
@@ -75,7 +76,6 @@ use vet_graph::laws::{
     nothing_vets_nothing, runs_of_moves_add,
 };
 use vet_graph::standing::Counts;
-use vet_graph::touched::Touched;
 
 /// What an organisation holds, the class of each demanded pair, and how these came about. A keeper keeps the
 /// classes; which one it is changes no answer.
@@ -194,7 +194,7 @@ impl<K: Keeper> Register<K> {
 
     /// What a command is told, and what it would change. The state stays, whatever is answered; room is taken
     /// for what `install` adds, and what was prepared on this state before can still be installed. The keeper
-    /// is told that all packages are touched. Refused, the first that holds: `TooManyCriteria`, `TooLarge` of
+    /// is told which packages are touched. Refused, the first that holds: `TooManyCriteria`, `TooLarge` of
     /// `peers`, `entries`, `publishers`, `policies`, `projects`, `members`, `reviews`, `step` or `number`;
     /// `UnknownCriterion`, `UnknownEntry`, `UnknownPeer`, `UnknownPolicy`, `UnknownProject`, `UnknownMember`,
     /// `UnknownReview`; `BuiltInCriterion`, `CriterionInUse`, `EmptyWindow`, `WindowTooLong`, `ReviewClosed`,
@@ -224,11 +224,12 @@ impl<K: Keeper> Register<K> {
                 self.state_is_sound();
                 let Effect {
                     edit,
+                    touching,
                     desk,
                     number,
                     next_entry,
                 } = effect;
-                let planned = self.plan(alloc, &Touched::All, edit)?;
+                let planned = self.plan(alloc, touching, edit)?;
                 let change = self.change(alloc, command, number, next_entry, desk, planned)?;
                 Ok(Prepared::Change(change))
             }

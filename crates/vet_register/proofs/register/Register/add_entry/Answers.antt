@@ -1,12 +1,19 @@
 use Rattle.std.proofs.Common.{◌∙◌, ◌++◌, ◌∷◌, [], refl}
 use Rattle.std.proofs.lemmas.Result.{err_from_is_err_and}
 use Rattle.vet_register.specs.declared.command.Action.TheVariants as action
-use Rattle.vet_register.proofs.Asking.{effective, no_memory}
-use Rattle.vet_register.proofs.AskingEdits.{accepts, of_facts_is, passed_on}
+use Rattle.vet_register.proofs.Asking.{effective, known_touched, no_memory}
+use Rattle.vet_register.proofs.AskingEdits.{accepts, of_facts_is, passed_on, state_before}
 use Rattle.vet_register.proofs.register.Register.add_entry.Goals as goal
 
 pub returns-in_err-number-clause-asked : goal.returns-in_err-number-clause-asked
 returns-in_err-number-clause-asked g c = passed_on _ _ _ _ _ _ c.from_residual.ensures.1 c.in_err-number.ensures
+
+pub returns-in_err-touching-clause-asked : goal.returns-in_err-touching-clause-asked
+returns-in_err-touching-clause-asked g c =
+    let passed = err_from_is_err_and c.from_residual-in_err-touching.result
+    c.from_residual-in_err-touching.ensures.1 in
+    rw (passed.1, passed.2) (no_memory _ _ _ _ _ (accepts c.in_ok-number.ensures c.in_default.is)
+    c.in_err-touching.ensures.memory)
 
 pub returns-in_err-edit_adding-clause-asked : goal.returns-in_err-edit_adding-clause-asked
 returns-in_err-edit_adding-clause-asked g c =
@@ -22,10 +29,11 @@ returns-clause-asked g c =
     let added = c.in_ok-edit_adding.ensures in
     let asks = action.AddEntry c.args.entry.now in
     let told = accepts c.in_ok-number.ensures c.in_default.is in
-    effective _ c.args.day asks _ _ told (of_facts_is c.self.view_is c.self.invariant.1 c.args.day asks tt told refl _
+    effective _ c.args.day asks _ _ told (of_facts_is c.self.view_is c.self.invariant.1 c.args.day asks tt told refl _ _
     (added.edit ∙ (λ i. record was {
       entries = was.entries ++ (record { number = c.self.inside.next_entry; entry = c.in_ok-own.ensures i }) ∷ [];
-    })) sound.criteria sound.publishers _ _ _ _ _ added.content refl refl refl added.fits)
+    })) (known_touched (state_before c.self.view_is) c.args.day asks _ _ c.in_ok-touching.ensures.ok refl)
+    sound.criteria sound.publishers _ _ _ _ _ added.content refl refl refl added.fits)
 
 pub edit_adding-requires : goal.edit_adding-requires
 edit_adding-requires g c = c.self.invariant.1.held.facts.entries.numbers_given

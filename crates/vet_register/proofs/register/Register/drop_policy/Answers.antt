@@ -17,5 +17,5 @@ pub returns-clause-asked : goal.returns-clause-asked
 returns-clause-asked g c day =
     let asks = action.DropPolicy c.args.key.now in
     let told = ap (held_or None) (answered _ _ (c.in_ok-judge_policy_drop.ensures day)) in
-    effective _ day asks _ _ told (plain_is_still c.self.view_is c.self.invariant.1 day asks tt told _ refl
-    c.edit_dropping_policy.ensures.edit c.edit_dropping_policy.ensures.fits)
+    effective _ day asks _ _ told (plain_is_still c.self.view_is c.self.invariant.1 day asks tt told _ _ refl
+    c.edit_dropping_policy.ensures.edit refl c.edit_dropping_policy.ensures.fits)

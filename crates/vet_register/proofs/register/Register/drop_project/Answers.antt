@@ -11,8 +11,8 @@ pub returns-clause-asked : goal.returns-clause-asked
 returns-clause-asked g c day =
     let asks = action.DropProject c.args.name.now in
     let told = ap (held_or None) (answered _ _ (c.in_ok-judge_project_drop.ensures day)) in
-    effective _ day asks _ _ told (plain_is_still c.self.view_is c.self.invariant.1 day asks tt told _ refl
-    c.edit_dropping_project.ensures.edit c.edit_dropping_project.ensures.fits)
+    effective _ day asks _ _ told (plain_is_still c.self.view_is c.self.invariant.1 day asks tt told _ _ refl
+    c.edit_dropping_project.ensures.edit refl c.edit_dropping_project.ensures.fits)
 
 pub edit_dropping_project-requires : goal.edit_dropping_project-requires
 edit_dropping_project-requires g c =

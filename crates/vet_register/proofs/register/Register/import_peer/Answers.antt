@@ -1,11 +1,12 @@
-use Rattle.std.proofs.Common.{◌≡◌, ◌+◌, ◌∙◌, ap, arith, refl, sym, subst, inr}
+use Rattle.std.proofs.Common.{◌≡◌, ◌+◌, ◌++◌, ◌∙◌, map, ap, arith, refl, sym, subst, inr}
 use Rattle.vet_entries.specs.Facts.{Fits, IsHeld, edited}
 use Rattle.vet_entries.specs.HeldPeer.{with_content}
 use Rattle.vet_register.specs.declared.command.Action.TheVariants as action
-use Rattle.vet_register.specs.Machine.{number_after}
+use Rattle.vet_register.specs.Machine.{number_after, touched_by}
 use Rattle.vet_register.specs.RegisterView.{RegisterView, held_room}
 use Rattle.vet_register.specs.Sound.{IsSound}
-use Rattle.vet_register.proofs.Asking.{facts_effect, effective, some_day}
+use Rattle.vet_register.specs.Touches.{entry_package, only_at, packages_of_peer}
+use Rattle.vet_register.proofs.Asking.{facts_effect, effective, known_touched, some_day}
 use Rattle.vet_register.proofs.Imports.{accepted_import, numbers_found}
 use Rattle.vet_register.proofs.register.Register.import_peer.Goals as goal
 
@@ -66,9 +67,13 @@ returns-clause-asked g c day =
     }) in
     let fits = subst (λ (r : RegisterView _). Fits c.edit_of_content.result (held_room r).facts) c.self.view_is
     c.edit_of_content.ensures.fits in
+    let touches : only_at (packages_of_peer state.held.facts name ++ map entry_package c.entries-2.result.now)
+    ≡ touched_by state day asks = ap (λ es. only_at (packages_of_peer state.held.facts name ++ map entry_package es))
+    c.entries-2.ensures.value in
     let held = ap (λ (r : RegisterView _). r.state.next_entry) c.self.view_is in
     let next : c.self.inside.next_entry + c.new_count.result ≡ number_after state asks = omega
     (arith, held, found.0, c.new_count.ensures) in
     inr (effective _ _ _ _ _ accepted.told
-    (facts_effect _ _ asks state c.edit_of_content.result _ _ refl sound accepted.told c.entries.ensures.content
-    facts refl refl refl refl refl next fits sound.held.facts.criteria sound.held.facts.publishers))
+    (facts_effect _ _ asks state c.edit_of_content.result _ _ _ refl sound accepted.told c.entries.ensures.content
+    facts (known_touched state day asks c.in_ok-touching.touching _ c.in_ok-touching.ensures.ok touches)
+    refl refl refl refl refl next fits sound.held.facts.criteria sound.held.facts.publishers))

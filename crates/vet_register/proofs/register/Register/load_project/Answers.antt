@@ -18,5 +18,5 @@ returns-clause-asked g c day =
     let held : HeldValue = content_of c.self.inside.held in
     let copied = ap (λ (p : NamedProject). record held { projects = with_project p held.projects })
     c.in_ok-copy.ensures.cases in
-    effective _ day asks _ _ told (plain_is c.self.view_is c.self.invariant.1 day asks tt told _ refl
-    (set.edit ∙ copied) _ _ _ set.content set.fits)
+    effective _ day asks _ _ told (plain_is c.self.view_is c.self.invariant.1 day asks tt told _ _ refl
+    (set.edit ∙ copied) refl _ _ _ set.content set.fits)

@@ -7,8 +7,11 @@ use Rattle.vet_register.specs.Changes.{demand_by, desk_edited}
 use Rattle.vet_register.specs.Machine.{held_after, moves_of, next, number_after, number_given}
 use Rattle.vet_register.specs.RegisterView.{HoldsDesk, IsStep, desk_room, held_room}
 use Rattle.vet_graph.specs.Moves.{moves_between}
+use Rattle.vet_graph.specs.Touched.{SameOutside}
+use Rattle.vet_graph.specs.declared.touched.Touched.{Touched}
 use Rattle.vet_register.specs.State.{State, demanded, standing}
 use Rattle.vet_register.specs.Sound.{IsSoundHeld}
+use Rattle.vet_register.specs.Touches.{touched_with}
 use Rattle.vet_register.specs.Verdict.{judged, step_limit, wants_memory}
 use Rattle.vet_register.proofs.Asking.{accepted_exact, refusal_exact, refusal_told}
 use Rattle.vet_register.proofs.AskingDesk.{room_onward}
@@ -16,6 +19,7 @@ use Rattle.vet_register.proofs.Effects.{passed, step_passed}
 use Rattle.vet_register.proofs.Prepared.{AreParts, desk_still, fit_told, fits_told, is_step}
 use Rattle.vet_register.proofs.PreparedParts.{asked_stays, changed_stays, effect_of, planned_stays, rooms_onward}
 use Rattle.vet_register.proofs.Soundness.{MoveLaws}
+use Rattle.vet_register.proofs.TouchesLaws.{untouched_stays}
 use Rattle.vet_register.proofs.register.Register.prepare.Goals as goal
 
 pub returns-in_err-number-clause-told : goal.returns-in_err-number-clause-told
@@ -108,7 +112,8 @@ returns-in_ok-change-in-Effect-clause-prepared g c =
     let demand = ap (λ d. demand_by d (demanded s)) made.demand ∙ planned.demand ∙ ap demand_in held in
     let step = is_step laws g.K.Keeper.keeping s command change c.state_is_sound.ensures told asks.1.sound
     (subst (λ (t : State). AreParts t command change) c.plan.ensures.state parts) by desk demand
-    (ap g.K.Keeper.keeping.touched_of made.update ∙ planned.touched) in
+    (ap g.K.Keeper.keeping.touched_of made.update ∙ planned.touched
+    ∙ ap (λ h. touched_with c.in-Effect.effect.touching (demanded s) (demand_in h)) held ∙ asks.1.touches) in
     let left : Held = held_room c.change.new.self in
     let room : held_room c.plan.new.self ≡ left = λ i. held_with ((sym made.state i).held) (sym made.held_room i) in
     let after = held_after s command.day action in
@@ -137,6 +142,17 @@ plan-requires-clause-sound g c =
     let next = number_after c.asked_by.new.self.state c.args.command.now.action in
     let asks = effect_of c.args.self.now.state c.args.command.now c.in-Effect.is c.in_ok-number.ensures.asked in
     (next, subst (λ h. IsSoundHeld h next) (sym asks.1.held) asks.1.sound)
+
+pub plan-requires-clause-outside : goal.plan-requires-clause-outside
+plan-requires-clause-outside g c =
+    let command = c.args.command.now in
+    let s = c.asked_by.new.self.state in
+    let asks = effect_of c.args.self.now.state command c.in-Effect.is c.in_ok-number.ensures.asked in
+    subst (λ h. SameOutside (touched_with c.in-Effect.effect.touching (demanded s) (demand_in h)) s.held.facts
+    (demanded s) h.facts (demand_in h)) (sym asks.1.held)
+    (subst (λ (t : Touched). SameOutside t s.held.facts (demanded s) (held_after s command.day command.action).facts
+    (demand_in (held_after s command.day command.action))) (sym asks.1.touches)
+    (untouched_stays s command.day command.action c.state_is_sound.ensures))
 
 pub plan-requires-clause-fits : goal.plan-requires-clause-fits
 plan-requires-clause-fits g c =

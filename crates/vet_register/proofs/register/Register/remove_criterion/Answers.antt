@@ -24,8 +24,8 @@ returns-clause-asked g c day =
     let table = made.ok ∙ ap (λ t. map.remove t c.args.name.now) c.criteria.ensures.value in
     let asks = action.RemoveCriterion c.args.name.now in
     let told = ap (held_or None) (answered _ _ (c.in_ok-judge_removal.ensures day)) in
-    effective _ day asks _ _ told (of_facts_is_still c.self.view_is c.self.invariant.1 day asks tt told refl _
-    (c.edit_of_criteria.ensures.edit ∙ λ i. record c.self.inside.held.facts.content { criteria = table i })
+    effective _ day asks _ _ told (of_facts_is_still c.self.view_is c.self.invariant.1 day asks tt told refl _ _
+    (c.edit_of_criteria.ensures.edit ∙ λ i. record c.self.inside.held.facts.content { criteria = table i }) refl
     (subst IsTable table made.table) c.self.invariant.1.held.facts.publishers
     _ _ refl refl (none_given refl) c.edit_of_criteria.ensures.fits)
 

@@ -4,6 +4,8 @@ use Rattle.vet_entries.specs.Facts.{Facts}
 use Rattle.vet_register.specs.declared.command.Action.TheVariants as action
 use Rattle.vet_register.specs.declared.edits.Effect.{Effect}
 use Rattle.vet_register.specs.declared.held.HeldEdit.TheVariants as edit
+use Rattle.vet_register.specs.declared.touching.Touching.TheVariants as touching
+use Rattle.vet_graph.specs.declared.touched.Touched.TheVariants as touched
 use Rattle.vet_register.specs.Held.{edited}
 use Rattle.vet_register.specs.Machine.{facts_after, held_after, number_after}
 use Rattle.vet_register.specs.RegisterView.{RegisterView}
@@ -89,10 +91,11 @@ returns-clause-asked g c day =
     (files_records files c.is_of_files.ensures fit.records) in
     let effect : Effect = record {
       edit = edit.Files c.in_ok-held.held;
+      touching = touching.Known touched.All;
       desk = None;
       number = None;
       next_entry = c.self.inside.next_entry +
           c.new_count.result;
     } in
     inr (effective _ _ _ _ _ accepted.told
-    (held_effect _ day asks state effect refl becomes refl refl refl next tt after))
+    (held_effect _ day asks state effect refl becomes refl refl refl refl next tt after))

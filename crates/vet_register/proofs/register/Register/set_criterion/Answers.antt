@@ -28,6 +28,6 @@ returns-clause-asked g c day =
     let table = c.in_ok-table.ensures.ok ∙ ap (λ t. map.insert t criterion.name criterion) c.criteria.ensures.value in
     let asks = action.SetCriterion criterion in
     let told = accepts (c.in_ok-number.ensures day) c.in_default.is in
-    effective _ day asks _ _ told (of_facts_is_still c.self.view_is c.self.invariant.1 day asks tt told refl _
-    (made.edit ∙ λ i. record facts { criteria = table i }) (subst IsTable table c.in_ok-table.ensures.table)
+    effective _ day asks _ _ told (of_facts_is_still c.self.view_is c.self.invariant.1 day asks tt told refl _ _
+    (made.edit ∙ λ i. record facts { criteria = table i }) refl (subst IsTable table c.in_ok-table.ensures.table)
     c.self.invariant.1.held.facts.publishers _ _ refl refl (none_given refl) made.fits)

@@ -9,8 +9,8 @@ returns-clause-asked g c day =
     let asks = action.SetPolicy c.args.policy.now in
     let told = accepts (c.in_ok-number.ensures day) c.in_default.is in
     let set = c.in_ok-edit_of_policy.ensures in
-    effective _ day asks _ _ told (plain_is c.self.view_is c.self.invariant.1 day asks tt told _ refl
-    set.edit _ _ _ set.content set.fits)
+    effective _ day asks _ _ told (plain_is c.self.view_is c.self.invariant.1 day asks tt told _ _ refl
+    set.edit refl _ _ _ set.content set.fits)
 
 pub returns-in_err-number-clause-asked : goal.returns-in_err-number-clause-asked
 returns-in_err-number-clause-asked g c day = passed_on _ _ _ _ _ _ c.from_residual.ensures.1

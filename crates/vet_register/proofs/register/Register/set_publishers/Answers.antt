@@ -1,6 +1,7 @@
 use Rattle.std.proofs.Common.{refl}
 use Rattle.vet_register.specs.declared.command.Action.TheVariants as action
-use Rattle.vet_register.proofs.Asking.{effective, some_day, records_counted, records_differ, records_sound}
+use Rattle.vet_register.proofs.Asking.{effective, known_touched, records_counted, records_differ, records_sound}
+use Rattle.vet_register.proofs.Asking.{some_day}
 use Rattle.vet_register.proofs.AskingEdits.{accepts, none_given, of_facts_is, state_before, told_before}
 use Rattle.vet_register.proofs.register.Register.set_publishers.Goals as goal
 
@@ -26,5 +27,6 @@ returns-clause-asked g c day =
     let are = records_sound (state_before c.self.view_is) day c.args.«package».now c.args.publishers.now
     (told_before c.self.view_is day asks told) sound.publishers ordered.in_order ordered.by_name in
     let set = c.in_ok-publishers_edit.ensures in
-    effective _ day asks _ _ told (of_facts_is c.self.view_is c.self.invariant.1 day asks tt told refl _ set.edit
+    effective _ day asks _ _ told (of_facts_is c.self.view_is c.self.invariant.1 day asks tt told refl _ _ set.edit
+    (known_touched (state_before c.self.view_is) day asks _ _ c.in_ok-touching.ensures.ok refl)
     sound.criteria are _ _ _ _ _ set.content refl refl (none_given refl) set.fits)
