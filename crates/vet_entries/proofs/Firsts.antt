@@ -1,5 +1,6 @@
 -- The entries that are kept, one more at a time.
-use Rattle.std.proofs.Common.{◌≡◌, ℕ, ◌<◌, arith, get_or, length, Bool, true, false, cond, not, ◌||◌, List, [], ◌∷◌, ◌++◌, refl, sym, ap, ◌∙◌}
+use Rattle.std.proofs.Common.{◌≡◌, ℕ, ◌<◌, arith, get_or, length, Bool, true, false, cond, not, ◌||◌}
+use Rattle.std.proofs.Common.{List, [], ◌∷◌, ◌++◌, refl, sym, ap, ◌∙◌}
 use Rattle.std.specs.List.{list_any}
 use Rattle.std.specs.Cmp.{decided}
 use Rattle.std.proofs.lemmas.Bool.{false≢true}
@@ -62,7 +63,8 @@ firsts_marked seen (x ∷ es) e = ap (λ (bs : List Bool). not (has x seen) ∷ 
     ∙ ap (λ b. are_firsts (x ∷ seen) es ++ not b ∷ []) (or_later (entry_eq e x) (has e seen) (has e es)))
 
 -- one more is marked where it is new
-pub are_firsts-more : (es : List Entry) (e : Entry) → are_firsts [] (es ++ e ∷ []) ≡ are_firsts [] es ++ not (has e es) ∷ []
+pub are_firsts-more : (es : List Entry) (e : Entry)
+    → are_firsts [] (es ++ e ∷ []) ≡ are_firsts [] es ++ not (has e es) ∷ []
 are_firsts-more es e = firsts_marked [] es e
 
 -- the mark of an entry says whether none in front of it is the same

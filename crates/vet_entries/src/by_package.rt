@@ -20,10 +20,10 @@
 //! words become one's own criteria once a plan (`local_criteria`), so no command has to keep them in step.
 //!
 //! How an import goes (`import`). Held entries are put in order by what they say, and those that come are sought among
-//! them. A mark for each says what comes again and what is new. If all comes again, nothing is new and the criteria are the same,
-//! the content is held already. Else what is held after it is made whole. It is copies of the held entries that come
-//! again, with their old numbers, and then the new ones with the next numbers. So the list stands by number without a
-//! sort.
+//! them. A mark for each says what comes again and what is new. If all comes again, nothing is new and the criteria are
+//! the same, the content is held already. Else what is held after it is made whole. It is copies of the held entries
+//! that come again, with their old numbers, and then the new ones with the next numbers. So the list is in order by
+//! number without a sort.
 ghost use Rattle.std.specs.Prelude.{◌≡◌, ◌<◌, ◌≤◌, ◌+◌, ◌-◌, [], IfOk, IsOk, OnOk, OnErr, filter, insert, length, map};
 ghost use Rattle.std.specs.Prelude.{remove, slice_index_or, true, false, vec_capacity, vec_len};
 ghost use Rattle.std.specs.List.{All, range_with_len};

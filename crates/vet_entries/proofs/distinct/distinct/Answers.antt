@@ -6,7 +6,8 @@ use Rattle.vet_entries.proofs.distinct.distinct.Goals as goal
 pub index-is_first-requires : goal.index-is_first-requires
 index-is_first-requires c =
     let h = c.entries.invariant in
-    let here = mark_here c.entries.yielded c.in_ok-marks.ensures c.as_slice.ensures.value h.2 c.in-Some.ensures.steps.0 h.3 in
+    let here = mark_here c.entries.yielded c.in_ok-marks.ensures c.as_slice.ensures.value h.2
+    c.in-Some.ensures.steps.0 h.3 in
     omega (arith, here.0, c.in_ok-marks.marks.ok)
 
 pub entries-preserved-in-Continue-branch-2 : goal.entries-preserved-in-Continue-branch-2
