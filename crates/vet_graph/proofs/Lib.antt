@@ -1,3 +1,4 @@
+pub mod Backward
 pub mod Balance
 pub mod ChainKinds
 pub mod ClassSearch

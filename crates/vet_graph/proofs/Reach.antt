@@ -51,7 +51,7 @@ AllPairs-mapped R f (x ∷ xs) h = AllPairs-cons R (f x) (map f xs)
 
 module _ (steps : List GuardedStep) (open_step : GuardedStep → Bool) where
   -- a chain goes on by an open step to a version that isn't on it
-  IsOpenChain-push : (chain : List GuardedStep) (v : VersionValue) (s : GuardedStep)
+  pub IsOpenChain-push : (chain : List GuardedStep) (v : VersionValue) (s : GuardedStep)
       → IsOpenChain steps open_step v chain → Contains steps s → open_step s ≡ true → s.step.origin ≡ Some v
       → All (λ t. t.step.target ≢ s.step.target) chain → IsOpenChain steps open_step s.step.target (chain ++ s ∷ [])
   IsOpenChain-push chain v s h c e o n = record {
@@ -62,7 +62,7 @@ module _ (steps : List GuardedStep) (open_step : GuardedStep → Bool) where
   }
 
   -- a chain of one step from nothing
-  IsOpenChain-one : (s : GuardedStep) → Contains steps s → open_step s ≡ true → s.step.origin ≡ None
+  pub IsOpenChain-one : (s : GuardedStep) → Contains steps s → open_step s ≡ true → s.step.origin ≡ None
       → IsOpenChain steps open_step s.step.target (s ∷ [])
   IsOpenChain-one s c e o = record {
     of_package = All-cons (Contains steps) s [] c (All-nil _);
@@ -146,7 +146,7 @@ module _ (steps : List GuardedStep) (open_step : GuardedStep → Bool) where
       rw length-map at (length-le_from_distinct reached (map (λ s. s.step.target) steps) h.once h.of_steps)
 
 -- what is open is for the criterion, not barred and not skipped
-IsReached-from_open : (steps : List GuardedStep) (terms : Terms) (v : VersionValue) (chain : List GuardedStep)
+pub IsReached-from_open : (steps : List GuardedStep) (terms : Terms) (v : VersionValue) (chain : List GuardedStep)
     → IsOpenChain steps (is_open terms) v chain → IsReached steps terms v
 IsReached-from_open steps terms v chain h =
     let parts : (s : GuardedStep) → is_open terms s ≡ true → (has terms.place s.step.criteria ≡ true)

@@ -7,6 +7,7 @@ pub mod Decisions
 pub mod DecisionsLaws
 pub mod Encodings
 pub mod Keeping
+pub mod Leading
 pub mod Links
 pub mod ListLaws
 pub mod Moves

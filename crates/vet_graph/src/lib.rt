@@ -14,6 +14,7 @@ pub mod class;
 mod guarded;
 pub mod keeper;
 pub mod laws;
+mod leading;
 mod links;
 pub mod moves;
 mod package_steps;

@@ -1,16 +1,20 @@
 //! The steps of one package, and what bars them.
-ghost use Rattle.std.specs.Prelude.{◌≡◌, IfOk, IfErr};
+ghost use Rattle.std.specs.Prelude.{◌≡◌, ◌<◌, IfOk, IfErr};
 ghost use Rattle.vet_entries.specs.Condemned.{condemned_by};
 ghost use Rattle.vet_entries.specs.LocalCriteria.{AreLocal};
-ghost use Rattle.vet_graph.specs.PackageSteps.{AreStepsOf};
+ghost use Rattle.vet_graph.specs.Leading.{AreStepsTo};
+ghost use Rattle.vet_graph.specs.PackageSteps.{AreLinked, AreStepsOf};
 ghost use Rattle.vet_graph.specs.Search.{AreGuarded, steps_in};
 
 use crate::guarded::GuardedStep;
+use crate::leading::steps_to;
 use crate::links::LinkedSteps;
 use std::alloc::Global;
 use std::collections::BTreeMap;
+use vet_base::limits::MOST_CRITERIA;
 use vet_base::name::PackageName;
 use vet_base::refusal::Refusal;
+use vet_demand::pair::Pair;
 use vet_entries::condemned::Violation;
 use vet_entries::facts::EntryFacts;
 use vet_entries::judge::{judge, merged};
@@ -50,6 +54,40 @@ pub(crate) fn found_steps(
     let entries = PackageEntries::of(alloc, package, facts)?;
     let violations = entries.violations(alloc, facts, local.own())?;
     let steps = entries.into_steps(alloc, facts, local)?;
+    linked(alloc, package, steps, violations)
+}
+
+// The steps of the package of a pair that chains to its version take, for the criterion at this place. What condemns
+// other versions is not asked.
+pub(crate) fn found_steps_to(
+    alloc: Global,
+    pair: &Pair,
+    place: usize,
+    facts: &EntryFacts,
+    local: &mut LocalCriteria,
+) -> Result<PackageSteps, Refusal>
+    requires local { AreLocal facts.now.content local.old }
+    requires place { place < MOST_CRITERIA }
+    ensures steps { IfOk result (AreStepsTo facts.now.content pair.now place) }
+    ensures memory { IfErr result (λ e. e ≡ Refusal.NoMemory) }
+{
+    let entries = PackageEntries::of(alloc, &pair.package, facts)?;
+    let violations = entries.violations(alloc, facts, local.own())?;
+    let all = entries.into_steps(alloc, facts, local)?;
+    let steps = steps_to(alloc, all, place, &pair.version)?;
+    linked(alloc, &pair.package, steps, violations)
+}
+
+// Steps of a package with its violations: each with what these condemn, and an index.
+fn linked(
+    alloc: Global,
+    package: &PackageName,
+    steps: Vec<Step>,
+    violations: Vec<Violation>,
+) -> Result<PackageSteps, Refusal>
+    ensures linked { IfOk result (AreLinked «package».now steps.items violations.items) }
+    ensures memory { IfErr result (λ e. e ≡ Refusal.NoMemory) }
+{
     let guarded = guarded(alloc, steps, violations.as_slice())?;
     Ok(PackageSteps {
         package: package.clone()?,

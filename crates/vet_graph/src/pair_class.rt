@@ -5,7 +5,7 @@ ghost use Rattle.vet_graph.specs.PackageSteps.{AreStepsOf};
 ghost use Rattle.vet_graph.specs.StandingOf.{class_of_pair};
 
 use crate::class::{Class, class_of};
-use crate::package_steps::{PackageSteps, found_steps};
+use crate::package_steps::{PackageSteps, found_steps_to};
 use std::alloc::Global;
 use vet_base::refusal::Refusal;
 use vet_demand::pair::Pair;
@@ -14,15 +14,23 @@ use vet_entries::facts::EntryFacts;
 use vet_entries::local_criteria::LocalCriteria;
 
 /// The class of a pair by these facts: `Unvetted` where the table lacks its criterion. Finds the local criteria
-/// of the package's entries and its steps, and searches these at most four times. Refused: `NoMemory`.
+/// of the package's entries and its steps, and searches those at most four times that chains to the version take. Asks
+/// of no other version whether it is condemned. Refused: `NoMemory`.
 pub fn class_of_pair(alloc: Global, facts: &EntryFacts, pair: &Pair) -> Result<Class, Refusal>
     ensures is { IfOk result (IsClassOfPair facts.now.content pair.now) }
     ensures ok { IfOk result (λ class. class ≡ class_of_pair facts.now.content pair.now) }
     ensures memory { IfErr result (λ e. e ≡ Refusal.NoMemory) }
 {
-    let mut local = LocalCriteria::of(alloc, facts)?;
-    let found = found_steps(alloc, &pair.package, facts, &mut local)?;
-    class_by(alloc, facts, &found, pair)
+    violations_condemn();
+    match facts.criteria().place(&pair.criterion) {
+        Some(place) => {
+            let mut local = LocalCriteria::of(alloc, facts)?;
+            let held = found_steps_to(alloc, pair, place, facts, &mut local)?;
+            let condemned = condemned_by(held.violations.as_slice(), &pair.version);
+            class_of(alloc, &held.steps, &condemned, place, &pair.version)
+        }
+        None => Ok(Class::Unvetted),
+    }
 }
 
 // The class of a pair, where these are its package's steps and violations.
