@@ -6,7 +6,7 @@
 //! A change goes in two calls. `plan` finds the standing that other facts or another demand would give, and
 //! the moves to it, and does all that can fail; the standing stays. `apply` makes the planned standing the
 //! keeper's. Whoever keeps the classes in another way implements this trait, and callers stay as they are.
-ghost use Rattle.std.specs.Prelude.{◌≡◌, [], List, IfOk, IfErr};
+ghost use Rattle.std.specs.Prelude.{◌≡◌, [], List, IfOk, IfErr, map};
 ghost use Rattle.vet_demand.specs.DemandOf.{HasDemanded};
 ghost use Rattle.vet_demand.specs.declared.pair.Pair.{Pair};
 ghost use Rattle.vet_entries.specs.Facts.{Facts};
@@ -19,7 +19,7 @@ ghost use Rattle.vet_graph.specs.Touched.{GiveNothing, SameOutside};
 
 use crate::class::Class;
 use crate::moves::Move;
-use crate::standing::Counts;
+use crate::standing::{Counts, Stand};
 use crate::touched::Touched;
 use std::alloc::Global;
 use vet_base::name::{Name, PackageName};
@@ -97,6 +97,11 @@ pub trait Keeper: Drop {
         ensures value { result ≡ class_in (keeping.standing self.now)
             (record { «package» = «package».now; version = version.now; criterion = criterion.now }) }
         ensures in_order { IsStanding (keeping.standing self.now) };
+
+    /// The demanded pairs in their order, each with its class. Refused: `NoMemory`.
+    fn stands(&self, alloc: Global) -> Result<Vec<&Stand>, Refusal>
+        ensures stands { IfOk result (λ stands. map (λ s. s.now) stands.items ≡ keeping.standing self.now) }
+        ensures memory { IfErr result (λ e. e ≡ Refusal.NoMemory) };
 
     /// How many pairs stand in each class. Takes no memory.
     fn counts(&self) -> Counts

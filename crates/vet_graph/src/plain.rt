@@ -11,7 +11,7 @@ use crate::keeper::Keeper;
 use crate::moves::{Move, differences};
 use crate::package_steps::{PackageSteps, found_steps};
 use crate::pair_class::class_by;
-use crate::standing::{Counts, Stand, class_in, counts_of};
+use crate::standing::{Counts, Stand, add_stands, class_in, counts_of};
 use crate::touched::Touched;
 use std::alloc::Global;
 use std::marker::Model;
@@ -138,6 +138,12 @@ impl Keeper for PlainKeeper {
         criterion: &Name,
     ) -> Option<Class> {
         class_in(self.standing.as_slice(), package, version, criterion)
+    }
+
+    fn stands(&self, alloc: Global) -> Result<Vec<&Stand>, Refusal> {
+        let mut stands = Vec::new(alloc);
+        add_stands(&mut stands, self.standing.as_slice())?;
+        Ok(stands)
     }
 
     fn counts(&self) -> Counts {

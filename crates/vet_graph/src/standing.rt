@@ -1,11 +1,12 @@
 //! The standing: the demanded pairs, and the class of each.
-ghost use Rattle.std.specs.Prelude.{◌≡◌};
+ghost use Rattle.std.specs.Prelude.{◌≡◌, ◌++◌, IfErr, OnOk, map};
 ghost use Rattle.vet_demand.specs.Pair.{pair_cmp};
 ghost use Rattle.vet_graph.specs.Standing.{class_in, count_in, count_of, counts_of, IsStanding};
 
 use crate::class::Class;
 use std::cmp::Ordering;
 use vet_base::name::{Name, PackageName};
+use vet_base::refusal::Refusal;
 use vet_base::version::VetVersion;
 use vet_demand::pair::Pair;
 
@@ -70,6 +71,17 @@ fn count(standing: &[Stand], class: Class) -> u64
         }
     }
     count
+}
+
+/// Adds stands behind others. Refused: `NoMemory`.
+pub fn add_stands<'s>(all: &mut Vec<&'s Stand>, stands: &'s [Stand]) -> Result<(), Refusal>
+    ensures added { OnOk result (map (λ s. s.now) all.new.items ≡ map (λ s. s.now) all.old.items ++ stands.now) }
+    ensures memory { IfErr result (λ e. e ≡ Refusal.NoMemory) }
+{
+    'stands: for stand in stands {
+        all.push(stand)?;
+    }
+    Ok(())
 }
 
 /// The class at which a pair stands, or none where it isn't demanded. Asks that the standing is in order.

@@ -3,11 +3,11 @@ use Rattle.std.proofs.Common.{◌≡◌, ◌≢◌, ◌++◌, Bool, true, false,
 use Rattle.std.proofs.Common.{◌||◌, is_some, unwrap_or, option_map, Vec, Global, refl, sym, ap, subst, ◌∙◌, arith}
 use Rattle.std.proofs.Common.{inl, inr}
 use Rattle.std.specs.BTreeMap.{insert_entry, is_at}
-use Rattle.std.specs.Map.{keys_of, lookup}
+use Rattle.std.specs.Map.{keys_of, lookup, values_of}
 use Rattle.std.specs.Cmp.{tied_itself, Equal-is}
 use Rattle.std.specs.Cmp.Lexicographic.{nat_list_cmp_total, slice_cmp}
 use Rattle.std.specs.FinMap.{nat_cmp-IsAntisymmetric, slice_cmp-IsAntisymmetric}
-use Rattle.std.specs.List.{All, AllPairs, AllByRecursion}
+use Rattle.std.specs.List.{All, AllPairs, AllByRecursion, flat_map}
 use Rattle.std.specs.List.Sorted.{IsStrictlySortedBy}
 use Rattle.std.specs.Ordering.{is_eq, match_ordering, nat_cmp, ordering_then}
 use Rattle.std.specs.declared.cmp.Ordering.{Ordering}
@@ -220,6 +220,11 @@ map_by f Equal a b c = refl
 map_by f Greater a b c = refl
 
 -- what the map does, the standing does
+pub values-in_slots : (entries : List (Name × Vec Stand Global))
+    → flat_map (λ (v : Vec Stand Global). v.items) (values_of entries) ≡ all_stands (in_slots entries)
+values-in_slots [] = refl
+values-in_slots (e ∷ rest) = ap (λ l. e.1.items ++ l) (values-in_slots rest)
+
 pub put-in_slots : (entries : List (Name × Vec Stand Global)) (name : Name) (v : Vec Stand Global)
     → in_slots (insert_entry (slice_cmp nat_cmp) entries name v) ≡ with_stands (in_slots entries) name v.items
 put-in_slots [] name v = refl

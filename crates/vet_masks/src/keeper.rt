@@ -53,7 +53,7 @@ use vet_entries::step::Step;
 use vet_graph::class::Class;
 use vet_graph::keeper::Keeper;
 use vet_graph::moves::Move;
-use vet_graph::standing::Counts;
+use vet_graph::standing::{Counts, Stand};
 use vet_graph::touched::Touched;
 
 /// Keeps, of each package, what searches of its steps found, and its demanded pairs with their classes.
@@ -175,6 +175,10 @@ impl Keeper for MaskKeeper {
         criterion: &Name,
     ) -> Option<Class> {
         self.standing.class(package, version, criterion)
+    }
+
+    fn stands(&self, alloc: Global) -> Result<Vec<&Stand>, Refusal> {
+        self.standing.all(alloc)
     }
 
     fn counts(&self) -> Counts {

@@ -5,7 +5,7 @@
 //! Packages are in the order of their names, and so the stands of all of them, one package after the other, are the
 //! standing in the order of pairs. A package without a demanded pair may have a slot, which holds no stand. So memory
 //! for a package can be taken before its stands are exchanged.
-ghost use Rattle.std.specs.Prelude.{◌≡◌, ◌++◌, [], IfErr, OnOk, is_some, map, true};
+ghost use Rattle.std.specs.Prelude.{◌≡◌, ◌++◌, [], IfErr, IfOk, OnOk, is_some, map, true};
 ghost use Rattle.std.specs.BTreeMap.{IsOrdered, get, insert_entry};
 ghost use Rattle.std.specs.Cmp.Lexicographic.{slice_cmp};
 ghost use Rattle.std.specs.List.{All};
@@ -23,7 +23,7 @@ use vet_base::name::{Name, PackageName};
 use vet_base::refusal::Refusal;
 use vet_base::version::VetVersion;
 use vet_graph::class::Class;
-use vet_graph::standing::{Counts, Stand, class_in, counts_of};
+use vet_graph::standing::{Counts, Stand, add_stands, class_in, counts_of};
 
 // The demanded pairs of each package with their classes, and how many stand in each class.
 #[derive(Drop)]
@@ -100,6 +100,18 @@ impl Standing {
         ensures in_order { IsStanding (all_stands self.now) }
     {
         class_in(self.of(package), package, version, criterion)
+    }
+
+    // All stands, in the order of their pairs.
+    pub(crate) fn all(&self, alloc: Global) -> Result<Vec<&Stand>, Refusal>
+        ensures stands { IfOk result (λ stands. map (λ s. s.now) stands.items ≡ all_stands self.now) }
+        ensures memory { IfErr result (λ e. e ≡ Refusal.NoMemory) }
+    {
+        let mut all = Vec::new(alloc);
+        'packages: for stands in self.packages.values() {
+            add_stands(&mut all, stands.as_slice())?;
+        }
+        Ok(all)
     }
 
     // How many pairs stand in each class. Costs nothing.
