@@ -15,6 +15,7 @@ pub mod FilesAccepted
 pub mod FilesEffects
 pub mod FilesHeld
 pub mod FilesPassed
+pub mod Flows
 pub mod FurtherCriteria
 pub mod HeldEffects
 pub mod HeldFilesLaws

@@ -4,6 +4,7 @@ pub mod Changes
 pub mod Checks
 pub mod ClassOfFile
 pub mod Encodings
+pub mod Flow
 pub mod Held
 pub mod HeldFiles
 pub mod Importing

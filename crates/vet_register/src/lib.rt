@@ -19,6 +19,7 @@ mod edits;
 mod files_comparison;
 mod files_held;
 mod files_verdict;
+mod flow;
 pub mod held;
 pub mod held_files;
 pub mod laws;

@@ -34,22 +34,24 @@
 //! `install` asks that this register prepared the change, on this state, and still has the room. Another command that
 //! is prepared in between leaves the state, loses no room (`KeepsRoom`) and no planned update (`KeepsReady`). So
 //! what was prepared stays prepared (`KeepsPrepared`), and can be installed after it.
-ghost use Rattle.std.specs.Prelude.{◌≡◌, ◌<◌, ◌≤◌, Ok, IfOk, IfErr, OnErr, length};
+ghost use Rattle.std.specs.Prelude.{◌≡◌, ◌<◌, ◌≤◌, Ok, IfOk, IfErr, OnErr, length, map};
 ghost use Rattle.vet_base.specs.Gives.{Gives};
 ghost use Rattle.vet_graph.specs.Standing.{class_in, counts_of, total_of};
 ghost use Rattle.vet_graph.specs.StandingOf.{StandsAt};
 ghost use Rattle.vet_register.specs.Changes.{demand_by, desk_edited};
+ghost use Rattle.vet_register.specs.Flow.{arrivals, departures};
 ghost use Rattle.vet_register.specs.Machine.{CommandValue, next};
 ghost use Rattle.vet_register.specs.RegisterView.{HoldsDesk, IsAnswer, IsExact, IsPrepared, KeepsPrepared, KeepsReady};
 ghost use Rattle.vet_register.specs.RegisterView.{KeepsRoom, answer_of};
 ghost use Rattle.vet_register.specs.Runs.{AreTurns, IsTurn};
 ghost use Rattle.vet_register.specs.Sound.{IsSound};
-ghost use Rattle.vet_register.specs.State.{demanded, standing, start};
+ghost use Rattle.vet_register.specs.State.{changes_of, demanded, standing, start};
 ghost use Rattle.vet_register.specs.Verdict.{judged, verdict, wants_memory};
 
 use crate::change::{Change, DeskEdit, Prepared};
 use crate::command::{Command, Outcome};
 use crate::edits::{Asked, Effect};
+use crate::flow::{arrivals, arrivals_after, departures};
 use crate::held::{Held, held_edits_fit_with_more_room};
 use crate::moves::{RecordedMove, make_recording};
 use crate::tool_settings::ToolSettings;
@@ -75,7 +77,7 @@ use vet_graph::laws::{
     classes_add_up, each_pair_has_its_class, moves_are_differences, moves_balance,
     nothing_vets_nothing, runs_of_moves_add,
 };
-use vet_graph::standing::Counts;
+use vet_graph::standing::{Counts, Stand};
 
 /// What an organisation holds, the class of each demanded pair, and how these came about. A keeper keeps the
 /// classes; which one it is changes no answer.
@@ -89,12 +91,16 @@ pub struct Register<K: Keeper> {
     pub(crate) moves_limit: usize,
     pub(crate) first: Counts,
     pub(crate) moves: Vec<RecordedMove>,
+    // of the recorded moves
+    pub(crate) arrived: Counts,
 }
 
 impl<K: Keeper> Model for Register<K> {
-    ghost use Rattle.std.specs.Prelude.{◌-◌, vec_len, vec_capacity};
+    ghost use Rattle.std.specs.Prelude.{◌≡◌, ◌-◌, vec_len, vec_capacity};
     ghost use Rattle.vet_register.specs.Held.{content_of, room_of};
     ghost use Rattle.vet_register.specs.Encodings.{register_code};
+    ghost use Rattle.vet_register.specs.Flow.{arrivals};
+    ghost use Rattle.vet_register.specs.State.{changes_of};
     ghost use Rattle.vet_register.specs.RegisterView.{HasKept, RegisterView};
     ghost use Rattle.vet_register.specs.Sound.{IsSound};
     ghost use Rattle.vet_entries.specs.FactsEncodings.{facts_room_code};
@@ -134,15 +140,17 @@ impl<K: Keeper> Model for Register<K> {
       };
     } };
 
-    ghost invariant = { λ r. HasKept K.keeping r.keeper r.demand (content_of r.held) × IsSound (record {
-      held = content_of r.held;
-      desk = r.desk.content;
-      step = r.step;
-      next_entry = r.next_entry;
-      moves_limit = r.moves_limit;
-      first = r.first;
-      moves = r.moves.items;
-    }) };
+    ghost invariant = { λ r.
+        (HasKept K.keeping r.keeper r.demand (content_of r.held) × (r.arrived ≡ arrivals (changes_of r.moves.items)))
+        × IsSound (record {
+          held = content_of r.held;
+          desk = r.desk.content;
+          step = r.step;
+          next_entry = r.next_entry;
+          moves_limit = r.moves_limit;
+          first = r.first;
+          moves = r.moves.items;
+        }) };
 }
 
 impl<K: Keeper> Drop for Register<K> {
@@ -157,6 +165,7 @@ impl<K: Keeper> Drop for Register<K> {
             moves_limit: _,
             first: _,
             moves: _,
+            arrived: _,
         } = self;
     }
 }
@@ -173,6 +182,8 @@ impl<K: Keeper> Register<K> {
         nothing_vets_nothing();
         let held = Held::new(alloc)?;
         let keeper = K::empty(alloc)?;
+        let moves = Vec::new(alloc);
+        let arrived = arrivals(moves.as_slice());
         Ok(Register {
             held,
             desk: Desk::new(alloc),
@@ -188,21 +199,22 @@ impl<K: Keeper> Register<K> {
                 exempted: 0,
                 unvetted: 0,
             },
-            moves: Vec::new(alloc),
+            moves,
+            arrived,
         })
     }
 
-    /// What a command is told, and what it would change. The state stays, whatever is answered; room is taken
-    /// for what `install` adds, and what was prepared on this state before can still be installed. The keeper
-    /// is told which packages are touched. Refused, the first that holds: `TooManyCriteria`, `TooLarge` of
-    /// `peers`, `entries`, `publishers`, `policies`, `projects`, `members`, `reviews`, `step` or `number`;
-    /// `UnknownCriterion`, `UnknownEntry`, `UnknownPeer`, `UnknownPolicy`, `UnknownProject`, `UnknownMember`,
-    /// `UnknownReview`; `BuiltInCriterion`, `CriterionInUse`, `EmptyWindow`, `WindowTooLong`, `ReviewClosed`,
-    /// `NotYours`, `WrongTarget`, `NotDemanded`; `MovesFull`. Of a review that is finished `TooLarge` comes after the
-    /// rules. `NoMemory` comes in place of `UnknownCriterion`, or if none before `MovesFull` holds. A command whose
-    /// content is held never meets it, except an import and files: to compare these with what is held takes memory,
-    /// so it comes in place of anything. The entry of a review that is finished is compared too, once the rules of the
-    /// desk are passed: it comes in place of what is told after these, and of nothing before.
+    /// The verdict on a command, and what it would change. The state stays, whatever the verdict. Room is taken for
+    /// what `install` adds, and what was prepared on this state before can still be installed. The keeper gets the
+    /// packages that are touched. Refused, the first that holds: `TooManyCriteria`, `TooLarge` of `peers`, `entries`,
+    /// `publishers`, `policies`, `projects`, `members`, `reviews`, `step` or `number`; `UnknownCriterion`,
+    /// `UnknownEntry`, `UnknownPeer`, `UnknownPolicy`, `UnknownProject`, `UnknownMember`, `UnknownReview`;
+    /// `BuiltInCriterion`, `CriterionInUse`, `EmptyWindow`, `WindowTooLong`, `ReviewClosed`, `NotYours`, `WrongTarget`,
+    /// `NotDemanded`; `MovesFull`. Of a review that is finished `TooLarge` comes after the rules. `NoMemory` comes in
+    /// place of `UnknownCriterion`, or if none before `MovesFull` holds. A command whose content is held never meets
+    /// it, except an import and files: to compare these with what is held takes memory, so it comes in place of
+    /// anything. The entry of a review that is finished is compared too, once the rules of the desk are passed: it
+    /// comes in place of what would be found after these, and of nothing before.
     pub fn prepare(&mut self, alloc: Global, command: &Command) -> Result<Prepared<K>, Refusal>
         ensures told { Gives answer_of (verdict self.old.state command.now) result }
         ensures exact { IsExact (wants_memory self.old.state command.now.action)
@@ -259,6 +271,7 @@ impl<K: Keeper> Register<K> {
         self.keeper.apply(update);
         self.step = step;
         self.next_entry = next_entry;
+        self.arrived = arrivals_after(self.arrived, &recording);
         make_recording(&mut self.moves, &mut self.first, recording);
     }
 }
@@ -280,8 +293,8 @@ impl<K: Keeper> Register<K> {
         }
     }
 
-    /// Runs commands one after the other, whatever becomes of each, and answers what each was told in the state
-    /// of its turn. Room for the answers is taken first. Refused, with nothing run: `NoMemory`.
+    /// Runs commands one after the other, whatever becomes of each, and returns the outcome of each in the state of its
+    /// turn. Room for the outcomes is taken first. Refused, with nothing run: `NoMemory`.
     pub fn run_all(
         &mut self,
         alloc: Global,
@@ -326,6 +339,21 @@ impl<K: Keeper> Register<K> {
         self.keeper.class(package, version, criterion)
     }
 
+    /// What keeps the classes. Takes no memory.
+    pub fn keeper(&self) -> &K
+        ensures { result.now ≡ self.now.keeper }
+    {
+        &self.keeper
+    }
+
+    /// The demanded pairs in their order, each with its class. Refused: `NoMemory`.
+    pub fn stands(&self, alloc: Global) -> Result<Vec<&Stand>, Refusal>
+        ensures stands { IfOk result (λ stands. map (λ s. s.now) stands.items ≡ standing self.now.state) }
+        ensures memory { IfErr result (λ e. e ≡ Refusal.NoMemory) }
+    {
+        self.keeper.stands(alloc)
+    }
+
     /// How many demanded pairs stand in each class. Takes no memory.
     pub fn counts(&self) -> Counts
         ensures value { result ≡ counts_of (standing self.now.state) }
@@ -341,6 +369,20 @@ impl<K: Keeper> Register<K> {
         ensures { result ≡ self.now.state.first }
     {
         self.first
+    }
+
+    /// How many of the moves since then arrive at each class. Takes no memory, and looks at none of them.
+    pub fn arrivals(&self) -> Counts
+        ensures { result ≡ arrivals (changes_of self.now.state.moves) }
+    {
+        self.arrived
+    }
+
+    /// How many of them depart from each class. Takes no memory, and looks at none of them.
+    pub fn departures(&self) -> Counts
+        ensures { result ≡ departures (changes_of self.now.state.moves) }
+    {
+        departures(self.first, self.arrived, self.keeper.counts())
     }
 
     /// The moves since the first counts, in the order of their steps and, in one step, of their pairs. Takes no memory.

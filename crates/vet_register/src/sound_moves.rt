@@ -92,13 +92,13 @@ fn comes_before(before: &RecordedMove, after: &RecordedMove) -> bool
 fn is_balanced(class: Class, first: Counts, now: Counts, moves: &[RecordedMove]) -> bool
     ensures { result ≡ is_balanced_in class first now (changes_of moves.now) }
 {
-    let came = u128::from(first.of(class)) + arrivals(class, moves) as u128;
-    let went = u128::from(now.of(class)) + departures(class, moves) as u128;
+    let came = u128::from(first.of(class)) + arrivals_at(class, moves) as u128;
+    let went = u128::from(now.of(class)) + departures_from(class, moves) as u128;
     came == went
 }
 
-// How many moves arrive at a class.
-fn arrivals(class: Class, moves: &[RecordedMove]) -> usize
+/// How many moves arrive at a class.
+pub(crate) fn arrivals_at(class: Class, moves: &[RecordedMove]) -> usize
     ensures { result ≡ arrivals_of class (changes_of moves.now) }
 {
     moves
@@ -108,7 +108,7 @@ fn arrivals(class: Class, moves: &[RecordedMove]) -> usize
 }
 
 // How many moves depart from a class.
-fn departures(class: Class, moves: &[RecordedMove]) -> usize
+fn departures_from(class: Class, moves: &[RecordedMove]) -> usize
     ensures { result ≡ departures_of class (changes_of moves.now) }
 {
     moves

@@ -8,6 +8,7 @@ ghost use Rattle.std.specs.Prelude.{◌≡◌};
 ghost use Rattle.vet_register.specs.RegisterView.{HasKept};
 ghost use Rattle.vet_register.specs.Sound.{IsSound};
 
+use crate::flow::arrivals;
 use crate::held::Held;
 use crate::moves::RecordedMove;
 use crate::register::Register;
@@ -116,6 +117,7 @@ impl State {
             first,
             moves,
         } = self;
+        let arrived = arrivals(moves.as_slice());
         Register {
             held: Held {
                 facts,
@@ -131,6 +133,7 @@ impl State {
             moves_limit,
             first,
             moves,
+            arrived,
         }
     }
 }

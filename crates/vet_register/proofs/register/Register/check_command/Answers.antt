@@ -25,6 +25,6 @@ returns g c =
     ∙ ap (λ t. desk_references t c.self.inside.desk.content command) (sym table) ∙ answered _ _
     c.in_ok-check_references.ensures in
     let rules : c.check_rules.result ≡ desk_rules (demanded state) state.desk command =
-    c.check_rules.ensures ∙ ap (λ d. desk_rules d c.self.inside.desk.content command) c.self.invariant.0.1.1
+    c.check_rules.ensures ∙ ap (λ d. desk_rules d c.self.inside.desk.content command) c.self.invariant.0.0.1.1
     ∙ ap (λ (r : RegisterView _). desk_rules (demanded r.state) r.state.desk command) c.self.view_is in
     answers_itself _ _ (rules ∙ sym (rules_left state command few step number references))

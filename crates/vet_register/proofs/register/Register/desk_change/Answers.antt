@@ -18,7 +18,7 @@ returns-in_err-change-clause-memory g c =
     ≡ Ok at_desk.Accepted =
     ap (λ t. desk_verdict t c.self.inside.demand c.self.inside.desk.content command) c.criteria-criteria.ensures.value
     ∙ ap (λ d. desk_verdict c.self.inside.held.facts.content.criteria d c.self.inside.desk.content command)
-    c.self.invariant.0.1.1
+    c.self.invariant.0.0.1.1
     ∙ ap (λ (r : RegisterView _). desk_verdict r.state.held.facts.criteria (demanded r.state) r.state.desk command)
     c.self.view_is
     ∙ desk_accepts state command c.requires.new c.requires.asked in

@@ -1,10 +1,11 @@
-use Rattle.std.proofs.Common.{◌≡◌, ◌∙◌, sym, ap, subst}
+use Rattle.std.proofs.Common.{◌≡◌, ◌∙◌, sym, ap, subst, length, arith}
 use Rattle.vet_register.specs.Changes.{changed, demand_by}
+use Rattle.vet_register.specs.Flow.{arrivals}
 use Rattle.vet_register.specs.Held.{content_of}
 use Rattle.vet_register.specs.Machine.{next}
 use Rattle.vet_register.specs.RegisterView.{IsPrepared}
 use Rattle.vet_register.specs.Sound.{IsSound}
-use Rattle.vet_register.specs.State.{State, demanded}
+use Rattle.vet_register.specs.State.{State, changes_of, demanded}
 use Rattle.vet_register.proofs.register.Register.install.Goals as goal
 
 pub invariant_of-self : goal.invariant_of-self
@@ -43,15 +44,29 @@ invariant_of-self g c =
     let planned = subst (λ (t : State). g.K.Keeper.keeping.plans c.self.inside.keeper change.update t.held.facts
     (demanded t)) same prepared.plans in (
       (
-        c.apply-2.ensures.keeps _ _ planned,
         (
-          c.apply-2.ensures.standing _ _ planned,
-          c.exchange.ensures ∙ ap (demand_by change.demand) c.self.invariant.0.1.1 ∙ prepared.step.demand ∙ ap
-              demanded same,
+          c.apply-2.ensures.keeps _ _ planned,
+          (
+            c.apply-2.ensures.standing _ _ planned,
+            c.exchange.ensures ∙ ap (demand_by change.demand) c.self.invariant.0.0.1.1 ∙ prepared.step.demand ∙ ap
+                demanded same,
+          ),
         ),
+        c.arrivals_after-self-inside.ensures c.self.inside.moves.items c.self.invariant.0.1
+            ∙ ap (λ moves. arrivals (changes_of moves)) (sym c.make_recording.ensures.moves),
       ),
       subst IsSound same prepared.step.sound,
     )
+
+pub arrivals_after-self-inside-requires : goal.arrivals_after-self-inside-requires
+arrivals_after-self-inside-requires g c =
+    let command = c.requires.0 in
+    let change = c.args.change in
+    let prepared = subst (λ r. IsPrepared g.K.Keeper.keeping r command change) (sym c.self.view_is) c.requires.1 in
+    let few = prepared.step.sound.moves.few in
+    let limit = prepared.step.sound.limit.1 in
+    let moves = ap (λ (s : State). length s.moves) prepared.step.becomes in
+    (c.self.inside.moves.items, c.self.invariant.0.1, omega (arith, few, limit, moves))
 
 pub apply-requires : goal.apply-requires
 apply-requires g c =

@@ -36,9 +36,9 @@ find_standing-found-requires-clause-outside g c =
     c.apply-back.ensures.content ∙ ap (λ (r : RegisterView _). edited c.args.edit r.state.held) c.self.view_is in (
       held.facts,
       demand_in held,
-      c.self.invariant.0.0,
+      c.self.invariant.0.0.0,
       subst (λ d. SameOutside (touched_with c.args.touching d (demand_in now)) held.facts (demand_in held) now.facts
-          (demand_in now)) (sym c.self.invariant.0.1.1)
+          (demand_in now)) (sym c.self.invariant.0.0.1.1)
           (subst (λ h. SameOutside (touched_with c.args.touching (demand_in held) (demand_in h)) held.facts
           (demand_in held) h.facts (demand_in h)) (sym becomes)
           (subst (λ (s : State). SameOutside (touched_with c.args.touching (demanded s) (demand_in after)) s.held.facts

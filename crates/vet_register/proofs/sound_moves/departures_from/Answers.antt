@@ -6,7 +6,7 @@ use Rattle.vet_graph.specs.declared.moves.Move.{Move}
 use Rattle.vet_graph.specs.Standing.{same_class}
 use Rattle.vet_register.specs.declared.moves.RecordedMove.{RecordedMove}
 use Rattle.vet_register.proofs.SoundMoves.{passed_counted}
-use Rattle.vet_register.proofs.sound_moves.departures.Goals as goal
+use Rattle.vet_register.proofs.sound_moves.departures_from.Goals as goal
 
 pub returns : goal.returns
 returns c =
