@@ -64,7 +64,7 @@ impl<K: Keeper> Change<K> {
         self.outcome
     }
 
-    /// The packages that the command touches, as the keeper was told. Takes no memory.
+    /// The packages that the command touches, as the keeper got them. Takes no memory.
     pub fn touched(&self) -> &Touched
         ensures { result.now ≡ K.keeping.touched_of self.now.update }
     {

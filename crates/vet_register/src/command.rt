@@ -1,4 +1,4 @@
-//! Commands, and what they are told.
+//! Commands and their outcomes.
 ghost use Rattle.std.specs.Prelude.{◌≡◌};
 ghost use Rattle.vet_register.specs.Machine.{ends_period};
 

@@ -41,8 +41,8 @@ use vet_files::files_content::FilesContent;
 use vet_graph::keeper::Keeper;
 use vet_graph::touched::Touched;
 
-/// Edits of what is held and of the desk, unless that stays; the packages that are touched; the number that a command
-/// is told, and the next number of an entry after it.
+/// Edits of what is held and of the desk, unless that stays; the packages that are touched; the number in a command's
+/// outcome, and the next number of an entry after it.
 #[derive(Drop)]
 pub struct Effect {
     pub(crate) edit: HeldEdit,

@@ -1,7 +1,7 @@
-//! What a command is told that puts three files in place of what is held.
+//! The verdict on a command that replaces what is held by three files.
 //!
-//! All that it asks but for the room for its moves is asked of the files alone, and of the numbers that are left: so
-//! nothing of them has to be built before.
+//! Except for the room for its moves, it depends only on the files and on the numbers that are left, so nothing has to
+//! be built of them before.
 ghost use Rattle.std.specs.FinMap as map;
 ghost use Rattle.std.specs.FinSet as set;
 ghost use Rattle.std.specs.List.{All, list_all};
@@ -56,7 +56,7 @@ struct DefinedNames {
 }
 
 impl<K: Keeper> Register<K> {
-    /// What it is told to put files in place of what is held: nothing changes, or their entries stand so to those held.
+    /// The verdict on files that replace what is held: nothing changes, or how their entries compare with those held.
     pub(crate) fn judge_files(
         &self,
         alloc: Global,

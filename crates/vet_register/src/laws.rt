@@ -1,11 +1,12 @@
-//! What holds of the verdicts, for callers to cite: each law is a function that does nothing.
+//! Laws on the verdicts, for callers to cite: each law is a function that does nothing.
 //!
-//! **An import is told that its content is held already just where the criteria and the entries are those held of
-//! the peer, in whatever order; so after an import the same content changes nothing. So it is with three files: they
-//! change nothing just where they say what is held, each list in whatever order.**
+//! **The verdict on an import is that its content is held already exactly if its criteria and entries are those held of
+//! the peer, in whatever order. So after an import the same content changes nothing. Likewise three files change
+//! nothing exactly if they say what is held, each list in whatever order.**
 //!
-//! **A review that is opened is told of too many reviews, then of the step, then of its number, and then of what it
-//! refers to; one that is finished, first of what it refers to. A period that is closed is asked for its step alone.**
+//! **For a review that is opened, too many reviews are found first, then the step, then its number, and then what it
+//! refers to; for one that is finished, first what it refers to. A period that is closed is checked for its step
+//! alone.**
 ghost use Rattle.vet_register.specs.RepeatedFiles.{HeldFilesAreAlready, RepeatedFilesAreAlready};
 ghost use Rattle.vet_register.specs.Repeats.{HeldContentIsAlready, RepeatedImportIsAlready};
 ghost use Rattle.vet_register.specs.ToldInOrder.{FinishedIsHeldBeforeStep, NumberBeforeCriteria, PeriodAsksForStep};
@@ -40,7 +41,7 @@ pub fn untouched_stays()
     ensures classes { UntouchedClassesStay }
 {}
 
-/// Faults of a review that is opened, or finished, are told in this order.
+/// The order in which the faults of a review that is opened, or finished, are found.
 pub fn reviews_are_told_in_order()
     ensures reviews { ReviewsBeforeStep }
     ensures step { StepBeforeNumber }

@@ -61,7 +61,7 @@ impl<K: Keeper> Drop for Planned<K> {
 }
 
 impl<K: Keeper> Planned<K> {
-    // The change by this step, which leaves this next number and is told this one.
+    // The change by this step, which leaves this next number and has this number in its outcome.
     fn changed(
         self,
         step: u64,

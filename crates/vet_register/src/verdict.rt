@@ -1,5 +1,5 @@
-//! What a command is told before its moves are known: one function a command. Each asks first whether the content is
-//! held already, then for limits, then for what the command refers to, then for rules.
+//! The verdict on a command before its moves are known: one function for each command. Each checks first whether the
+//! content is held already, then the limits, then what the command refers to, then the rules.
 ghost use Rattle.std.specs.Prelude.{◌≡◌, ◌≤◌, ◌+◌, ◌+ℤ◌, pos, not, length, Err, None, Ok, IfErr, IfOk, IsOk, Some};
 ghost use Rattle.std.specs.List.{list_any};
 ghost use Rattle.std.specs.Option.{option_copied};
@@ -42,7 +42,7 @@ use vet_entries::peer_settings::PeerSettings;
 use vet_entries::publishers::Publishers;
 use vet_graph::keeper::Keeper;
 
-/// What a command is told that nothing refuses.
+/// The verdict on a command that nothing refuses.
 #[derive(Clone, Copy, PartialEq, Eq)]
 pub enum Answer {
     /// What it sets or adds is held already; an entry, under this number.
@@ -52,7 +52,7 @@ pub enum Answer {
 }
 
 impl<K: Keeper> Register<K> {
-    /// What it is told to set a criterion.
+    /// The verdict on setting a criterion.
     pub(crate) fn judge_criterion(&self, criterion: &Criterion) -> Result<Answer, Refusal>
         ensures { (day : DayValue)
             → Answers (judged self.now.state day (action.SetCriterion criterion.now)) result }
@@ -90,7 +90,7 @@ impl<K: Keeper> Register<K> {
         Ok(())
     }
 
-    /// What it is told on a day to add an entry.
+    /// The verdict on adding an entry on a day.
     pub(crate) fn judge_entry(&self, day: Day, entry: &Entry) -> Result<Answer, Refusal>
         ensures { Answers (judged self.now.state day (action.AddEntry entry.now)) result }
     {
@@ -105,7 +105,7 @@ impl<K: Keeper> Register<K> {
         Ok(Answer::Accepted)
     }
 
-    /// Where the entry of a number stands that it is told it may drop.
+    /// The place of the entry of a number, if it may be dropped.
     pub(crate) fn judge_drop(&self, number: u64) -> Result<usize, Refusal>
         ensures place { IfOk result (λ place.
             place_of self.now.state.held.facts.entries number ≡ Some place) }
@@ -121,7 +121,7 @@ impl<K: Keeper> Register<K> {
         }
     }
 
-    /// What it is told to set the settings of a peer.
+    /// The verdict on setting the settings of a peer.
     pub(crate) fn judge_settings(&self, settings: &PeerSettings) -> Result<Answer, Refusal>
         ensures { (day : DayValue)
             → Answers (judged self.now.state day (action.SetPeer settings.now)) result }
@@ -145,8 +145,8 @@ impl<K: Keeper> Register<K> {
         self.check_peer(name)
     }
 
-    /// What it is told to import a content from the peer of a name: nothing changes, or the content stands so to what
-    /// is held.
+    /// The verdict on importing a content from the peer of a name: nothing changes, or how the content compares with
+    /// what is held.
     pub(crate) fn judge_import(
         &self,
         alloc: Global,
@@ -178,7 +178,7 @@ impl<K: Keeper> Register<K> {
         }
     }
 
-    /// What it is told to set the publisher records of a package.
+    /// The verdict on setting the publisher records of a package.
     pub(crate) fn judge_publishers(
         &self,
         package: &PackageName,
@@ -195,7 +195,7 @@ impl<K: Keeper> Register<K> {
         Ok(Answer::Accepted)
     }
 
-    /// What it is told to set a policy.
+    /// The verdict on setting a policy.
     pub(crate) fn judge_policy(&self, policy: &KeyedPolicy) -> Result<Answer, Refusal>
         ensures { (day : DayValue)
             → Answers (judged self.now.state day (action.SetPolicy policy.now)) result }
@@ -218,7 +218,7 @@ impl<K: Keeper> Register<K> {
         self.check_policy(key)
     }
 
-    /// What it is told to load a project.
+    /// The verdict on loading a project.
     pub(crate) fn judge_project(&self, project: &NamedProject) -> Result<Answer, Refusal>
         ensures { (day : DayValue)
             → Answers (judged self.now.state day (action.LoadProject project.now)) result }
