@@ -10,9 +10,9 @@ use Rattle.vet_desk.specs.declared.review.ReviewState.{ReviewState}
 use Rattle.vet_graph.specs.declared.class.Class.{Class}
 use Rattle.vet_graph.specs.declared.class.Class.TheVariants.{Full, Unvetted}
 use Rattle.vet_graph.specs.declared.standing.Stand.{Stand}
+use Rattle.vet_register.specs.Flow.{arrivals, departures}
 use Rattle.vet_register.specs.State.{changes_of, no_counts}
 use Rattle.vet_register.specs.declared.moves.RecordedMove.{RecordedMove}
-use Rattle.vet_reports.specs.CountsText.{arrivals, departures}
 use Rattle.vet_reports.specs.declared.counts_text.CountsTable.{CountsTable}
 use Rattle.vet_reports.specs.declared.standing_text.Filter.{Filter}
 

@@ -4,34 +4,14 @@ use Rattle.std.specs.Prelude.{ℕ, List, [], ◌∷◌, ◌++◌, codes}
 use Rattle.std.specs.Fmt.{decimal}
 use Rattle.vet_base.specs.Words.{Text}
 use Rattle.vet_graph.specs.Class.{class_word}
-use Rattle.vet_graph.specs.Moves.{arrivals_of, departures_of}
 use Rattle.vet_graph.specs.Standing.{count_in, counts_of, total_of}
 use Rattle.vet_graph.specs.declared.class.Class.{Class}
 use Rattle.vet_graph.specs.declared.class.Class.TheVariants.{Conflicting, Full, Partial, Exempted, Unvetted}
-use Rattle.vet_graph.specs.declared.moves.Move.{Move}
 use Rattle.vet_graph.specs.declared.standing.Counts.{Counts}
+use Rattle.vet_register.specs.Flow.{arrivals, departures}
 use Rattle.vet_register.specs.State.{State, changes_of, standing}
 use Rattle.vet_reports.specs.Columns.{close_line, left_in, right_in}
 use Rattle.vet_reports.specs.declared.counts_text.CountsTable.{CountsTable}
-
--- how many moves arrive at each class, and how many depart from it
-abbrev pub arrivals : List Move → Counts
-arrivals moves = record {
-  conflicting = arrivals_of Conflicting moves;
-  full = arrivals_of Full moves;
-  partial = arrivals_of Partial moves;
-  exempted = arrivals_of Exempted moves;
-  unvetted = arrivals_of Unvetted moves;
-}
-
-abbrev pub departures : List Move → Counts
-departures moves = record {
-  conflicting = departures_of Conflicting moves;
-  full = departures_of Full moves;
-  partial = departures_of Partial moves;
-  exempted = departures_of Exempted moves;
-  unvetted = departures_of Unvetted moves;
-}
 
 -- the counts of a state
 abbrev pub counts_table : State → CountsTable

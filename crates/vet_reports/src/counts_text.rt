@@ -1,14 +1,11 @@
 //! The report of counts.
-ghost use Rattle.std.specs.Prelude.{◌≡◌, ◌++◌, IfErr, IfOk, OnOk, Some, string_bytes};
+ghost use Rattle.std.specs.Prelude.{◌≡◌, ◌++◌, IfErr, IfOk, OnOk, string_bytes};
 ghost use Rattle.std.specs.Fmt.{decimal};
-ghost use Rattle.std.specs.Option.{option_eq};
-ghost use Rattle.vet_graph.specs.Moves.{arrivals_of, departures_of};
-ghost use Rattle.vet_graph.specs.Standing.{same_class, total_of};
-ghost use Rattle.vet_register.specs.State.{changes_of};
+ghost use Rattle.vet_graph.specs.Standing.{total_of};
 ghost use Rattle.vet_reports.specs.ByExample as example;
 ghost use Rattle.vet_reports.specs.Columns.{right_in};
-ghost use Rattle.vet_reports.specs.CountsText.{arrivals, class_row, counts_table, counts_text, departures};
-ghost use Rattle.vet_reports.specs.CountsText.{header_row, sums_row, table_text};
+ghost use Rattle.vet_reports.specs.CountsText.{class_row, counts_table, counts_text, header_row, sums_row};
+ghost use Rattle.vet_reports.specs.CountsText.{table_text};
 
 use crate::columns::{push_left, push_number, push_right};
 use std::alloc::{AllocError, Global};
@@ -16,7 +13,6 @@ use vet_base::refusal::Refusal;
 use vet_graph::class::Class;
 use vet_graph::keeper::Keeper;
 use vet_graph::standing::Counts;
-use vet_register::moves::RecordedMove;
 use vet_register::register::Register;
 
 /// How many pairs stood in each class at first, came to it and went from it since, and stand in it now.
@@ -29,7 +25,7 @@ pub struct CountsTable {
 }
 
 /// The report of counts: a header, a line for each class in their order, and a line of sums. Names stand left in 12
-/// characters, numbers right in 10. Costs ten looks at each recorded move. Refused: `NoMemory`.
+/// characters, numbers right in 10. Looks at no recorded move. Refused: `NoMemory`.
 pub fn counts_text<K: Keeper>(alloc: Global, register: &Register<K>) -> Result<String, Refusal>
     ensures text { IfOk result (λ text. string_bytes text ≡ counts_text register.now.state) }
     ensures memory { IfErr result (λ e. e ≡ Refusal.NoMemory) }
@@ -46,65 +42,9 @@ fn counts_table<K: Keeper>(register: &Register<K>) -> CountsTable
 {
     CountsTable {
         first: register.first_counts(),
-        arrived: arrivals(register.moves()),
-        departed: departures(register.moves()),
+        arrived: register.arrivals(),
+        departed: register.departures(),
         present: register.counts(),
-    }
-}
-
-// How many moves arrive at each class.
-fn arrivals(moves: &[RecordedMove]) -> Counts
-    ensures { result ≡ arrivals (changes_of moves.now) }
-{
-    Counts {
-        conflicting: arrivals_at(Class::Conflicting, moves),
-        full: arrivals_at(Class::Full, moves),
-        partial: arrivals_at(Class::Partial, moves),
-        exempted: arrivals_at(Class::Exempted, moves),
-        unvetted: arrivals_at(Class::Unvetted, moves),
-    }
-}
-
-// How many moves depart from each class.
-fn departures(moves: &[RecordedMove]) -> Counts
-    ensures { result ≡ departures (changes_of moves.now) }
-{
-    Counts {
-        conflicting: departures_from(Class::Conflicting, moves),
-        full: departures_from(Class::Full, moves),
-        partial: departures_from(Class::Partial, moves),
-        exempted: departures_from(Class::Exempted, moves),
-        unvetted: departures_from(Class::Unvetted, moves),
-    }
-}
-
-// How many moves arrive at a class.
-fn arrivals_at(class: Class, moves: &[RecordedMove]) -> u64
-    ensures { result ≡ arrivals_of class (changes_of moves.now) }
-{
-    let arriving = moves
-        .iter()
-        .filter(|recorded| is_in(recorded.change.after, class));
-    arriving.count() as u64
-}
-
-// How many moves depart from a class.
-fn departures_from(class: Class, moves: &[RecordedMove]) -> u64
-    ensures { result ≡ departures_of class (changes_of moves.now) }
-{
-    let departing = moves
-        .iter()
-        .filter(|recorded| is_in(recorded.change.before, class));
-    departing.count() as u64
-}
-
-// Whether this is a class.
-fn is_in(found: Option<Class>, class: Class) -> bool
-    ensures { result ≡ option_eq same_class found (Some class) }
-{
-    match found {
-        Some(other) => other == class,
-        None => false,
     }
 }
 

@@ -1,7 +1,7 @@
 //! The line of an outcome.
 //!
-//! A command's outcome is told after its change is kept, where want of memory would be told too late. So room is taken
-//! before the command runs, and the line is written into that.
+//! An outcome is printed after the command's change is kept, when it is too late to answer that memory ran out. So room
+//! is taken before the command runs, and the line is written into that room.
 ghost use Rattle.std.specs.Prelude.{◌≡◌, ◌+◌, ◌≤◌, ◌++◌, None, Some, IfErr, IfOk, codes, length, string_bytes};
 ghost use Rattle.std.specs.Prelude.{string_capacity, string_len};
 ghost use Rattle.std.specs.Fmt.{decimal};

@@ -1,9 +1,8 @@
 //! The standing as CSV.
-ghost use Rattle.std.specs.Prelude.{◌≡◌, ◌<◌, ◌∷◌, [], ◌++◌, true, IfErr, IfOk, OnOk, string_bytes};
+ghost use Rattle.std.specs.Prelude.{◌≡◌, ◌<◌, ◌∷◌, [], ◌++◌, true, IfErr, IfOk, OnOk, map, string_bytes};
 ghost use Rattle.std.specs.Char.{is_ascii_graphic};
 ghost use Rattle.std.specs.List.{flat_map, list_all};
 ghost use Rattle.csv.specs.Writing.{default_writer, escaped, field_text, needs_byte, needs_quotes, quoted};
-ghost use Rattle.vet_register.specs.State.{standing};
 ghost use Rattle.vet_reports.specs.ByExample as example;
 ghost use Rattle.vet_reports.specs.StandingCsv.{record_line, stand_record, standing_csv, stands_csv};
 
@@ -13,36 +12,30 @@ use vet_base::version::version_text_reads_back;
 use vet_demand::pair::Pair;
 use vet_graph::class::Class;
 use vet_graph::keeper::Keeper;
-use vet_graph::laws::each_pair_has_its_class;
+use vet_graph::standing::Stand;
 use vet_register::register::Register;
 
 /// The standing as CSV (RFC 4180): a header, then a record for each demanded pair in order: package, version, criterion
 /// and class. Lines end with a line feed. A field with a comma or a quote, which only a criterion's name can have,
-/// stands between quotes. Costs one walk over the demanded pairs, with a look-up of each. Refused: `NoMemory`.
+/// stands between quotes. Costs one walk over the demanded pairs. Refused: `NoMemory`.
 pub fn standing_csv<K: Keeper>(alloc: Global, register: &Register<K>) -> Result<String, Refusal>
     ensures text { IfOk result (λ text. string_bytes text ≡ standing_csv register.now.state) }
     ensures memory { IfErr result (λ e. e ≡ Refusal.NoMemory) }
 {
+    let stands = register.stands(alloc)?;
     let mut text = String::new(alloc);
     push_record(&mut text, "package", "version", "criterion", "class")?;
-    push_stands(alloc, &mut text, register)?;
+    push_stands(alloc, &mut text, stands.as_slice())?;
     Ok(text)
 }
 
 // Adds the records of the demanded pairs.
-fn push_stands<K: Keeper>(
-    alloc: Global,
-    text: &mut String,
-    register: &Register<K>,
-) -> Result<(), AllocError>
+fn push_stands(alloc: Global, text: &mut String, stands: &[&Stand]) -> Result<(), AllocError>
     ensures { OnOk result (string_bytes text.new
-        ≡ string_bytes text.old ++ flat_map stand_record (standing register.now.state)) }
+        ≡ string_bytes text.old ++ flat_map stand_record (map (λ s. s.now) stands.now)) }
 {
-    each_pair_has_its_class();
-    'pairs: for pair in register.demand() {
-        if let Some(class) = register.class(&pair.package, &pair.version, &pair.criterion) {
-            push_stand(alloc, text, pair, class)?;
-        }
+    'stands: for stand in stands {
+        push_stand(alloc, text, &stand.pair, stand.class)?;
     }
     Ok(())
 }

@@ -1,6 +1,5 @@
 //! The report of the standing.
-ghost use Rattle.std.specs.Prelude.{◌≡◌, ◌∷◌, [], ◌++◌, IfErr, IfOk, OnOk, string_bytes};
-ghost use Rattle.vet_register.specs.State.{standing};
+ghost use Rattle.std.specs.Prelude.{◌≡◌, ◌∷◌, [], ◌++◌, IfErr, IfOk, OnOk, map, string_bytes};
 ghost use Rattle.vet_reports.specs.ByExample as example;
 ghost use Rattle.vet_reports.specs.StandingText.{is_class_asked, is_package_asked, is_shown, stand_line};
 ghost use Rattle.vet_reports.specs.StandingText.{standing_text, stands_text};
@@ -12,10 +11,10 @@ use vet_base::refusal::Refusal;
 use vet_demand::pair::Pair;
 use vet_graph::class::Class;
 use vet_graph::keeper::Keeper;
-use vet_graph::laws::each_pair_has_its_class;
+use vet_graph::standing::Stand;
 use vet_register::register::Register;
 
-/// Which pairs are asked for: those of a package, those of a class, or, where neither is told, all.
+/// Which pairs are asked for: those of a package, those of a class, or, if neither is said, all.
 pub struct Filter {
     pub package: Option<PackageName>,
     pub class: Option<Class>,
@@ -58,8 +57,8 @@ impl Filter {
 }
 
 /// The report of the standing: a line for each demanded pair that the filter asks for, in order: the package left in 24
-/// characters, the version and the criterion left in 20, and the class. Costs one walk over the demanded pairs, with a
-/// look-up of each. Refused: `NoMemory`.
+/// characters, the version and the criterion left in 20, and the class. Costs one walk over the demanded pairs.
+/// Refused: `NoMemory`.
 pub fn standing_text<K: Keeper>(
     alloc: Global,
     register: &Register<K>,
@@ -68,26 +67,24 @@ pub fn standing_text<K: Keeper>(
     ensures text { IfOk result (λ text. string_bytes text ≡ standing_text filter.now register.now.state) }
     ensures memory { IfErr result (λ e. e ≡ Refusal.NoMemory) }
 {
+    let stands = register.stands(alloc)?;
     let mut text = String::new(alloc);
-    push_stands(alloc, &mut text, register, filter)?;
+    push_stands(alloc, &mut text, stands.as_slice(), filter)?;
     Ok(text)
 }
 
 // Adds the lines of the demanded pairs that are asked for.
-fn push_stands<K: Keeper>(
+fn push_stands(
     alloc: Global,
     text: &mut String,
-    register: &Register<K>,
+    stands: &[&Stand],
     filter: &Filter,
 ) -> Result<(), AllocError>
     ensures { OnOk result (string_bytes text.new
-        ≡ string_bytes text.old ++ standing_text filter.now register.now.state) }
+        ≡ string_bytes text.old ++ stands_text filter.now (map (λ s. s.now) stands.now)) }
 {
-    each_pair_has_its_class();
-    'pairs: for pair in register.demand() {
-        if let Some(class) = register.class(&pair.package, &pair.version, &pair.criterion) {
-            push_if_shown(alloc, text, filter, pair, class)?;
-        }
+    'stands: for stand in stands {
+        push_if_shown(alloc, text, filter, &stand.pair, stand.class)?;
     }
     Ok(())
 }

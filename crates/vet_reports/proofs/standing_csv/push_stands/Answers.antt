@@ -1,31 +1,14 @@
-use Rattle.std.proofs.Common.{◌≡◌, ◌<◌, ◌++◌, ◌∙◌, ℕ, List, ap, append-nil, get_or, length, sym, subst, arith}
+use Rattle.std.proofs.Common.{ℕ, List, ◌++◌, ◌∙◌, ap, append-nil, sym}
 use Rattle.std.proofs.lemmas.List.Concat.{flat_map-append}
 use Rattle.std.specs.Prelude.{string_bytes}
 use Rattle.std.specs.List.{flat_map}
 use Rattle.vet_reports.specs.StandingCsv.{stand_record}
-use Rattle.vet_demand.specs.declared.pair.Pair.{Pair}
-use Rattle.vet_register.specs.State.{demanded}
 use Rattle.vet_reports.proofs.StandingLemmas.{next_written}
 use Rattle.vet_reports.proofs.standing_csv.push_stands.Goals as goal
-use Rattle.vet_reports.proofs.standing_csv.push_stands.Goals.{in-Some+in_ok-push_stand, in_default}
 
--- each pair is demanded, so it has a class, and that is its own
-pub pairs-preserved : goal.pairs-preserved
-pairs-preserved g c =
-    let s = c.args.register.now.state in
-    let i = c.pairs.pair-index in
-    let p = c.pair-item.result in
-    let within : i < length (demanded s) = subst (λ (ps : List Pair). i < length ps) c.demand-pair-items.ensures
-    (omega (arith, c.pairs-test.true)) in
-    let is : p ≡ get_or (demanded s) i p = subst (λ (ps : List Pair). p ≡ get_or ps i p) c.demand-pair-items.ensures
-    c.pair-item.is in
-    elim c.match-class.branch [
-      | in-Some+in_ok-push_stand w ↦ rw w.text-is (next_written (flat_map stand_record)
-          (flat_map-append stand_record) s.held.facts (demanded s) i p w.in-Some.class
-          (string_bytes c.args.text.now) (string_bytes c.pairs.text)
-          (string_bytes w.push_stand.new.text) within is
-          c.each_pair_has_its_class.ensures.only w.in-Some.ensures.is.1 c.pairs.invariant
-          (w.in_ok-push_stand.ensures ∙ ap (λ (t : List ℕ). string_bytes c.pairs.text ++ t) (sym (append-nil
-          (stand_record (record { pair = p; class = w.in-Some.class }))))))
-      | in_default w ↦ absurd (w.in_default.ensures.is (i, within, sym is))
-    ]
+pub stands-preserved : goal.stands-preserved
+stands-preserved c = next_written (flat_map stand_record) (flat_map-append stand_record) c.args.stands.now
+    c.stands.stand-index c.stand-item.result (string_bytes c.args.text.now) (string_bytes c.stands.text)
+    (string_bytes c.push_stand.new.text) c.stands-test.true c.stand-item.is c.stands.invariant
+    (c.in_ok-push_stand.ensures ∙ ap (λ (t : List ℕ). string_bytes c.stands.text ++ t)
+    (sym (append-nil (stand_record c.stand-item.result.now))))
