@@ -1,6 +1,6 @@
 //! Command documents.
 //!
-//! **The bytes of a document give the command that its definition tells of them, or the first fault.**
+//! **The bytes of a document give the command that its definition says of them, or the first fault.**
 ghost use Rattle.std.specs.Option.{option_copied};
 ghost use Rattle.toml.specs.View.{table_view};
 ghost use Rattle.vet_base.specs.Gives.{Gives};
@@ -28,8 +28,8 @@ use vet_files::field::fault;
 use vet_files::read::document::read_document;
 use vet_register::command::{Action, Command};
 
-/// The command of a document that is given on a day, and by a member where one is told beside it. Only who finishes
-/// or withdraws a review is looked at, and then last.
+/// The command of a document that is given on a day, and by a member if one is named beside it. The member matters only
+/// for who finishes or withdraws a review, and then last.
 ///
 /// Refused, the first that holds: `TooLarge` of `input` for more than 8,388,608 bytes; `TomlRefused` where they are no
 /// TOML document in UTF-8. Then key by key in the order of the command: `BadName`, `BadVersion`, `BadRequirement`,

@@ -1,11 +1,11 @@
 //! The documents in which commands are sent, and the three files of a register as texts.
 //!
-//! **A document gives exactly the command that its definition tells of its bytes, or its first fault in the order of
-//! its keys. The text of a file is one that is read as what the register holds.**
+//! **A document gives exactly the command that its definition says of its bytes, or its first fault in the order of its
+//! keys. The text of a file is one that is read as what the register holds.**
 //!
 //! Scope of this crate: the words and keys of command documents, and which file of a register is written by its name.
-//! What entries and files within a document mean is told by the readers of `vet_files` and `vet_demand`. `vet_http`
-//! gives the public names of this crate on.
+//! The readers of `vet_files` and `vet_demand` say what entries and files within a document mean. `vet_http` reexports
+//! the public names of this crate.
 //!
 //! For example, `command = "add-member"` and `member = "ann"` is the command that adds a member, and `command = 5` is
 //! refused as 28 FieldRefused, which names `command command`.
