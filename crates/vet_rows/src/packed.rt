@@ -21,7 +21,7 @@ pub struct Front<'a> {
     pub rest: &'a [u8],
 }
 
-/// Adds an item to a packed list. Refused for want of memory alone, and then the list is as it was.
+/// Adds an item to a packed list. Fails only if memory runs out, and then the list is as it was.
 pub fn push_item(alloc: Global, bytes: &mut Vec<u8>, item: &[u8]) -> Result<(), AllocError>
     ensures ok { OnOk result (bytes.new.items ≡ bytes.old.items ++ packed_item item.now) }
     ensures err { OnErr result (bytes.new.items ≡ bytes.old.items) }
@@ -33,7 +33,7 @@ pub fn push_item(alloc: Global, bytes: &mut Vec<u8>, item: &[u8]) -> Result<(), 
     bytes.extend_from_slice(item)
 }
 
-/// The items of a packed list, or none if the bytes are no packed list. Refused for want of memory alone.
+/// The items of a packed list, or none if the bytes are no packed list. Fails only if memory runs out.
 pub fn read_items<'a>(alloc: Global, bytes: &'a [u8]) -> Result<Option<Vec<&'a [u8]>>, AllocError>
     ensures { IfOk result (λ items.
         IsUnpacked bytes.now (option_map (λ found. map (λ item. item.now) found.items) items)) }

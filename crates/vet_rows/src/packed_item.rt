@@ -19,12 +19,12 @@ pub trait PackedItem: Drop {
     fn bytes(&self) -> &[u8]
         ensures { result.now ≡ bytes_of self.now };
 
-    /// The value that bytes stand for, if they stand for one. Refused for want of memory alone.
+    /// The value that bytes stand for, if they stand for one. Fails only if memory runs out.
     fn read(alloc: Global, bytes: &[u8]) -> Result<Option<Self>, AllocError>
         ensures { IfOk result (λ found. found ≡ read_bytes bytes.now) };
 }
 
-/// The packed list of some values, in their order. Refused for want of memory alone.
+/// The packed list of some values, in their order. Fails only if memory runs out.
 pub fn pack<T: PackedItem>(alloc: Global, values: &[T]) -> Result<Vec<u8>, AllocError>
     ensures { IfOk result (λ bytes. bytes.items ≡ packed (map T.bytes_of values.now)) }
 {
@@ -35,8 +35,8 @@ pub fn pack<T: PackedItem>(alloc: Global, values: &[T]) -> Result<Vec<u8>, Alloc
     Ok(bytes)
 }
 
-/// The values of a packed list, or none if the bytes are no packed list or an item stands for no value. Refused for
-/// want of memory alone.
+/// The values of a packed list, or none if the bytes are no packed list or an item stands for no value. Fails only if
+/// memory runs out.
 pub fn unpack<T: PackedItem>(alloc: Global, bytes: &[u8]) -> Result<Option<Vec<T>>, AllocError>
     ensures { IfOk result (λ values.
         IsReadAs T.read_bytes bytes.now (option_map (λ found. found.items) values)) }

@@ -14,15 +14,15 @@ use vet_base::package_names::PackageNames;
 use vet_base::text::Text;
 use vet_base::texts::Texts;
 
-/// The packed list of a set of names. Refused for want of memory alone.
+/// The packed list of a set of names. Fails only if memory runs out.
 pub fn pack_names(alloc: Global, names: &Names) -> Result<Vec<u8>, AllocError>
     ensures { IfOk result (λ bytes. bytes.items ≡ packed (members names.now)) }
 {
     pack(alloc, names.as_slice())
 }
 
-/// The set of the names in a packed list, or none if the bytes are no packed list of names. Refused for want of
-/// memory alone.
+/// The set of the names in a packed list, or none if the bytes are no packed list of names. Fails only if memory runs
+/// out.
 pub fn unpack_names(alloc: Global, bytes: &[u8]) -> Result<Option<Names>, AllocError>
     ensures { IfOk result (λ names. IsReadAsSet (as_text read_name) bytes.now names) }
 {
@@ -32,15 +32,15 @@ pub fn unpack_names(alloc: Global, bytes: &[u8]) -> Result<Option<Names>, AllocE
     }
 }
 
-/// The packed list of a set of packages. Refused for want of memory alone.
+/// The packed list of a set of packages. Fails only if memory runs out.
 pub fn pack_packages(alloc: Global, packages: &PackageNames) -> Result<Vec<u8>, AllocError>
     ensures { IfOk result (λ bytes. bytes.items ≡ packed (members packages.now)) }
 {
     pack(alloc, packages.as_slice())
 }
 
-/// The set of the packages in a packed list, or none if the bytes are no packed list of names of packages. Refused for
-/// want of memory alone.
+/// The set of the packages in a packed list, or none if the bytes are no packed list of names of packages. Fails only
+/// if memory runs out.
 pub fn unpack_packages(alloc: Global, bytes: &[u8]) -> Result<Option<PackageNames>, AllocError>
     ensures { IfOk result (λ packages. IsReadAsSet (as_text read_package_name) bytes.now packages) }
 {
@@ -50,15 +50,15 @@ pub fn unpack_packages(alloc: Global, bytes: &[u8]) -> Result<Option<PackageName
     }
 }
 
-/// The packed list of a set of texts. Refused for want of memory alone.
+/// The packed list of a set of texts. Fails only if memory runs out.
 pub fn pack_texts(alloc: Global, texts: &Texts) -> Result<Vec<u8>, AllocError>
     ensures { IfOk result (λ bytes. bytes.items ≡ packed (members texts.now)) }
 {
     pack(alloc, texts.as_slice())
 }
 
-/// The set of the texts in a packed list, or none if the bytes are no packed list of texts. Refused for want of
-/// memory alone.
+/// The set of the texts in a packed list, or none if the bytes are no packed list of texts. Fails only if memory runs
+/// out.
 pub fn unpack_texts(alloc: Global, bytes: &[u8]) -> Result<Option<Texts>, AllocError>
     ensures { IfOk result (λ texts. IsReadAsSet (as_text read_text) bytes.now texts) }
 {

@@ -8,7 +8,7 @@
 use crate::column::{BlobColumn, TextColumn};
 
 /// The one row of `meta`: all of which there is just one.
-#[derive(PartialEq, Eq, Hash)]
+#[derive(PartialEq, Eq, PartialOrd, Ord)]
 pub struct MetaRow {
     /// Always 1: the key.
     pub one: i64,
@@ -59,7 +59,7 @@ impl Drop for MetaRow {
 }
 
 /// A row of `criteria`: a criterion that is not built in. Its key are `peer` and `name`.
-#[derive(PartialEq, Eq, Hash)]
+#[derive(PartialEq, Eq, PartialOrd, Ord)]
 pub struct CriterionRow {
     /// The peer whose criterion it is, empty for one's own.
     pub peer: TextColumn,
@@ -85,7 +85,7 @@ impl Drop for CriterionRow {
 }
 
 /// A row of `entries`: an entry, one's own or that of a peer. Its key is `number`.
-#[derive(PartialEq, Eq, Hash)]
+#[derive(PartialEq, Eq, PartialOrd, Ord)]
 pub struct EntryRow {
     pub number: i64,
     /// The peer whose entry it is, empty for one's own.
@@ -140,16 +140,16 @@ impl Drop for EntryRow {
 }
 
 /// A row of `publishers`: that a user published a version on a day. All its columns are its key.
-#[derive(PartialEq, Eq, Hash)]
+#[derive(PartialEq, Eq, PartialOrd, Ord)]
 pub struct PublisherRow {
     pub package: TextColumn,
     pub version: TextColumn,
     /// The number of the user, from 0.
     pub user: i64,
     pub day: i64,
-    /// The user's name at crates.io, if it is told.
+    /// The user's name at crates.io, if it is said.
     pub login: BlobColumn,
-    /// The user's name in full, if it is told.
+    /// The user's name in full, if it is said.
     pub name: BlobColumn,
 }
 
@@ -167,7 +167,7 @@ impl Drop for PublisherRow {
 }
 
 /// A row of `policies`: what is asked of a package and its dependencies. Its key is `policy`.
-#[derive(PartialEq, Eq, Hash)]
+#[derive(PartialEq, Eq, PartialOrd, Ord)]
 pub struct PolicyRow {
     /// The text of the policy's key: a package, or a package, a colon and a version.
     pub policy: TextColumn,
@@ -197,7 +197,7 @@ impl Drop for PolicyRow {
 }
 
 /// A row of `peers`: how a peer is imported. Its key is `name`.
-#[derive(PartialEq, Eq, Hash)]
+#[derive(PartialEq, Eq, PartialOrd, Ord)]
 pub struct PeerRow {
     pub name: TextColumn,
     /// Where its audits are published.
@@ -220,7 +220,7 @@ impl Drop for PeerRow {
 }
 
 /// A row of `nodes`: a version of a package in a project. Its key are `project`, `name` and `version`.
-#[derive(PartialEq, Eq, Hash)]
+#[derive(PartialEq, Eq, PartialOrd, Ord)]
 pub struct NodeRow {
     pub project: TextColumn,
     pub name: TextColumn,
@@ -241,7 +241,7 @@ impl Drop for NodeRow {
 }
 
 /// A row of `edges`: that one node of a project depends on another. All its columns are its key.
-#[derive(PartialEq, Eq, Hash)]
+#[derive(PartialEq, Eq, PartialOrd, Ord)]
 pub struct EdgeRow {
     pub project: TextColumn,
     pub from_name: TextColumn,
@@ -266,7 +266,7 @@ impl Drop for EdgeRow {
 }
 
 /// A row of `standing`: the class of a demanded pair. Its key are `package`, `version` and `criterion`.
-#[derive(PartialEq, Eq, Hash)]
+#[derive(PartialEq, Eq, PartialOrd, Ord)]
 pub struct StandingRow {
     pub package: TextColumn,
     pub version: TextColumn,
@@ -288,7 +288,7 @@ impl Drop for StandingRow {
 
 /// A row of `moves`: that a pair went from a class to another. Its key are `step`, `package`, `version` and
 /// `criterion`.
-#[derive(PartialEq, Eq, Hash)]
+#[derive(PartialEq, Eq, PartialOrd, Ord)]
 pub struct MoveRow {
     /// The step of the command that moved it.
     pub step: i64,
@@ -318,7 +318,7 @@ impl Drop for MoveRow {
 }
 
 /// A row of `members`: who may review. Its key is its one column.
-#[derive(PartialEq, Eq, Hash)]
+#[derive(PartialEq, Eq, PartialOrd, Ord)]
 pub struct MemberRow {
     pub name: TextColumn,
 }
@@ -330,7 +330,7 @@ impl Drop for MemberRow {
 }
 
 /// A row of `reviews`: a review at the desk. Its key is `number`.
-#[derive(PartialEq, Eq, Hash)]
+#[derive(PartialEq, Eq, PartialOrd, Ord)]
 pub struct ReviewRow {
     pub number: i64,
     pub package: TextColumn,

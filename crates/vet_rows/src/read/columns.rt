@@ -25,35 +25,35 @@ use vet_base::version::VetVersion;
 use vet_entries::entry::Source;
 use vet_entries::user::User;
 
-/// A name. Refused for want of memory alone.
+/// A name. Fails only if memory runs out.
 pub(crate) fn name(alloc: Global, text: &str) -> Result<Option<Name>, AllocError>
     ensures { IfOk result (λ found. IsReadBack (IsWritten IsName (λ n. n)) text.now found) }
 {
     Name::read(alloc, text)
 }
 
-/// A name of a package. Refused for want of memory alone.
+/// A name of a package. Fails only if memory runs out.
 pub(crate) fn package_name(alloc: Global, text: &str) -> Result<Option<PackageName>, AllocError>
     ensures { IfOk result (λ found. IsReadBack (IsWritten IsPackage (λ n. n)) text.now found) }
 {
     PackageName::read(alloc, text)
 }
 
-/// A version. Refused for want of memory alone.
+/// A version. Fails only if memory runs out.
 pub(crate) fn version(alloc: Global, text: &str) -> Result<Option<VetVersion>, AllocError>
     ensures { IfOk result (λ found. IsReadBack (IsWritten IsVersion version_text) text.now found) }
 {
     VetVersion::read(alloc, text)
 }
 
-/// A requirement of versions. Refused for want of memory alone.
+/// A requirement of versions. Fails only if memory runs out.
 pub(crate) fn requirement(alloc: Global, text: &str) -> Result<Option<Req>, AllocError>
     ensures { IfOk result (λ found. IsReadBack (IsWritten IsReq (λ r. r)) text.now found) }
 {
     Req::read(alloc, text)
 }
 
-/// A text that may be missing. Refused for want of memory alone.
+/// A text that may be missing. Fails only if memory runs out.
 pub(crate) fn optional_text(alloc: Global, bytes: &[u8]) -> Result<Option<Option<Text>>, AllocError>
     ensures { IfOk result (λ found. IsReadBack (IsWritten (MayBe IsText) packed_option) bytes.now found) }
 {
@@ -76,28 +76,28 @@ fn at_most_one<X: Drop>(mut values: Vec<X>) -> Option<Option<X>>
     Some(Some(last))
 }
 
-/// A set of texts. Refused for want of memory alone.
+/// A set of texts. Fails only if memory runs out.
 pub(crate) fn texts(alloc: Global, bytes: &[u8]) -> Result<Option<Texts>, AllocError>
     ensures { IfOk result (λ found. IsReadBack (IsWritten AreTexts packed_names) bytes.now found) }
 {
     unpack_texts(alloc, bytes)
 }
 
-/// A set of names. Refused for want of memory alone.
+/// A set of names. Fails only if memory runs out.
 pub(crate) fn names(alloc: Global, bytes: &[u8]) -> Result<Option<Names>, AllocError>
     ensures { IfOk result (λ found. IsReadBack (IsWritten AreNames packed_names) bytes.now found) }
 {
     unpack_names(alloc, bytes)
 }
 
-/// A set of packages. Refused for want of memory alone.
+/// A set of packages. Fails only if memory runs out.
 pub(crate) fn packages(alloc: Global, bytes: &[u8]) -> Result<Option<PackageNames>, AllocError>
     ensures { IfOk result (λ found. IsReadBack (IsWritten ArePackages packed_names) bytes.now found) }
 {
     unpack_packages(alloc, bytes)
 }
 
-/// A set of names that may be missing. Refused for want of memory alone.
+/// A set of names that may be missing. Fails only if memory runs out.
 pub(crate) fn optional_names(
     alloc: Global,
     bytes: &[u8],
@@ -165,7 +165,7 @@ pub(crate) fn day(column: i64) -> Option<Day>
     Day::of_number(column)
 }
 
-/// Whose something is. Refused for want of memory alone.
+/// Whose something is. Fails only if memory runs out.
 pub(crate) fn source(alloc: Global, peer: &str) -> Result<Option<Source>, AllocError>
     ensures { IfOk result (λ found. IsReadBack (IsWritten IsSource peer_of_source) peer.now found) }
 {

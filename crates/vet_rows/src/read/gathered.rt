@@ -73,7 +73,7 @@ impl<H: HasKey, T: Drop> HasKey for Group<H, T> {
 }
 
 /// Each of these, which stand in the order of their keys, with what is filed under its key, in the order of the items.
-/// What is filed under no key of theirs goes. Refused for want of memory alone.
+/// What is filed under no key of theirs goes. Fails only if memory runs out.
 pub(crate) fn gather<H: HasKey, T: Drop>(
     alloc: Global,
     heads: Vec<H>,

@@ -49,7 +49,7 @@ pub(crate) fn peers_of(
     }
 }
 
-/// Entries in the order of their numbers, each once. Refused for want of memory alone.
+/// Entries in the order of their numbers, each once. Fails only if memory runs out.
 pub(crate) fn in_order(alloc: Global, entries: Vec<HeldEntry>) -> Result<Vec<HeldEntry>, AllocError>
     ensures by_number { IfOk result (λ sorted. AreByNumber sorted.items) }
     ensures back { IfOk result (λ sorted. (held : List HeldEntry) → AreByNumber held → SameItems entries.items held

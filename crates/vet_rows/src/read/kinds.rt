@@ -20,7 +20,7 @@ use std::alloc::{AllocError, Global};
 use vet_base::delta::Delta;
 use vet_entries::kind::{Audit, Grant, Kind, Window};
 
-/// What a row says of its package. Refused for want of memory alone.
+/// What a row says of its package. Fails only if memory runs out.
 pub(crate) fn kind(alloc: Global, row: &EntryRow) -> Result<Option<Kind>, AllocError>
     ensures { IfOk result (λ found. IsReadBack IsSaidIn row.now found) }
 {

@@ -25,7 +25,7 @@ use vet_base::ranked::rank;
 use vet_demand::policies::KeyedPolicy;
 use vet_desk::review::Review;
 
-/// The policies of these rows. Refused for want of memory alone.
+/// The policies of these rows. Fails only if memory runs out.
 pub(crate) fn policies(
     alloc: Global,
     rows: &[PolicyRow],
@@ -39,7 +39,7 @@ pub(crate) fn policies(
     }
 }
 
-/// The members of these rows. Refused for want of memory alone.
+/// The members of these rows. Fails only if memory runs out.
 pub(crate) fn members(alloc: Global, rows: &[MemberRow]) -> Result<Option<Keyed<Name>>, AllocError>
     ensures { IfOk result (λ found. (list : List Name) → IsByKey (slice_cmp nat_cmp) own_name list → All IsName list
         → SameItems rows.now (map member_row list) → option_map (λ k. k.items) found ≡ Some list) }
@@ -50,7 +50,7 @@ pub(crate) fn members(alloc: Global, rows: &[MemberRow]) -> Result<Option<Keyed<
     }
 }
 
-/// The reviews of these rows. Refused for want of memory alone.
+/// The reviews of these rows. Fails only if memory runs out.
 pub(crate) fn reviews(alloc: Global, rows: &[ReviewRow]) -> Result<Option<Vec<Review>>, AllocError>
     ensures { IfOk result (λ found. (list : List Review) → IsByKey nat_cmp review_number list → All IsReview list
         → SameItems rows.now (map review_row list) → option_map (λ v. v.items) found ≡ Some list) }

@@ -14,7 +14,7 @@ use crate::read::rows::one_more;
 use std::alloc::{AllocError, Global};
 use vet_base::names::Names;
 
-/// The items of a map from keys to sets of names. Refused for want of memory alone.
+/// The items of a map from keys to sets of names. Fails only if memory runs out.
 pub(crate) fn map_items<K: PackedItem>(
     alloc: Global,
     bytes: &[u8],

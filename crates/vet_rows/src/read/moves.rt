@@ -73,7 +73,7 @@ impl Ranked for OrderedMove {
     }
 }
 
-/// The moves of these rows, in the order in which they were recorded. Refused for want of memory alone.
+/// The moves of these rows, in the order in which they were recorded. Fails only if memory runs out.
 pub(crate) fn moves(
     alloc: Global,
     rows: &[MoveRow],

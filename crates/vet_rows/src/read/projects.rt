@@ -187,8 +187,7 @@ fn filed_ends(
     })
 }
 
-/// The projects of these rows, in whatever order these stand. Refused for want of memory alone. Takes a time of
-/// n log n.
+/// The projects of these rows, in whatever order these stand. Fails only if memory runs out. Takes a time of n log n.
 pub(crate) fn projects(
     alloc: Global,
     nodes: &[NodeRow],

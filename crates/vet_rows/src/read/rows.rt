@@ -13,12 +13,12 @@ pub(crate) trait ReadRow: Drop {
     /// It stands for a value.
     ghost stands_for: { Self → Self.Value → Type 0 };
 
-    /// The value, if it stands for one. What else is answered is not said. Refused for want of memory alone.
+    /// The value, if it stands for one. What else is answered is not said. Fails only if memory runs out.
     fn read(&self, alloc: Global) -> Result<Option<Self::Value>, AllocError>
         ensures { IfOk result (λ found. IsReadBack stands_for self.now found) };
 }
 
-/// The values for which these rows stand, row by row, if each stands for one. Refused for want of memory alone.
+/// The values for which these rows stand, row by row, if each stands for one. Fails only if memory runs out.
 pub(crate) fn read_rows<R: ReadRow>(
     alloc: Global,
     rows: &[R],

@@ -36,7 +36,7 @@ pub(crate) struct Single {
     pub(crate) settings: ToolSettings,
 }
 
-/// What the one row says, if there is one. Refused for want of memory alone.
+/// What the one row says, if there is one. Fails only if memory runs out.
 pub(crate) fn read_single(alloc: Global, rows: &[MetaRow]) -> Result<Option<Single>, AllocError>
     ensures { IfOk result (λ found. (s : Single) → IsSingle s → SameItems rows.now (single_row s ∷ [])
         → found ≡ Some s) }

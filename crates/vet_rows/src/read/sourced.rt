@@ -34,7 +34,7 @@ pub(crate) struct BySource<T: Drop> {
     pub(crate) peers: Vec<Filed<Name, T>>,
 }
 
-/// What is one's own, and what is of peers. Refused for want of memory alone.
+/// What is one's own, and what is of peers. Fails only if memory runs out.
 pub(crate) fn by_source<T: Sourced>(alloc: Global, items: Vec<T>) -> Result<BySource<T>, AllocError>
     ensures own { IfOk result (λ parts. parts.own.items ≡ own_items T.source_of items.items) }
     ensures peers { IfOk result (λ parts. parts.peers.items ≡ of_peers T.source_of items.items) }

@@ -14,7 +14,7 @@ use vet_base::keyed::Keyed;
 use vet_base::limits::MOST_PEER_CRITERIA;
 use vet_base::refusal::Refusal;
 
-/// The criteria alone. Refused for want of memory alone.
+/// The criteria alone. Fails only if memory runs out.
 pub(crate) fn criteria_in(
     alloc: Global,
     sourced: Vec<SourcedCriterion>,
@@ -44,7 +44,7 @@ pub(crate) fn table_of(
     }
 }
 
-// No table, unless the refusal was for want of memory.
+// No table, unless memory ran out.
 fn without_memory(refusal: &Refusal) -> Result<Option<CriteriaTable>, Refusal>
     ensures back { IfOk result (λ found. refusal.now ≡ Refusal.NoMemory → ⊥) }
     ensures memory { IfErr result (λ e. e ≡ Refusal.NoMemory) }

@@ -23,7 +23,7 @@ use vet_desk::change::DeskChange;
 use vet_desk::desk::Desk;
 use vet_desk::review::{Review, ReviewState};
 
-/// The rows of members that go. Refused for want of memory alone.
+/// The rows of members that go. Fails only if memory runs out.
 pub fn members_going(
     alloc: Global,
     change: &DeskChange,
@@ -37,7 +37,7 @@ pub fn members_going(
     }
 }
 
-/// The rows of members that come. Refused for want of memory alone.
+/// The rows of members that come. Fails only if memory runs out.
 pub fn members_coming(alloc: Global, change: &DeskChange) -> Result<Vec<MemberRow>, AllocError>
     ensures { IfOk result (λ rows. rows.items ≡ members_coming change.now) }
 {
@@ -59,7 +59,7 @@ fn the_member(alloc: Global, member: Option<&Name>) -> Result<Vec<MemberRow>, Al
 }
 
 /// The rows of reviews that go, where a finished review has the entry of this number. Asks that their numbers have
-/// columns. Refused for want of memory alone.
+/// columns. Fails only if memory runs out.
 pub fn reviews_going(
     alloc: Global,
     change: &DeskChange,
@@ -80,7 +80,7 @@ pub fn reviews_going(
 }
 
 /// The rows of reviews that come, where a finished review has the entry of this number. Asks that their numbers have
-/// columns. Refused for want of memory alone.
+/// columns. Fails only if memory runs out.
 pub fn reviews_coming(
     alloc: Global,
     change: &DeskChange,

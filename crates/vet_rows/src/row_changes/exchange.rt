@@ -118,7 +118,7 @@ impl TableRow for ReviewRow {
     }
 }
 
-/// Adds the changes by which some rows of a table go, and then others come. Refused for want of memory alone.
+/// Adds the changes by which some rows of a table go, and then others come. Fails only if memory runs out.
 pub fn push_exchange<R: TableRow>(
     changes: &mut Vec<RowChange>,
     going: Vec<R>,

@@ -28,7 +28,7 @@ use vet_entries::publisher_records::PackagePublishers;
 
 // ---- criteria
 
-/// The rows of criteria that go. Refused for want of memory alone.
+/// The rows of criteria that go. Fails only if memory runs out.
 pub fn criteria_going(
     alloc: Global,
     edit: &Edit,
@@ -44,7 +44,7 @@ pub fn criteria_going(
     }
 }
 
-/// The rows of criteria that come. Refused for want of memory alone.
+/// The rows of criteria that come. Fails only if memory runs out.
 pub fn criteria_coming(alloc: Global, edit: &Edit) -> Result<Vec<CriterionRow>, AllocError>
     ensures { IfOk result (λ rows. rows.items ≡ criteria_coming edit.now) }
 {
@@ -81,7 +81,7 @@ fn criteria_of(
 
 // ---- entries
 
-/// The rows of entries that go. Asks that their numbers have columns. Refused for want of memory alone.
+/// The rows of entries that go. Asks that their numbers have columns. Fails only if memory runs out.
 pub fn entries_going(
     alloc: Global,
     edit: &Edit,
@@ -99,7 +99,7 @@ pub fn entries_going(
     }
 }
 
-/// The rows of entries that come. Asks that their numbers have columns. Refused for want of memory alone.
+/// The rows of entries that come. Asks that their numbers have columns. Fails only if memory runs out.
 pub fn entries_coming(alloc: Global, edit: &Edit) -> Result<Vec<EntryRow>, AllocError>
     requires { EntriesComingFit edit.now }
     ensures { IfOk result (λ rows. rows.items ≡ entries_coming edit.now) }
@@ -154,7 +154,7 @@ fn entries_of(alloc: Global, entries: &[HeldEntry]) -> Result<Vec<EntryRow>, All
 
 // ---- peers
 
-/// The rows of peers that go. Refused for want of memory alone.
+/// The rows of peers that go. Fails only if memory runs out.
 pub fn peers_going(
     alloc: Global,
     edit: &Edit,
@@ -169,7 +169,7 @@ pub fn peers_going(
     }
 }
 
-/// The rows of peers that come. Refused for want of memory alone.
+/// The rows of peers that come. Fails only if memory runs out.
 pub fn peers_coming(alloc: Global, edit: &Edit) -> Result<Vec<PeerRow>, AllocError>
     ensures { IfOk result (λ rows. rows.items ≡ peers_coming edit.now) }
 {
@@ -201,7 +201,7 @@ fn settings_row(alloc: Global, settings: &PeerSettings) -> Result<Vec<PeerRow>, 
 
 // ---- publishers
 
-/// The rows of publishers that go. Refused for want of memory alone.
+/// The rows of publishers that go. Fails only if memory runs out.
 pub fn publishers_going(
     alloc: Global,
     edit: &Edit,
@@ -215,7 +215,7 @@ pub fn publishers_going(
     }
 }
 
-/// The rows of publishers that come. Refused for want of memory alone.
+/// The rows of publishers that come. Fails only if memory runs out.
 pub fn publishers_coming(alloc: Global, edit: &Edit) -> Result<Vec<PublisherRow>, AllocError>
     ensures { IfOk result (λ rows. rows.items ≡ publishers_coming edit.now) }
 {

@@ -28,7 +28,7 @@ use vet_register::register::Register;
 
 // ---- criteria
 
-/// The rows of criteria that go. Refused for want of memory alone.
+/// The rows of criteria that go. Fails only if memory runs out.
 pub fn criteria_going<K: Keeper>(
     alloc: Global,
     edit: &HeldEdit,
@@ -43,7 +43,7 @@ pub fn criteria_going<K: Keeper>(
     }
 }
 
-/// The rows of criteria that come. Refused for want of memory alone.
+/// The rows of criteria that come. Fails only if memory runs out.
 pub fn criteria_coming(alloc: Global, edit: &HeldEdit) -> Result<Vec<CriterionRow>, AllocError>
     ensures { IfOk result (λ rows. rows.items ≡ criteria_coming edit.now) }
 {
@@ -56,7 +56,7 @@ pub fn criteria_coming(alloc: Global, edit: &HeldEdit) -> Result<Vec<CriterionRo
 
 // ---- entries
 
-/// The rows of entries that go. Refused for want of memory alone.
+/// The rows of entries that go. Fails only if memory runs out.
 pub fn entries_going<K: Keeper>(
     alloc: Global,
     edit: &HeldEdit,
@@ -72,7 +72,7 @@ pub fn entries_going<K: Keeper>(
     }
 }
 
-/// The rows of entries that come. Asks that their numbers have columns. Refused for want of memory alone.
+/// The rows of entries that come. Asks that their numbers have columns. Fails only if memory runs out.
 pub fn entries_coming(alloc: Global, edit: &HeldEdit) -> Result<Vec<EntryRow>, AllocError>
     requires { HeldEntriesFit edit.now }
     ensures { IfOk result (λ rows. rows.items ≡ entries_coming edit.now) }
@@ -86,7 +86,7 @@ pub fn entries_coming(alloc: Global, edit: &HeldEdit) -> Result<Vec<EntryRow>, A
 
 // ---- publishers
 
-/// The rows of publishers that go. Refused for want of memory alone.
+/// The rows of publishers that go. Fails only if memory runs out.
 pub fn publishers_going<K: Keeper>(
     alloc: Global,
     edit: &HeldEdit,
@@ -101,7 +101,7 @@ pub fn publishers_going<K: Keeper>(
     }
 }
 
-/// The rows of publishers that come. Refused for want of memory alone.
+/// The rows of publishers that come. Fails only if memory runs out.
 pub fn publishers_coming(alloc: Global, edit: &HeldEdit) -> Result<Vec<PublisherRow>, AllocError>
     ensures { IfOk result (λ rows. rows.items ≡ publishers_coming edit.now) }
 {
@@ -114,7 +114,7 @@ pub fn publishers_coming(alloc: Global, edit: &HeldEdit) -> Result<Vec<Publisher
 
 // ---- peers
 
-/// The rows of peers that go. Refused for want of memory alone.
+/// The rows of peers that go. Fails only if memory runs out.
 pub fn peers_going<K: Keeper>(
     alloc: Global,
     edit: &HeldEdit,
@@ -129,7 +129,7 @@ pub fn peers_going<K: Keeper>(
     }
 }
 
-/// The rows of peers that come. Refused for want of memory alone.
+/// The rows of peers that come. Fails only if memory runs out.
 pub fn peers_coming(alloc: Global, edit: &HeldEdit) -> Result<Vec<PeerRow>, AllocError>
     ensures { IfOk result (λ rows. rows.items ≡ peers_coming edit.now) }
 {
@@ -142,7 +142,7 @@ pub fn peers_coming(alloc: Global, edit: &HeldEdit) -> Result<Vec<PeerRow>, Allo
 
 // ---- policies
 
-/// The rows of policies that go. Refused for want of memory alone.
+/// The rows of policies that go. Fails only if memory runs out.
 pub fn policies_going<K: Keeper>(
     alloc: Global,
     edit: &HeldEdit,
@@ -157,7 +157,7 @@ pub fn policies_going<K: Keeper>(
     }
 }
 
-/// The rows of policies that come. Refused for want of memory alone.
+/// The rows of policies that come. Fails only if memory runs out.
 pub fn policies_coming(alloc: Global, edit: &HeldEdit) -> Result<Vec<PolicyRow>, AllocError>
     ensures { IfOk result (λ rows. rows.items ≡ policies_coming edit.now) }
 {
@@ -181,7 +181,7 @@ fn the_policy(alloc: Global, policy: Option<&KeyedPolicy>) -> Result<Vec<PolicyR
 
 // ---- projects
 
-/// The rows of nodes that go. Refused for want of memory alone.
+/// The rows of nodes that go. Fails only if memory runs out.
 pub fn nodes_going<K: Keeper>(
     alloc: Global,
     edit: &HeldEdit,
@@ -195,7 +195,7 @@ pub fn nodes_going<K: Keeper>(
     }
 }
 
-/// The rows of nodes that come. Refused for want of memory alone.
+/// The rows of nodes that come. Fails only if memory runs out.
 pub fn nodes_coming(alloc: Global, edit: &HeldEdit) -> Result<Vec<NodeRow>, AllocError>
     ensures { IfOk result (λ rows. rows.items ≡ nodes_coming edit.now) }
 {
@@ -205,7 +205,7 @@ pub fn nodes_coming(alloc: Global, edit: &HeldEdit) -> Result<Vec<NodeRow>, Allo
     }
 }
 
-/// The rows of edges that go. Refused for want of memory alone.
+/// The rows of edges that go. Fails only if memory runs out.
 pub fn edges_going<K: Keeper>(
     alloc: Global,
     edit: &HeldEdit,
@@ -219,7 +219,7 @@ pub fn edges_going<K: Keeper>(
     }
 }
 
-/// The rows of edges that come. Refused for want of memory alone.
+/// The rows of edges that come. Fails only if memory runs out.
 pub fn edges_coming(alloc: Global, edit: &HeldEdit) -> Result<Vec<EdgeRow>, AllocError>
     ensures { IfOk result (λ rows. rows.items ≡ edges_coming edit.now) }
 {

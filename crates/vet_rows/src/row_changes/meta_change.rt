@@ -19,7 +19,7 @@ use vet_register::moves::Recording;
 use vet_register::register::Register;
 use vet_register::tool_settings::ToolSettings;
 
-/// The row of `meta` after a change. Asks that its numbers have columns. Refused for want of memory alone.
+/// The row of `meta` after a change. Asks that its numbers have columns. Fails only if memory runs out.
 pub fn meta_row_after<K: Keeper>(
     alloc: Global,
     register: &Register<K>,

@@ -24,7 +24,7 @@ pub fn recorded_moves(recording: &Recording) -> &[RecordedMove]
     }
 }
 
-/// The rows of the pairs that aren't demanded any more. Refused for want of memory alone.
+/// The rows of the pairs that aren't demanded any more. Fails only if memory runs out.
 pub fn standing_going(alloc: Global, moves: &[RecordedMove]) -> Result<Vec<StandingRow>, AllocError>
     ensures { IfOk result (λ rows. rows.items ≡ map moved_row (filter leaves moves.now)) }
 {
@@ -37,7 +37,7 @@ pub fn standing_going(alloc: Global, moves: &[RecordedMove]) -> Result<Vec<Stand
     Ok(rows)
 }
 
-/// The rows of the pairs that come to a class. Refused for want of memory alone.
+/// The rows of the pairs that come to a class. Fails only if memory runs out.
 pub fn standing_coming(
     alloc: Global,
     moves: &[RecordedMove],
@@ -66,8 +66,8 @@ fn moved_row(alloc: Global, recorded: &RecordedMove) -> Result<StandingRow, Allo
     })
 }
 
-/// The rows of moves that go: all, where a period begins. Asks that their steps are below 2^63. Refused for want of
-/// memory alone.
+/// The rows of moves that go: all, where a period begins. Asks that their steps are below 2^63. Fails only if memory
+/// runs out.
 pub fn moves_going(
     alloc: Global,
     recording: &Recording,

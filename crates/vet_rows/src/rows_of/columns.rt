@@ -20,7 +20,7 @@ use vet_demand::policy_key::PolicyKey;
 use vet_entries::entry::Source;
 use vet_graph::class::Class;
 
-/// The text of a version. Refused for want of memory alone.
+/// The text of a version. Fails only if memory runs out.
 pub fn version_column(alloc: Global, version: &VetVersion) -> Result<TextColumn, AllocError>
     ensures { IfOk result (λ column. column ≡ version_text version.now) }
 {
@@ -28,7 +28,7 @@ pub fn version_column(alloc: Global, version: &VetVersion) -> Result<TextColumn,
     TextColumn::of(alloc, text.as_str())
 }
 
-/// The text of a policy's key. Refused for want of memory alone.
+/// The text of a policy's key. Fails only if memory runs out.
 pub fn key_column(alloc: Global, key: &PolicyKey) -> Result<TextColumn, AllocError>
     ensures { IfOk result (λ column. column ≡ key_text key.now) }
 {
@@ -36,7 +36,7 @@ pub fn key_column(alloc: Global, key: &PolicyKey) -> Result<TextColumn, AllocErr
     TextColumn::of(alloc, text.as_str())
 }
 
-/// The name of the peer whose an entry is, empty for one's own. Refused for want of memory alone.
+/// The name of the peer whose an entry is, empty for one's own. Fails only if memory runs out.
 pub fn source_column(alloc: Global, source: &Source) -> Result<TextColumn, AllocError>
     ensures { IfOk result (λ column. column ≡ peer_of_source source.now) }
 {
@@ -46,28 +46,28 @@ pub fn source_column(alloc: Global, source: &Source) -> Result<TextColumn, Alloc
     }
 }
 
-/// The packed list of a set of names. Refused for want of memory alone.
+/// The packed list of a set of names. Fails only if memory runs out.
 pub fn names_column(alloc: Global, names: &Names) -> Result<BlobColumn, AllocError>
     ensures { IfOk result (λ column. column ≡ packed_names names.now) }
 {
     Ok(BlobColumn::of(pack_names(alloc, names)?))
 }
 
-/// The packed list of a set of packages. Refused for want of memory alone.
+/// The packed list of a set of packages. Fails only if memory runs out.
 pub fn packages_column(alloc: Global, packages: &PackageNames) -> Result<BlobColumn, AllocError>
     ensures { IfOk result (λ column. column ≡ packed_names packages.now) }
 {
     Ok(BlobColumn::of(pack_packages(alloc, packages)?))
 }
 
-/// The packed list of a set of texts. Refused for want of memory alone.
+/// The packed list of a set of texts. Fails only if memory runs out.
 pub fn texts_column(alloc: Global, texts: &Texts) -> Result<BlobColumn, AllocError>
     ensures { IfOk result (λ column. column ≡ packed_names texts.now) }
 {
     Ok(BlobColumn::of(pack_texts(alloc, texts)?))
 }
 
-/// A text that may be missing. Refused for want of memory alone.
+/// A text that may be missing. Fails only if memory runs out.
 pub fn text_or_none(alloc: Global, text: &Option<Text>) -> Result<BlobColumn, AllocError>
     ensures { IfOk result (λ column. column ≡ packed_option text.now) }
 {
@@ -77,7 +77,7 @@ pub fn text_or_none(alloc: Global, text: &Option<Text>) -> Result<BlobColumn, Al
     }
 }
 
-/// A set of names that may be missing. Refused for want of memory alone.
+/// A set of names that may be missing. Fails only if memory runs out.
 pub fn names_or_none(alloc: Global, names: &Option<Names>) -> Result<BlobColumn, AllocError>
     ensures { IfOk result (λ column. column ≡ packed_names_option names.now) }
 {

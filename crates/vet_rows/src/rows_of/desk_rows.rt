@@ -12,7 +12,7 @@ use std::alloc::{AllocError, Global};
 use vet_base::name::Name;
 use vet_desk::review::{Review, ReviewState};
 
-/// The row of a member. Refused for want of memory alone.
+/// The row of a member. Fails only if memory runs out.
 pub fn member_row(alloc: Global, member: &Name) -> Result<MemberRow, AllocError>
     ensures { IfOk result (λ row. row ≡ member_row member.now) }
 {
@@ -21,8 +21,8 @@ pub fn member_row(alloc: Global, member: &Name) -> Result<MemberRow, AllocError>
     })
 }
 
-/// The row of a review. Asks that its number, and that of the entry that finished it, are below 2^63. Refused for want
-/// of memory alone.
+/// The row of a review. Asks that its number, and that of the entry that finished it, are below 2^63. Fails only if
+/// memory runs out.
 pub fn review_row(alloc: Global, review: &Review) -> Result<ReviewRow, AllocError>
     requires { ReviewFits review.now }
     ensures { IfOk result (λ row. row ≡ review_row review.now) }
@@ -72,7 +72,7 @@ pub(crate) fn finishing_entry(state: &ReviewState) -> i64
     }
 }
 
-/// The rows of some members. Refused for want of memory alone.
+/// The rows of some members. Fails only if memory runs out.
 pub fn all_members(alloc: Global, members: &[Name]) -> Result<Vec<MemberRow>, AllocError>
     ensures { IfOk result (λ rows. rows.items ≡ map member_row members.now) }
 {
@@ -84,7 +84,7 @@ pub fn all_members(alloc: Global, members: &[Name]) -> Result<Vec<MemberRow>, Al
 }
 
 /// The rows of some reviews. Asks that their numbers, and those of the entries that finished them, are below 2^63.
-/// Refused for want of memory alone.
+/// Fails only if memory runs out.
 pub fn all_reviews(alloc: Global, reviews: &[Review]) -> Result<Vec<ReviewRow>, AllocError>
     requires { All ReviewFits reviews.now }
     ensures { IfOk result (λ rows. rows.items ≡ map review_row reviews.now) }

@@ -17,7 +17,7 @@ use vet_entries::kind::{Audit, Grant, Kind, Window};
 use vet_entries::publisher::Publisher;
 use vet_entries::publisher_records::PackagePublishers;
 
-/// The row of an entry. Asks that its number is below 2^63. Refused for want of memory alone.
+/// The row of an entry. Asks that its number is below 2^63. Fails only if memory runs out.
 pub fn entry_row(alloc: Global, held: &HeldEntry) -> Result<EntryRow, AllocError>
     requires { EntryFits held.now }
     ensures { IfOk result (λ row. row ≡ entry_row held.now) }
@@ -120,8 +120,8 @@ fn set_window(row: &mut EntryRow, window: Window)
     row.day2 = i64::from(window.last.number());
 }
 
-/// The rows of all entries: one's own, then those of each peer. Asks that their numbers are below 2^63. Refused for
-/// want of memory alone.
+/// The rows of all entries: one's own, then those of each peer. Asks that their numbers are below 2^63. Fails only if
+/// memory runs out.
 pub fn all_entries(alloc: Global, facts: &EntryFacts) -> Result<Vec<EntryRow>, AllocError>
     requires own { All EntryFits facts.now.content.entries }
     requires peers { All PeerFits facts.now.content.peers }
@@ -150,7 +150,7 @@ pub(crate) fn push_entries(
     Ok(())
 }
 
-/// The row of a publisher record of a package. Refused for want of memory alone.
+/// The row of a publisher record of a package. Fails only if memory runs out.
 pub fn publisher_row(
     alloc: Global,
     package: &PackageName,
@@ -168,7 +168,7 @@ pub fn publisher_row(
     })
 }
 
-/// The rows of the publisher records of some packages. Refused for want of memory alone.
+/// The rows of the publisher records of some packages. Fails only if memory runs out.
 pub fn all_publishers(
     alloc: Global,
     packages: &[PackagePublishers],

@@ -51,7 +51,7 @@ impl MapItem for DependencyItem {
     }
 }
 
-/// The packed list of the keys and the packed names of some items in turn. Refused for want of memory alone.
+/// The packed list of the keys and the packed names of some items in turn. Fails only if memory runs out.
 pub fn map_column<T: MapItem>(alloc: Global, items: &[T]) -> Result<BlobColumn, AllocError>
     ensures { IfOk result (λ column. column ≡ packed_map (map T.item_of items.now)) }
 {

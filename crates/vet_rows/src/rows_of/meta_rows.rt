@@ -9,7 +9,7 @@ use std::alloc::{AllocError, Global};
 use vet_graph::keeper::Keeper;
 use vet_register::register::Register;
 
-/// The row of `meta`. Refused for want of memory alone.
+/// The row of `meta`. Fails only if memory runs out.
 pub fn meta_row<K: Keeper>(alloc: Global, register: &Register<K>) -> Result<MetaRow, AllocError>
     ensures { IfOk result (λ row. row ≡ meta_row register.now.state) }
 {

@@ -11,7 +11,7 @@ use std::alloc::{AllocError, Global};
 use vet_base::name::PackageName;
 use vet_demand::project::{Edge, EdgeKind, NamedProject, Node, Party};
 
-/// The row of a node of a project. Refused for want of memory alone.
+/// The row of a node of a project. Fails only if memory runs out.
 pub fn node_row(alloc: Global, project: &PackageName, node: &Node) -> Result<NodeRow, AllocError>
     ensures { IfOk result (λ row. row ≡ node_row project.now node.now) }
 {
@@ -23,8 +23,8 @@ pub fn node_row(alloc: Global, project: &PackageName, node: &Node) -> Result<Nod
     })
 }
 
-/// The row of an edge of a project with these nodes. Asks that the edge is between two of them. Refused for want of
-/// memory alone.
+/// The row of an edge of a project with these nodes. Asks that the edge is between two of them. Fails only if memory
+/// runs out.
 pub fn edge_row(
     alloc: Global,
     project: &PackageName,
@@ -68,7 +68,7 @@ fn kind_number(kind: EdgeKind) -> i64
     }
 }
 
-/// The rows of the nodes of some projects. Refused for want of memory alone.
+/// The rows of the nodes of some projects. Fails only if memory runs out.
 pub fn all_nodes(alloc: Global, projects: &[NamedProject]) -> Result<Vec<NodeRow>, AllocError>
     ensures { IfOk result (λ rows. rows.items ≡ flat_map node_rows projects.now) }
 {
@@ -93,7 +93,7 @@ pub(crate) fn push_nodes(
     Ok(())
 }
 
-/// The rows of the edges of some projects. Refused for want of memory alone.
+/// The rows of the edges of some projects. Fails only if memory runs out.
 pub fn all_edges(alloc: Global, projects: &[NamedProject]) -> Result<Vec<EdgeRow>, AllocError>
     ensures { IfOk result (λ rows. rows.items ≡ flat_map edge_rows projects.now) }
 {

@@ -22,7 +22,7 @@ use vet_entries::held_peer::HeldPeer;
 use vet_entries::peer_settings::PeerSettings;
 use vet_register::held_files::further_at;
 
-/// The row of a criterion of a peer; the name of the peer is empty for one's own. Refused for want of memory alone.
+/// The row of a criterion of a peer; the name of the peer is empty for one's own. Fails only if memory runs out.
 pub fn criterion_row(
     alloc: Global,
     peer: &str,
@@ -46,7 +46,7 @@ pub fn is_further(criterion: &Criterion) -> bool
     !is_built_in(&criterion.name)
 }
 
-/// The rows of all criteria that aren't built in: one's own, then those of each peer. Refused for want of memory alone.
+/// The rows of all criteria that aren't built in: one's own, then those of each peer. Fails only if memory runs out.
 pub fn all_criteria(alloc: Global, facts: &EntryFacts) -> Result<Vec<CriterionRow>, AllocError>
     ensures { IfOk result (λ rows. rows.items ≡ all_criteria facts.now.content) }
 {
@@ -63,7 +63,7 @@ pub fn all_criteria(alloc: Global, facts: &EntryFacts) -> Result<Vec<CriterionRo
     Ok(rows)
 }
 
-/// The rows of one's own criteria that aren't built in. Refused for want of memory alone.
+/// The rows of one's own criteria that aren't built in. Fails only if memory runs out.
 pub(crate) fn own_criteria(
     alloc: Global,
     table: &CriteriaTable,
@@ -111,7 +111,7 @@ pub(crate) fn push_criteria(
     Ok(())
 }
 
-/// The row of a peer. Refused for want of memory alone.
+/// The row of a peer. Fails only if memory runs out.
 pub fn peer_row(alloc: Global, settings: &PeerSettings) -> Result<PeerRow, AllocError>
     ensures { IfOk result (λ row. row ≡ peer_row settings.now) }
 {
@@ -123,7 +123,7 @@ pub fn peer_row(alloc: Global, settings: &PeerSettings) -> Result<PeerRow, Alloc
     })
 }
 
-/// The row of a policy. Refused for want of memory alone.
+/// The row of a policy. Fails only if memory runs out.
 pub fn policy_row(alloc: Global, held: &KeyedPolicy) -> Result<PolicyRow, AllocError>
     ensures { IfOk result (λ row. row ≡ policy_row held.now) }
 {
@@ -138,7 +138,7 @@ pub fn policy_row(alloc: Global, held: &KeyedPolicy) -> Result<PolicyRow, AllocE
     })
 }
 
-/// The rows of some peers. Refused for want of memory alone.
+/// The rows of some peers. Fails only if memory runs out.
 pub fn all_peers(alloc: Global, peers: &[HeldPeer]) -> Result<Vec<PeerRow>, AllocError>
     ensures { IfOk result (λ rows. rows.items ≡ map (λ peer. peer_row peer.settings) peers.now) }
 {
@@ -149,7 +149,7 @@ pub fn all_peers(alloc: Global, peers: &[HeldPeer]) -> Result<Vec<PeerRow>, Allo
     Ok(rows)
 }
 
-/// The rows of some policies. Refused for want of memory alone.
+/// The rows of some policies. Fails only if memory runs out.
 pub fn all_policies(alloc: Global, policies: &[KeyedPolicy]) -> Result<Vec<PolicyRow>, AllocError>
     ensures { IfOk result (λ rows. rows.items ≡ map policy_row policies.now) }
 {

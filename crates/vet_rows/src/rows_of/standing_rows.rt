@@ -16,7 +16,7 @@ use vet_graph::laws::each_pair_has_its_class;
 use vet_register::moves::RecordedMove;
 use vet_register::register::Register;
 
-/// The row of a pair that stands in a class. Refused for want of memory alone.
+/// The row of a pair that stands in a class. Fails only if memory runs out.
 pub fn standing_row(alloc: Global, pair: &Pair, class: Class) -> Result<StandingRow, AllocError>
     ensures { IfOk result (λ row. row ≡ standing_row (record { pair = pair.now; class = class })) }
 {
@@ -28,7 +28,7 @@ pub fn standing_row(alloc: Global, pair: &Pair, class: Class) -> Result<Standing
     })
 }
 
-/// The row of a recorded move. Asks that its step is below 2^63. Refused for want of memory alone.
+/// The row of a recorded move. Asks that its step is below 2^63. Fails only if memory runs out.
 pub fn move_row(alloc: Global, recorded: &RecordedMove) -> Result<MoveRow, AllocError>
     requires { MoveFits recorded.now }
     ensures { IfOk result (λ row. row ≡ move_row recorded.now) }
@@ -45,7 +45,7 @@ pub fn move_row(alloc: Global, recorded: &RecordedMove) -> Result<MoveRow, Alloc
     })
 }
 
-/// The rows of a register's standing. Costs a binary search for each demanded pair. Refused for want of memory alone.
+/// The rows of a register's standing. Costs a binary search for each demanded pair. Fails only if memory runs out.
 pub fn all_standing<K: Keeper>(
     alloc: Global,
     register: &Register<K>,
@@ -62,7 +62,7 @@ pub fn all_standing<K: Keeper>(
     Ok(rows)
 }
 
-/// The rows of some recorded moves. Asks that their steps are below 2^63. Refused for want of memory alone.
+/// The rows of some recorded moves. Asks that their steps are below 2^63. Fails only if memory runs out.
 pub fn all_moves(alloc: Global, moves: &[RecordedMove]) -> Result<Vec<MoveRow>, AllocError>
     requires { All MoveFits moves.now }
     ensures { IfOk result (λ rows. rows.items ≡ map move_row moves.now) }
