@@ -3,6 +3,8 @@ use Rattle.std.proofs.Common.{Bool, List, [], ap, false, inl, inr, refl, subst, 
 use Rattle.std.proofs.Common.{sym, true, ◌&&◌, ◌||◌, ◌∙◌, ◌∷◌, ◌≡◌}
 use Rattle.std.specs.Bool.{Decides}
 use Rattle.std.specs.List.{list_all, list_any}
+use Rattle.std.specs.Ordering.{eq_by_cmp}
+use Rattle.std.specs.declared.cmp.Ordering.{Ordering}
 use Rattle.std.proofs.lemmas.Bool.{false≢true}
 use Rattle.std.proofs.lemmas.Bool.Decides.{Decides-and, Decides-like}
 use Rattle.vet_rows.specs.Rows.{RowsValue}
@@ -52,6 +54,16 @@ module _ {X : Type 0} (eq : X → X → Bool) (only : (a b : X) → Decides (eq 
       → Decides r (SameItems xs ys)
   same_decides xs ys r is = subst (λ b. Decides b (SameItems xs ys)) (sym is)
       (Decides-and _ _ (among_decides xs ys) (among_decides ys xs))
+
+-- where equal items are those that tie in an order
+pub same_by_order : {X : Type 0} (eq : X → X → Bool) (cmp : X → X → Ordering)
+    → ((a b : X) → Decides (eq a b) (a ≡ b)) → ((a b : X) → eq a b ≡ eq_by_cmp cmp a b) → (xs ys : List X) (r : Bool)
+    → r ≡ (list_all (λ x. list_any (eq_by_cmp cmp x) ys) xs && list_all (λ x. list_any (eq_by_cmp cmp x) xs) ys)
+    → Decides r (SameItems xs ys)
+same_by_order {X} eq cmp only ties xs ys r is = same_decides (eq_by_cmp cmp) only_itself xs ys r is
+  where
+    only_itself : (a b : X) → Decides (eq_by_cmp cmp a b) (a ≡ b)
+    only_itself a b = subst (λ r. Decides r (a ≡ b)) (ties a b) (only a b)
 
 -- what is decided of the rows of a table that were read from some fields is decided of the table
 pub decided_table : {X : Type 0} (of : RowsValue → List X) (r : Bool) (xs ys : List X) (v a w b : RowsValue)

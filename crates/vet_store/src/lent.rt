@@ -1,7 +1,7 @@
 //! A lent item, as the key of a set.
 ghost use Rattle.std.specs.Prelude.{◌≡◌};
 
-use std::hash::{Hash, Hasher};
+use std::cmp::Ordering;
 use std::marker::Model;
 
 /// A lent item, seen as the item.
@@ -41,12 +41,26 @@ impl<'a, T: Eq> Eq for Lent<'a, T> {
     ghost laws = { T.Eq.laws };
 }
 
-impl<'a, T: Hash> Hash for Lent<'a, T> {
-    ghost hash_input = { T.hash_input };
+impl<'a, T: PartialOrd> PartialOrd for Lent<'a, T> {
+    ghost partial_cmp = { T.partial_cmp };
 
-    ghost respects_eq = { T.respects_eq };
+    ghost laws = { T.PartialOrd.laws };
 
-    fn hash<H: Hasher>(&self, state: &mut H) {
-        self.item.hash(state);
+    fn partial_cmp(&self, other: &Lent<'a, T>) -> Option<Ordering> {
+        self.item.partial_cmp(other.item)
+    }
+}
+
+impl<'a, T: Ord> Ord for Lent<'a, T> {
+    ghost cmp = { T.cmp };
+
+    ghost total = { T.Ord.total };
+
+    ghost matches_partial_cmp = { T.Ord.matches_partial_cmp };
+
+    ghost matches_eq = { T.Ord.matches_eq };
+
+    fn cmp(&self, other: &Lent<'a, T>) -> Ordering {
+        self.item.cmp(other.item)
     }
 }

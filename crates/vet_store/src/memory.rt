@@ -2,8 +2,8 @@
 //!
 //! What is kept in memory is what was written. So the tables have the register's rows after each command, whatever
 //! becomes of it. Over the kit's own store in memory the connection always serves, but a commit takes the longer the
-//! more is held. Over files in memory a commit costs the same however much that is. There a want of memory may end the
-//! connection, and then nobody can ask what its tables have.
+//! more is held. Over files in memory a commit costs the same however much that is. There the connection may end if
+//! memory runs out, and then nobody can ask what its tables have.
 ghost use Rattle.std.specs.Prelude.{◌≡◌, ◌<◌, ◌≤◌, IfErr, IfOk, IsTrue, length};
 ghost use Rattle.sqlite.specs.Files.{file_state};
 ghost use Rattle.sqlite.specs.Held.{state};

@@ -68,7 +68,7 @@ impl Disk for MemoryFile {
         false
     }
 
-    // Memory tells no lie, so it needs no secret.
+    // Memory returns what was written, so it needs no secret.
     fn key(&self) -> u64 {
         0
     }
@@ -134,7 +134,7 @@ pub fn connect_in_memory(alloc: Global) -> Result<Connection<MemoryFiles>, Refus
     }
 }
 
-// A want of memory as a fault of the file.
+// Running out of memory, as a fault of the file.
 fn counted(outcome: Result<(), AllocError>, faults: &mut u64) -> io::Result<()>
     ensures same { is_ok result ≡ is_ok outcome }
     ensures memory { finds_no_room result ≡ false }

@@ -49,7 +49,7 @@ impl<S: Alter + Drop> Refused<S> {
     }
 }
 
-/// What an error of the database is told as: `NoMemory` where memory was wanting, else `StoreRefused`.
+/// The refusal for an error of the database: `NoMemory` if memory ran out, otherwise `StoreRefused`.
 pub fn refusal_of(error: Error) -> Refusal
     ensures exact { result ≡ refusal_of error }
     ensures of_store { IsOfStore result }

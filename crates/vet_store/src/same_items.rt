@@ -1,21 +1,22 @@
 //! Lists of the same items, in whatever order.
 ghost use Rattle.std.specs.Bool.{Decides};
 ghost use Rattle.std.specs.List.{list_all, list_any};
+ghost use Rattle.std.specs.Ordering.{eq_by_cmp};
 ghost use Rattle.std.specs.Prelude.{◌≡◌, IfOk};
 ghost use Rattle.vet_base.specs.Items.{SameItems};
 
 use crate::lent::Lent;
 use std::alloc::{AllocError, Global};
-use std::collections::HashSet;
-use std::hash::Hash;
+use std::collections::BTreeSet;
 
 /// Values of which only one itself is equal to it.
-pub(crate) trait Exactly: Eq + Hash {
+pub(crate) trait Exactly: Ord {
     /// Only the value itself is equal to it.
     ghost only_itself: { (a b : Self) → Decides (Self.eq a b) (a ≡ b) };
 }
 
-/// Whether two lists have the same items. Costs two look-ups by a hash of each item, and copies none.
+/// Whether two lists have the same items. Costs two searches for each item among the others,
+/// in their order, and copies none.
 pub(crate) fn have_same_items<T: Exactly>(
     alloc: Global,
     xs: &[T],
@@ -28,9 +29,9 @@ pub(crate) fn have_same_items<T: Exactly>(
 
 // Whether each of some items equals one of the others.
 fn are_among<T: Exactly>(alloc: Global, xs: &[T], ys: &[T]) -> Result<bool, AllocError>
-    ensures { IfOk result (λ all. all ≡ list_all (λ x. list_any (T.eq x) ys.now) xs.now) }
+    ensures { IfOk result (λ all. all ≡ list_all (λ x. list_any (eq_by_cmp T.cmp x) ys.now) xs.now) }
 {
-    let mut seen = HashSet::new(alloc);
+    let mut seen = BTreeSet::new(alloc);
     'ys: for y in ys {
         let _ = seen.insert(Lent::of(y))?;
     }

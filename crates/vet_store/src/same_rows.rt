@@ -8,7 +8,7 @@ use crate::same_items::have_same_items;
 use std::alloc::{AllocError, Global};
 use vet_rows::rows::Rows;
 
-/// Whether each table has the same rows, in whatever order. Costs two look-ups by a hash of each row.
+/// Whether each table has the same rows, in whatever order. Costs two searches for each row, in an order.
 pub(crate) fn have_same_rows(alloc: Global, a: &Rows, b: &Rows) -> Result<bool, AllocError>
     ensures { IfOk result (λ same. Decides same (SameRows a.now b.now)) }
 {

@@ -24,7 +24,7 @@ use vet_base::refusal::Refusal;
 use vet_graph::keeper::Keeper;
 use vet_register::command::{Command, Outcome};
 
-/// A store that was made, and what the first commands were told.
+/// A store that was made, and the outcomes of the first commands.
 pub struct FirstRun<S: Alter, K: Keeper> {
     pub store: Store<S, K>,
     pub answers: Vec<Result<Outcome, Refusal>>,

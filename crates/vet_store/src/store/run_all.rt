@@ -1,7 +1,7 @@
 //! Commands are run one after the other: **the headline over commands**.
 //!
-//! **Whatever commands are run, the register is that of the machine which keeps alone the commands that were done, and
-//! each was told the same there. Each demanded pair stands in just the class that chains of entries give it, the five
+//! **Whatever commands are run, the register is that of the machine which keeps only the commands that were done, and
+//! each has the same outcome there. Each demanded pair is at exactly the class that chains of entries give it, the five
 //! classes add up to the demand, and each has what it had at first, with what came and without what went. An import or
 //! files whose content is held in their turn change nothing. The tables have the register's rows.**
 //!
@@ -29,9 +29,9 @@ use vet_graph::keeper::Keeper;
 use vet_register::command::{Command, Outcome};
 
 impl<S: Alter, K: Keeper> Store<S, K> {
-    /// Runs commands one after the other, whatever becomes of each, and answers what each was told in the state of its
-    /// turn, or that it met a want of memory or the store refused it. Of a store that is shut, each is told
-    /// `StoreRefused`. Room for the answers is taken first. Refused, with nothing run: `NoMemory`.
+    /// Runs commands one after the other, whatever becomes of each, and returns the outcome of each in the state of its
+    /// turn, unless memory ran out or the store refused it. Of a store that is shut, each returns `StoreRefused`. Room
+    /// for the outcomes is taken first. Refused, with nothing run: `NoMemory`.
     pub fn run_all(
         &mut self,
         alloc: Global,
@@ -66,7 +66,7 @@ impl<S: Alter, K: Keeper> Store<S, K> {
         answers
     }
 
-    // The same, told turn by turn.
+    // The same, turn by turn.
     fn run_each(
         &mut self,
         alloc: Global,
