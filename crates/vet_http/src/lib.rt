@@ -1,11 +1,11 @@
-//! Requests over HTTP, what is answered to them, and connections served over a store.
+//! Requests over HTTP, the replies to them, and connections served over a store.
 //!
-//! **The reply to a request, and the register after it, are those of the definition. Of a connection that is the
-//! request with which its bytes begin, or its first fault.**
+//! **The reply to a request, and the register after it, are those of the definition. The request of a connection is the
+//! one with which its bytes begin, or its first fault.**
 //!
-//! Scope of this crate: what is given and asked by a request, what is shown, what is told, and one connection after the
-//! other. The bytes of requests and replies are those of `vet_requests`, command documents those of `vet_documents`,
-//! and the names of both are given on. Sockets and their deadlines are the program's.
+//! Scope of this crate: what a request gives or asks for, the replies, and one connection after the other. The bytes of
+//! requests and replies are those of `vet_requests`, command documents those of `vet_documents`, and this crate
+//! reexports the names of both. Sockets and their deadlines are the program's.
 //!
 //! For example, `POST /commands` with `command = "add-member"` and `member = "ann"` is answered with 200 and `done 1
 //! moves 0`, and with 200 and `already` when it comes again.

@@ -140,7 +140,7 @@ fn write_reply<W: Write>(writer: &mut W, reply: &Reply) -> Result<Served, IoFaul
     })
 }
 
-/// The reply to what is told of a connection's bytes. Refused, with nothing changed: `NoMemory`.
+/// The reply to the request of a connection, or to its fault. Refused, with nothing changed: `NoMemory`.
 fn reply_to<S: Alter, K: Keeper>(
     alloc: Global,
     routes: &Routes,
@@ -204,7 +204,7 @@ pub fn serve_all<S: Alter, K: Keeper, R: Read, W: Write>(
     answers
 }
 
-/// Serves connections whose bytes are in memory. Nothing is asked of reads and writes: a slice tells what is left of
+/// Serves connections whose bytes are in memory. Nothing is assumed of reads and writes: a slice says what is left of
 /// it, and a vector what was written. A fault other than `Output` changes and writes nothing, and with that one, where
 /// a vector found no room, the front of the reply is written. Refused, with none served: `NoMemory`.
 pub fn serve_slices<S: Alter, K: Keeper>(

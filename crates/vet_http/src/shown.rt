@@ -1,7 +1,7 @@
-//! What is shown of a register.
+//! Replies that show a register.
 //!
-//! **Each reply is the one that its definition tells of the register's state and the target's parameters. The layout of
-//! a TOML body alone is free.**
+//! **Each reply is the one that its definition gives for the register's state and the target's parameters. Only the
+//! layout of a TOML body is free.**
 ghost use Rattle.std.specs.Option.{option_copied};
 ghost use Rattle.std.specs.Prelude.{◌≡◌, ◌⊎◌, IfErr, IfOk, Some, string_bytes};
 ghost use Rattle.vet_base.specs.Gives.{Gives};

@@ -1,7 +1,7 @@
-//! The replies to what is told: a refusal, or what came of a command.
+//! The replies to a command: its outcome, or a refusal.
 //!
-//! What a command was told is replied after its change is kept, where want of memory would be told too late. So room is
-//! taken before the command runs, and the reply is written into that. The same room serves where memory is wanting.
+//! An outcome is sent after the command's change is kept, when it is too late to answer that memory ran out. So room is
+//! taken before the command runs, and the reply is written into that room, also the one that says that memory ran out.
 ghost use Rattle.std.specs.Prelude.{◌≡◌, ◌⊎◌, ◌≤◌, [], IfOk, OnErr, length};
 ghost use Rattle.vet_http.specs.ReplyRoom.{HasRoom};
 ghost use Rattle.vet_requests.specs.Reply.{text_reply};
@@ -16,7 +16,7 @@ use vet_requests::content_type::ContentType;
 use vet_requests::reply::{Reply, room_for};
 use vet_requests::status::Status;
 
-/// The reply to a refusal. Refused for want of memory alone.
+/// The reply to a refusal. Fails only if memory runs out.
 #[tactic(auto, unfolding(crate::specs::Told::refusal_reply))]
 pub fn refusal_reply(alloc: Global, refusal: &Refusal) -> Result<Reply, AllocError>
     ensures { IfOk result (λ r. r ≡ refusal_reply refusal.now) }
@@ -65,7 +65,7 @@ impl ReplyRoom {
         Reply::in_room(text, Status::Ok, ContentType::Text, "", line.as_str())
     }
 
-    /// The reply to a refusal. Where memory is wanting for its text, it is the one that tells so. For `NoMemory` and
+    /// The reply to a refusal. If memory runs out for its text, it is the reply that says so. For `NoMemory` and
     /// `StoreRefused` it takes no memory.
     pub(crate) fn of_refusal(self, alloc: Global, refusal: &Refusal) -> Reply
         requires { HasRoom self }
@@ -90,7 +90,7 @@ impl ReplyRoom {
         }
     }
 
-    // The reply that tells of want of memory.
+    // The reply that says that memory ran out.
     #[tactic(auto, unfolding(crate::specs::Told::refusal_reply))]
     fn no_memory(self) -> Reply
         requires { HasRoom self }
@@ -100,7 +100,7 @@ impl ReplyRoom {
         self.of_line("refused 29 NoMemory\n")
     }
 
-    // The reply that tells of the store's refusal.
+    // The reply to the store's refusal.
     fn store_refused(self) -> Reply
         requires { HasRoom self }
         ensures { result ≡ refusal_reply Refusal.StoreRefused }
@@ -108,7 +108,7 @@ impl ReplyRoom {
         self.of_line("refused 30 StoreRefused\n")
     }
 
-    // The reply of a line that tells of either.
+    // The reply of the line of either.
     fn of_line(self, line: &str) -> Reply
         requires room { HasRoom self }
         requires short { length line.now ≤ MOST_OUTCOME_BYTES }

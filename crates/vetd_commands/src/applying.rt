@@ -40,7 +40,7 @@ use vetd_words::apply_words::{ApplyWords, apply_words};
 /// 8,388,609 bytes are read, by at most 10,000,000 reads.
 ///
 /// **What is printed is the outcome of the document's command in the one register whose rows stand in the tables of the
-/// database at the path, and the tables then have the rows of the state after it.** Refused, as told to its user, the
+/// database at the path, and the tables then have the rows of the state after it.** Refused, as its user reads it, the
 /// first that holds: `BadDay` of the text of the day, before anything is read; `NotARegister` where no file stands at
 /// the path or the tables have the rows of no register, and `StoreRefused` where no database can be opened or read
 /// there; what `read_command` refuses of the document; what the machine refuses of the command, and `StoreRefused`
@@ -161,7 +161,7 @@ fn bytes_of(text: Option<&str>) -> Option<&[u8]>
     }
 }
 
-/// Applies a document to the register at a path. Room for the line of the outcome is taken first, since it is told
+/// Applies a document to the register at a path. Room for the line of the outcome is taken first, since it is printed
 /// once the command is kept.
 fn apply_at<S: Alter + Drop, K: Keeper, D: Databases<S>>(
     alloc: Global,

@@ -23,10 +23,10 @@ use vetd_words::new_words::{NewWords, new_words};
 /// Answers the words of a new command, which come without the program's own name: makes a register in the database at
 /// their path. `created` goes to `writer`, as help does, and a refusal or clap's error to `errors`.
 ///
-/// **`created` is told of a register that stands in the tables, and outlasts a crash. After a refusal or a fault for
-/// want of memory the database holds what it held.** Refused, as told to its user: `StoreRefused` where no database
-/// can be opened or written there, and `NotARegister` where a table, an index or a view has a name of the register's
-/// tables. Faults: `NoMemory`, where nothing was written, and `Output`, where the front of the answer was.
+/// **If it prints `created`, the register is in the tables, and outlasts a crash. After a refusal, or if memory ran
+/// out, the database holds what it held.** Refused, as its user reads it: `StoreRefused` if no database can be opened
+/// or written there, and `NotARegister` if a table, an index or a view has a name of the register's tables. Faults:
+/// `NoMemory`, with nothing written, and `Output`, with a prefix of the answer written.
 pub fn new_run<T: AsStr, S: Alter + Drop, K: Keeper, D: Databases<S>, W: Write, E: Write>(
     alloc: Global,
     words: &[T],
@@ -59,7 +59,7 @@ pub fn new_run<T: AsStr, S: Alter + Drop, K: Keeper, D: Databases<S>, W: Write, 
     }
 }
 
-/// Makes a register at a path, and tells it.
+/// Makes a register at a path, and returns the line that says so.
 fn make_at<S: Alter + Drop, K: Keeper, D: Databases<S>>(
     alloc: Global,
     databases: &mut D,
@@ -82,7 +82,7 @@ fn make_at<S: Alter + Drop, K: Keeper, D: Databases<S>>(
     }
 }
 
-/// The line that is told of a register that was made.
+/// The line that says that a register was made.
 fn created(alloc: Global) -> Result<String, AllocError>
     ensures { IfOk result (λ text. string_bytes text ≡ created_line) }
 {

@@ -25,7 +25,7 @@ use vetd_words::view_words::{ViewCommand, ViewWords, view_words};
 /// text goes to `writer`, as help does, and a refusal or clap's error to `errors`.
 ///
 /// **What is printed shows the one register whose rows stand in the tables of the database at the path. Nothing is
-/// written there.** Refused, as told to its user: `NotARegister` where no file stands at the path, or the tables have
+/// written there.** Refused, as its user reads it: `NotARegister` if there is no file at the path, or the tables have
 /// the rows of no register, and `StoreRefused` where no database can be opened or read there. Faults: `NoMemory`, where
 /// nothing was written, and `Output`, where the front of the answer was.
 pub fn view_run<T: AsStr, S: Alter + Drop, K: Keeper, D: Databases<S>, W: Write, E: Write>(

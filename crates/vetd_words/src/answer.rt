@@ -17,7 +17,7 @@ use vet_requests::output::write_whole;
 /// The status of a run that printed its answer.
 pub const PRINTED: u8 = 0;
 
-/// The status of a run that told a refusal.
+/// The status of a run that printed a refusal.
 pub const REFUSED: u8 = 1;
 
 /// The status of a run that explained its command line.
@@ -60,7 +60,7 @@ pub fn explain<W: Write, E: Write>(
     Ok(EXPLAINED)
 }
 
-/// Writes the text that was told to the output, or the refusal to the errors. Want of memory is a fault.
+/// Writes the text to the output, or the refusal to the errors. Running out of memory is a fault.
 pub fn report<W: Write, E: Write>(
     alloc: Global,
     told: &Result<String, Refusal>,

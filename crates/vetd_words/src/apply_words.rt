@@ -11,8 +11,8 @@ use clap::{ArgMatches, Error};
 use std::alloc::Global;
 use std::convert::AsStr;
 
-/// What an apply command asks for: the database file at a path, the text of a day, and who gives the command, where
-/// that is told.
+/// What an apply command asks for: the database file at a path, the text of a day, and who gives the command, if that
+/// is said.
 #[derive(Clone, Copy)]
 pub struct ApplyWords<'a> {
     pub path: &'a str,

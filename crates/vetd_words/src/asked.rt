@@ -15,8 +15,7 @@ use std::convert::AsStr;
 use vet_base::refusal::Refusal;
 use vet_documents::register_file::RegisterFile;
 
-/// What a command asks for. A further command is a row here, a row in `line`, and the function that tells its
-/// line.
+/// What a command asks for. A further command is a row here, a row in `line`, and the function that makes its line.
 #[derive(Clone, Copy)]
 pub enum Asked<'a> {
     Class(ClassWords<'a>),
@@ -24,7 +23,7 @@ pub enum Asked<'a> {
 }
 
 impl Asked<'_> {
-    /// The line that is told of a file.
+    /// The line about a file.
     pub fn line(self, alloc: Global, file: &[u8]) -> Result<String, Refusal>
         ensures { Gives string_bytes (line_told self.entry file.now) result }
     {

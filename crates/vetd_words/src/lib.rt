@@ -1,8 +1,8 @@
-//! The command line of `vetd`: what its words ask for, what is told of one file, and how an answer is printed.
+//! The command line of `vetd`: what its words ask for, the line about one file, and how an answer is printed.
 //!
-//! **Words are a command just if clap takes them as that, and they ask for what their definition tells. The words and
+//! **Words are a command exactly if clap takes them as that, and they ask for what their definition says. The words and
 //! the input alone decide what `vetd class` and `vetd read` write, and their status. A run that ends with a fault wrote
-//! nothing, or, where a write failed, the front of that answer.**
+//! nothing or, if a write failed, a prefix of that answer.**
 //!
 //! Scope of this crate: the words of every command with their help, the line of a class, the counts of a file, and
 //! which text a command shows of a register. Registers in database files and clients are those of `vetd`.

@@ -54,7 +54,7 @@ pub fn command_run<S: AsStr, R: Read, W: Write, E: Write>(
     ensures unfailing { asked_by command (map S.text words.now) ≡ None
         → IfErr result (λ fault. (fault ≢ IoFault.Input) × (fault ≢ IoFault.Endless)) }
 
-    // `Endless` comes when the reads are spent, and where they are, nothing is told of a file.
+    // `Endless` comes when the reads are spent, and then nothing is printed of a file.
     ensures endless { result ≡ Err IoFault.Endless → reader.new.made ≡ MOST_READS }
     ensures spent { reader.old.made ≡ MOST_READS → asked_by command (map S.text words.now) ≢ None
         → (result ≡ Err IoFault.Endless) ⊎ (result ≡ Err IoFault.NoMemory) }
@@ -96,7 +96,7 @@ pub fn class_run<S: AsStr, R: Read, W: Write, E: Write>(
     ensures unfailing { asked_by CommandKind.Class (map S.text words.now) ≡ None
         → IfErr result (λ fault. (fault ≢ IoFault.Input) × (fault ≢ IoFault.Endless)) }
 
-    // `Endless` comes when the reads are spent, and where they are, nothing is told of a file.
+    // `Endless` comes when the reads are spent, and then nothing is printed of a file.
     ensures endless { result ≡ Err IoFault.Endless → reader.new.made ≡ MOST_READS }
     ensures spent { reader.old.made ≡ MOST_READS → asked_by CommandKind.Class (map S.text words.now) ≢ None
         → (result ≡ Err IoFault.Endless) ⊎ (result ≡ Err IoFault.NoMemory) }
@@ -137,7 +137,7 @@ pub fn read_run<S: AsStr, R: Read, W: Write, E: Write>(
     ensures unfailing { asked_by CommandKind.Read (map S.text words.now) ≡ None
         → IfErr result (λ fault. (fault ≢ IoFault.Input) × (fault ≢ IoFault.Endless)) }
 
-    // `Endless` comes when the reads are spent, and where they are, nothing is told of a file.
+    // `Endless` comes when the reads are spent, and then nothing is printed of a file.
     ensures endless { result ≡ Err IoFault.Endless → reader.new.made ≡ MOST_READS }
     ensures spent { reader.old.made ≡ MOST_READS → asked_by CommandKind.Read (map S.text words.now) ≢ None
         → (result ≡ Err IoFault.Endless) ⊎ (result ≡ Err IoFault.NoMemory) }
@@ -170,7 +170,7 @@ fn run<R: Read, W: Write, E: Write>(
         → Keeps (W.contents writer.old) (W.contents writer.new)
         × Keeps (E.contents errors.old) (E.contents errors.new)) }
 
-    // No more is read, and nothing where there is an error; one for want of memory is told as that.
+    // No more is read, and nothing if there is an error; running out of memory is reported as that.
     ensures bounded { TakesAtMost (MOST_INPUT_BYTES + 1)
         (heard R.remaining reader.old) (heard R.remaining reader.new) }
     ensures unread { IfErr asked.entry (λ _. reader.new ≡ reader.old) }
@@ -179,7 +179,7 @@ fn run<R: Read, W: Write, E: Write>(
     ensures memory { IfErr asked.entry (λ error. kind_of error ≡ ErrorKind.OutOfMemory
         → result ≡ Err IoFault.NoMemory) }
 
-    // `Endless` comes when the reads are spent, and where they are, nothing is told.
+    // `Endless` comes when the reads are spent, and then nothing is printed.
     ensures endless { result ≡ Err IoFault.Endless → reader.new.made ≡ MOST_READS }
     ensures spent { reader.old.made ≡ MOST_READS
         → IfOk asked.entry (λ _. result ≡ Err IoFault.Endless) }

@@ -17,8 +17,8 @@ pub const LAST_PORT: u32 = 65_535;
 /// The most connections for which a run may wait.
 pub const MOST_CONNECTIONS: u32 = 1_000_000;
 
-/// What a serve command asks for: a port, how many connections are waited for, and, where they are told, the database
-/// file at a path and the text of a day.
+/// What a serve command asks for: a port, how many connections it waits for, and, if they are said, the database file
+/// at a path and the text of a day.
 #[derive(Clone, Copy)]
 pub struct ServeWords<'a> {
     pub port: u16,

@@ -135,7 +135,7 @@ pub(crate) fn words_error(
     top_command(alloc)?.error(kind, message)
 }
 
-/// What clap gives of the words; where a word is too many, its error tells how a file is given.
+/// What clap makes of the words. If a word is too many, its error says how a file is given.
 pub(crate) fn matches_of<'a, S: AsStr>(
     alloc: Global,
     words: &'a [S],
@@ -165,7 +165,7 @@ fn matches_by_clap<'a, S: AsStr>(alloc: Global, words: &'a [S]) -> Result<ArgMat
     top_command(alloc)?.try_get_matches_from(words)
 }
 
-/// The error, or, where a word too many is why, one of the same kind that tells how a file is given.
+/// The error, or, if a word too many is why, one of the same kind that says how a file is given.
 fn hinted<S: AsStr>(alloc: Global, words: &[S], error: Error) -> Result<Error, AllocError>
     ensures { IfOk result (λ e. kind_of e ≡ kind_of error) }
 {

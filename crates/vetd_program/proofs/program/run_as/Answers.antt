@@ -150,7 +150,8 @@ returns-in-File-clause-help g c = c.command_run.ensures.help
 pub returns-in-File-clause-wrong : goal.returns-in-File-clause-wrong
 returns-in-File-clause-wrong g c = λ nothing none.
     let words = map g.T.AsStr.text c.args.words.now in
-    c.command_run.ensures.wrong (subst (λ (command : ProgramCommand). AsksNothing command words) c.in-File.is nothing) none
+    c.command_run.ensures.wrong
+    (subst (λ (command : ProgramCommand). AsksNothing command words) c.in-File.is nothing) none
 
 pub returns-in-New-clause-alone : goal.returns-in-New-clause-alone
 returns-in-New-clause-alone g c = λ other. refl
@@ -178,13 +179,15 @@ returns-in-Apply-clause-help g c = c.apply_run.ensures.help
 pub returns-in-Apply-clause-wrong : goal.returns-in-Apply-clause-wrong
 returns-in-Apply-clause-wrong g c = λ nothing none.
     let words = map g.T.AsStr.text c.args.words.now in
-    c.apply_run.ensures.wrong (subst (λ (command : ProgramCommand). AsksNothing command words) c.in-Apply.is nothing) none
+    c.apply_run.ensures.wrong
+    (subst (λ (command : ProgramCommand). AsksNothing command words) c.in-Apply.is nothing) none
 
 pub returns-in-Show-clause-alone : goal.returns-in-Show-clause-alone
 returns-in-Show-clause-alone g c = λ other. refl
 
 pub returns-in-Show-clause-unopened : goal.returns-in-Show-clause-unopened
-returns-in-Show-clause-unopened g c = λ kind is. absurd (let two : File kind ≡ Show c.in-Show.kind = sym is ∙ c.in-Show.is in cc)
+returns-in-Show-clause-unopened g c = λ kind is.
+    absurd (let two : File kind ≡ Show c.in-Show.kind = sym is ∙ c.in-Show.is in cc)
 
 pub returns-in-Show-clause-help : goal.returns-in-Show-clause-help
 returns-in-Show-clause-help g c = c.view_run.ensures.help
@@ -206,4 +209,5 @@ returns-in-Serve-clause-help g c = c.serve_run.ensures.help
 pub returns-in-Serve-clause-wrong : goal.returns-in-Serve-clause-wrong
 returns-in-Serve-clause-wrong g c = λ nothing none.
     let words = map g.T.AsStr.text c.args.words.now in
-    c.serve_run.ensures.wrong (subst (λ (command : ProgramCommand). AsksNothing command words) c.in-Serve.is nothing) none
+    c.serve_run.ensures.wrong
+    (subst (λ (command : ProgramCommand). AsksNothing command words) c.in-Serve.is nothing) none

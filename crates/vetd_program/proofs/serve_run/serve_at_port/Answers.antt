@@ -70,8 +70,8 @@ returns-then-sitting-clause-written g c =
     c.serve_each-sitting.new.listener c.listen.new.self c.in-Some.ensures c.close-2.ensures end classes
     ((network' ≡ c.args.network.now) × (last ≡ first)) served.0 served.1.1
     c.as_bytes.result.now c.tell_network-then-sitting.result _ _ _ _
-    (c.as_bytes.ensures.value ∙ c.in_ok-lines.ensures.listening) c.in_default.ensures.whole told.status told.told told.part
-    told.faults
+    (c.as_bytes.ensures.value ∙ c.in_ok-lines.ensures.listening) c.in_default.ensures.whole told.status told.told
+    told.part told.faults
 
 pub returns-in_err-write_whole-clause-written : goal.returns-in_err-write_whole-clause-written
 returns-in_err-write_whole-clause-written g c =

@@ -99,13 +99,13 @@ returns-in-None-clause-served g c =
     let more = step.1.0 in
     let both = replied_more turns more in
     let count = length-append came (arrival ∷ []) in
-    let none = none_at_loss clients c.args.service.now.day arrival more mid.register.state last.register.state c.clients.listener
-    c.serve_next.new.listener (sym step.1.1.1.0) step.1.1.0 in (
+    let none = none_at_loss clients c.args.service.now.day arrival more mid.register.state last.register.state
+    c.clients.listener c.serve_next.new.listener (sym step.1.1.1.0) step.1.1.0 in (
       record {
         came = came ++ arrival ∷ [];
         turns = turns ++ more;
-        one_by_one = serves_more clients c.args.service.now.day came turns more arrival first.register.state mid.register.state
-            last.register.state c.args.listener.now c.clients.listener c.serve_next.new.listener
+        one_by_one = serves_more clients c.args.service.now.day came turns more arrival first.register.state
+            mid.register.state last.register.state c.args.listener.now c.clients.listener c.serve_next.new.listener
             before.1.1.1.1.0 before.1.1.0 step.1.1.0;
         few = omega (arith, count, before.1.1.1.1.1.0);
         found = sym (lost_more came arrival before.1.1.1.1.0 ∙ sym step.1.1.1.0);

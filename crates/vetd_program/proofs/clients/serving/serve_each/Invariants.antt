@@ -17,8 +17,8 @@ invariant-clients g l = record {
   others : OthersStay (state g.S.Store l.fn.store.conn) (state g.S.Store l.store.conn);
   served : (came : List (Arrival g.row.N-Reader.Denot g.row.N-Writer.Denot)) × ((turns : List Turn) × (ServesEach
       (clients_of g.N.Network.may_listen g.N.Network.may_come g.N.Network.may_release g.N.Network.may_close
-      g.N.Reader.Read.remaining g.N.Writer.Write.contents) l.service.day l.fn.store.register.state l.fn.listener came turns
-      l.store.register.state l.listener × ((l.served ≡ replied turns) × ((is_lost came ≡ false)
+      g.N.Reader.Read.remaining g.N.Writer.Write.contents) l.service.day l.fn.store.register.state l.fn.listener came
+      turns l.store.register.state l.listener × ((l.served ≡ replied turns) × ((is_lost came ≡ false)
       × ((length came ≡ l._place)
       × LeavesWhereShut l.fn.store.shut l.store.shut (state g.S.Store l.store.conn) l.store.register.state turns)))));
 }
