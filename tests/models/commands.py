@@ -6,7 +6,7 @@ import urllib.parse
 
 from models.files import Content, Criterion, Entry, Files, Settings, content_of, record
 from models.held import BUILT_IN
-from models.projects import read_project
+from models.projects import read_project, table_of
 from models.refused import Refused
 from models.tables import audits_table, publisher_order
 from models.words import text_of
@@ -131,10 +131,20 @@ def drop_policy(held, words):
 
 
 def load_project(held, words):
-    project = read_project(urllib.parse.unquote(words[1]))
-    if words[0] in held.projects and held.projects[words[0]].lines() == project.lines():
+    return hold_project(held, words[0], urllib.parse.unquote(words[1]))
+
+
+def demand(held, words):
+    """The project whose root demands versions of a package."""
+    package, *versions = words
+    return hold_project(held, "app", table_of(*versions, package=package))
+
+
+def hold_project(held, name, table):
+    project = read_project(table)
+    if name in held.projects and held.projects[name].lines() == project.lines():
         return "already"
-    held.projects[words[0]] = project
+    held.projects[name] = project
 
 
 def drop_project(held, words):
@@ -254,6 +264,13 @@ def replace_files(held, words):
         held.contents[name] = Content(content.criteria, entries)
 
 
+# ---- periods
+
+
+def close_period(_held, _words):
+    """Changes nothing that is held."""
+
+
 COMMANDS = {
     "set-criterion": set_criterion,
     "remove-criterion": remove_criterion,
@@ -263,9 +280,11 @@ COMMANDS = {
     "set-policy": set_policy,
     "drop-policy": drop_policy,
     "load-project": load_project,
+    "demand": demand,
     "drop-project": drop_project,
     "set-peer": set_peer,
     "drop-peer": drop_peer,
     "import-peer": import_peer,
     "replace-files": replace_files,
+    "close-period": close_period,
 }

@@ -30,7 +30,7 @@ class Held:
         self.next_entry = self.next_review = 1
 
     def copy(self):
-        other = Held()
+        other = type(self)()
         for name, value in vars(self).items():
             setattr(other, name, dict(value) if isinstance(value, dict) else value)
         return other

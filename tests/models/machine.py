@@ -11,9 +11,18 @@ from models.words import word_of
 MOST_MOVES = 1_000_000
 
 
+def held_after(held, line):
+    """What is held after a command, and what the command is told if that was held already."""
+    day, word, *words = line.split(" ")
+    after = held.copy()
+    if word in DESK_COMMANDS:
+        return after, DESK_COMMANDS[word](after, day, words)
+    return after, COMMANDS[word](after, words)
+
+
 class Machine:
-    def __init__(self, limit=MOST_MOVES):
-        self.held, self.limit, self.step, self.moves = Held(), limit, 0, []
+    def __init__(self, limit=MOST_MOVES, held=None):
+        self.held, self.limit, self.step, self.moves = held or Held(), limit, 0, []
         # the class of each pair that was demanded when the period began
         self.first = []
 
@@ -21,10 +30,8 @@ class Machine:
         day, word, *words = line.split(" ")
         if word == "close-period":
             return self.closed()
-        after = self.held.copy()
         try:
-            at_desk = word in DESK_COMMANDS
-            held_as = DESK_COMMANDS[word](after, day, words) if at_desk else COMMANDS[word](after, words)
+            after, held_as = held_after(self.held, line)
         except Refused as refusal:
             return f"refused {refusal}"
         return held_as or self.done(day, word, words, after)

@@ -41,6 +41,14 @@ def read_project(table):
     return Project(parties, {(nodes[origin], nodes[target], kind) for origin, target, kind, _ in edges})
 
 
+def table_of(*versions, kind="normal", package="serde"):
+    """A dependency table by which a root demands these versions of a package."""
+    lines = [HEADER, "node,0,app,0.1.0,root"]
+    lines += [f"node,{at},{package},{version},third" for at, version in enumerate(versions, 1)]
+    lines += [f"edge,0,{at},{kind}," for at, _ in enumerate(versions, 1)]
+    return "".join(f"{line}\n" for line in lines)
+
+
 def word_of_table(lines):
     """The word of the table of these lines behind the header."""
     return urllib.parse.quote("\n".join([HEADER, *lines, ""]), safe=",")

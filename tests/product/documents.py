@@ -3,6 +3,7 @@
 import json
 from typing import NamedTuple
 
+from models.projects import table_of
 from models.words import text_of
 
 # how many words of a line say what an entry of a kind is about
@@ -50,14 +51,6 @@ def document(command, **keys):
 
 def entry(kind, package="serde", criteria="safe-to-deploy", **keys):
     return document("add-entry", package=package, kind=kind, criteria=criteria, **keys)
-
-
-def table_of(*versions, kind="normal", package="serde"):
-    """A dependency table by which a root demands these versions of a package."""
-    lines = ["what,n,p,q,r", "node,0,app,0.1.0,root"]
-    lines += [f"node,{at},{package},{version},third" for at, version in enumerate(versions, 1)]
-    lines += [f"edge,0,{at},{kind}," for at, _ in enumerate(versions, 1)]
-    return "".join(f"{line}\n" for line in lines)
 
 
 def demand_of(*versions):

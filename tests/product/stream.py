@@ -2,10 +2,13 @@
 
 from product.documents import given_of
 
-# the keepers of the classes over which `trials` runs a register: a further one is a word here
-KEEPERS = ("plain", "relay")
-# how it gives commands
-WAYS = ((), ("--together",))
+# the keepers over which `trials` runs a register: one that recomputes every class, and the one of `vetd`
+BOTH_KEEPERS = ("plain", "masks")
+# and one that passes everything on to a plain one
+KEEPERS = (*BOTH_KEEPERS, "relay")
+# how it gives commands to a register in a file, and to one in memory
+WAYS_IN_A_FILE = ((), ("--together",))
+WAYS = (*WAYS_IN_A_FILE, ("--ahead",))
 
 
 def framed(given):

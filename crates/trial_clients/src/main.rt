@@ -15,8 +15,8 @@ use std::{env, io};
 use trial_values::fault::Fault;
 use vet_base::day::Day;
 use vet_base::refusal::Refusal;
-use vet_graph::plain::PlainKeeper;
 use vet_http::serve::Connection;
+use vet_masks::keeper::MaskKeeper;
 use vet_requests::input::CountedReader;
 use vet_store::memory_file::MemoryFiles;
 use vetd_commands::databases::Databases;
@@ -124,7 +124,7 @@ fn serve<N: Network>(rt: &HostRuntime, awaited: &str, network: &mut N) -> Result
         "--day",
         DAY,
     ];
-    let run = program_run::<&str, MemoryFiles, PlainKeeper, NoDatabases, N, _, _, _>(
+    let run = program_run::<&str, MemoryFiles, MaskKeeper, NoDatabases, N, _, _, _>(
         rt.alloc(),
         &words[..],
         network,

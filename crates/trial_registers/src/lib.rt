@@ -4,6 +4,7 @@
 //! gives it the items. A register in memory is run here, and one in a file by the program.
 #![tactic(auto)]
 
+mod ahead;
 mod held;
 mod held_desk;
 mod held_projects;
@@ -11,6 +12,7 @@ mod held_settings;
 mod held_texts;
 pub mod input;
 pub mod items;
+mod noting;
 mod packed;
 mod print;
 pub mod relay;

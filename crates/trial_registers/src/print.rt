@@ -14,6 +14,7 @@ use vet_entries::publishers::Publishers;
 use vet_graph::keeper::Keeper;
 use vet_graph::moves::Move;
 use vet_graph::standing::Counts;
+use vet_graph::touched::Touched;
 use vet_register::command::Outcome;
 use vet_register::moves::RecordedMove;
 use vet_register::register::Register;
@@ -34,6 +35,25 @@ pub fn print_outcome(rt: &impl Print, outcome: Outcome) -> io::Result<()> {
         Outcome::Already(Some(number)) => println!(rt; "already {number}"),
         Outcome::Already(None) => println!(rt; "already"),
     }
+}
+
+/// Prints the packages that a command touches, if they were noted: a star for all of them.
+pub fn print_touched(rt: &impl Print, touched: Option<&Touched>) -> io::Result<()> {
+    let Some(touched) = touched else {
+        return Ok(());
+    };
+    match touched {
+        Touched::All => println!(rt; "touched *"),
+        Touched::Packages(names) => print_touched_packages(rt, names.as_slice()),
+    }
+}
+
+fn print_touched_packages(rt: &impl Print, names: &[PackageName]) -> io::Result<()> {
+    print!(rt; "touched")?;
+    for name in names {
+        print!(rt; " {name}")?;
+    }
+    println!(rt; "")
 }
 
 /// Prints what a register holds: its step, criteria, own entries, peers, publisher records, what a config file says to

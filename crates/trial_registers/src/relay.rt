@@ -12,7 +12,7 @@ use vet_graph::class::Class;
 use vet_graph::keeper::Keeper;
 use vet_graph::moves::Move;
 use vet_graph::plain::{PlainKeeper, PlainUpdate};
-use vet_graph::standing::Counts;
+use vet_graph::standing::{Counts, Stand};
 use vet_graph::touched::Touched;
 
 /// A keeper behind which a plain one stands.
@@ -76,6 +76,10 @@ impl Keeper for RelayKeeper {
         criterion: &Name,
     ) -> Option<Class> {
         self.plain.class(package, version, criterion)
+    }
+
+    fn stands(&self, alloc: Global) -> Result<Vec<&Stand>, Refusal> {
+        self.plain.stands(alloc)
     }
 
     fn counts(&self) -> Counts {

@@ -1,8 +1,10 @@
 //! A run of what stands on the input, over what runs commands.
 
+use crate::ahead::AheadRegister;
 use crate::held_texts::line_told;
 use crate::items::{Document, Item, Numbered, has_documents};
-use crate::print::{print_contents, print_outcome};
+use crate::noting::NotingRegister;
+use crate::print::{print_contents, print_outcome, print_touched};
 use crate::reports::{report, report_word};
 use crate::runs::Runs;
 use crate::setting::{behind_setting, limit_of};
@@ -24,11 +26,29 @@ pub enum How {
     Singly,
     /// One by one, and before each is printed what the register holds.
     Shown,
+    /// One by one to a register in memory, and before the answer to each that is done are printed the packages that it
+    /// touches.
+    Touched,
     /// As lists, each as long as no document between its commands is refused, and no line is given.
     Together,
+    /// As such lists to a register in memory, which prepares each command before it installs what the one before it
+    /// changes.
+    Ahead,
 }
 
-/// Gives items in their order to a register in memory, up to one that is refused for want of memory, and prints the
+impl How {
+    /// Whether commands can be given so to a register in memory alone.
+    pub fn asks_for_memory(self) -> bool {
+        self == How::Touched || self == How::Ahead
+    }
+
+    // Whether commands are given as lists.
+    fn gives_lists(self) -> bool {
+        self == How::Together || self == How::Ahead
+    }
+}
+
+/// Gives items in their order to a register in memory, up to one for which memory runs out, and prints the
 /// answers and, where there is a command, what the register holds in the end.
 pub fn run_in_memory<K: Keeper>(
     rt: &impl Print,
@@ -37,12 +57,34 @@ pub fn run_in_memory<K: Keeper>(
     how: How,
 ) -> io::Result<Ending> {
     match Register::<K>::new(alloc, limit_of(items)) {
-        Ok(mut register) => {
-            let ending = give_all::<K, Register<K>>(rt, alloc, &mut register, items, how)?;
-            print_end(rt, &register, has_documents(items), ending)
-        }
+        Ok(register) => run_as::<K>(rt, alloc, register, items, how),
         Err(refusal) => refused(rt, &Fault::Refused(refusal)),
     }
+}
+
+fn run_as<K: Keeper>(
+    rt: &impl Print,
+    alloc: Global,
+    register: Register<K>,
+    items: &[Numbered<'_>],
+    how: How,
+) -> io::Result<Ending> {
+    match how {
+        How::Touched => run_by::<K, _>(rt, alloc, NotingRegister::of(register), items, how),
+        How::Ahead => run_by::<K, _>(rt, alloc, AheadRegister::of(register), items, how),
+        _ => run_by::<K, _>(rt, alloc, register, items, how),
+    }
+}
+
+fn run_by<K: Keeper, R: Runs<K> + Drop>(
+    rt: &impl Print,
+    alloc: Global,
+    mut runs: R,
+    items: &[Numbered<'_>],
+    how: How,
+) -> io::Result<Ending> {
+    let ending = give_all::<K, R>(rt, alloc, &mut runs, items, how)?;
+    print_end(rt, runs.shown(), has_documents(items), ending)
 }
 
 /// Prints what is held at the end of a run, if it is shown and all items were understood.
@@ -61,7 +103,7 @@ pub fn print_end<K: Keeper>(
     Ok(ending)
 }
 
-/// Gives items in their order, up to one that is refused for want of memory or not understood, and prints the answers.
+/// Gives items in their order, up to one for which memory runs out or that isn't understood, and prints the answers.
 pub fn give_all<K: Keeper, R: Runs<K>>(
     rt: &impl Print,
     alloc: Global,
@@ -111,7 +153,7 @@ fn give_document<K: Keeper, R: Runs<K>>(
     }
     match command_of(alloc, document) {
         Ok(command) => {
-            if how == How::Together {
+            if how.gives_lists() {
                 return Ok(listed(list, command));
             }
             give_command::<K, R>(rt, alloc, runs, &command)
@@ -145,6 +187,7 @@ fn give_command<K: Keeper, R: Runs<K>>(
 ) -> io::Result<Given> {
     match runs.run_command(alloc, command) {
         Ok(outcome) => {
+            print_touched(rt, runs.touched())?;
             print_outcome(rt, outcome)?;
             Ok(Given::Answered)
         }

@@ -1,8 +1,9 @@
-//! What runs commands: a register that is held in memory, or a store that writes one to a database.
+//! What runs commands: a register in memory, or a store that writes one to a database.
 
 use std::alloc::Global;
 use vet_base::refusal::Refusal;
 use vet_graph::keeper::Keeper;
+use vet_graph::touched::Touched;
 use vet_register::command::{Command, Outcome};
 use vet_register::register::Register;
 
@@ -20,6 +21,9 @@ pub trait Runs<K: Keeper> {
 
     /// The register.
     fn shown(&self) -> &Register<K>;
+
+    /// The packages that the last command touches, where it was done and this is noted.
+    fn touched(&self) -> Option<&Touched>;
 }
 
 impl<K: Keeper> Runs<K> for Register<K> {
@@ -37,5 +41,9 @@ impl<K: Keeper> Runs<K> for Register<K> {
 
     fn shown(&self) -> &Register<K> {
         self
+    }
+
+    fn touched(&self) -> Option<&Touched> {
+        None
     }
 }

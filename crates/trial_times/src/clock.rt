@@ -3,14 +3,14 @@
 use std::alloc::Global;
 use std::time::{Clock, Instant};
 use trial_values::fault::Fault;
-use vet_graph::plain::PlainKeeper;
+use vet_graph::keeper::Keeper;
 use vet_register::command::{Command, Outcome};
 use vet_register::register::Register;
 
 /// Runs a command that was made for it, and prints how long that took and what came of it.
-pub fn timed_once(
+pub fn timed_once<K: Keeper>(
     rt: &(impl Clock + AllocGlobal + Print),
-    register: &mut Register<PlainKeeper>,
+    register: &mut Register<K>,
     what: &str,
     made: Result<Command, Fault>,
 ) -> Result<(), Fault> {
@@ -18,9 +18,9 @@ pub fn timed_once(
 }
 
 /// Runs a command that was made for it.
-pub fn done(
+pub fn done<K: Keeper>(
     alloc: Global,
-    register: &mut Register<PlainKeeper>,
+    register: &mut Register<K>,
     made: Result<Command, Fault>,
 ) -> Result<(), Fault> {
     register.run(alloc, &made?)?;
@@ -28,9 +28,9 @@ pub fn done(
 }
 
 /// Runs a command, and prints how long that took and what came of it.
-pub fn timed(
+pub fn timed<K: Keeper>(
     rt: &(impl Clock + AllocGlobal + Print),
-    register: &mut Register<PlainKeeper>,
+    register: &mut Register<K>,
     what: &str,
     command: &Command,
 ) -> Result<(), Fault> {

@@ -14,7 +14,7 @@ use std::alloc::Global;
 use std::time::Clock;
 use trial_values::fault::Fault;
 use vet_base::limits::MOST_MOVES;
-use vet_graph::plain::PlainKeeper;
+use vet_graph::keeper::Keeper;
 use vet_register::register::Register;
 
 // How many packages the project demands.
@@ -39,7 +39,10 @@ pub struct Reviews {
 }
 
 /// Times the rounds, and tells how many reviews there are in the end.
-pub fn run_reviews(rt: &(impl Clock + AllocGlobal + Print), reviews: Reviews) -> Result<(), Fault> {
+pub fn run_reviews<K: Keeper>(
+    rt: &(impl Clock + AllocGlobal + Print),
+    reviews: Reviews,
+) -> Result<(), Fault> {
     let Reviews { count, rounds } = reviews;
     if rounds == 0 {
         return Err(Fault::NotUnderstood);
@@ -49,7 +52,7 @@ pub fn run_reviews(rt: &(impl Clock + AllocGlobal + Print), reviews: Reviews) ->
     if apart < FOR_A_ROUND {
         return Err(Fault::NotUnderstood);
     }
-    let mut register = register_of(rt.alloc(), opened)?;
+    let mut register = register_of::<K>(rt.alloc(), opened)?;
     for round in 0..rounds {
         run_round(rt, &mut register, round, waiting_from(round, apart))?;
     }
@@ -65,15 +68,15 @@ fn waiting_from(round: usize, apart: usize) -> usize {
 }
 
 // A register at whose desk so many reviews were opened, all of the one pair that is demanded.
-fn register_of(alloc: Global, opened: usize) -> Result<Register<PlainKeeper>, Fault> {
+fn register_of<K: Keeper>(alloc: Global, opened: usize) -> Result<Register<K>, Fault> {
     let mut register = Register::new(alloc, MOST_MOVES)?;
     open_reviews(alloc, &mut register, opened)?;
     Ok(register)
 }
 
-fn open_reviews(
+fn open_reviews<K: Keeper>(
     alloc: Global,
-    register: &mut Register<PlainKeeper>,
+    register: &mut Register<K>,
     opened: usize,
 ) -> Result<(), Fault> {
     done(alloc, register, load_project(alloc, DEMANDED))?;
@@ -86,9 +89,9 @@ fn open_reviews(
 }
 
 // Of four reviews in a row the first waits on.
-fn change_state(
+fn change_state<K: Keeper>(
     alloc: Global,
-    register: &mut Register<PlainKeeper>,
+    register: &mut Register<K>,
     place: usize,
 ) -> Result<(), Fault> {
     let review = number_at(place);
@@ -100,9 +103,9 @@ fn change_state(
     }
 }
 
-fn assign_and_finish(
+fn assign_and_finish<K: Keeper>(
     alloc: Global,
-    register: &mut Register<PlainKeeper>,
+    register: &mut Register<K>,
     review: u64,
 ) -> Result<(), Fault> {
     done(alloc, register, assign_review(alloc, review))?;
@@ -110,9 +113,9 @@ fn assign_and_finish(
 }
 
 // The commands of a round, of three reviews that wait, from the one at this place on.
-fn run_round(
+fn run_round<K: Keeper>(
     rt: &(impl Clock + AllocGlobal + Print),
-    register: &mut Register<PlainKeeper>,
+    register: &mut Register<K>,
     round: usize,
     place: usize,
 ) -> Result<(), Fault> {
@@ -126,9 +129,9 @@ fn run_round(
 }
 
 // Opens a review, and finishes another one by an entry that is held.
-fn run_held(
+fn run_held<K: Keeper>(
     rt: &(impl Clock + AllocGlobal + Print),
-    register: &mut Register<PlainKeeper>,
+    register: &mut Register<K>,
     review: u64,
 ) -> Result<(), Fault> {
     let alloc = rt.alloc();
@@ -138,9 +141,9 @@ fn run_held(
 }
 
 // Finishes a review by an entry that is added, and withdraws another one.
-fn run_other(
+fn run_other<K: Keeper>(
     rt: &(impl Clock + AllocGlobal + Print),
-    register: &mut Register<PlainKeeper>,
+    register: &mut Register<K>,
     finished: u64,
     withdrawn: u64,
     round: usize,
@@ -157,9 +160,9 @@ fn run_other(
 }
 
 // The commands of a round that are not the desk's.
-fn run_beside(
+fn run_beside<K: Keeper>(
     rt: &(impl Clock + AllocGlobal + Print),
-    register: &mut Register<PlainKeeper>,
+    register: &mut Register<K>,
     round: usize,
 ) -> Result<(), Fault> {
     let alloc = rt.alloc();
@@ -169,7 +172,7 @@ fn run_beside(
 }
 
 // Drops the entry that was added last.
-fn drop_last_entry(alloc: Global, register: &mut Register<PlainKeeper>) -> Result<(), Fault> {
+fn drop_last_entry<K: Keeper>(alloc: Global, register: &mut Register<K>) -> Result<(), Fault> {
     match register.entries().last() {
         Some(held) => {
             let dropped = drop_entry(held.number);

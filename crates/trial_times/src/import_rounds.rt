@@ -11,7 +11,7 @@ use std::time::Clock;
 use trial_values::fault::Fault;
 use vet_base::limits::MOST_MOVES;
 use vet_entries::peer_content::PeerContent;
-use vet_graph::plain::PlainKeeper;
+use vet_graph::keeper::Keeper;
 use vet_register::command::Command;
 use vet_register::register::Register;
 
@@ -25,7 +25,7 @@ pub struct Sizes {
 }
 
 /// Tells how much each file of a text holds, and times the rounds of commands.
-pub fn run_imports(
+pub fn run_imports<K: Keeper>(
     rt: &(impl Clock + AllocGlobal + Print),
     sizes: Sizes,
     text: &str,
@@ -36,15 +36,15 @@ pub fn run_imports(
         return Ok(());
     }
     let imports = imports_of(rt.alloc(), contents)?;
-    run_rounds(rt, sizes, imports.as_slice())
+    run_rounds::<K>(rt, sizes, imports.as_slice())
 }
 
-fn run_rounds(
+fn run_rounds<K: Keeper>(
     rt: &(impl Clock + AllocGlobal + Print),
     sizes: Sizes,
     imports: &[Command],
 ) -> Result<(), Fault> {
-    let mut register = register_of(rt.alloc(), sizes.own)?;
+    let mut register = register_of::<K>(rt.alloc(), sizes.own)?;
     for round in 0..sizes.rounds {
         run_round(rt, &mut register, round, imports)?;
     }
@@ -71,15 +71,15 @@ fn imports_of(alloc: Global, contents: Vec<PeerContent>) -> Result<Vec<Command>,
 }
 
 // A register of one demanded pair and one own entry of each of some packages.
-fn register_of(alloc: Global, own: usize) -> Result<Register<PlainKeeper>, Fault> {
+fn register_of<K: Keeper>(alloc: Global, own: usize) -> Result<Register<K>, Fault> {
     let mut register = Register::new(alloc, MOST_MOVES)?;
     add_entries(alloc, &mut register, own)?;
     Ok(register)
 }
 
-fn add_entries(
+fn add_entries<K: Keeper>(
     alloc: Global,
-    register: &mut Register<PlainKeeper>,
+    register: &mut Register<K>,
     own: usize,
 ) -> Result<(), Fault> {
     done(alloc, register, load_project(alloc, own))?;
@@ -89,9 +89,9 @@ fn add_entries(
     Ok(())
 }
 
-fn run_round(
+fn run_round<K: Keeper>(
     rt: &(impl Clock + AllocGlobal + Print),
-    register: &mut Register<PlainKeeper>,
+    register: &mut Register<K>,
     round: usize,
     imports: &[Command],
 ) -> Result<(), Fault> {
@@ -108,9 +108,9 @@ fn run_round(
 }
 
 // The commands of a round behind its imports.
-fn run_beside(
+fn run_beside<K: Keeper>(
     rt: &(impl Clock + AllocGlobal + Print),
-    register: &mut Register<PlainKeeper>,
+    register: &mut Register<K>,
     round: usize,
 ) -> Result<(), Fault> {
     let alloc = rt.alloc();
@@ -119,9 +119,9 @@ fn run_beside(
     timed_once(rt, register, "drop-peer", drop_peer(alloc))
 }
 
-fn import_all(
+fn import_all<K: Keeper>(
     rt: &(impl Clock + AllocGlobal + Print),
-    register: &mut Register<PlainKeeper>,
+    register: &mut Register<K>,
     imports: &[Command],
 ) -> Result<(), Fault> {
     for import in imports {

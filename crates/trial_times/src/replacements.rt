@@ -8,17 +8,17 @@ use std::alloc::Global;
 use std::time::Clock;
 use trial_values::fault::Fault;
 use vet_base::limits::MOST_MOVES;
-use vet_graph::plain::PlainKeeper;
+use vet_graph::keeper::Keeper;
 use vet_register::register::Register;
 
 /// Times the rounds of replacements by the files of a text.
-pub fn run_replacements(
+pub fn run_replacements<K: Keeper>(
     rt: &(impl Clock + AllocGlobal + Print),
     rounds: usize,
     text: &str,
 ) -> Result<(), Fault> {
     let (tables, rest) = tables_before(text)?;
-    let mut register = register_of(rt.alloc(), tables)?;
+    let mut register = register_of::<K>(rt.alloc(), tables)?;
     let files = files_of(rt.alloc(), rest)?;
     for _round in 0..rounds {
         run_round(rt, &mut register, files.as_slice())?;
@@ -27,7 +27,7 @@ pub fn run_replacements(
 }
 
 // A register of the projects that some tables state, and of nothing else.
-fn register_of(alloc: Global, tables: &str) -> Result<Register<PlainKeeper>, Fault> {
+fn register_of<K: Keeper>(alloc: Global, tables: &str) -> Result<Register<K>, Fault> {
     let mut register = Register::new(alloc, MOST_MOVES)?;
     for (place, table) in tables.split(BETWEEN_FILES).enumerate() {
         done(alloc, &mut register, load_table(alloc, place, table))?;
@@ -35,18 +35,18 @@ fn register_of(alloc: Global, tables: &str) -> Result<Register<PlainKeeper>, Fau
     Ok(register)
 }
 
-fn run_round(
+fn run_round<K: Keeper>(
     rt: &(impl Clock + AllocGlobal + Print),
-    register: &mut Register<PlainKeeper>,
+    register: &mut Register<K>,
     files: &[FileTexts<'_>],
 ) -> Result<(), Fault> {
     replace_all(rt, register, files)?;
     timed_once(rt, register, "plan", set_criterion(rt.alloc()))
 }
 
-fn replace_all(
+fn replace_all<K: Keeper>(
     rt: &(impl Clock + AllocGlobal + Print),
-    register: &mut Register<PlainKeeper>,
+    register: &mut Register<K>,
     files: &[FileTexts<'_>],
 ) -> Result<(), Fault> {
     for texts in files {

@@ -12,8 +12,8 @@ use std::{env, io};
 use trial_values::fault::Fault;
 use vet_base::day::Day;
 use vet_base::limits::MOST_MOVES;
-use vet_graph::plain::PlainKeeper;
 use vet_http::io_fault::IoFault;
+use vet_masks::keeper::MaskKeeper;
 use vet_store::memory::run_in_memory_files;
 
 mod loopback;
@@ -48,7 +48,7 @@ fn run_whole(rt: &HostRuntime) -> Result<(), Fault> {
 // Serves the requests by a new register, in one of the two ways.
 fn serve_requests(rt: &HostRuntime, how: &str, requests: &[String]) -> Result<(), Fault> {
     let day = Day::parse(DAY)?;
-    let mut first = run_in_memory_files::<PlainKeeper>(rt.alloc(), MOST_MOVES, &[])?;
+    let mut first = run_in_memory_files::<MaskKeeper>(rt.alloc(), MOST_MOVES, &[])?;
     let mut writer = io::writer(rt);
     if how == "slices" {
         return serve_together(rt.alloc(), &mut first.store, day, requests, &mut writer);

@@ -1,18 +1,21 @@
 //! The program of tests and benches, no part of the product. Its first word says what it does.
 //!
-//! A keeper of the classes, `plain` or `relay`, has what stands on standard input given to a register that it makes
-//! with this keeper: in their order lines, and command documents as `vetd apply` takes them, each behind a line that
-//! tells its day, how many bytes it has, and its member (`items`). The answers are printed, and where there is a
+//! With a keeper of the classes, `plain`, `masks` or `relay`, it makes a register that has this keeper, and gives it
+//! what is on standard input: in their order lines, and command documents as `vetd apply` takes them, each behind a
+//! line that says its day, how many bytes it has, and its member (`items`). It prints the answers and, where there is a
 //! document, in the end what the register holds. The first line may set a limit (`setting`). The others ask for values
 //! (`values` and the modules that it names), for reports (`reports`) and for files of what is held (`held_texts`).
 //! Behind the keeper may stand `--contents`, which prints also before each document what is held, or `--together`,
 //! which gives the commands as lists. Last may stand `--db PATH`, for a register that it makes in a database file, or
-//! `--db-open PATH`, for the one that is in such a file.
+//! `--db-open PATH`, for the one that is in such a file. A register in memory takes two flags more. `--touched` prints
+//! before each answer to a command that is done a line of the packages that it touches, or a star for all of them.
+//! `--ahead` gives the commands as lists, and has each prepared before the change of the one before it is installed.
 //!
-//! `demand` has no register, asks what projects demand, and has the lines of `workspace`, with the words of `policies`
-//! and `projects`. Where memory is wanting, the run ends with that refusal and what the register holds then, and with
-//! status 1. So it does where no register is made or opened. At other words, an input that can't be read, or a line
-//! that isn't understood, a message goes to standard error, with status 2.
+//! `looks PACKAGE` has a register in memory, and prints how many looks at steps its keeper makes (`looks`). `demand`
+//! has no register, asks what projects demand, and has the lines of `workspace`, with the words of `policies` and
+//! `projects`. If memory runs out, the run ends with that refusal and what the register holds then, and with status 1.
+//! So it does if no register can be made or opened. At other words, an input that can't be read, or a line that isn't
+//! understood, it prints a message to standard error and returns status 2.
 //!
 //! `times` times commands, `exchanges` serves requests, and `toml` has a TOML document read. The modules `times`,
 //! `exchanges` and `toml_only` tell what they take and print. These are one program, since each loads all libraries
@@ -20,12 +23,14 @@
 #![tactic(auto)]
 
 mod exchanges;
+mod looks;
 mod stored;
 mod times;
 mod toml_only;
 mod words;
 
 use exchanges::run_exchanges;
+use looks::run_looks;
 use std::io;
 use std::io::ErrorKind;
 use std::process::ExitCode;
@@ -42,14 +47,16 @@ use trial_values::workspace::run_workspace;
 use vet_base::refusal::Refusal;
 use vet_graph::keeper::Keeper;
 use vet_graph::plain::PlainKeeper;
-use words::{KeeperWord, Words, meaning, read_words};
+use vet_masks::keeper::MaskKeeper;
+use words::{Asked, KeeperWord, Words, meaning, read_words};
 
 /// The status of a run of something that isn't understood.
 const NOT_UNDERSTOOD: u8 = 2;
 
 /// What is told where the words are not understood.
-const TAKEN_WORDS: &str = "trials takes the words (plain | relay) [--contents | --together] \
-    [(--db | --db-open) PATH], demand, times .., exchanges .., or toml";
+const TAKEN_WORDS: &str = "trials takes the words (plain | masks | relay) \
+    [--contents | --together | --touched | --ahead] [(--db | --db-open) PATH], looks PACKAGE, demand, times .., \
+    exchanges .., or toml";
 
 fn main(rt: HostRuntime) -> io::Result<ExitCode> {
     match read_words(&rt) {
@@ -68,8 +75,7 @@ fn run_words(rt: &HostRuntime, words: Words<'_>) -> io::Result<ExitCode> {
         Words::Times => Ok(run_times(rt)),
         Words::Exchanges => Ok(run_exchanges(rt)),
         Words::Toml => Ok(read_toml(rt)),
-        Words::Demand => ended(rt, run_input_workspace(rt)?),
-        Words::Register(keeper, how, file) => ended(rt, run_input(rt, keeper, how, file)?),
+        Words::Input(asked) => ended(rt, run_input(rt, asked)?),
         Words::Other => ended(rt, Ending::Words),
     }
 }
@@ -94,37 +100,33 @@ fn ended(rt: &HostRuntime, ending: Ending) -> io::Result<ExitCode> {
     }
 }
 
-fn run_input_workspace(rt: &HostRuntime) -> io::Result<Ending> {
+fn run_input(rt: &HostRuntime, asked: Asked<'_>) -> io::Result<Ending> {
     match read_input(rt.alloc(), &mut rt.reader()) {
-        Input::Text(text) => run_workspace(rt, rt.alloc(), text.as_str()),
+        Input::Text(text) => run_text(rt, text.as_str(), asked),
         Input::Other => Ok(Ending::Input),
         Input::NoMemory => ended_for_memory(rt),
     }
 }
 
-fn run_input(
-    rt: &HostRuntime,
-    keeper: KeeperWord,
-    how: How,
-    file: Option<(Way, &str)>,
-) -> io::Result<Ending> {
-    match read_input(rt.alloc(), &mut rt.reader()) {
-        Input::Text(text) => run_text(rt, keeper, text.as_str(), how, file),
-        Input::Other => Ok(Ending::Input),
-        Input::NoMemory => ended_for_memory(rt),
+fn run_text(rt: &HostRuntime, text: &str, asked: Asked<'_>) -> io::Result<Ending> {
+    match asked {
+        Asked::Demand => run_workspace(rt, rt.alloc(), text),
+        Asked::Looks(package) => run_looks(rt, rt.alloc(), text, package),
+        Asked::Register(keeper, how, file) => run_register(rt, text, keeper, how, file),
     }
 }
 
 // A further keeper is a row here, and its word in `words`.
-fn run_text(
+fn run_register(
     rt: &HostRuntime,
-    keeper: KeeperWord,
     text: &str,
+    keeper: KeeperWord,
     how: How,
     file: Option<(Way, &str)>,
 ) -> io::Result<Ending> {
     match keeper {
         KeeperWord::Plain => run_kept::<PlainKeeper>(rt, text, how, file),
+        KeeperWord::Masks => run_kept::<MaskKeeper>(rt, text, how, file),
         KeeperWord::Relay => run_kept::<RelayKeeper>(rt, text, how, file),
     }
 }

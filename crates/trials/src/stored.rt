@@ -12,6 +12,7 @@ use trial_values::ending::{Ending, refused};
 use trial_values::fault::Fault;
 use vet_base::refusal::Refusal;
 use vet_graph::keeper::Keeper;
+use vet_graph::touched::Touched;
 use vet_register::command::{Command, Outcome};
 use vet_register::register::Register;
 use vet_store::refused::{Refused, refusal_of};
@@ -47,6 +48,10 @@ impl<S: Alter + Drop, K: Keeper> Runs<K> for Stored<S, K> {
 
     fn shown(&self) -> &Register<K> {
         self.store.register()
+    }
+
+    fn touched(&self) -> Option<&Touched> {
+        None
     }
 }
 

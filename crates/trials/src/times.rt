@@ -1,12 +1,12 @@
 //! Times imports into a register, a register in a file, files that replace what is held, commands to a review desk, and
 //! what projects demand, by the clock, for the benches.
 //!
-//! The word `times` stands first, and a word behind it says what is timed. The word `imports` and two numbers have
-//! imports timed. Standard input holds audits files of a peer, each after the one before it and a line `---` between
-//! two. They are read, and a register is made of a project's demand and own entries. Then in each round the peer is
-//! set, each file is imported in turn, another peer is set, an entry is added, and the peer is dropped. The first
-//! number says how many rounds there are; with none the files are read and no register is made. The second says how
-//! many demanded pairs and own entries there are. Of each file `read COUNT` is printed.
+//! The word `times` stands first, then that of a keeper of the classes, and a word behind it says what is timed. The
+//! word `imports` and two numbers have imports timed. Standard input holds audits files of a peer, each after the one
+//! before it and a line `---` between two. They are read, and a register is made of a project's demand and own entries.
+//! Then in each round the peer is set, each file is imported in turn, another peer is set, an entry is added, and the
+//! peer is dropped. The first number says how many rounds there are; with none the files are read and no register is
+//! made. The second says how many demanded pairs and own entries there are. Of each file `read COUNT` is printed.
 //!
 //! The word `replace` and a number of rounds have replacements timed. Standard input holds parts, a line `===` between
 //! two; within a part a line `---` stands between two texts. The first part is dependency tables, and a register is
@@ -32,9 +32,9 @@
 //!
 //! The word `open` and a path have that register opened. `open NANOSECONDS NANOSECONDS COUNT` is printed: until the
 //! database was opened, from there until the register was, and how many entries it holds. The word `parts` and a path
-//! have the parts of that timed, and then a command that finds every class anew. The word `memory` and a number of
-//! rounds have commands to a register in memory timed, as those of `store` are with no demand. Of each part or command
-//! `WHAT NANOSECONDS` is printed.
+//! have the parts of that timed, and then a command that has the plain keeper find every class anew. The word `memory`
+//! and a number of rounds have commands to a register in memory timed, as those of `store` are with no demand. Of each
+//! part or command `WHAT NANOSECONDS` is printed.
 //!
 //! Of each other command of a round a line is printed of what it is, its nanoseconds and its outcome. The status is 1
 //! where anything is refused or fails, and 2 where the words or the parts are not understood.
@@ -42,12 +42,17 @@ use crate::times::input::{Task, read_path, read_task, read_text};
 use crate::times::memory_rounds::run_memory;
 use crate::times::opened_parts::run_parts;
 use crate::times::stored_rounds::{run_opened, run_stored};
+use crate::words::KeeperWord;
 use std::process::ExitCode;
+use trial_registers::relay::RelayKeeper;
 use trial_times::demand_rounds::run_demands;
 use trial_times::desk_rounds::run_reviews;
 use trial_times::import_rounds::run_imports;
 use trial_times::replacements::run_replacements;
 use trial_values::fault::Fault;
+use vet_graph::keeper::Keeper;
+use vet_graph::plain::PlainKeeper;
+use vet_masks::keeper::MaskKeeper;
 
 mod input;
 mod memory_rounds;
@@ -68,25 +73,33 @@ pub fn run_times(rt: &HostRuntime) -> ExitCode {
 }
 
 fn run_whole(rt: &HostRuntime) -> Result<(), Fault> {
-    let task = read_task(rt)?;
+    let (keeper, task) = read_task(rt)?;
+    match keeper {
+        KeeperWord::Plain => run_task::<PlainKeeper>(rt, task),
+        KeeperWord::Masks => run_task::<MaskKeeper>(rt, task),
+        KeeperWord::Relay => run_task::<RelayKeeper>(rt, task),
+    }
+}
+
+fn run_task<K: Keeper>(rt: &HostRuntime, task: Task) -> Result<(), Fault> {
     let text = read_text(rt)?;
     match task {
-        Task::Imports(sizes) => run_imports(rt, sizes, text.as_str()),
-        Task::Replacements(rounds) => run_replacements(rt, rounds, text.as_str()),
-        Task::Desk(reviews) => run_reviews(rt, reviews),
+        Task::Imports(sizes) => run_imports::<K>(rt, sizes, text.as_str()),
+        Task::Replacements(rounds) => run_replacements::<K>(rt, rounds, text.as_str()),
+        Task::Desk(reviews) => run_reviews::<K>(rt, reviews),
         Task::Demands(rounds) => run_demands(rt, rounds, text.as_str()),
         Task::Stored(sizes) => {
             let path = read_path(rt)?;
-            run_stored(rt, sizes, path.as_str(), text.as_str())
+            run_stored::<K>(rt, sizes, path.as_str(), text.as_str())
         }
         Task::Opened => {
             let path = read_path(rt)?;
-            run_opened(rt, path.as_str())
+            run_opened::<K>(rt, path.as_str())
         }
         Task::Parts => {
             let path = read_path(rt)?;
-            run_parts(rt, path.as_str())
+            run_parts::<K>(rt, path.as_str())
         }
-        Task::Memory(rounds) => run_memory(rt, rounds, text.as_str()),
+        Task::Memory(rounds) => run_memory::<K>(rt, rounds, text.as_str()),
     }
 }

@@ -14,20 +14,31 @@ pub enum Words<'w> {
     Exchanges,
     /// The reading of a TOML document.
     Toml,
-    /// What projects demand.
-    Demand,
-    /// A register, in memory or come by in a database file in this way, with this keeper of the classes.
-    Register(KeeperWord, How, Option<(Way, &'w str)>),
+    /// A text on standard input, taken so.
+    Input(Asked<'w>),
     /// Anything else.
     Other,
+}
+
+/// What a text is taken as.
+#[derive(Clone, Copy)]
+pub enum Asked<'w> {
+    /// What projects demand.
+    Demand,
+    /// Looks at the steps of this package.
+    Looks(&'w str),
+    /// A register, in memory or come by in a database file in this way, with this keeper of the classes.
+    Register(KeeperWord, How, Option<(Way, &'w str)>),
 }
 
 /// The keeper of the classes.
 #[derive(Clone, Copy)]
 pub enum KeeperWord {
-    /// That of the product.
+    /// One that finds every class anew.
     Plain,
-    /// One that hands all on to it.
+    /// That of the product.
+    Masks,
+    /// One that hands all on to the plain one.
     Relay,
 }
 
@@ -47,27 +58,48 @@ pub fn meaning(words: &[String]) -> Words<'_> {
         "times" => Words::Times,
         "exchanges" => Words::Exchanges,
         "toml" => Words::Toml,
-        "demand" => alone(others, Words::Demand),
-        "plain" => of_register(KeeperWord::Plain, others),
-        "relay" => of_register(KeeperWord::Relay, others),
+        "demand" => of_demand(others),
+        "looks" => of_looks(others),
+        word => of_register(word, others),
+    }
+}
+
+/// The keeper that a word names.
+pub fn keeper_of(word: &str) -> Option<KeeperWord> {
+    match word {
+        "plain" => Some(KeeperWord::Plain),
+        "masks" => Some(KeeperWord::Masks),
+        "relay" => Some(KeeperWord::Relay),
+        _ => None,
+    }
+}
+
+fn of_demand(others: &[String]) -> Words<'_> {
+    match others {
+        [] => Words::Input(Asked::Demand),
         _ => Words::Other,
     }
 }
 
-// What a word asks for behind which none stands.
-fn alone<'w>(others: &'w [String], asked: Words<'w>) -> Words<'w> {
-    if others.is_empty() {
-        asked
-    } else {
-        Words::Other
+fn of_looks(others: &[String]) -> Words<'_> {
+    match others {
+        [package] => Words::Input(Asked::Looks(package.as_str())),
+        _ => Words::Other,
     }
 }
 
-// What the words behind that of a keeper ask for.
-fn of_register(keeper: KeeperWord, words: &[String]) -> Words<'_> {
+// What the word of a keeper asks for, with those behind it.
+fn of_register<'w>(word: &str, others: &'w [String]) -> Words<'w> {
+    match keeper_of(word) {
+        Some(keeper) => of_keeper(keeper, others),
+        None => Words::Other,
+    }
+}
+
+fn of_keeper(keeper: KeeperWord, words: &[String]) -> Words<'_> {
     let (how, words) = way_of(words);
     match words {
-        [] => Words::Register(keeper, how, None),
+        [] => Words::Input(Asked::Register(keeper, how, None)),
         [flag, path] => of_file(keeper, how, flag.as_str(), path.as_str()),
         _ => Words::Other,
     }
@@ -81,14 +113,19 @@ fn way_of(words: &[String]) -> (How, &[String]) {
     match first.as_str() {
         "--contents" => (How::Shown, others),
         "--together" => (How::Together, others),
+        "--touched" => (How::Touched, others),
+        "--ahead" => (How::Ahead, others),
         _ => (How::Singly, words),
     }
 }
 
 fn of_file<'w>(keeper: KeeperWord, how: How, flag: &str, path: &'w str) -> Words<'w> {
+    if how.asks_for_memory() {
+        return Words::Other;
+    }
     match flag {
-        "--db" => Words::Register(keeper, how, Some((Way::Made, path))),
-        "--db-open" => Words::Register(keeper, how, Some((Way::Opened, path))),
+        "--db" => Words::Input(Asked::Register(keeper, how, Some((Way::Made, path)))),
+        "--db-open" => Words::Input(Asked::Register(keeper, how, Some((Way::Opened, path)))),
         _ => Words::Other,
     }
 }

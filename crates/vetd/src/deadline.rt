@@ -22,7 +22,8 @@ pub struct Deadline {
 }
 
 impl Deadline {
-    /// The deadline of a connection that is accepted now. An error where the clock can't be read, or can't count so far.
+    /// The deadline of a connection that is accepted now. Returns an error if the clock can't be read, or can't count
+    /// so far.
     pub fn from_now<C: Clock>(clock: &C) -> io::Result<Deadline> {
         match Deadline::after(Instant::now(clock)?) {
             Some(deadline) => Ok(deadline),

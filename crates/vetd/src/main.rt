@@ -31,7 +31,7 @@ use std::io::Write;
 use std::process::ExitCode;
 use std::rt::Env;
 use std::{env, io};
-use vet_graph::plain::PlainKeeper;
+use vet_masks::keeper::MaskKeeper;
 use vet_requests::input::CountedReader;
 use vet_requests::io_fault::IoFault;
 use vetd_program::program::program_run;
@@ -85,7 +85,7 @@ fn run_words(rt: &HostRuntime, words: &[String]) -> Result<u8, IoFault> {
     let run = program_run::<
         String,
         WaryFile,
-        PlainKeeper,
+        MaskKeeper,
         FileDatabases<'_>,
         TcpNetwork<'_, HostRuntime>,
         _,

@@ -6,16 +6,16 @@ use std::io::{Read, Write};
 use std::net::{Ipv4Addr, Shutdown, TcpListener, TcpStream};
 use trial_values::fault::Fault;
 use vet_base::day::Day;
-use vet_graph::plain::PlainKeeper;
 use vet_http::input::CountedReader;
 use vet_http::output::write_whole;
 use vet_http::serve::serve_one;
+use vet_masks::keeper::MaskKeeper;
 use vet_store::store::Store;
 
 /// Serves each request over a connection of its own, and writes its reply.
 pub fn serve_over_loopback<S: Alter, W: Write>(
     rt: &HostRuntime,
-    store: &mut Store<S, PlainKeeper>,
+    store: &mut Store<S, MaskKeeper>,
     day: Day,
     requests: &[String],
     writer: &mut W,
@@ -37,7 +37,7 @@ pub fn serve_over_loopback<S: Alter, W: Write>(
 // Serves the connection that comes next. What is left of its input is read away, as its client is else told of a reset.
 fn serve_next<S: Alter>(
     rt: &HostRuntime,
-    store: &mut Store<S, PlainKeeper>,
+    store: &mut Store<S, MaskKeeper>,
     day: Day,
     listener: &TcpListener,
 ) -> Result<(), Fault> {

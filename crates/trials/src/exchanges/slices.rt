@@ -6,17 +6,17 @@ use std::alloc::Global;
 use std::io::Write;
 use trial_values::fault::Fault;
 use vet_base::day::Day;
-use vet_graph::plain::PlainKeeper;
 use vet_http::input::CountedReader;
 use vet_http::io_fault::IoFault;
 use vet_http::output::write_whole;
 use vet_http::serve::{Connection, Served, serve_slices};
+use vet_masks::keeper::MaskKeeper;
 use vet_store::store::Store;
 
 /// Serves all requests by one call, and then writes their replies.
 pub fn serve_together<S: Alter, W: Write>(
     alloc: Global,
-    store: &mut Store<S, PlainKeeper>,
+    store: &mut Store<S, MaskKeeper>,
     day: Day,
     requests: &[String],
     writer: &mut W,

@@ -1,5 +1,6 @@
 //! The words of the command line, and the text on standard input.
 
+use crate::words::{KeeperWord, keeper_of};
 use std::env;
 use std::io::Read;
 use trial_times::desk_rounds::Reviews;
@@ -36,16 +37,19 @@ pub struct Stored {
     pub rounds: usize,
 }
 
-/// What the words behind `times` say.
-pub fn read_task(rt: &HostRuntime) -> Result<Task, Fault> {
+/// What the words behind `times` say: over which keeper of the classes, and what is to be timed.
+pub fn read_task(rt: &HostRuntime) -> Result<(KeeperWord, Task), Fault> {
     let mut words = env::args(rt)?;
     let _name = words.next();
     let _room = words.next();
-    let Some(task) = words.next() else {
+    let (Some(keeper), Some(task)) = (words.next(), words.next()) else {
+        return Err(Fault::NotUnderstood);
+    };
+    let Some(keeper) = keeper_of(keeper.as_str()) else {
         return Err(Fault::NotUnderstood);
     };
     let (first, second, third) = (words.next(), words.next(), words.next());
-    task_of(task.as_str(), &first, &second, &third)
+    Ok((keeper, task_of(task.as_str(), &first, &second, &third)?))
 }
 
 fn task_of(
@@ -89,7 +93,7 @@ fn number(word: &Option<String>) -> Result<usize, Fault> {
 /// The path behind the task.
 pub fn read_path(rt: &HostRuntime) -> Result<String, Fault> {
     let mut words = env::args(rt)?;
-    match words.nth(3) {
+    match words.nth(4) {
         Some(path) => Ok(path),
         None => Err(Fault::NotUnderstood),
     }

@@ -6,22 +6,22 @@ use std::time::Instant;
 use trial_times::commands::{add_other, drop_entry, set_peer};
 use trial_values::fault::Fault;
 use vet_base::limits::MOST_MOVES;
-use vet_graph::plain::PlainKeeper;
+use vet_graph::keeper::Keeper;
 use vet_register::command::{Command, Outcome};
 use vet_store::memory::run_in_memory_files;
 use vet_store::store::Store;
 
 /// Makes a register in files in memory, imports each file of a text, and adds an entry and drops it in each round.
 /// Prints of each command what it is and its nanoseconds.
-pub fn run_memory(rt: &HostRuntime, rounds: usize, text: &str) -> Result<(), Fault> {
+pub fn run_memory<K: Keeper>(rt: &HostRuntime, rounds: usize, text: &str) -> Result<(), Fault> {
     let imports = imports_of(rt.alloc(), text)?;
-    let mut first = run_in_memory_files::<PlainKeeper>(rt.alloc(), MOST_MOVES, &[])?;
+    let mut first = run_in_memory_files::<K>(rt.alloc(), MOST_MOVES, &[])?;
     run_rounds(rt, &mut first.store, rounds, imports.as_slice())
 }
 
-fn run_rounds<S: Alter>(
+fn run_rounds<S: Alter, K: Keeper>(
     rt: &HostRuntime,
-    store: &mut Store<S, PlainKeeper>,
+    store: &mut Store<S, K>,
     rounds: usize,
     imports: &[Command],
 ) -> Result<(), Fault> {
@@ -37,9 +37,9 @@ fn run_rounds<S: Alter>(
 }
 
 // An entry is added and dropped.
-fn run_round<S: Alter>(
+fn run_round<S: Alter, K: Keeper>(
     rt: &HostRuntime,
-    store: &mut Store<S, PlainKeeper>,
+    store: &mut Store<S, K>,
     round: usize,
 ) -> Result<(), Fault> {
     let add = add_other(rt.alloc(), round)?;
@@ -50,9 +50,9 @@ fn run_round<S: Alter>(
 }
 
 // Runs a command, and prints what it took.
-fn run_one<S: Alter>(
+fn run_one<S: Alter, K: Keeper>(
     rt: &HostRuntime,
-    store: &mut Store<S, PlainKeeper>,
+    store: &mut Store<S, K>,
     what: &str,
     command: &Command,
 ) -> Result<Outcome, Fault> {

@@ -6,7 +6,7 @@ use std::time::Instant;
 use trial_times::commands::set_other_peer;
 use trial_values::fault::Fault;
 use vet_base::refusal::Refusal;
-use vet_graph::plain::PlainKeeper;
+use vet_graph::keeper::Keeper;
 use vet_register::register::Register;
 use vet_rows::rows::Rows;
 use vet_rows::rows_of::rows_of;
@@ -15,13 +15,14 @@ use vet_store::find::has_tables;
 use vet_store::read::read_rows;
 
 /// Opens the register in a file by the calls of which a store's opening consists, except that the rows are not compared
-/// with those that were read. Then it finds every class anew. Prints of each part what it is and its nanoseconds.
-pub fn run_parts(rt: &HostRuntime, path: &str) -> Result<(), Fault> {
+/// with those that were read. Then it sets another peer, for which the plain keeper finds every class anew. Prints of
+/// each part what it is and its nanoseconds.
+pub fn run_parts<K: Keeper>(rt: &HostRuntime, path: &str) -> Result<(), Fault> {
     let begun = Instant::now(rt)?;
     let mut conn = connected(rt, path)?;
     print_part(rt, "connect", &begun)?;
     let rows = rows_in(rt, &mut conn)?;
-    let mut register = register_of(rt, &rows)?;
+    let mut register = register_of::<K>(rt, &rows)?;
     print_plan(rt, &mut register)
 }
 
@@ -49,7 +50,7 @@ fn rows_in<S: Alter>(rt: &HostRuntime, conn: &mut Connection<S>) -> Result<Rows,
 }
 
 // The register of these rows, and its rows again.
-fn register_of(rt: &HostRuntime, rows: &Rows) -> Result<Register<PlainKeeper>, Fault> {
+fn register_of<K: Keeper>(rt: &HostRuntime, rows: &Rows) -> Result<Register<K>, Fault> {
     let begun = Instant::now(rt)?;
     let state = state_of(rt.alloc(), rows)?;
     print_part(rt, "state", &begun)?;
@@ -62,8 +63,8 @@ fn register_of(rt: &HostRuntime, rows: &Rows) -> Result<Register<PlainKeeper>, F
     Ok(register)
 }
 
-// Finds every class anew, which is what setting another peer takes.
-fn print_plan(rt: &HostRuntime, register: &mut Register<PlainKeeper>) -> Result<(), Fault> {
+// Prepares the setting of another peer, for which the plain keeper finds every class anew.
+fn print_plan<K: Keeper>(rt: &HostRuntime, register: &mut Register<K>) -> Result<(), Fault> {
     let peer = set_other_peer(rt.alloc(), 0, 0)?;
     let begun = Instant::now(rt)?;
     let _change = register.prepare(rt.alloc(), &peer)?;

@@ -10,7 +10,7 @@ use trial_times::contents::contents_of;
 use trial_values::fault::Fault;
 use vet_base::limits::MOST_MOVES;
 use vet_base::refusal::Refusal;
-use vet_graph::plain::PlainKeeper;
+use vet_graph::keeper::Keeper;
 use vet_register::command::{Command, Outcome};
 use vet_register::register::Register;
 use vet_store::refused::Refused;
@@ -21,10 +21,15 @@ pub type WaryFile = FileStore<FileFrom<Wary>>;
 
 /// Makes a register in a file, imports each file of a text, and adds an entry and drops it in each round. Prints of
 /// each command what it is, the nanoseconds of its parts and how many rows it writes.
-pub fn run_stored(rt: &HostRuntime, sizes: Stored, path: &str, text: &str) -> Result<(), Fault> {
+pub fn run_stored<K: Keeper>(
+    rt: &HostRuntime,
+    sizes: Stored,
+    path: &str,
+    text: &str,
+) -> Result<(), Fault> {
     let imports = imports_of(rt.alloc(), text)?;
-    let mut conn = made(rt.alloc(), connected(rt, path)?)?;
-    run_commands(rt, &mut conn, sizes, imports.as_slice())?;
+    let mut conn = made::<_, K>(rt.alloc(), connected(rt, path)?)?;
+    run_commands::<_, K>(rt, &mut conn, sizes, imports.as_slice())?;
     match conn.close() {
         Ok(()) => Ok(()),
         Err(_) => Err(Fault::Refused(Refusal::StoreRefused)),
@@ -49,11 +54,14 @@ pub fn connected(rt: &HostRuntime, path: &str) -> Result<Connection<WaryFile>, F
 }
 
 // The tables of a register that holds nothing.
-fn made<S: Alter + Drop>(alloc: Global, conn: Connection<S>) -> Result<Connection<S>, Fault> {
+fn made<S: Alter + Drop, K: Keeper>(
+    alloc: Global,
+    conn: Connection<S>,
+) -> Result<Connection<S>, Fault> {
     if !conn.is_autocommit() {
         return Err(Fault::NotUnderstood);
     }
-    match Store::<S, PlainKeeper>::create(alloc, conn, MOST_MOVES) {
+    match Store::<S, K>::create(alloc, conn, MOST_MOVES) {
         Ok(store) => Ok(store.close()),
         Err(refused) => Err(fault_of(refused)),
     }
@@ -64,13 +72,13 @@ fn fault_of<S: Alter + Drop>(refused: Refused<S>) -> Fault {
     Fault::Refused(refusal)
 }
 
-fn run_commands<S: Alter>(
+fn run_commands<S: Alter, K: Keeper>(
     rt: &HostRuntime,
     conn: &mut Connection<S>,
     sizes: Stored,
     imports: &[Command],
 ) -> Result<(), Fault> {
-    let mut register = Register::new(rt.alloc(), MOST_MOVES)?;
+    let mut register = Register::<K>::new(rt.alloc(), MOST_MOVES)?;
     if sizes.demanded > 0 {
         let load = load_project(rt.alloc(), sizes.demanded)?;
         run_one(rt, conn, &mut register, "load-project", &load)?;
@@ -87,10 +95,10 @@ fn run_commands<S: Alter>(
 }
 
 // An entry is added and dropped.
-fn run_round<S: Alter>(
+fn run_round<S: Alter, K: Keeper>(
     rt: &HostRuntime,
     conn: &mut Connection<S>,
-    register: &mut Register<PlainKeeper>,
+    register: &mut Register<K>,
     round: usize,
 ) -> Result<(), Fault> {
     let add = add_other(rt.alloc(), round)?;
@@ -112,10 +120,10 @@ pub fn number_of(outcome: Outcome) -> Result<u64, Fault> {
 }
 
 // Runs a command and prints what its parts took.
-fn run_one<S: Alter>(
+fn run_one<S: Alter, K: Keeper>(
     rt: &HostRuntime,
     conn: &mut Connection<S>,
-    register: &mut Register<PlainKeeper>,
+    register: &mut Register<K>,
     what: &str,
     command: &Command,
 ) -> Result<Outcome, Fault> {
@@ -127,19 +135,19 @@ fn run_one<S: Alter>(
 
 /// Opens the register in a file, and prints the nanoseconds until the database was opened, and from there until the
 /// register was, and how many entries it holds.
-pub fn run_opened(rt: &HostRuntime, path: &str) -> Result<(), Fault> {
+pub fn run_opened<K: Keeper>(rt: &HostRuntime, path: &str) -> Result<(), Fault> {
     let begun = Instant::now(rt)?;
     let conn = connected(rt, path)?;
     let connecting = begun.elapsed(rt)?.as_nanos();
     let begun = Instant::now(rt)?;
-    let store = opened(rt.alloc(), conn)?;
+    let store = opened::<_, K>(rt.alloc(), conn)?;
     let opening = begun.elapsed(rt)?.as_nanos();
     let count = entries_held(store.register());
     println!(rt; "open {connecting} {opening} {count}")?;
     Ok(())
 }
 
-fn entries_held(register: &Register<PlainKeeper>) -> usize {
+fn entries_held<K: Keeper>(register: &Register<K>) -> usize {
     let mut count = register.entries().len();
     for peer in register.peers() {
         count = count.saturating_add(peer.content.entries().len());
@@ -147,10 +155,10 @@ fn entries_held(register: &Register<PlainKeeper>) -> usize {
     count
 }
 
-fn opened<S: Alter + Drop>(
+fn opened<S: Alter + Drop, K: Keeper>(
     alloc: Global,
     conn: Connection<S>,
-) -> Result<Store<S, PlainKeeper>, Fault> {
+) -> Result<Store<S, K>, Fault> {
     if !conn.is_autocommit() {
         return Err(Fault::NotUnderstood);
     }
