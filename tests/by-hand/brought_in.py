@@ -17,17 +17,20 @@ TESTS = os.path.dirname(os.path.dirname(os.path.abspath(__file__)))
 SCRIPTS = ("machine/run_trials", "files/run_files", "files/run_written")
 # 8 and 32 MB, for which a planted program takes over a minute
 LEFT_OUT = ("the largest file", "the_largest_input", "one_byte_more")
-# a test with another keeper meets no place of the product that the same with the plain one does not
+# a test with this keeper meets no place of the product that the same with the plain one does not
 OTHER_KEEPER = ", relay"
 # how far apart those stand that are taken: batches of run_chains and of run_demand, dependency tables in a batch, lists
 # of run_store, and forms of tables of run_opened
 CHAINS_APART = 40
 QUESTIONS_APART = 60
 TABLES_AT_ONCE = 100
-STORED_APART = 2
+# an odd number, so that each keeper and each way of giving commands is among them
+STORED_APART = 3
 FORMS_APART = 5
 # how many drawn lists of run_held_files are taken
 LISTS = 8
+# of run_keepers what has more entries than a planted program holds, and what runs no program
+NOT_OF_KEEPERS = ("each_two_are_joined", "walks_find_what_chains_do")
 # these meet no function that others don't meet, and wait
 UNSERVED = ("always_out_of_memory", "a_wait_that_fails_is_one_of_them", "a_listener_that_is_lost")
 
@@ -78,7 +81,9 @@ def of_files(programs):
         yield name, partial(is_told, classes, words, file, line)
     cases = list(chains.cases())
     for at in range(0, len(cases), CHAINS_APART * chains.PACKAGES):
-        yield f"chains from {at}", partial(chains.compare, cases[at : at + chains.PACKAGES])
+        batch = chains.Batch(cases[at : at + chains.PACKAGES])
+        for keeper in chains.BOTH_KEEPERS:
+            yield f"chains from {at}, {keeper}", partial(batch.compare, keeper)
     for test in (program.readme_examples, program.lines_of_refusals, program.words_that_are_no_text):
         yield test.__name__, test
     streams = load("program/fail_streams", programs)
@@ -86,22 +91,20 @@ def of_files(programs):
         yield test.__name__, partial(over_failing_streams, streams, test)
 
 
+def of_keepers(programs):
+    """Packages that are hard on a keeper."""
+    yield from (it for it in load("classes/run_keepers", programs).tests() if not it[0].startswith(NOT_OF_KEEPERS))
+
+
 def at_size(programs):
     """Of the tests at size what no smaller one meets, at the limits of the planted programs."""
     large, reviews = load("machine/run_large", programs), load("machine/run_reviews", programs)
     for script in (large, reviews):
         vars(script).update(planted.LIMITS)
-    for test in (
-        large.as_many_entries_as_may_be,
-        large.as_many_publisher_records_as_may_be,
-        large.as_many_policies_as_may_be,
-        large.files_of_as_many_entries_as_may_be,
-        large.files_of_as_many_publisher_records_as_may_be,
-        large.files_of_as_many_policies_as_may_be,
-        reviews.as_many_members_as_may_be,
-        reviews.as_many_reviews_as_may_be,
-    ):
-        yield test.__name__, test
+    of_registers = [it for it in large.OF_REGISTERS if it is not large.a_project_as_large_as_may_be]
+    for test in [*of_registers, reviews.as_many_members_as_may_be, reviews.as_many_reviews_as_may_be]:
+        for keeper in large.BOTH_KEEPERS:
+            yield f"{test.__name__}, {keeper}", partial(test, keeper)
 
 
 def of_projects(programs):
@@ -145,7 +148,7 @@ def of_databases(programs):
 def of_stores(programs):
     """Commands to registers in files, and the files of what is held."""
     store, held = load("store/run_store", programs), load("files/run_held_files", programs)
-    given = (it for it in store.tests() if not it[0].endswith("command by command") and OTHER_KEEPER not in it[0])
+    given = (it for it in store.tests() if ", command by command" not in it[0] and OTHER_KEEPER not in it[0])
     yield from itertools.islice(given, None, None, STORED_APART)
     held.LISTS = LISTS
     yield from held.tests()
@@ -165,5 +168,5 @@ def tests(programs):
         for named, call in load(name, programs).tests():
             if named not in LEFT_OUT and OTHER_KEEPER not in named:
                 yield named, call
-    for some in (of_files, at_size, of_projects, of_databases, of_stores, of_requests):
+    for some in (of_files, of_keepers, at_size, of_projects, of_databases, of_stores, of_requests):
         yield from some(programs)

@@ -1,5 +1,5 @@
-"""Edits as they are written: what each changes, in which functions, and what is wrong with one that says it
-ill. All of it is told from the texts alone, before anything is proved."""
+"""Edits as they are written: what each changes, in which functions, and what is wrong with a malformed one. All of
+it is found in the texts alone, before anything is proved."""
 
 import dataclasses
 import os
