@@ -14,6 +14,11 @@ DAY = "2026-11-28"
 READING = 84
 # at 99,000 entries and 20,000 demanded pairs
 LARGEST = {
+    # these four to two digits
+    "AddEntry": 160,
+    "DropEntry of the newest entry": 160,
+    "SetPublishers of a demanded package": 160,
+    "a finished review of a demanded package": 160,
     "AddMember": 163,
     "SetPolicy": 171,
     "DropPolicy": 173,
