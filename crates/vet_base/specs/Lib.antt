@@ -28,6 +28,7 @@ pub mod OrderLaws
 pub mod Ranked
 pub mod Refusal
 pub mod Req
+pub mod ShortText
 pub mod Text
 pub mod Version
 pub mod VersionOrder

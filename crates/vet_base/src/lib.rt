@@ -31,6 +31,7 @@ pub mod package_names;
 pub mod ranked;
 pub mod refusal;
 pub mod req;
+mod short_text;
 pub mod text;
 pub mod texts;
 pub mod version;

@@ -9,7 +9,7 @@ use crate::exact::Exact;
 use crate::keyed::{ExactItem, HasKey};
 use crate::limits::MOST_NAME_BYTES;
 use crate::refusal::Refusal;
-use crate::text::Text;
+use crate::short_text::ShortText;
 use std::alloc::{AllocError, Global};
 use std::fmt;
 use std::hash::Hash;
@@ -19,7 +19,7 @@ use std::marker::Model;
 /// none. Two names are the same only where their bytes are, and by these they are ordered.
 #[derive(Clone, Drop, PartialEq, Eq, PartialOrd, Ord, Hash)]
 pub struct PackageName {
-    text: Text,
+    text: ShortText,
 }
 
 impl Model for PackageName {
@@ -45,7 +45,7 @@ impl PackageName {
             return Ok(None);
         }
         Ok(Some(PackageName {
-            text: Text::of(alloc, text)?,
+            text: ShortText::of(alloc, text)?,
         }))
     }
 
@@ -108,7 +108,7 @@ impl fmt::Display for PackageName {
 /// their bytes.
 #[derive(Clone, Drop, PartialEq, Eq, PartialOrd, Ord, Hash)]
 pub struct Name {
-    text: Text,
+    text: ShortText,
 }
 
 impl Model for Name {
@@ -134,7 +134,7 @@ impl Name {
             return Ok(None);
         }
         Ok(Some(Name {
-            text: Text::of(alloc, text)?,
+            text: ShortText::of(alloc, text)?,
         }))
     }
 
