@@ -15,7 +15,7 @@ use Rattle.vet_masks.specs.Packages.{IsKeptOf, in_slot, is_changed}
 abbrev pub Slots : Type 0
 Slots = Name → Option (Option KeptPackage)
 
-tied-name : (a b : Name) → eq_by_cmp (slice_cmp nat_cmp) a b ≡ true → a ≡ b
+pub tied-name : (a b : Name) → eq_by_cmp (slice_cmp nat_cmp) a b ≡ true → a ≡ b
 tied-name a b e = slice_cmp-IsAntisymmetric nat_cmp-IsAntisymmetric a b ((Equal-is (slice_cmp nat_cmp a b)).0 e)
 
 -- a slot that is made holds nothing

@@ -33,7 +33,7 @@ use crate::changes::Changes;
 use crate::counts::counts_after;
 use crate::demanded::pairs_of;
 use crate::kept::Searched;
-use crate::names::{add_entries, add_packages};
+use crate::names::{add_entries, add_other_packages};
 use crate::packages::KeptPackages;
 use crate::standing::Standing;
 use crate::table::is_same_table;
@@ -247,7 +247,8 @@ impl MaskKeeper {
         }
     }
 
-    // The packages that have a slot here, a demanded pair or an entry of any source.
+    // The packages that have a slot here, a demanded pair or an entry of any source. Most have a slot, and are looked up
+    // there before they are copied and put in order.
     fn all_names(
         &self,
         alloc: Global,
@@ -267,8 +268,8 @@ impl MaskKeeper {
         let mut names = Vec::new(alloc);
         self.standing.add_names(&mut names)?;
         self.packages.add_names(&mut names)?;
-        add_packages(&mut names, demand.pairs())?;
-        add_entries(&mut names, facts)?;
+        add_other_packages(&mut names, demand.pairs(), &self.packages)?;
+        add_entries(&mut names, facts, &self.packages)?;
         Ok(PackageNames::of(alloc, names)?)
     }
 

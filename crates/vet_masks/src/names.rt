@@ -1,10 +1,11 @@
 //! Lists of the packages that may change where all are touched.
-ghost use Rattle.std.specs.Prelude.{◌≡◌, ◌++◌, [], OnOk, IfErr, List, false, map};
+ghost use Rattle.std.specs.Prelude.{◌≡◌, ◌++◌, [], OnOk, IfErr, List, false, map, true};
 ghost use Rattle.std.specs.BTreeMap.{keys};
 ghost use Rattle.vet_base.specs.Words.{Name};
 ghost use Rattle.vet_entries.specs.Step.{entries_of};
-ghost use Rattle.vet_masks.specs.Packages.{is_among};
+ghost use Rattle.vet_masks.specs.Packages.{has_kept_slot, is_among};
 
+use crate::packages::KeptPackages;
 use std::collections::BTreeMap;
 use vet_base::name::PackageName;
 use vet_base::refusal::Refusal;
@@ -37,17 +38,38 @@ impl OfPackage for HeldEntry {
     }
 }
 
-// Adds the packages of some items.
-pub(crate) fn add_packages<T: OfPackage>(
+// Adds the packages of some items that have no slot among those of what is kept.
+pub(crate) fn add_other_packages<T: OfPackage>(
     names: &mut Vec<PackageName>,
     items: &[T],
+    kept: &KeptPackages,
 ) -> Result<(), Refusal>
-    ensures names { OnOk result (names.new.items ≡ names.old.items ++ map T.package_of items.now) }
+    ensures names { OnOk result ((more : List Name) × (names.new.items ≡ names.old.items ++ more)) }
+    ensures others { OnOk result ((name : Name) → is_among name names.new.items ≡ false
+        → has_kept_slot kept.now name ≡ false → is_among name (map T.package_of items.now) ≡ false) }
     ensures memory { IfErr result (λ e. e ≡ Refusal.NoMemory) }
 {
     'items: for item in items {
-        names.push(item.package().clone()?)?;
+        add_other(names, item.package(), kept)?;
     }
+    Ok(())
+}
+
+// Adds a package, unless it has such a slot.
+fn add_other(
+    names: &mut Vec<PackageName>,
+    package: &PackageName,
+    kept: &KeptPackages,
+) -> Result<(), Refusal>
+    ensures names { OnOk result ((more : List Name) × (names.new.items ≡ names.old.items ++ more)) }
+    ensures there { OnOk result (has_kept_slot kept.now «package».now ≡ false
+        → is_among «package».now names.new.items ≡ true) }
+    ensures memory { IfErr result (λ e. e ≡ Refusal.NoMemory) }
+{
+    if kept.has_slot(package) {
+        return Ok(());
+    }
+    names.push(package.clone()?)?;
     Ok(())
 }
 
@@ -65,16 +87,20 @@ pub(crate) fn add_keys<V: Drop>(
     Ok(())
 }
 
-// Adds the packages of all entries: one's own, and those of each peer.
-pub(crate) fn add_entries(names: &mut Vec<PackageName>, facts: &EntryFacts) -> Result<(), Refusal>
+// Adds the packages of all entries, one's own and those of each peer, that have no such slot.
+pub(crate) fn add_entries(
+    names: &mut Vec<PackageName>,
+    facts: &EntryFacts,
+    kept: &KeptPackages,
+) -> Result<(), Refusal>
     ensures names { OnOk result ((more : List Name) × (names.new.items ≡ names.old.items ++ more)) }
     ensures entries { OnOk result ((name : Name) → is_among name names.new.items ≡ false
-        → entries_of facts.now.content name ≡ []) }
+        → has_kept_slot kept.now name ≡ false → entries_of facts.now.content name ≡ []) }
     ensures memory { IfErr result (λ e. e ≡ Refusal.NoMemory) }
 {
-    add_packages(names, facts.entries())?;
+    add_other_packages(names, facts.entries(), kept)?;
     'peers: for peer in facts.peers() {
-        add_packages(names, peer.content.entries())?;
+        add_other_packages(names, peer.content.entries(), kept)?;
     }
     Ok(())
 }

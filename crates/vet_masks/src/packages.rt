@@ -50,6 +50,13 @@ impl KeptPackages {
         add_keys(names, &self.packages)
     }
 
+    // Whether a package has a slot.
+    pub(crate) fn has_slot(&self, package: &PackageName) -> bool
+        ensures { result ≡ has_kept_slot self.now «package».now }
+    {
+        self.packages.contains_key(package)
+    }
+
     // What is kept of a package.
     pub(crate) fn of(&self, package: &PackageName) -> Option<&KeptPackage>
         ensures { option_copied result ≡ kept_at self.now «package».now }
