@@ -1,8 +1,8 @@
 //! Texts that are short as a rule, as names are.
 //!
-//! A register holds and copies names by the hundred thousand. Most have some ten bytes, and an allocation for each would
-//! cost more than everything else that a command does. So the bytes of a short text are in the value itself, and a copy
-//! of it takes no memory.
+//! A register holds and copies names by the hundred thousand. Most have some ten bytes, and to allocate each would
+//! cost more than everything else that a command does. So the bytes of a short text are in the value itself, and a
+//! copy of it takes no memory.
 ghost use Rattle.std.specs.Prelude.{◌≡◌, IfOk};
 ghost use Rattle.vet_base.specs.ShortText.{bytes_of};
 

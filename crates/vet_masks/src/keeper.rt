@@ -247,8 +247,8 @@ impl MaskKeeper {
         }
     }
 
-    // The packages that have a slot here, a demanded pair or an entry of any source. Most have a slot, and are looked up
-    // there before they are copied and put in order.
+    // The packages that have a slot here, a demanded pair or an entry of any source. Most have a slot, and each is
+    // looked up there before it is copied and put in order.
     fn all_names(
         &self,
         alloc: Global,
