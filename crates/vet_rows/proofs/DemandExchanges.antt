@@ -33,7 +33,7 @@ use Rattle.vet_rows.specs.DemandRows.{the_policy}
 use Rattle.vet_rows.specs.declared.row.EdgeRow.{EdgeRow}
 use Rattle.vet_rows.specs.declared.row.NodeRow.{NodeRow}
 use Rattle.vet_rows.specs.declared.row.PolicyRow.{PolicyRow}
-use Rattle.vet_rows.proofs.Exchanges.{IsExchange, of_coming, of_items, whole}
+use Rattle.vet_rows.proofs.Exchanges.{IsExchange, gone_of, of_coming, of_items, whole}
 use Rattle.vet_rows.proofs.KeyedExchanges.{IsOneForOne, edit_is}
 use Rattle.vet_rows.proofs.ListEdits.{in_flat}
 use Rattle.vet_rows.proofs.RowViews.{only_flat, only_mapped, told_once}
@@ -164,3 +164,31 @@ edges_become change old up fits =
     (λ g x r s i j a b e. sym (edge_of g r a) ∙ ap (λ (y : EdgeRow). y.project) (edge_same r s e) ∙ edge_of x s b)
     (λ g r s i a none e. none)
     (λ c r s i a j e. edge_same r s e)
+
+-- ---- the rows that go are there
+
+pub nodes_there : (change : KeyedEdit NamedProject) (old : KeyedRoom NamedProject)
+    → IsByKey (slice_cmp nat_cmp) project_name old.items → Fits (slice_cmp nat_cmp) project_name change old
+    → (r : NodeRow) → IsIn r (rows_if node_rows (goes change old.items)) → IsIn r (flat_map node_rows old.items)
+nodes_there change old up fits r i =
+    gone_of node_rows (goes change old.items) old.items [] (flat_map node_rows old.items)
+    (only_flat node_rows old.items) (project_edit change old up fits).gone_from r i
+
+pub edges_there : (change : KeyedEdit NamedProject) (old : KeyedRoom NamedProject)
+    → IsByKey (slice_cmp nat_cmp) project_name old.items → Fits (slice_cmp nat_cmp) project_name change old
+    → (r : EdgeRow) → IsIn r (rows_if edge_rows (goes change old.items)) → IsIn r (flat_map edge_rows old.items)
+edges_there change old up fits r i =
+    gone_of edge_rows (goes change old.items) old.items [] (flat_map edge_rows old.items)
+    (only_flat edge_rows old.items) (project_edit change old up fits).gone_from r i
+
+-- no two nodes of projects whose texts are read have one key
+pub nodes_keyed : (projects : List NamedProject) → IsByKey (slice_cmp nat_cmp) project_name projects
+    → ((p : NamedProject) → IsIn p projects → NodesAreRead p) → (r s : NodeRow) → IsIn r (flat_map node_rows projects)
+    → IsIn s (flat_map node_rows projects) → same_node r s ≡ true → r ≡ s
+nodes_keyed projects up read r s i j e =
+    let p = in_flat node_rows projects r i in
+    let q = in_flat node_rows projects s j in
+    let names = sym (of_project p.0 r p.1.1) ∙ (node_same r s e).0 ∙ of_project q.0 s q.1.1 in
+    let one = of_one_key (slice_cmp nat_cmp) nat_list_cmp_total only_equal project_name projects up p.0 q.0 p.1.0
+    q.1.0 names in
+    nodes_of_one p.0 (read p.0 p.1.0) r s p.1.1 (subst (λ x. IsIn s (node_rows x)) (sym one) q.1.1) e

@@ -1,10 +1,14 @@
 -- Rows that are dropped and put, one after another: what is left of the rows of a table, and what comes to it.
-use Rattle.std.proofs.Common.{◌≡◌, ◌⊎◌, inl, inr, Bool, true, false, not, List, [], ◌∷◌, refl, sym, ap, ◌∙◌}
+use Rattle.std.proofs.Common.{◌≡◌, ◌⊎◌, inl, inr, Bool, true, false, not, List, [], ◌∷◌, refl, sym, ap, subst, ◌∙◌}
 use Rattle.std.proofs.Common.{Option, Some, None}
 use Rattle.std.proofs.lemmas.Bool.{false≢true}
+use Rattle.std.specs.Bool.{Decides}
+use Rattle.std.specs.List.{list_any}
 use Rattle.vet_base.specs.Items.{IsIn, SameItems}
 use Rattle.vet_base.proofs.ItemLemmas.{filter_in, in_filter}
 use Rattle.vet_rows.specs.RowChanges.{with_row, without}
+use Rattle.vet_rows.specs.RowExchanges.{less}
+use Rattle.vet_tables.proofs.Among.{among_is, is_among}
 use Rattle.vet_rows.specs.KeyedItems.{rows_if}
 use Rattle.vet_rows.proofs.KeyedExchanges.{IsOneForOne}
 
@@ -139,6 +143,60 @@ module _ {R : Type 0} (same : R → R → Bool) where
     keyed = keyed;
   }
 
+-- ---- only the rows that differ go and come
+
+module _ {R : Type 0} (same eq : R → R → Bool) (only : (a b : R) → Decides (eq a b) (a ≡ b))
+    (gone come old new : List R) (h : IsExchange same gone come old new) (there : (x : R) → IsIn x gone → IsIn x old)
+    (once : (g x : R) → IsIn g old → IsIn x old → same g x ≡ true → g ≡ x) where
+  abbrev left : List R → List R → List R
+  left = less eq
+
+  left_of : (rows others : List R) (x : R) → IsIn x (left rows others) → IsIn x rows × (IsIn x others → ⊥)
+  left_of rows others x i =
+      let it = in_filter (λ r. not (list_any (eq r) others)) rows x i in
+      (it.0, λ j. false≢true (ap not (sym (among_is eq only x others j)) ∙ it.1))
+
+  either : (rows others : List R) (x : R) → IsIn x rows → IsIn x (left rows others) ⊎ IsIn x others
+  either rows others x i = by (list_any (eq x) others) refl
+    where
+      by : (b : Bool) → list_any (eq x) others ≡ b → IsIn x (left rows others) ⊎ IsIn x others
+      by true e = inr (is_among eq only x others e)
+      by false e = inl (filter_in (λ r. not (list_any (eq r) others)) rows x i (ap not e))
+
+  -- a row of the key of one that goes and comes again is that one
+  stays_as : (g x : R) → IsIn g gone → IsIn g come → IsIn x old → same g x ≡ true → IsIn x new
+  stays_as g x i j k e = subst (λ y. IsIn y new) (once g x (there g i) k e) (h.come_in g j)
+
+  pub differ : IsExchange same (left gone come) (left come gone) old new
+  differ = record {
+    come_in = λ x i. h.come_in x (left_of come gone x i).0;
+    new_from = λ x i. elim (h.new_from x i) [
+      | inl c ↦ elim (either come gone x c) [
+        | inl comes ↦ inl comes
+        | inr goes ↦ inr (
+          there x goes,
+          λ k. (let g = left_of gone come k.0 k.1.0 in
+              g.1 (subst (λ y. IsIn y come) (sym (once k.0 x (there k.0 g.0) (there x goes) k.1.1)) c)),
+        )
+      ]
+      | inr o ↦ inr (o.0, λ k. o.1 (k.0, ((left_of gone come k.0 k.1.0).0, k.1.1)))
+    ];
+    old_to = λ x i. elim (h.old_to x i) [
+      | inl stays ↦ inl stays
+      | inr of_key ↦ elim of_key [
+        | inl g ↦ elim (either gone come g.0 g.1.0) [
+          | inl goes ↦ inr (inl (g.0, (goes, g.1.1)))
+          | inr comes ↦ inl (stays_as g.0 x g.1.0 comes i g.1.1)
+        ]
+        | inr c ↦ elim (either come gone c.0 c.1.0) [
+          | inl comes ↦ inr (inr (c.0, (comes, c.1.1)))
+          | inr goes ↦ inl (stays_as c.0 x goes c.1.0 i c.1.1)
+        ]
+      ]
+    ];
+    keyed = λ c x i j e. h.keyed c x (left_of come gone c i).0 j e;
+  }
+
 -- ---- rows of the items of a list
 
 -- the rows are those that each item gives, and some others
@@ -217,3 +275,10 @@ module _ {R : Type 0} (same : R → R → Bool) (itself : (x : R) → same x x �
   of_items key rows_of gone come xs ys rest old new of_old of_new is apart others keyed =
       of_coming key rows_of gone come xs ys rest old new of_old of_new is apart others
       (λ c r s e. keyed c r s (is.come_in c e))
+
+-- the rows of an item that goes were there
+pub gone_of : {E R : Type 0} (rows_of : E → List R) (gone : Option E) (xs : List E) (rest old : List R)
+    → AreRowsOf rows_of xs rest old → ((x : E) → gone ≡ Some x → IsIn x xs) → (r : R) → IsIn r (rows_if rows_of gone)
+    → IsIn r old
+gone_of rows_of gone xs rest old of_old from r i =
+    let g = rows_if_in rows_of gone r i in of_old.item_in g.0 r (from g.0 g.1.0) g.1.1

@@ -30,7 +30,7 @@ use Rattle.vet_rows.specs.FactsRows.{entries_coming, entries_going, own_entry}
 use Rattle.vet_rows.specs.KeyedItems.{comes, goes, rows_if}
 use Rattle.vet_rows.specs.RowKeys.{same_entry}
 use Rattle.vet_rows.specs.declared.row.EntryRow.{EntryRow}
-use Rattle.vet_rows.proofs.Exchanges.{AreRowsOf, IsExchange, alike, of_items, stays}
+use Rattle.vet_rows.proofs.Exchanges.{AreRowsOf, IsExchange, alike, gone_of, of_items, stays}
 use Rattle.vet_rows.proofs.KeyedExchanges.{IsOneForOne, edit_is, found_in, put_is, take_is, with_is}
 use Rattle.vet_rows.proofs.ListEdits.{flat_in, in_flat}
 use Rattle.vet_rows.proofs.RowViews.{flat_rows, mapped_rows, same_rows}
@@ -240,3 +240,22 @@ module _ (old : Facts) (room : Room) (k : HaveKeys old) where
           (put_for old.peers k.peers name p (record p { content = content }) at (name_of old.peers k.peers name p at))
       by None at there m = absurd (cc there)
   entries_become (edit.Publishers change) fits l = unchanged old (edited (edit.Publishers change) old) refl refl
+
+  -- the rows that go are there
+  pub entries_there : (e : Edit) → Fits e (record { content = old; room = room }) → (r : EntryRow)
+      → IsIn r (entries_going e old) → IsIn r (all_entries old)
+  entries_there (edit.Criteria table) fits r i = absurd i
+  entries_there (edit.Insert place held) fits r i = absurd i
+  entries_there (edit.Remove place) fits r i =
+      gone_of own_entry (slice_get old.entries place) old.entries (flat_map peer_entries old.peers) (all_entries old)
+      (mapped_rows entry_row old.entries (flat_map peer_entries old.peers))
+      (take_is (λ (h : HeldEntry). h.number) old.entries place k.numbers).gone_from r i
+  entries_there (edit.Peer change) fits r i =
+      gone_of peer_entries (goes change old.peers) old.peers (map entry_row old.entries) (all_entries old)
+      (flat_rows peer_entries old.peers (map entry_row old.entries)) (peer_edit change old room k fits).gone_from r i
+  entries_there (edit.Settings settings) fits r i = absurd i
+  entries_there (edit.Content name content) fits r i =
+      gone_of peer_entries (peer_of old.peers name) old.peers (map entry_row old.entries) (all_entries old)
+      (flat_rows peer_entries old.peers (map entry_row old.entries))
+      (λ p at. (found_in (slice_cmp nat_cmp) nat_list_cmp_total only_equal peer_name old.peers name p at).0) r i
+  entries_there (edit.Publishers change) fits r i = absurd i

@@ -30,6 +30,7 @@ pub mod Packing
 pub mod PeersMade
 pub mod Places
 pub mod ProjectsRead
+pub mod Pushed
 pub mod ReadAs
 pub mod Reading
 pub mod RecordsMade
@@ -45,3 +46,4 @@ pub mod StateRead
 pub mod TableChanges
 pub mod TablesHeld
 pub mod TextsAfter
+pub mod Unmarked

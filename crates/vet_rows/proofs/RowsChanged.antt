@@ -44,8 +44,8 @@ use Rattle.vet_register.specs.RegisterView.{HoldsDesk, IsPrepared, RegisterView}
 use Rattle.vet_register.specs.Sound.{IsSound, IsSoundHeld}
 use Rattle.vet_register.specs.State.{State, changes_of, demanded, standing}
 use Rattle.vet_register.proofs.Soundness.{standing_in_order}
-use Rattle.vet_rows.specs.ChangedRows.{members_coming, members_going, reviews_coming, reviews_going, rows_coming}
-use Rattle.vet_rows.specs.ChangedRows.{rows_going}
+use Rattle.vet_rows.specs.ChangedRows.{members_coming, members_going, reviews_coming, reviews_going, rows_come}
+use Rattle.vet_rows.specs.ChangedRows.{rows_left}
 use Rattle.vet_rows.specs.DeskRows.{member_row, review_row}
 use Rattle.vet_rows.specs.KeyTexts.{AreRead, MovesAreRead}
 use Rattle.vet_rows.specs.RowKeys.{same_member, same_meta, same_move, same_review}
@@ -64,8 +64,8 @@ use Rattle.std.specs.List.{filter}
 use Rattle.vet_base.proofs.ItemLemmas.{in_filter}
 use Rattle.vet_rows.proofs.DeskExchanges.{members_become, reviews_become}
 use Rattle.vet_rows.proofs.Exchanges.{IsExchange, stays}
-use Rattle.vet_rows.proofs.HeldExchanges.{HaveTexts, held_criteria, held_edges, held_entries, held_nodes, held_peers}
-use Rattle.vet_rows.proofs.HeldExchanges.{held_policies, held_publishers}
+use Rattle.vet_rows.proofs.HeldExchanges.{HaveTexts, edges_differ, entries_differ, held_criteria, held_peers}
+use Rattle.vet_rows.proofs.HeldExchanges.{held_policies, nodes_differ, publishers_differ}
 use Rattle.vet_rows.proofs.HeldKeys.{have_keys}
 use Rattle.vet_rows.proofs.StandingExchanges.{moves_anew, moves_behind, standing_becomes}
 use Rattle.vet_rows.proofs.TableChanges.{AreExchanges, exchanges_lead}
@@ -292,16 +292,16 @@ module _ {K U : Type 0} (differences : MovesAreDifferences) (least : DemandIsLea
           (λ k d l. (let early = sound.moves.steps k d l in omega (arith, early))) at apart read_moves
       by (Anew counts) at apart read_moves = moves_anew s.moves
 
-  pub rows_become : AreExchanges (rows_going s change) (rows_coming s change) (rows_of s) (rows_of after)
+  pub rows_become : AreExchanges (rows_left s change) (rows_come s change) (rows_of s) (rows_of after)
   rows_become = record {
     meta = meta_becomes s after;
     criteria = held_criteria s.held r.room.held texts change.edit is.fits texts_after;
-    entries = held_entries s.held r.room.held texts change.edit is.fits texts_after;
-    publishers = held_publishers s.held r.room.held texts change.edit is.fits;
+    entries = entries_differ s.held r.room.held texts change.edit is.fits texts_after;
+    publishers = publishers_differ s.held r.room.held texts change.edit is.fits;
     policies = held_policies s.held r.room.held texts change.edit is.fits texts_after;
     peers = held_peers s.held r.room.held texts change.edit is.fits texts_after;
-    nodes = held_nodes s.held r.room.held texts change.edit is.fits texts_after read.projects;
-    edges = held_edges s.held r.room.held texts change.edit is.fits;
+    nodes = nodes_differ s.held r.room.held texts change.edit is.fits texts_after read.projects read.projects_held;
+    edges = edges_differ s.held r.room.held texts change.edit is.fits;
     standing = standing_becomes (standing s) (standing after) more standing_up after_up are_moves read_stands
         read.moves;
     moves = moves_become;
@@ -310,12 +310,12 @@ module _ {K U : Type 0} (differences : MovesAreDifferences) (least : DemandIsLea
   }
 
   -- made in order, they lead to the rows of the next state
-  pub changes_lead : SameRows (all_changed (exchanges (rows_going s change) (rows_coming s change)) (rows_of s))
+  pub changes_lead : SameRows (all_changed (exchanges (rows_left s change) (rows_come s change)) (rows_of s))
       (rows_of (next s c))
   changes_lead =
-      subst (λ t. SameRows (all_changed (exchanges (rows_going s change) (rows_coming s change)) (rows_of s))
+      subst (λ t. SameRows (all_changed (exchanges (rows_left s change) (rows_come s change)) (rows_of s))
       (rows_of t)) is.step.becomes
-      (exchanges_lead (rows_going s change) (rows_coming s change) (rows_of s) (rows_of after) rows_become)
+      (exchanges_lead (rows_left s change) (rows_come s change) (rows_of s) (rows_of after) rows_become)
 
   -- ---- numbers of rows that come
 
@@ -350,10 +350,10 @@ module _ {K U : Type 0} (differences : MovesAreDifferences) (least : DemandIsLea
     ),
   )
 
-  pub standing_named : (x : RowChange) → IsIn x (exchanges (rows_going s change) (rows_coming s change))
+  pub standing_named : (x : RowChange) → IsIn x (exchanges (rows_left s change) (rows_come s change))
       → IsOfMoves (moves_of s c.day c.action) x
   standing_named =
-      only_standing (moves_of s c.day c.action) (rows_going s change) (rows_coming s change)
+      only_standing (moves_of s c.day c.action) (rows_left s change) (rows_come s change)
       (λ x i. (let m = in_map moved_row (filter leaves more) x i in
       of_moves x m.0 (in_filter leaves more m.0 m.1.0).0 m.1.1))
       (λ x i. (let m = in_map moved_row (filter stands more) x i in

@@ -31,7 +31,7 @@ use Rattle.vet_rows.specs.SettingRows.{all_criteria, criteria_rows, criterion_ro
 use Rattle.vet_rows.specs.declared.row.CriterionRow.{CriterionRow}
 use Rattle.vet_rows.specs.declared.row.PeerRow.{PeerRow}
 use Rattle.vet_rows.specs.declared.row.PublisherRow.{PublisherRow}
-use Rattle.vet_rows.proofs.Exchanges.{AreRowsOf, IsExchange, alike, of_items, stays}
+use Rattle.vet_rows.proofs.Exchanges.{AreRowsOf, IsExchange, alike, gone_of, of_items, stays}
 use Rattle.vet_rows.proofs.FactsExchanges.{HaveKeys, name_of, peer_edit, put_for}
 use Rattle.vet_rows.proofs.KeyedExchanges.{IsOneForOne, edit_is}
 use Rattle.vet_rows.proofs.ListEdits.{flat_in, in_flat}
@@ -311,3 +311,18 @@ module _ (old : Facts) (room : Room) (k : HaveKeys old) where
       ∙ package_is x s b)
       (λ g r s i a none e. none)
       (λ c r s i a j e. publisher_same r s e)
+
+  -- the rows that go are there
+  pub publishers_there : (e : Edit) → Fits e (record { content = old; room = room }) → (r : PublisherRow)
+      → IsIn r (publishers_going e old) → IsIn r (flat_map package_rows old.publishers)
+  publishers_there (edit.Criteria table) fits r i = absurd i
+  publishers_there (edit.Insert place held) fits r i = absurd i
+  publishers_there (edit.Remove place) fits r i = absurd i
+  publishers_there (edit.Peer change) fits r i = absurd i
+  publishers_there (edit.Settings settings) fits r i = absurd i
+  publishers_there (edit.Content name content) fits r i = absurd i
+  publishers_there (edit.Publishers change) fits r i =
+      gone_of package_rows (goes change old.publishers) old.publishers [] (flat_map package_rows old.publishers)
+      (only_flat package_rows old.publishers)
+      (edit_is (slice_cmp nat_cmp) nat_list_cmp_total only_equal package_of change
+      (record { items = old.publishers; room = room.packages }) k.packages fits.place).gone_from r i

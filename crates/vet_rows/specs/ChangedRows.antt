@@ -9,6 +9,7 @@ use Rattle.vet_rows.specs.DeskChanges as desk
 use Rattle.vet_rows.specs.HeldChanges.{criteria_coming, criteria_going, edges_coming, edges_going, entries_coming}
 use Rattle.vet_rows.specs.HeldChanges.{entries_going, nodes_coming, nodes_going, peers_coming, peers_going}
 use Rattle.vet_rows.specs.HeldChanges.{policies_coming, policies_going, publishers_coming, publishers_going}
+use Rattle.vet_rows.specs.RowExchanges.{differing}
 use Rattle.vet_rows.specs.Rows.{RowsValue}
 use Rattle.vet_rows.specs.RowsOf.{meta_row}
 use Rattle.vet_rows.specs.StandingChanges.{moves_coming, moves_going, standing_coming, standing_going}
@@ -67,3 +68,11 @@ rows_coming s change = record {
   members = members_coming change.desk;
   reviews = reviews_coming change.desk s.desk;
 }
+
+-- ---- of these, the rows that differ
+
+abbrev pub rows_left : {K U : Type 0} → State → Change K U → RowsValue
+rows_left s change = differing (rows_going s change) (rows_coming s change)
+
+abbrev pub rows_come : {K U : Type 0} → State → Change K U → RowsValue
+rows_come s change = differing (rows_coming s change) (rows_going s change)

@@ -39,6 +39,15 @@ abbrev pub ProjectsComingAreRead : HeldEdit → Type 0
 ProjectsComingAreRead (edit.Projects change) = (p : NamedProject) → comes change ≡ Some p → NodesAreRead p
 ProjectsComingAreRead _ = Unit {0}
 
+-- of some projects
+abbrev pub ProjectsAreRead : List NamedProject → Type 0
+ProjectsAreRead projects = (p : NamedProject) → IsIn p projects → NodesAreRead p
+
+-- of the projects that are held, where one of them changes
+abbrev pub ProjectsHeldAreRead : HeldEdit → List NamedProject → Type 0
+ProjectsHeldAreRead (edit.Projects change) projects = ProjectsAreRead projects
+ProjectsHeldAreRead _ projects = Unit {0}
+
 -- the versions of the pairs of moves
 abbrev pub MovesAreRead : List RecordedMove → Type 0
 MovesAreRead moves = (m : RecordedMove) → IsIn m moves → IsVersion m.change.pair.version
@@ -60,5 +69,6 @@ pub record AreRead {K U : Type 0} (s : State) (change : Change K U) : Type 0 whe
   pub policies : KeysAreRead s.held.policies
   pub policies_after : KeysAreRead (edited change.edit s.held).policies
   pub projects : ProjectsComingAreRead change.edit
+  pub projects_held : ProjectsHeldAreRead change.edit s.held.projects
   pub pairs : PairsAreRead (demanded s)
   pub moves : MovesAreRead (recorded_moves change.recording)

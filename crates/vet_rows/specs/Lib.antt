@@ -37,6 +37,7 @@ pub mod ReadValues
 pub mod RowChanges
 pub mod RowExchanges
 pub mod RowKeys
+pub mod RowLaws
 pub mod Rows
 pub mod RowsOf
 pub mod SameRows

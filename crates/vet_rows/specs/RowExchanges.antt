@@ -1,10 +1,32 @@
 -- The changes by which some rows go and others come (ours).
-use Rattle.std.specs.Prelude.{◌++◌, List, map}
+use Rattle.std.specs.Prelude.{◌++◌, Bool, List, [], ◌∷◌, cond, filter, map, not}
+use Rattle.std.specs.List.{list_any}
+use Rattle.vet_rows.specs.RowLaws.{same_edge_row, same_entry_row, same_node_row, same_publisher_row}
 use Rattle.vet_rows.specs.Rows.{RowsValue}
 use Rattle.vet_rows.specs.declared.row_change.Row.{Row}
 use Rattle.vet_rows.specs.declared.row_change.Row.TheVariants as row
 use Rattle.vet_rows.specs.declared.row_change.RowChange.{RowChange}
 use Rattle.vet_rows.specs.declared.row_change.RowChange.TheVariants.{Put, Drop}
+
+-- the rows that are not among others
+abbrev pub less : {R : Type 0} → (R → R → Bool) → List R → List R → List R
+less same rows others = filter (λ r. not (list_any (same r) others)) rows
+
+-- those that have no mark
+abbrev pub unmarked : {R : Type 0} → List R → List Bool → List R
+unmarked [] marks = []
+unmarked (r ∷ rows) [] = r ∷ unmarked rows []
+unmarked (r ∷ rows) (mark ∷ marks) = cond mark (unmarked rows marks) (r ∷ unmarked rows marks)
+
+-- Of entries, publishers, nodes and edges, of which there may be thousands, a row that would go and come again stays.
+-- So of what goes in place of others, or comes in place of them, these are the rows that differ.
+abbrev pub differing : RowsValue → RowsValue → RowsValue
+differing rows others = record rows {
+  entries = less same_entry_row rows.entries others.entries;
+  publishers = less same_publisher_row rows.publishers others.publishers;
+  nodes = less same_node_row rows.nodes others.nodes;
+  edges = less same_edge_row rows.edges others.edges;
+}
 
 -- of one table: each row that goes is taken out, and then each that comes is put
 abbrev pub exchange : {R : Type 0} → (R → Row) → List R → List R → List RowChange

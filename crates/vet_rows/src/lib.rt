@@ -13,7 +13,7 @@
 //! are those of no state.
 #![tactic(auto)]
 
-pub mod column;
+mod exact_rows;
 pub mod held_register;
 pub mod laws;
 pub mod packed;

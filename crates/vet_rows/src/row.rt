@@ -5,7 +5,7 @@
 //! order of the keys. A day is its number: how many days it is behind 1970-01-01. What may be said or not, and is true
 //! or false, is -1 where nothing is said, 0 for false, 1 for true. Classes are 0 to 4 in their order: conflicting,
 //! full, partial, exempted, unvetted; 5 stands for none.
-use crate::column::{BlobColumn, TextColumn};
+use vet_tables::column::{BlobColumn, TextColumn};
 
 /// The one row of `meta`: all of which there is just one.
 #[derive(PartialEq, Eq, PartialOrd, Ord)]

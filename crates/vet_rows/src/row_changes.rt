@@ -3,8 +3,9 @@
 //! **Made in their order on the rows of the state, the changes lead to the rows of the state after it.**
 //!
 //! Of each table some rows go and some come: a row that goes is taken out by its key, and one that comes is put. Where
-//! one thing is exchanged for another, all rows of the one go and those of the other come. Of the standing, these are
-//! the pairs of the change's moves alone.
+//! one thing is exchanged for another, the rows of the one go and those of the other come. Of entries, publisher
+//! records and projects, of which there may be thousands, these are only the rows that differ, and of the standing the
+//! pairs of the change's moves alone.
 //!
 //! Two rows of a state never have the same key. That rests on their texts: what a key's text is read as is what it is
 //! of, and no peer has the empty name, which stands for oneself (`key_texts`).
@@ -13,7 +14,7 @@ ghost use Rattle.vet_base.specs.Items.{IsIn};
 ghost use Rattle.vet_register.specs.Changes.{changed};
 ghost use Rattle.vet_register.specs.Machine.{CommandValue, moves_of, next};
 ghost use Rattle.vet_register.specs.RegisterView.{IsPrepared};
-ghost use Rattle.vet_rows.specs.ChangedRows.{members_coming, rows_coming, rows_going};
+ghost use Rattle.vet_rows.specs.ChangedRows.{members_coming, rows_come, rows_coming, rows_going, rows_left};
 ghost use Rattle.vet_rows.specs.ComingNumbers.{NumbersComingFit};
 ghost use Rattle.vet_rows.specs.KeyTexts.{AreRead};
 ghost use Rattle.vet_rows.specs.Numbers.{CountsFit};
@@ -36,7 +37,7 @@ mod standing_changes;
 
 use crate::row::{MemberRow, MetaRow, ReviewRow};
 use crate::row_change::RowChange;
-use crate::row_changes::exchange::push_exchange;
+use crate::row_changes::exchange::{push_difference, push_exchange};
 use crate::row_changes::held_changes::{
     criteria_coming, criteria_going, edges_coming, edges_going, entries_coming, entries_going,
     nodes_coming, nodes_going, peers_coming, peers_going, policies_coming, policies_going,
@@ -44,7 +45,7 @@ use crate::row_changes::held_changes::{
 };
 use crate::row_changes::key_texts::{
     keys_after_are_read, keys_are_read, moves_are_read, pairs_are_read, peers_after_are_named,
-    peers_are_named, projects_coming_are_read,
+    peers_are_named, projects_coming_are_read, projects_held_are_read,
 };
 use crate::row_changes::meta_change::meta_row_after;
 use crate::row_changes::standing_changes::{
@@ -100,6 +101,7 @@ fn texts_are_read<K: Keeper>(register: &Register<K>, change: &Change<K>)
     keys_are_read(register.policies());
     keys_after_are_read(register, change.edit());
     projects_coming_are_read(change.edit());
+    projects_held_are_read(register.projects(), change.edit());
     pairs_are_read(register.demand());
     moves_are_read(recorded_moves(change.recording()));
 }
@@ -121,7 +123,7 @@ fn exchanges<K: Keeper>(
 ) -> Result<Vec<RowChange>, AllocError>
     requires numbers { NumbersComingFit register.now.state change.now }
     ensures { IfOk result (λ changes. changes.items
-        ≡ exchanges (rows_going register.now.state change.now) (rows_coming register.now.state change.now)) }
+        ≡ exchanges (rows_left register.now.state change.now) (rows_come register.now.state change.now)) }
 {
     let mut changes = Vec::new(alloc);
     push_facts(alloc, &mut changes, register, change)?;
@@ -140,7 +142,7 @@ fn push_facts<K: Keeper>(
 ) -> Result<(), AllocError>
     requires { NumbersComingFit register.now.state change.now }
     ensures { OnOk result (changes.new.items ≡ changes.old.items
-        ++ fact_exchanges (rows_going register.now.state change.now) (rows_coming register.now.state change.now)) }
+        ++ fact_exchanges (rows_left register.now.state change.now) (rows_come register.now.state change.now)) }
 {
     let edit = change.edit();
     let going = criteria_going(alloc, edit, register)?;
@@ -148,10 +150,10 @@ fn push_facts<K: Keeper>(
     push_exchange(changes, going, coming)?;
     let going = entries_going(alloc, edit, register)?;
     let coming = entries_coming(alloc, edit)?;
-    push_exchange(changes, going, coming)?;
+    push_difference(alloc, changes, going, coming)?;
     let going = publishers_going(alloc, edit, register)?;
     let coming = publishers_coming(alloc, edit)?;
-    push_exchange(changes, going, coming)?;
+    push_difference(alloc, changes, going, coming)?;
     let going = peers_going(alloc, edit, register)?;
     let coming = peers_coming(alloc, edit)?;
     push_exchange(changes, going, coming)
@@ -165,7 +167,7 @@ fn push_projects<K: Keeper>(
     change: &Change<K>,
 ) -> Result<(), AllocError>
     ensures { OnOk result (changes.new.items ≡ changes.old.items
-        ++ project_exchanges (rows_going register.now.state change.now) (rows_coming register.now.state change.now)) }
+        ++ project_exchanges (rows_left register.now.state change.now) (rows_come register.now.state change.now)) }
 {
     let edit = change.edit();
     let going = policies_going(alloc, edit, register)?;
@@ -173,10 +175,10 @@ fn push_projects<K: Keeper>(
     push_exchange(changes, going, coming)?;
     let going = nodes_going(alloc, edit, register)?;
     let coming = nodes_coming(alloc, edit)?;
-    push_exchange(changes, going, coming)?;
+    push_difference(alloc, changes, going, coming)?;
     let going = edges_going(alloc, edit, register)?;
     let coming = edges_coming(alloc, edit)?;
-    push_exchange(changes, going, coming)
+    push_difference(alloc, changes, going, coming)
 }
 
 // Adds the changes of the standing and of moves.
@@ -188,7 +190,7 @@ fn push_standing<K: Keeper>(
 ) -> Result<(), AllocError>
     requires { NumbersComingFit register.now.state change.now }
     ensures { OnOk result (changes.new.items ≡ changes.old.items
-        ++ standing_exchanges (rows_going register.now.state change.now) (rows_coming register.now.state change.now)) }
+        ++ standing_exchanges (rows_left register.now.state change.now) (rows_come register.now.state change.now)) }
 {
     numbers_fit(register);
     let more = recorded_moves(change.recording());
@@ -209,7 +211,7 @@ fn push_desk<K: Keeper>(
 ) -> Result<(), AllocError>
     requires { NumbersComingFit register.now.state change.now }
     ensures { OnOk result (changes.new.items ≡ changes.old.items
-        ++ desk_exchanges (rows_going register.now.state change.now) (rows_coming register.now.state change.now)) }
+        ++ desk_exchanges (rows_left register.now.state change.now) (rows_come register.now.state change.now)) }
 {
     let mut coming = Vec::new(alloc);
     coming.push(meta_row_after(alloc, register, change)?)?;

@@ -20,7 +20,7 @@ use Rattle.vet_store.specs.Crash.{EndsShut, LeavesEither, LeavesRun}
 use Rattle.vet_store.specs.Exact.{IsExactTurn, WouldBeDone}
 use Rattle.vet_store.specs.Runs.{Each, Fails, IsTurn, Ran, is_done}
 use Rattle.vet_store.specs.Tied.{IsTied, IsWritten, Leaves}
-use Rattle.vet_store.proofs.Readings.{all_pushed}
+use Rattle.vet_tables.proofs.Readings.{all_pushed}
 use Rattle.vet_store.proofs.Running.{done_or_stays}
 use Rattle.vet_store.proofs.Tying.{leaves_still, still_clean}
 

@@ -66,10 +66,11 @@ use Rattle.vet_store.proofs.HeldTexts.{version_is_text}
 use Rattle.vet_store.specs.Cells.{criterion_cells, edge_cells, entry_cells, member_cells, meta_cells}
 use Rattle.vet_store.specs.Cells.{move_cells, node_cells, peer_cells, policy_cells, publisher_cells, review_cells}
 use Rattle.vet_store.specs.Cells.{standing_cells}
-use Rattle.vet_store.specs.Typed.{AreReadable, IsReadable}
-use Rattle.vet_store.specs.declared.table_name.TableName.TheVariants.{Meta, Criteria as CriteriaTable, Entries}
-use Rattle.vet_store.specs.declared.table_name.TableName.TheVariants.{Publishers, Policies, Peers, Nodes, Edges}
-use Rattle.vet_store.specs.declared.table_name.TableName.TheVariants.{Standing, Moves, Members, Reviews}
+use Rattle.vet_store.specs.Readable.{AreReadable}
+use Rattle.vet_tables.specs.Typed.{IsReadable}
+use Rattle.vet_tables.specs.declared.table_name.TableName.TheVariants.{Meta, Criteria as CriteriaTable, Entries}
+use Rattle.vet_tables.specs.declared.table_name.TableName.TheVariants.{Publishers, Policies, Peers, Nodes, Edges}
+use Rattle.vet_tables.specs.declared.table_name.TableName.TheVariants.{Standing, Moves, Members, Reviews}
 
 -- ---- cells
 

@@ -1,5 +1,5 @@
 -- Which rows the test of a key finds.
-use Rattle.std.proofs.Common.{◌≡◌, ◌+◌, ◌&&◌, ℕ, ℤ, List, [], ◌∷◌, Bool, true, false, Some, Ordering, Less, Equal}
+use Rattle.std.proofs.Common.{◌≡◌, ◌&&◌, ℕ, ℤ, List, Bool, true, false, Some, Ordering, Less, Equal}
 use Rattle.std.proofs.Common.{Greater, refl, ap, ◌∙◌}
 use Rattle.std.proofs.lemmas.Map.Text.{is_eq-slice_cmp}
 use Rattle.std.specs.Ordering.{int_eq, is_eq, ordering_reverse}
@@ -7,7 +7,7 @@ use Rattle.std.specs.Str.{bytes_eq}
 use Rattle.sqlite_schema.specs.Rules.{equal}
 use Rattle.sqlite_sql.specs.Ops.{binary, from_truth, is_true}
 use Rattle.sqlite_value.proofs.OrderLemmas.{value_cmp-Blob, value_cmp-Int, value_cmp-Text, value_cmp_total}
-use Rattle.sqlite_value.specs.Order.{Row as Cells, column, value_cmp}
+use Rattle.sqlite_value.specs.Order.{value_cmp}
 use Rattle.sqlite_value.specs.declared.keys.Collation.TheVariants.{Binary}
 use Rattle.sqlite_value.specs.declared.value.Value.{Value}
 use Rattle.sqlite_value.specs.declared.value.Value.TheVariants.{Blob, Int, Text}
@@ -25,40 +25,15 @@ use Rattle.vet_rows.specs.declared.row.ReviewRow.{ReviewRow}
 use Rattle.vet_rows.specs.declared.row.StandingRow.{StandingRow}
 use Rattle.vet_rows.specs.RowKeys.{same_criterion, same_edge, same_entry, same_member, same_meta, same_move, same_node}
 use Rattle.vet_rows.specs.RowKeys.{same_peer, same_policy, same_publisher, same_review, same_standing}
-use Rattle.vet_store.proofs.Answered.{passes}
-use Rattle.vet_store.proofs.Shapes.{key_tests}
 use Rattle.vet_store.specs.Cells.{criterion_cells, edge_cells, entry_cells, member_cells, meta_cells, move_cells}
 use Rattle.vet_store.specs.Cells.{node_cells}
 use Rattle.vet_store.specs.Cells.{peer_cells, policy_cells, publisher_cells, review_cells, standing_cells}
-use Rattle.vet_store.specs.Form.{Form, key_of, shown}
-use Rattle.vet_store.specs.Forms.{form_of}
-use Rattle.vet_store.specs.declared.table_name.TableName.{TableName}
-use Rattle.vet_store.specs.declared.table_name.TableName.TheVariants.{Meta, Criteria, Entries, Publishers, Policies}
-use Rattle.vet_store.specs.declared.table_name.TableName.TheVariants.{Peers}
-use Rattle.vet_store.specs.declared.table_name.TableName.TheVariants.{Nodes, Edges, Standing, Moves, Members, Reviews}
-
--- the cells have these values of the key, from a place in it on
-abbrev pub keyed_from : Cells → Cells → ℕ → List ℕ → Bool
-keyed_from key cells i [] = true
-keyed_from key cells i (at ∷ more) = equal Binary (column cells at) (column key i) && keyed_from key cells (i + 1) more
-
-abbrev pub is_keyed : Form → Cells → Cells → Bool
-is_keyed form key cells = keyed_from key cells 0 form.key
-
-pub passes_keyed : (n : TableName) (key r : Cells)
-    → passes (key_tests (form_of n)) key r ≡ is_keyed (form_of n) key (shown (form_of n) r)
-passes_keyed Meta key r = refl
-passes_keyed Criteria key r = refl
-passes_keyed Entries key r = refl
-passes_keyed Publishers key r = refl
-passes_keyed Policies key r = refl
-passes_keyed Peers key r = refl
-passes_keyed Nodes key r = refl
-passes_keyed Edges key r = refl
-passes_keyed Standing key r = refl
-passes_keyed Moves key r = refl
-passes_keyed Members key r = refl
-passes_keyed Reviews key r = refl
+use Rattle.vet_tables.specs.Form.{key_of}
+use Rattle.vet_tables.specs.Forms.{form_of}
+use Rattle.vet_tables.specs.Keyed.{is_keyed}
+use Rattle.vet_tables.specs.declared.table_name.TableName.TheVariants.{Meta, Criteria, Entries, Publishers, Policies}
+use Rattle.vet_tables.specs.declared.table_name.TableName.TheVariants.{Peers}
+use Rattle.vet_tables.specs.declared.table_name.TableName.TheVariants.{Nodes, Edges, Standing, Moves, Members, Reviews}
 
 told : (b : Bool) → is_true (from_truth (Some b)) ≡ b
 told true = refl

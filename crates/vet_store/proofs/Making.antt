@@ -1,102 +1,30 @@
 -- The tables are made one after another.
-use Rattle.std.proofs.Common.{◌≡◌, inl, inr, List, [], ◌++◌, ◌+◌, ◌<◌, ℕ, true, false, IsTrue, None, Ok, Err, Result}
-use Rattle.std.proofs.Common.{OnOk, refl, sym, ap, subst, ◌∙◌, arith, eq-or-lt_of_le}
-use Rattle.sqlite.specs.Command.TheVariants.{CreateTable}
-use Rattle.sqlite.specs.Does.{Does}
-use Rattle.sqlite.specs.Effect.{Database}
+use Rattle.std.proofs.Common.{◌≡◌, [], true, false, IsTrue}
+use Rattle.std.proofs.Common.{refl, sym, subst, ◌∙◌, arith}
 use Rattle.sqlite.proofs.Callers.{survives_begin}
 use Rattle.sqlite.proofs.StateLemmas.{survives_then}
 use Rattle.sqlite.specs.Held.{Held, state}
-use Rattle.sqlite.specs.State.{ExecutesInside, HasCleanDisk, IsLive, Shows as ShowsState, State, Survives, mode_of}
+use Rattle.sqlite.specs.State.{HasCleanDisk, IsLive, Shows as ShowsState, State, Survives}
 use Rattle.sqlite.specs.Store.{Ghosts}
-use Rattle.sqlite.specs.declared.error.Error.{Error}
-use Rattle.sqlite_catalog.proofs.ListFacts.{none_placed}
 use Rattle.sqlite_rules.proofs.ListLemmas.{all_from, all_has}
 use Rattle.sqlite_rules.specs.Lists.{Has}
-use Rattle.sqlite_schema.specs.Names.{same_name}
-use Rattle.sqlite_schema.specs.declared.schema.Table.{Table}
-use Rattle.std.proofs.lemmas.Bool.{true≢false}
 use Rattle.vet_rows.specs.Rows.{RowsValue}
-use Rattle.vet_store.proofs.Contents.{few, same_or_other}
-use Rattle.vet_store.proofs.Creates.{create_is, text_whole}
-use Rattle.vet_store.proofs.Extends.{extends_none, extends_then, has_either, has_front, still_has, still_rows, unused}
-use Rattle.vet_store.proofs.Makes.{finds, named_itself}
-use Rattle.vet_store.proofs.Steps.{ran}
-use Rattle.vet_store.specs.Forms.{code, form_of}
+use Rattle.vet_tables.proofs.Making.{in_longer, other_table}
+use Rattle.vet_tables.proofs.TablePlaces.{few}
 use Rattle.vet_store.specs.Cells.{cells_in}
-use Rattle.vet_store.specs.Changes.{Changes, IsOther}
+use Rattle.vet_store.specs.Changes.{Changes}
 use Rattle.vet_store.specs.Committed.{no_rows}
-use Rattle.vet_store.specs.Has.{HasTable, HasTables}
-use Rattle.vet_store.specs.Stands.{Holds, Rests, Stands}
-use Rattle.vet_store.specs.Made.{AreFree, Extends, FillsTables, IsMade, MakesTable, MakesTables, SparesOthers}
-use Rattle.vet_store.specs.Texts.{create_text}
-use Rattle.vet_store.specs.declared.table_name.TableName.{TableName}
-use Rattle.vet_store.specs.declared.table_name.TableName.TheVariants.{Meta, Criteria, Entries, Publishers, Policies}
-use Rattle.vet_store.specs.declared.table_name.TableName.TheVariants.{Peers}
-use Rattle.vet_store.specs.declared.table_name.TableName.TheVariants.{Nodes, Edges, Standing, Moves, Members, Reviews}
-
-make_step : (n : TableName) (old new : State) (count : ℕ)
-    → ExecutesInside 0 (create_text (form_of n)) [] old new (Ok count) → MakesTable old new n
-make_step n old new count h =
-    let run = ran (create_text (form_of n)) [] old new CreateTable count (create_is n old.now.schema) h.0 in
-    let write = run.2 in
-    let done = subst (λ t. Does old.step_limit (mode_of old) [] old.now t None CreateTable
-    (Ok (write.tally, new.now))) (text_whole n old.now.schema run.0 run.1) write.changed in
-    record {
-      was_open = h.1.was_open;
-      is_open = h.1.is_open;
-      committed = h.1.committed_is;
-      inside = rw h.1.mode;
-      sound = write.sound;
-      gains = finds n old.step_limit (mode_of old) old.now new.now write.tally done;
-    }
-
-pub makes : (n : TableName) (old new : State) (r : Result ℕ Error)
-    → ExecutesInside 0 (create_text (form_of n)) [] old new r → OnOk r (MakesTable old new n)
-makes n old new (Err e) h = tt
-makes n old new (Ok count) h = make_step n old new count h
-
-pub makes_none : (a : State) → IsTrue a.is_open → IsTrue a.in_transaction → MakesTables a a 0
-makes_none a serves inside = record {
-  was_open = serves;
-  is_open = serves;
-  committed = refl;
-  inside = inside;
-  sound = λ sound. sound;
-  extends = extends_none a.now;
-  has = λ sound free n low. absurd (omega (arith, low));
-  frees = λ free n low. free n;
-}
-
-pub makes_more : (a b c : State) (k : ℕ) (n : TableName) → code n ≡ k → MakesTables a b k → MakesTable b c n
-    → MakesTables a c (k + 1)
-makes_more a b c k n place one two = record {
-  was_open = one.was_open;
-  is_open = two.is_open;
-  committed = two.committed ∙ one.committed;
-  inside = two.inside;
-  sound = λ sound. two.sound;
-  extends = extends_then a.now b.now c.now one.extends two.gains.extends;
-  has = λ sound free m low. elim (same_or_other m n) [
-    | inl same ↦
-        subst (λ name. (h : HasTable c.now.schema (form_of name)) × (c.now.trees h.tree ≡ [])) (sym same)
-        (two.gains.has (one.sound sound) (one.frees free n (omega (arith, place))))
-    | inr apart ↦
-        let was = one.has sound free m (below m apart low) in (
-          still_has b.now c.now (form_of m) two.gains.extends was.0,
-          still_rows b.now c.now (form_of m) two.gains.extends was.0 ∙ was.1,
-        )
-  ];
-  frees = λ free m high. two.gains.frees m (λ e. omega (arith, high, place, e))
-      (one.frees free m (omega (arith, high)));
-}
-  where
-    below : (m : TableName) → (code m ≡ code n → ⊥) → code m < k + 1 → code m < k
-    below m apart low = elim (eq-or-lt_of_le {n = code m} {m = k} (omega (arith, low))) [
-      | inl same ↦ absurd
-          (apart (same ∙ sym place))
-      | inr less ↦ less
-    ]
+use Rattle.vet_tables.specs.Has.{HasTables}
+use Rattle.vet_store.specs.Stands.{Holds, Stands}
+use Rattle.vet_tables.specs.Read.{Rests}
+use Rattle.vet_store.specs.Made.{FillsTables, IsMade}
+use Rattle.vet_tables.specs.Makes.{MakesTables}
+use Rattle.vet_tables.specs.Extends.{SparesOthers}
+use Rattle.vet_tables.specs.Free.{AreFree}
+use Rattle.vet_tables.specs.declared.table_name.TableName.{TableName}
+use Rattle.vet_tables.specs.declared.table_name.TableName.TheVariants.{Meta, Criteria, Entries, Publishers, Policies}
+use Rattle.vet_tables.specs.declared.table_name.TableName.TheVariants.{Peers}
+use Rattle.vet_tables.specs.declared.table_name.TableName.TheVariants.{Nodes, Edges, Standing, Moves, Members, Reviews}
 
 -- ---- the tables with their first rows
 
@@ -113,22 +41,6 @@ none_in Standing = refl
 none_in Moves = refl
 none_in Members = refl
 none_in Reviews = refl
-
-in_longer : {X : Type 0} (xs more ys : List X) → ys ≡ xs ++ more → (x : X) → Has xs x → Has ys x
-in_longer xs more ys e x h = subst (λ zs. Has zs x) (sym e) (has_front xs more x h)
-
--- an old table is none of ours
-other_table : (a b : Database) (more : Extends a b) → AreFree a.schema → (t : Table) → Has a.schema.tables t
-    → IsOther b.schema t
-other_table a b more free t there n own owned named same =
-    elim (has_either a.schema.tables more.tables own (subst (λ ts. Has ts own) more.tables_are owned)) [
-      | inl old ↦
-          let none = unused a.schema (form_of n).name (free n).unused in
-          let unlike = none_placed (λ (u : Table). same_name u.name
-          (form_of n).name) a.schema.tables 0 own none.0 old in
-          absurd (true≢false (sym (ap (λ name. same_name name (form_of n).name) named ∙ named_itself n) ∙ unlike))
-      | inr new ↦ more.fresh own new t there same
-    ]
 
 pub fills : (a b c : State) (change : RowsValue → RowsValue) → MakesTables a b 12 → Changes b c change
     → FillsTables a c (change no_rows)

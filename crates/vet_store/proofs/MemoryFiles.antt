@@ -14,7 +14,7 @@ use Rattle.sqlite.specs.Held.{Held}
 use Rattle.sqlite.specs.State.{HasCleanDisk}
 use Rattle.sqlite.specs.Steps.{IsEmpty}
 use Rattle.sqlite_trees.proofs.Doubt.{no_doubt}
-use Rattle.vet_store.specs.Made.{AreFree}
+use Rattle.vet_tables.specs.Free.{AreFree}
 
 -- a disk that never takes a wrong answer as true is clean at any time
 pub files_are_clean : {D : Type 0} {g : Ghosts D} → ((f : D) → g.is_clean f ≡ true) → (c : Held (FileStore D g))

@@ -20,17 +20,18 @@ use Rattle.vet_rows.specs.declared.row.PolicyRow.{PolicyRow}
 use Rattle.vet_rows.specs.declared.row.PublisherRow.{PublisherRow}
 use Rattle.vet_rows.specs.declared.row.ReviewRow.{ReviewRow}
 use Rattle.vet_rows.specs.declared.row.StandingRow.{StandingRow}
-use Rattle.vet_store.proofs.Effects.{same_tree}
+use Rattle.vet_tables.proofs.Effects.{same_tree}
 use Rattle.vet_store.specs.Cells.{cells_in, criterion_cells, edge_cells, entry_cells, member_cells, meta_cells}
 use Rattle.vet_store.specs.Cells.{move_cells, node_cells, peer_cells, policy_cells, publisher_cells, review_cells}
 use Rattle.vet_store.specs.Cells.{standing_cells}
-use Rattle.vet_store.specs.Form.{Form}
-use Rattle.vet_store.specs.Forms.{form_of}
-use Rattle.vet_store.specs.Stands.{Holds, Shows}
-use Rattle.vet_store.specs.declared.table_name.TableName.{TableName}
-use Rattle.vet_store.specs.declared.table_name.TableName.TheVariants.{Meta, Criteria, Entries, Publishers, Policies}
-use Rattle.vet_store.specs.declared.table_name.TableName.TheVariants.{Peers}
-use Rattle.vet_store.specs.declared.table_name.TableName.TheVariants.{Nodes, Edges, Standing, Moves, Members, Reviews}
+use Rattle.vet_tables.specs.Form.{TableForm}
+use Rattle.vet_tables.specs.Forms.{form_of}
+use Rattle.vet_store.specs.Stands.{Holds}
+use Rattle.vet_tables.specs.Contents.{Shows}
+use Rattle.vet_tables.specs.declared.table_name.TableName.{TableName}
+use Rattle.vet_tables.specs.declared.table_name.TableName.TheVariants.{Meta, Criteria, Entries, Publishers, Policies}
+use Rattle.vet_tables.specs.declared.table_name.TableName.TheVariants.{Peers}
+use Rattle.vet_tables.specs.declared.table_name.TableName.TheVariants.{Nodes, Edges, Standing, Moves, Members, Reviews}
 
 -- ---- a row is told by its cells
 
@@ -195,7 +196,7 @@ same_rows a b same = record {
 
 -- ---- a table has the same rows, by whichever way it is found
 
-one_shown : (form : Form) (tree xs ys : List Cells) → Shows form tree xs → Shows form tree ys → SameItems xs ys
+one_shown : (form : TableForm) (tree xs ys : List Cells) → Shows form tree xs → Shows form tree ys → SameItems xs ys
 one_shown form tree xs ys h k = (λ c i. k.same.1 c (h.same.0 c i), λ c i. h.same.1 c (k.same.0 c i))
 
 -- rows that a database has are the same rows as others that it has

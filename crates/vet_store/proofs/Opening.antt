@@ -21,7 +21,7 @@ use Rattle.vet_store.proofs.Tying.{leaves_standing}
 use Rattle.vet_store.specs.Opened.{IsStored, IsToldBy}
 use Rattle.vet_store.specs.Stands.{Holds, Stands}
 use Rattle.vet_store.specs.Tied.{IsTied}
-use Rattle.vet_store.specs.Typed.{AreReadable}
+use Rattle.vet_store.specs.Readable.{AreReadable}
 
 but_standing : (a b : RowsValue) → SameRows a b → SameButStanding a b
 but_standing a b h = record {

@@ -1,16 +1,24 @@
 -- The tables are read three at a time.
-use Rattle.std.proofs.Common.{◌⊎◌, inl, inr}
+use Rattle.std.proofs.Common.{◌⊎◌, ◌∷◌, inl, inr}
 use Rattle.sqlite.specs.Effect.{Database, IsDatabase}
+use Rattle.sqlite_schema.specs.declared.schema.Kind.TheVariants as kind
+use Rattle.sqlite_value.specs.Order.{Row as Cells}
+use Rattle.sqlite_value.specs.declared.value.Value.{Value}
+use Rattle.vet_base.specs.Items.{IsIn}
 use Rattle.vet_rows.specs.Rows.{RowsValue}
+use Rattle.vet_store.proofs.TypedCells.{cells_typed}
+use Rattle.vet_tables.specs.Forms.{form_of}
+use Rattle.vet_tables.specs.Typed.{AreTyped, IsKind, kinds_of}
 use Rattle.vet_store.specs.Cells.{cells_in}
-use Rattle.vet_store.specs.Has.{HasTables}
-use Rattle.vet_store.specs.Read.{AreRead, IsUnread}
+use Rattle.vet_tables.specs.Has.{HasTables}
+use Rattle.vet_store.specs.Read.{IsUnread}
+use Rattle.vet_tables.specs.Read.{AreRead}
 use Rattle.vet_store.specs.Stands.{Holds}
-use Rattle.vet_store.specs.Typed.{AreReadable}
-use Rattle.vet_store.specs.declared.table_name.TableName.{TableName}
-use Rattle.vet_store.specs.declared.table_name.TableName.TheVariants.{Meta, Criteria, Entries, Publishers, Policies}
-use Rattle.vet_store.specs.declared.table_name.TableName.TheVariants.{Peers}
-use Rattle.vet_store.specs.declared.table_name.TableName.TheVariants.{Nodes, Edges, Standing, Moves, Members, Reviews}
+use Rattle.vet_store.specs.Readable.{AreReadable}
+use Rattle.vet_tables.specs.declared.table_name.TableName.{TableName}
+use Rattle.vet_tables.specs.declared.table_name.TableName.TheVariants.{Meta, Criteria, Entries, Publishers, Policies}
+use Rattle.vet_tables.specs.declared.table_name.TableName.TheVariants.{Peers}
+use Rattle.vet_tables.specs.declared.table_name.TableName.TheVariants.{Nodes, Edges, Standing, Moves, Members, Reviews}
 
 -- where one of three has no rows, no rows stand in all
 pub none_stands : (db : Database) (a b c : TableName) → IsUnread db a ⊎ (IsUnread db b ⊎ IsUnread db c)
@@ -42,3 +50,9 @@ all_stand db rows sound has one two three four = record { sound = sound; has = h
     go Moves = four.0
     go Members = four.1
     go Reviews = four.2
+
+-- ---- what was read has the types of the columns
+
+pub rows_typed : (n : TableName) (rows : RowsValue) → AreReadable rows → (c : Cells) → IsIn c (cells_in n rows)
+    → (id : Value) → IsKind kind.Integer id → AreTyped (kinds_of (form_of n)) (id ∷ c)
+rows_typed n rows readable c i id int = cells_typed n rows c id int i (readable n c i)

@@ -1,106 +1,30 @@
 -- What a statement inside a transaction does to the rows.
-use Rattle.std.proofs.Common.{◌≡◌, inl, inr, ℕ, List, [], ◌∷◌, ◌++◌, add-one, append-nil, take-suc, true, false, IsTrue}
-use Rattle.std.proofs.Common.{None, Ok, Err, Result, OnOk, refl, sym, ap, subst, ◌∙◌, arith, take, length, get_or, ◌<◌}
+use Rattle.std.proofs.Common.{◌≡◌, inl, inr, ℕ, List, [], ◌∷◌, ◌++◌, add-one, take-suc, true, false, IsTrue}
+use Rattle.std.proofs.Common.{refl, sym, ap, subst, ◌∙◌, arith, take, length, get_or, ◌<◌}
 use Rattle.std.proofs.Common.{◌+◌}
-use Rattle.std.proofs.lemmas.Bool.{cases_Bool, true≢false}
+use Rattle.std.proofs.lemmas.Bool.{true≢false}
 use Rattle.sqlite.proofs.Callers.{survives_begin}
 use Rattle.sqlite.proofs.StateLemmas.{survives_then}
 use Rattle.sqlite.specs.Effect.{Database}
 use Rattle.sqlite.specs.Held.{Held, state}
-use Rattle.sqlite.specs.State.{Executes, ExecutesIn, ExecutesInside, HasCleanDisk, IsRolledBack, KeepsCommit, Runs}
-use Rattle.sqlite.specs.State.{Shows as ShowsState, State, Survives, mode_of, shows_rows, text_of}
-use Rattle.sqlite.specs.Clock.{timed}
+use Rattle.sqlite.specs.State.{HasCleanDisk, IsRolledBack, KeepsCommit}
+use Rattle.sqlite.specs.State.{Shows as ShowsState, State, Survives}
 use Rattle.sqlite.specs.Steps.{FailsToCommit}
 use Rattle.sqlite.specs.Store.{Ghosts}
 use Rattle.sqlite.specs.declared.error.Error.{Error}
-use Rattle.sqlite.specs.declared.error.Error.TheVariants.{SqliteFailure}
-use Rattle.sqlite.specs.declared.error.ErrorCode.TheVariants.{TransactionState}
-use Rattle.sqlite_resolve.specs.Compile.{compiled}
-use Rattle.sqlite_resolve.specs.declared.compiled.Compiled.{Compiled}
 use Rattle.sqlite_rules.specs.Lists.{Has}
-use Rattle.sqlite_schema.specs.declared.command.Command.{Command}
 use Rattle.sqlite_schema.specs.declared.schema.Table.{Table}
-use Rattle.sqlite_trees.specs.Tree.{Trees}
-use Rattle.sqlite_value.specs.Order.{Row as Cells}
 use Rattle.vet_rows.specs.RowChanges.{all_changed, changed, dropped, put}
 use Rattle.vet_rows.specs.Rows.{RowsValue}
 use Rattle.vet_rows.specs.declared.row_change.Row.{Row}
 use Rattle.vet_rows.specs.declared.row_change.RowChange.{RowChange}
 use Rattle.vet_store.proofs.Contents.{put_is}
-use Rattle.vet_store.proofs.Edits.{deleted, inserted}
-use Rattle.vet_store.proofs.Effects.{adds_holds, removes_holds, spares_others}
-use Rattle.vet_store.proofs.Meanings.{Means}
-use Rattle.vet_store.proofs.StoredRows.{form_for}
-use Rattle.vet_store.proofs.TableMeanings.{delete_is, insert_is}
-use Rattle.vet_store.specs.Cells.{cells_of, table_for}
-use Rattle.vet_store.specs.Changes.{Changes, IsOther, KeepsOthers, added}
+use Rattle.vet_store.specs.Changes.{Changes, added}
+use Rattle.vet_tables.specs.Contents.{IsOther, KeepsOthers}
 use Rattle.vet_store.specs.Committed.{IsAfter}
-use Rattle.vet_store.specs.Form.{key_of}
-use Rattle.vet_store.specs.Has.{HasTable, HasTables}
-use Rattle.vet_store.specs.Stands.{Holds, Rests, Stands}
-use Rattle.vet_store.specs.Texts.{delete_text, insert_text}
-
--- a text that was run did what it means
-pub ran : (text : List ℕ) (params : Cells) (old new : State) (does : Command) (count : ℕ)
-    → Means old.now.schema text does → Executes text params old new (Ok count)
-    → (c : Compiled) × (compiled old.now.schema text ≡ Ok c) × Runs old new None does (text_of text c) params count
-unfolding ExecutesIn
-ran text params old new does count means h =
-    let known = sym means.stored ∙ h.1.is in
-    let facts = means.means h.0 known in
-    let run : Runs old new h.0.returning h.0.command (text_of text h.0) (timed params h.0.formats h.1.now) count =
-    elim (cases_Bool (shows_rows false h.0)) [
-      | inl shows ↦ absurd (let e = (rw shows at h.2).0 in cc)
-      | inr runs ↦ rw runs at h.2
-    ] in
-    (h.0, known, rw (facts.0, facts.1, facts.2, append-nil params) at run)
-
-module _ (r : Row) (old new : State) where
-  add_step : (count : ℕ) → ExecutesInside 0 (insert_text (form_for r)) (cells_of r) old new (Ok count)
-      → Changes old new (added r)
-  add_step count h =
-      let write = λ (has : HasTable old.now.schema (form_for r)). ran (insert_text (form_for r))
-      (cells_of r) old new _ count (insert_is (table_for r) old.now.schema has) h.0 in
-      let adds = λ (has : HasTable old.now.schema (form_for r)). inserted r old.now has old.step_limit (mode_of old)
-      (text_of (insert_text (form_for r)) (write has).0) (write has).2.tally new.now (write has).2.changed in
-      record {
-        was_open = h.1.was_open;
-        is_open = h.1.is_open;
-        committed = h.1.committed_is;
-        inside = rw h.1.mode;
-        holds = λ rows was. let has = was.has (table_for r) in
-            adds_holds r old.now new.now has (adds has) (write has).2.sound rows was;
-        spares = λ all. let has = all (table_for r) in spares_others (table_for r) old.now new.now has (adds has).2;
-      }
-
-  pub adds : (result : Result ℕ Error) → ExecutesInside 0 (insert_text (form_for r)) (cells_of r) old new result
-      → OnOk result (Changes old new (added r))
-  adds (Err e) h = tt
-  adds (Ok count) h = add_step count h
-
-  take_step : (count : ℕ) → ExecutesInside 0 (delete_text (form_for r)) (key_of (form_for r) (cells_of r)) old new
-      (Ok count) → Changes old new (dropped r)
-  take_step count h =
-      let key = key_of (form_for r) (cells_of r) in
-      let write = λ (has : HasTable old.now.schema (form_for r)). ran (delete_text (form_for r)) key old new _ count
-      (delete_is (table_for r) old.now.schema has) h.0 in
-      let takes = λ (has : HasTable old.now.schema (form_for r)). deleted (table_for r) old.now has old.step_limit
-      (mode_of old) (text_of (delete_text (form_for r)) (write has).0) key (write has).2.tally new.now
-      (write has).2.changed in
-      record {
-        was_open = h.1.was_open;
-        is_open = h.1.is_open;
-        committed = h.1.committed_is;
-        inside = rw h.1.mode;
-        holds = λ rows was. let has = was.has (table_for r) in
-            removes_holds r old.now new.now has (takes has) (write has).2.sound rows was;
-        spares = λ all. let has = all (table_for r) in spares_others (table_for r) old.now new.now has (takes has).1;
-      }
-
-  pub takes : (result : Result ℕ Error) → ExecutesInside 0 (delete_text (form_for r))
-      (key_of (form_for r) (cells_of r)) old new result → OnOk result (Changes old new (dropped r))
-  takes (Err e) h = tt
-  takes (Ok count) h = take_step count h
+use Rattle.vet_tables.specs.Has.{HasTables}
+use Rattle.vet_store.specs.Stands.{Holds, Stands}
+use Rattle.vet_tables.specs.Read.{Rests}
 
 -- ---- one step after another
 
@@ -135,40 +59,6 @@ changes_none a serves inside = record {
   holds = λ rows was. was;
   spares = λ has. record { schema = refl; rows = λ t there other. refl };
 }
-
-keeps_inside : (sql : List ℕ) (params : Cells) (old new : State) (r : Result ℕ Error)
-    → ExecutesInside 0 sql params old new r → KeepsCommit old new
-keeps_inside sql params old new (Ok count) h = record {
-  was_open = λ _. h.1.was_open;
-  committed =
-      λ _. h.1.committed_is;
-}
-keeps_inside sql params old new (Err e) (inl (ran, inl same)) =
-    record { was_open = λ _. same.0.was_open; committed = λ _. same.0.committed_is }
-keeps_inside sql params old new (Err e) (inl (ran, inr back)) =
-    record { was_open = back.was_open; committed = λ serves. (back.undone serves).1 }
-keeps_inside sql params old new (Err e) (inr bad) =
-    record { was_open = λ _. bad.2.0.was_open; committed = λ _. bad.2.0.committed_is }
-
-pub keeps_same : (a : State) → KeepsCommit a a
-keeps_same a = record { was_open = λ serves. serves; committed = λ _. refl }
-
-pub keeps_then : (a b c : State) → KeepsCommit a b → KeepsCommit b c → KeepsCommit a c
-keeps_then a b c one two = record {
-  was_open = λ serves. one.was_open (two.was_open serves);
-  committed =
-      λ serves. two.committed serves ∙ one.committed (two.was_open serves);
-}
-
--- what a statement leaves of the last commit, inside a transaction or once it has ended
-pub keeps : {S : Type 0} (g : Ghosts S) (sql : List ℕ) (params : Cells) (old new : Held S) (r : Result ℕ Error)
-    → (old.in_transaction ≡ false → (r ≡ Err (SqliteFailure TransactionState)) × (new ≡ old))
-    → (IsTrue old.in_transaction → ExecutesInside 0 sql params (state g old) (state g new) r)
-    → KeepsCommit (state g old) (state g new)
-keeps g sql params old new r ended runs = elim (cases_Bool old.in_transaction) [
-  | inl inside ↦ keeps_inside sql params (state g old) (state g new) r (runs (rw inside))
-  | inr outside ↦ rw (ended outside).1 (keeps_same (state g old))
-]
 
 -- a row in place of the one of its key
 pub puts : (r : Row) (a b c : State) → Changes a b (dropped r) → Changes b c (added r) → Changes a c (put r)
@@ -261,17 +151,6 @@ pub uncommitted : {S : Type 0} (g : Ghosts S) (old mid end : Held S) (e : Error)
 uncommitted g old mid end e kept inside (inl fails) serves rests = undone g old mid end kept fails.3 serves rests
 uncommitted g old mid end e kept inside (inr late) serves rests =
     absurd (true≢false (sym (inside rests.is_open) ∙ late.1))
-
-pub survives_same : (a : State) (P : Trees → Type 0) → Survives a a P
-survives_same a P = record {
-  clean = omega arith;
-  shield = λ s. s;
-  counts = omega arith;
-  limit = refl;
-  closes =
-      λ clean serves. inl serves;
-  crash = λ clean db leaves. inl leaves;
-}
 
 -- ---- the tables that are none of the register's
 

@@ -20,14 +20,14 @@ use Rattle.vet_rows.specs.declared.row_change.RowChange.{RowChange}
 use Rattle.vet_store.proofs.Steps.{others_same, spares_then}
 use Rattle.vet_store.specs.Beside.{OthersStay}
 use Rattle.vet_store.specs.Cells.{cells_in}
-use Rattle.vet_store.specs.Changes.{KeepsOthers}
+use Rattle.vet_tables.specs.Contents.{KeepsOthers}
 use Rattle.vet_store.specs.Committed.{AreTreesBeside, AreTreesOf, IsAfter}
 use Rattle.vet_store.specs.Stands.{Holds, Stands}
 use Rattle.vet_store.specs.Tied.{IsTied, IsWritten, Leaves}
-use Rattle.vet_store.specs.declared.table_name.TableName.{TableName}
-use Rattle.vet_store.specs.declared.table_name.TableName.TheVariants.{Meta, Criteria, Entries, Publishers}
-use Rattle.vet_store.specs.declared.table_name.TableName.TheVariants.{Policies, Peers, Nodes, Edges, Standing}
-use Rattle.vet_store.specs.declared.table_name.TableName.TheVariants.{Moves, Members, Reviews}
+use Rattle.vet_tables.specs.declared.table_name.TableName.{TableName}
+use Rattle.vet_tables.specs.declared.table_name.TableName.TheVariants.{Meta, Criteria, Entries, Publishers}
+use Rattle.vet_tables.specs.declared.table_name.TableName.TheVariants.{Policies, Peers, Nodes, Edges, Standing}
+use Rattle.vet_tables.specs.declared.table_name.TableName.TheVariants.{Moves, Members, Reviews}
 
 -- ---- the same rows in whatever order
 

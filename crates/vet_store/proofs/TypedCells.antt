@@ -12,12 +12,12 @@ use Rattle.vet_rows.specs.Rows.{RowsValue}
 use Rattle.vet_store.specs.Cells.{cells_in, criterion_cells, edge_cells, entry_cells, member_cells, meta_cells}
 use Rattle.vet_store.specs.Cells.{move_cells, node_cells}
 use Rattle.vet_store.specs.Cells.{peer_cells, policy_cells, publisher_cells, review_cells, standing_cells}
-use Rattle.vet_store.specs.Forms.{form_of}
-use Rattle.vet_store.specs.Typed.{AreTyped, IsKind, IsReadable, kinds_of}
-use Rattle.vet_store.specs.declared.table_name.TableName.{TableName}
-use Rattle.vet_store.specs.declared.table_name.TableName.TheVariants.{Meta, Criteria, Entries, Publishers, Policies}
-use Rattle.vet_store.specs.declared.table_name.TableName.TheVariants.{Peers}
-use Rattle.vet_store.specs.declared.table_name.TableName.TheVariants.{Nodes, Edges, Standing, Moves, Members, Reviews}
+use Rattle.vet_tables.specs.Forms.{form_of}
+use Rattle.vet_tables.specs.Typed.{AreTyped, IsKind, IsReadable, kinds_of}
+use Rattle.vet_tables.specs.declared.table_name.TableName.{TableName}
+use Rattle.vet_tables.specs.declared.table_name.TableName.TheVariants.{Meta, Criteria, Entries, Publishers, Policies}
+use Rattle.vet_tables.specs.declared.table_name.TableName.TheVariants.{Peers}
+use Rattle.vet_tables.specs.declared.table_name.TableName.TheVariants.{Nodes, Edges, Standing, Moves, Members, Reviews}
 
 abbrev AreKinds : List Kind → Cells → Type 0
 AreKinds [] [] = ⊤

@@ -1,7 +1,7 @@
 -- What else a database has, beside the tables of a register (ours).
 use Rattle.std.specs.Prelude.{IsTrue}
 use Rattle.sqlite.specs.State.{HasCleanDisk, State}
-use Rattle.vet_store.specs.Changes.{KeepsOthers}
+use Rattle.vet_tables.specs.Contents.{KeepsOthers}
 
 -- A connection that serves on a clean disk did so before. It shows the same schema, and the rows of each table that is
 -- none of a register's as they were

@@ -17,10 +17,10 @@ use Rattle.vet_rows.specs.declared.row.ReviewRow.{ReviewRow}
 use Rattle.vet_rows.specs.declared.row.StandingRow.{StandingRow}
 use Rattle.vet_rows.specs.declared.row_change.Row.{Row}
 use Rattle.vet_rows.specs.declared.row_change.Row.TheVariants as row
-use Rattle.vet_store.specs.declared.table_name.TableName.{TableName}
-use Rattle.vet_store.specs.declared.table_name.TableName.TheVariants.{Meta, Criteria, Entries, Publishers, Policies}
-use Rattle.vet_store.specs.declared.table_name.TableName.TheVariants.{Peers}
-use Rattle.vet_store.specs.declared.table_name.TableName.TheVariants.{Nodes, Edges, Standing, Moves, Members, Reviews}
+use Rattle.vet_tables.specs.declared.table_name.TableName.{TableName}
+use Rattle.vet_tables.specs.declared.table_name.TableName.TheVariants.{Meta, Criteria, Entries, Publishers, Policies}
+use Rattle.vet_tables.specs.declared.table_name.TableName.TheVariants.{Peers}
+use Rattle.vet_tables.specs.declared.table_name.TableName.TheVariants.{Nodes, Edges, Standing, Moves, Members, Reviews}
 
 abbrev pub meta_cells : MetaRow → Cells
 meta_cells r =

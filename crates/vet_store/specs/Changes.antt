@@ -1,17 +1,12 @@
 -- What a statement inside a transaction does to the rows (ours).
 use Rattle.std.specs.Prelude.{◌≡◌, ◌∷◌, IsTrue}
-use Rattle.sqlite.specs.Effect.{Database}
 use Rattle.sqlite.specs.State.{State}
-use Rattle.sqlite_rules.specs.Lists.{Has}
-use Rattle.sqlite_schema.specs.declared.schema.Schema.{Schema}
-use Rattle.sqlite_schema.specs.declared.schema.Table.{Table}
 use Rattle.vet_rows.specs.Rows.{RowsValue}
 use Rattle.vet_rows.specs.declared.row_change.Row.{Row}
 use Rattle.vet_rows.specs.declared.row_change.Row.TheVariants as row
-use Rattle.vet_store.specs.Forms.{form_of}
-use Rattle.vet_store.specs.Has.{HasTables}
+use Rattle.vet_tables.specs.Contents.{KeepsOthers}
+use Rattle.vet_tables.specs.Has.{HasTables}
 use Rattle.vet_store.specs.Stands.{Holds}
-use Rattle.vet_store.specs.declared.table_name.TableName.{TableName}
 
 -- one row more, whatever its key
 abbrev pub added : Row → RowsValue → RowsValue
@@ -27,16 +22,6 @@ added (row.Standing r) rows = record rows { standing = r ∷ rows.standing }
 added (row.Move r) rows = record rows { moves = r ∷ rows.moves }
 added (row.Member r) rows = record rows { members = r ∷ rows.members }
 added (row.Review r) rows = record rows { reviews = r ∷ rows.reviews }
-
--- its rows stand in no tree of ours
-abbrev pub IsOther : Schema → Table → Type 0
-IsOther schema t = (name : TableName) (own : Table) → Has schema.tables own → own.name ≡ (form_of name).name
-    → t.tree ≡ own.tree → ⊥
-
--- the schema stays, and so do the rows of the other tables
-pub record KeepsOthers (old new : Database) : Type 0 where
-  pub schema : new.schema ≡ old.schema
-  pub rows : (t : Table) → Has old.schema.tables t → IsOther old.schema t → new.trees t.tree ≡ old.trees t.tree
 
 -- the rows are changed so, and nothing is committed
 pub record Changes (old new : State) (change : RowsValue → RowsValue) : Type 0 where

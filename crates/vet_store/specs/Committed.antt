@@ -4,7 +4,7 @@ use Rattle.sqlite.specs.Effect.{Database}
 use Rattle.sqlite.specs.State.{State}
 use Rattle.sqlite_trees.specs.Tree.{Trees}
 use Rattle.vet_rows.specs.Rows.{RowsValue}
-use Rattle.vet_store.specs.Changes.{KeepsOthers}
+use Rattle.vet_tables.specs.Contents.{KeepsOthers}
 use Rattle.vet_store.specs.Stands.{Holds, Stands}
 use Rattle.vet_store.specs.declared.change.Stop.{Stop}
 use Rattle.vet_store.specs.declared.change.Stop.TheVariants.{Before, Commit}

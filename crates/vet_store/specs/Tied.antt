@@ -5,7 +5,7 @@ use Rattle.sqlite.specs.Effect.{Database}
 use Rattle.sqlite.specs.State.{HasCleanDisk}
 use Rattle.sqlite.specs.State as sqlite
 use Rattle.vet_rows.specs.Rows.{RowsValue}
-use Rattle.vet_store.specs.Changes.{KeepsOthers}
+use Rattle.vet_tables.specs.Contents.{KeepsOthers}
 use Rattle.vet_store.specs.Committed.{AreTreesOf}
 use Rattle.vet_store.specs.Stands.{Holds, Stands}
 

@@ -5,13 +5,13 @@ ghost use Rattle.sqlite.specs.State.{HasCleanDisk, KeepsCommit, Survives};
 ghost use Rattle.vet_rows.specs.RowChanges.{all_changed, changed, dropped, put as with};
 ghost use Rattle.vet_store.specs.Changes.{Changes};
 ghost use Rattle.vet_store.specs.Committed.{no_rows};
-ghost use Rattle.vet_store.specs.Made.{FillsTables, MakesTables};
+ghost use Rattle.vet_store.specs.Made.{FillsTables};
+ghost use Rattle.vet_tables.specs.Makes.{MakesTables};
 
-use crate::statements::create;
-use crate::table_name::table_at;
 use crate::table_row::{TableRow, put};
 use sqlite::{Alter, Error, Transaction};
 use vet_rows::row_change::{Row, RowChange};
+use vet_tables::statements::create_all;
 
 /// Puts a row into its table.
 fn put_row<S: Alter>(tx: &mut Transaction<'_, S>, row: &Row) -> Result<usize, Error>
@@ -92,24 +92,6 @@ pub fn apply_all<S: Alter>(tx: &mut Transaction<'_, S>, changes: &[RowChange]) -
 {
     for change in changes {
         apply(tx, change)?;
-    }
-    Ok(())
-}
-
-/// Makes the twelve tables, with no rows.
-pub fn create_all<S: Alter>(tx: &mut Transaction<'_, S>) -> Result<(), Error>
-    ensures same_reference { tx.new.conn.ghost_name ≡ tx.old.conn.ghost_name }
-    ensures makes { HasCleanDisk (state S.Store tx.new.conn.now) → IsTrue (state S.Store tx.old.conn.now).is_open
-        → IsTrue tx.old.conn.now.in_transaction
-        → OnOk result (MakesTables (state S.Store tx.old.conn.now) (state S.Store tx.new.conn.now) 12) }
-    ensures opens { HasCleanDisk (state S.Store tx.new.conn.now) → IsTrue tx.old.conn.now.in_transaction
-        → OnOk result (IsTrue (state S.Store tx.old.conn.now).is_open) }
-    ensures kept { HasCleanDisk (state S.Store tx.new.conn.now)
-        → KeepsCommit (state S.Store tx.old.conn.now) (state S.Store tx.new.conn.now) }
-    ensures survives { Survives (state S.Store tx.old.conn.now) (state S.Store tx.new.conn.now) (λ _. ⊥) }
-{
-    'tables: for at in 0..12 {
-        create(tx, table_at(at))?;
     }
     Ok(())
 }

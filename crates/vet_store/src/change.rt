@@ -3,10 +3,13 @@ ghost use Rattle.std.specs.Prelude.{◌≡◌, ◌⊎◌, [], false, IfErr, IsTr
 ghost use Rattle.sqlite.specs.Held.{state};
 ghost use Rattle.sqlite.specs.State.{HasCleanDisk, Survives};
 ghost use Rattle.vet_rows.specs.RowChanges.{all_changed};
-ghost use Rattle.vet_store.specs.Changes.{KeepsOthers};
+ghost use Rattle.vet_tables.specs.Contents.{KeepsOthers};
 ghost use Rattle.vet_store.specs.Committed.{IsAfter, IsBefore, no_rows};
-ghost use Rattle.vet_store.specs.Made.{AreFree, IsMade, SparesOthers};
-ghost use Rattle.vet_store.specs.Stands.{Rests, Stands};
+ghost use Rattle.vet_store.specs.Made.{IsMade};
+ghost use Rattle.vet_tables.specs.Extends.{SparesOthers};
+ghost use Rattle.vet_tables.specs.Free.{AreFree};
+ghost use Rattle.vet_store.specs.Stands.{Stands};
+ghost use Rattle.vet_tables.specs.Read.{Rests};
 
 use crate::apply::{apply_all, fill};
 use sqlite::{Alter, Connection, Error};

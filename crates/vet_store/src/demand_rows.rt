@@ -2,10 +2,10 @@
 ghost use Rattle.vet_rows.specs.declared.row_change.Row.TheVariants as row;
 
 use crate::statements::{insert, remove};
-use crate::table_name::TableName;
 use crate::table_row::TableRow;
 use sqlite::{Alter, Error, Transaction, params};
 use vet_rows::row::{EdgeRow, MoveRow, NodeRow, StandingRow};
+use vet_tables::table_name::TableName;
 
 impl TableRow for NodeRow {
     ghost any = { λ r. row.Node r };

@@ -3,7 +3,7 @@
 //! **After every list of commands the tables have the rows of the machine which keeps alone those that were done. A
 //! change of rows is one transaction: the tables have all of it or none of it, after a crash too.**
 //!
-//! Scope of this crate: the twelve tables, their statements and transactions, what stands in them, and the store,
+//! Scope of this crate: statements on the twelve tables and their transactions, what stands in them, and the store,
 //! which is made with the tables of a register that holds nothing, or opened from the tables of one, and runs commands.
 //!
 //! For example, a file in which one class in `standing` was changed by hand is refused as 31 NotARegister, and stays
@@ -11,27 +11,18 @@
 #![tactic(auto)]
 
 pub mod apply;
-mod cells;
 pub mod change;
 mod demand_rows;
 mod desk_rows;
-mod exact_rows;
 mod fact_rows;
-pub mod find;
-mod has_form;
 pub mod laws;
-mod lent;
 pub mod memory;
 pub mod memory_file;
 pub mod read;
 mod read_row;
 mod read_table;
 pub mod refused;
-mod same_items;
 mod same_rows;
 pub mod statements;
 pub mod store;
-mod table_form;
-pub mod table_name;
 pub mod table_row;
-pub mod texts;

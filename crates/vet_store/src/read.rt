@@ -3,10 +3,11 @@ ghost use Rattle.std.specs.Prelude.{◌≡◌, ◌⊎◌, false, IfOk, IfSome, m
 ghost use Rattle.sqlite.specs.Held.{state};
 ghost use Rattle.sqlite.specs.State.{HasCleanDisk, IsUnchanged, Survives};
 ghost use Rattle.vet_store.specs.Cells.{cells_of};
-ghost use Rattle.vet_store.specs.Has.{HasTables};
-ghost use Rattle.vet_store.specs.Read.{AreRead, IsUnread, KeepsRest};
+ghost use Rattle.vet_tables.specs.Has.{HasTables};
+ghost use Rattle.vet_store.specs.Read.{IsUnread};
+ghost use Rattle.vet_tables.specs.Read.{AreRead, KeepsRest};
 ghost use Rattle.vet_store.specs.Stands.{Holds};
-ghost use Rattle.vet_store.specs.Typed.{AreReadable};
+ghost use Rattle.vet_store.specs.Readable.{AreReadable};
 
 use crate::read_row::ReadRow;
 use crate::read_table::read_table;

@@ -2,13 +2,11 @@
 ghost use Rattle.std.specs.Prelude.{◌≡◌, ◌∷◌, IfOk};
 ghost use Rattle.sqlite_value.specs.Order.{column};
 ghost use Rattle.vet_store.specs.Cells.{cells_of, table_for};
-ghost use Rattle.vet_store.specs.Forms.{form_of};
-ghost use Rattle.vet_store.specs.Typed.{AreTyped, kinds_of};
-ghost use Rattle.vet_store.specs.declared.table_name.TableName.{TableName as TableValue};
-ghost use Rattle.vet_store.specs.declared.table_name.TableName.TheVariants as table;
+ghost use Rattle.vet_tables.specs.Forms.{form_of};
+ghost use Rattle.vet_tables.specs.Typed.{AreTyped, kinds_of};
+ghost use Rattle.vet_tables.specs.declared.table_name.TableName.{TableName as TableValue};
+ghost use Rattle.vet_tables.specs.declared.table_name.TableName.TheVariants as table;
 
-use crate::cells::{blob_at, int_at, text_at};
-use crate::table_name::TableName;
 use crate::table_row::TableRow;
 use sqlite::Row;
 use std::alloc::{AllocError, Global};
@@ -16,6 +14,8 @@ use vet_rows::row::{
     CriterionRow, EdgeRow, EntryRow, MemberRow, MetaRow, MoveRow, NodeRow, PeerRow, PolicyRow,
     PublisherRow, ReviewRow, StandingRow,
 };
+use vet_tables::cells::{blob_at, int_at, text_at};
+use vet_tables::table_name::TableName;
 
 /// A row that can be read from its table.
 pub trait ReadRow: TableRow + Sized {

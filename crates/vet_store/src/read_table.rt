@@ -3,14 +3,14 @@ ghost use Rattle.std.specs.Prelude.{◌≡◌, ◌<ℤ◌, false, IfOk, IfSome, 
 ghost use Rattle.sqlite.specs.Held.{state};
 ghost use Rattle.sqlite.specs.State.{HasCleanDisk, IsUnchanged, Survives};
 ghost use Rattle.vet_store.specs.Cells.{cells_of};
-ghost use Rattle.vet_store.specs.Has.{HasTables};
-ghost use Rattle.vet_store.specs.Read.{AreRead, IsUnread, KeepsRest};
+ghost use Rattle.vet_tables.specs.Has.{HasTables};
+ghost use Rattle.vet_store.specs.Read.{IsUnread};
+ghost use Rattle.vet_tables.specs.Read.{AreRead, KeepsRest};
 
-use crate::cells::{are_typed, int_at, kinds};
 use crate::read_row::ReadRow;
-use crate::texts::select_text;
 use sqlite::{Alter, Connection, Error, ErrorCode};
 use std::alloc::Global;
+use vet_tables::cells::{are_typed, int_at};
 
 fn rises(last: Option<i64>, id: i64) -> bool
     ensures { IsTrue result → IfSome last (λ m. m <ℤ id) }
@@ -39,15 +39,15 @@ pub fn read_table<R: ReadRow + Drop, S: Alter>(
     ensures survives { Survives (state S.Store conn.old) (state S.Store conn.new) (λ _. ⊥) }
 {
     let _live = conn.schema();
-    let table = R::table();
+    let form = R::table().form();
     let mut rows = Vec::new(alloc);
     let mut last = None;
-    let mut found = conn.query(select_text(table), &[])?;
+    let mut found = conn.query(form.select(), &[])?;
     'rows: loop {
         let Some(row) = found.next()? else {
             return Ok(Some(rows));
         };
-        if !are_typed(&row, kinds(table)) {
+        if !are_typed(&row, &form) {
             return Ok(None);
         }
         let id = int_at(&row, 0);

@@ -4,7 +4,7 @@ ghost use Rattle.std.specs.Prelude.{◌≡◌, IfOk};
 ghost use Rattle.vet_rows.specs.SameRows.{SameRows};
 ghost use Rattle.vet_store.specs.SomeRows.{SameAtDesk, SameHeld, SameNamed};
 
-use crate::same_items::have_same_items;
+use vet_tables::same_items::have_same_items;
 use std::alloc::{AllocError, Global};
 use vet_rows::rows::Rows;
 

@@ -1,4 +1,4 @@
-//! The statements on a table, each in one call of the database.
+//! The statements on the row of a table.
 //!
 //! A change names a row of any table: what it says of the rows holds for whichever row has these cells.
 ghost use Rattle.std.specs.Prelude.{◌≡◌, IsTrue, OnOk};
@@ -9,14 +9,13 @@ ghost use Rattle.vet_rows.specs.RowChanges.{dropped};
 ghost use Rattle.vet_rows.specs.declared.row_change.Row.{Row};
 ghost use Rattle.vet_store.specs.Cells.{cells_of, table_for};
 ghost use Rattle.vet_store.specs.Changes.{added, Changes};
-ghost use Rattle.vet_store.specs.Form.{key_of};
-ghost use Rattle.vet_store.specs.Forms.{form_of};
-ghost use Rattle.vet_store.specs.Made.{MakesTable};
+ghost use Rattle.vet_tables.specs.Form.{key_of};
+ghost use Rattle.vet_tables.specs.Forms.{form_of};
 
-use crate::table_name::TableName;
-use crate::texts::{create_text, delete_text, insert_text};
 use sqlite::types::ValueRef;
 use sqlite::{Alter, Error, Transaction};
+use vet_tables::statements;
+use vet_tables::table_name::TableName;
 
 /// Adds a row, whose key is free.
 pub fn insert<S: Alter>(
@@ -32,7 +31,7 @@ pub fn insert<S: Alter>(
         → KeepsCommit (state S.Store tx.old.conn.now) (state S.Store tx.new.conn.now) }
     ensures survives { Survives (state S.Store tx.old.conn.now) (state S.Store tx.new.conn.now) (λ _. ⊥) }
 {
-    tx.execute(insert_text(table), cells)
+    statements::insert(tx, table, cells)
 }
 
 /// Takes out the row of a key, where there is one.
@@ -49,17 +48,5 @@ pub fn remove<S: Alter>(
         → KeepsCommit (state S.Store tx.old.conn.now) (state S.Store tx.new.conn.now) }
     ensures survives { Survives (state S.Store tx.old.conn.now) (state S.Store tx.new.conn.now) (λ _. ⊥) }
 {
-    tx.execute(delete_text(table), key)
-}
-
-/// Makes a table, with no row.
-pub fn create<S: Alter>(tx: &mut Transaction<'_, S>, table: TableName) -> Result<usize, Error>
-    ensures same_reference { tx.new.conn.ghost_name ≡ tx.old.conn.ghost_name }
-    ensures makes { HasCleanDisk (state S.Store tx.new.conn.now) → IsTrue tx.old.conn.now.in_transaction
-        → OnOk result (MakesTable (state S.Store tx.old.conn.now) (state S.Store tx.new.conn.now) table) }
-    ensures kept { HasCleanDisk (state S.Store tx.new.conn.now)
-        → KeepsCommit (state S.Store tx.old.conn.now) (state S.Store tx.new.conn.now) }
-    ensures survives { Survives (state S.Store tx.old.conn.now) (state S.Store tx.new.conn.now) (λ _. ⊥) }
-{
-    tx.execute(create_text(table), &[])
+    statements::remove(tx, table, key)
 }

@@ -8,9 +8,11 @@ use Rattle.vet_base.specs.declared.refusal.Refusal.{Refusal}
 use Rattle.vet_base.specs.declared.refusal.Refusal.TheVariants.{NotARegister}
 use Rattle.vet_register.specs.State.{State, start}
 use Rattle.vet_rows.specs.RowsOf.{rows_of}
-use Rattle.vet_store.specs.Made.{AreFree, IsMade, SparesOthers}
+use Rattle.vet_store.specs.Made.{IsMade}
+use Rattle.vet_tables.specs.Extends.{SparesOthers}
+use Rattle.vet_tables.specs.Free.{AreFree}
 use Rattle.vet_store.specs.Runs.{IsOfStore}
-use Rattle.vet_store.specs.Stands.{Rests}
+use Rattle.vet_tables.specs.Read.{Rests}
 use Rattle.vet_store.specs.Tied.{IsTied}
 use Rattle.vetd_words.specs.Answer.{Answer, Explains, answer_for}
 use Rattle.vetd_commands.specs.Making.{AnswersNew, Giving, IsAnswerFor, IsAnswerToNew, IsNewRegister, IsNoRegister}

@@ -9,10 +9,11 @@ use Rattle.vet_register.specs.Sound.{IsSound}
 use Rattle.vet_register.specs.State.{State}
 use Rattle.vet_rows.specs.HeldState.{IsHeldState}
 use Rattle.vet_rows.specs.RowsOf.{rows_of}
-use Rattle.vet_store.specs.Has.{HasTables}
+use Rattle.vet_tables.specs.Has.{HasTables}
 use Rattle.vet_store.specs.Opened.{IsStored}
 use Rattle.vet_store.specs.Runs.{IsOfStore}
-use Rattle.vet_store.specs.Stands.{Holds, Rests}
+use Rattle.vet_store.specs.Stands.{Holds}
+use Rattle.vet_tables.specs.Read.{Rests}
 use Rattle.vet_store.specs.Tied.{IsTied}
 use Rattle.vet_base.specs.Words.{Text}
 use Rattle.vetd_commands.specs.Opening.{IsNotOpened, IsOpenedAs, Stays}

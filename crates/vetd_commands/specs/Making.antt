@@ -9,9 +9,11 @@ use Rattle.vet_base.specs.declared.refusal.Refusal.{Refusal}
 use Rattle.vet_base.specs.declared.refusal.Refusal.TheVariants.{NoMemory, NotARegister}
 use Rattle.vet_register.specs.State.{start}
 use Rattle.vet_rows.specs.RowsOf.{rows_of}
-use Rattle.vet_store.specs.Made.{AreFree, IsMade, SparesOthers}
+use Rattle.vet_store.specs.Made.{IsMade}
+use Rattle.vet_tables.specs.Extends.{SparesOthers}
+use Rattle.vet_tables.specs.Free.{AreFree}
 use Rattle.vet_store.specs.Runs.{IsOfStore}
-use Rattle.vet_store.specs.Stands.{Rests}
+use Rattle.vet_tables.specs.Read.{Rests}
 use Rattle.vet_store.specs.Tied.{IsTied}
 use Rattle.vetd_words.specs.Answer.{Answer, Explains, Prints, Refuses, Serves}
 use Rattle.vetd_words.specs.NewAsked.{AsksNew, NewAsked}

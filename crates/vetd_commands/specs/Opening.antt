@@ -6,10 +6,10 @@ use Rattle.sqlite_trees.specs.declared.store.Store.{Ghosts}
 use Rattle.vet_base.specs.declared.refusal.Refusal.{Refusal}
 use Rattle.vet_base.specs.declared.refusal.Refusal.TheVariants.{NotARegister}
 use Rattle.vet_register.specs.State.{State}
-use Rattle.vet_store.specs.Has.{HasTables}
+use Rattle.vet_tables.specs.Has.{HasTables}
 use Rattle.vet_store.specs.Opened.{IsStored}
 use Rattle.vet_store.specs.Runs.{IsOfStore}
-use Rattle.vet_store.specs.Stands.{Rests}
+use Rattle.vet_tables.specs.Read.{Rests}
 
 module _ {S : Type 0} (g : Ghosts S) (before : Held S) where
   -- This is the one register whose rows stand in the tables. All stands as it did, and so does what a crash leaves.

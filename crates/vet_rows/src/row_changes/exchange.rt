@@ -1,6 +1,6 @@
 //! Rows of a table that go, and rows that come.
-ghost use Rattle.std.specs.Prelude.{◌≡◌, ◌++◌, OnOk, map};
-ghost use Rattle.vet_rows.specs.RowExchanges.{exchange};
+ghost use Rattle.std.specs.Prelude.{◌≡◌, ◌++◌, ◌∷◌, [], IfOk, OnOk, cond, length, map};
+ghost use Rattle.vet_rows.specs.RowExchanges.{exchange, less, unmarked};
 ghost use Rattle.vet_rows.specs.declared.row_change.Row.{Row};
 ghost use Rattle.vet_rows.specs.declared.row_change.Row.TheVariants as row;
 ghost use Rattle.vet_rows.specs.declared.row_change.RowChange.TheVariants as change;
@@ -10,7 +10,8 @@ use crate::row::{
     PublisherRow, ReviewRow, StandingRow,
 };
 use crate::row_change::{Row, RowChange};
-use std::alloc::AllocError;
+use std::alloc::{AllocError, Global};
+use vet_tables::same_items::{Exactly, marks_among};
 
 /// A row of a table.
 pub trait TableRow: Drop {
@@ -129,6 +130,49 @@ pub fn push_exchange<R: TableRow>(
 {
     push_drops(changes, going)?;
     push_puts(changes, coming)
+}
+
+/// The same, but for the rows that would go and come again, which stay. Costs a search for each row among the others.
+/// Fails only if memory runs out.
+pub fn push_difference<R: TableRow + Exactly>(
+    alloc: Global,
+    changes: &mut Vec<RowChange>,
+    going: Vec<R>,
+    coming: Vec<R>,
+) -> Result<(), AllocError>
+    ensures { OnOk result (changes.new.items ≡ changes.old.items
+        ++ exchange R.row_of (less R.eq going.items coming.items) (less R.eq coming.items going.items)) }
+{
+    let stay = marks_among(alloc, going.as_slice(), coming.as_slice())?;
+    let stand = marks_among(alloc, coming.as_slice(), going.as_slice())?;
+    let going = unmarked(alloc, going, stay.as_slice())?;
+    let coming = unmarked(alloc, coming, stand.as_slice())?;
+    push_exchange(changes, going, coming)
+}
+
+// The rows that have no mark.
+fn unmarked<R: Drop>(alloc: Global, rows: Vec<R>, marks: &[bool]) -> Result<Vec<R>, AllocError>
+    requires { length marks.now ≡ length rows.items }
+    ensures { IfOk result (λ left. left.items ≡ unmarked rows.items marks.now) }
+{
+    let mut left = Vec::new(alloc);
+    let mut at = 0;
+    'rows: for row in rows {
+        push_unless(&mut left, row, marks[at])?;
+        at += 1;
+    }
+    Ok(left)
+}
+
+// Adds a row unless it has a mark.
+fn push_unless<R: Drop>(left: &mut Vec<R>, row: R, mark: bool) -> Result<(), AllocError>
+    ensures { OnOk result (left.new.items ≡ left.old.items ++ cond mark [] (row ∷ [])) }
+{
+    if mark {
+        return Ok(());
+    }
+    left.push(row)?;
+    Ok(())
 }
 
 fn push_drops<R: TableRow>(changes: &mut Vec<RowChange>, rows: Vec<R>) -> Result<(), AllocError>

@@ -8,7 +8,8 @@ ghost use Rattle.vet_entries.specs.declared.held_peer.HeldPeer.{HeldPeer};
 ghost use Rattle.vet_register.specs.Held.{edited};
 ghost use Rattle.vet_rows.specs.Columns.{own_peer};
 ghost use Rattle.vet_rows.specs.KeyTexts.{ArePeersNamed, KeysAreRead, MovesAreRead, NodesAreRead, PairsAreRead};
-ghost use Rattle.vet_rows.specs.KeyTexts.{PeerComingIsNamed, ProjectsComingAreRead};
+ghost use Rattle.vet_rows.specs.KeyTexts.{PeerComingIsNamed, ProjectsAreRead, ProjectsComingAreRead};
+ghost use Rattle.vet_rows.specs.KeyTexts.{ProjectsHeldAreRead};
 ghost use Rattle.vet_rows.specs.KeyedItems.{comes};
 
 use crate::row_changes::keyed_items::comes;
@@ -68,6 +69,24 @@ pub fn nodes_are_read(named: &NamedProject)
     let nodes = named.project.nodes();
     'each: for node in nodes {
         version_text_reads_back(&node.version);
+    }
+}
+
+/// The versions of the nodes of some projects. Does nothing.
+fn projects_are_read(projects: &[NamedProject])
+    ensures { ProjectsAreRead projects.now }
+{
+    'projects: for project in projects {
+        nodes_are_read(project);
+    }
+}
+
+/// Those of the projects that are held, where an edit is of one of them. Does nothing.
+pub fn projects_held_are_read(projects: &[NamedProject], edit: &HeldEdit)
+    ensures { ProjectsHeldAreRead edit.now projects.now }
+{
+    if let HeldEdit::Projects(_) = edit {
+        projects_are_read(projects);
     }
 }
 

@@ -7,12 +7,12 @@ ghost use Rattle.vet_rows.specs.Numbers.{MoveFits};
 ghost use Rattle.vet_rows.specs.StandingChanges.{leaves, moved_row, moves_coming, moves_going, recorded_moves};
 ghost use Rattle.vet_rows.specs.StandingChanges.{stands};
 
-use crate::column::TextColumn;
 use crate::row::{MoveRow, StandingRow};
 use crate::rows_of::columns::{class_or_none, version_column};
 use crate::rows_of::standing_rows::all_moves;
 use std::alloc::{AllocError, Global};
 use vet_register::moves::{RecordedMove, Recording};
+use vet_tables::column::TextColumn;
 
 /// The moves that are recorded. Takes no memory.
 pub fn recorded_moves(recording: &Recording) -> &[RecordedMove]

@@ -7,7 +7,6 @@ ghost use Rattle.vet_rows.specs.Columns.{class_number, class_or_none, flag, pack
 ghost use Rattle.vet_rows.specs.Columns.{peer_of_source};
 ghost use Rattle.vet_rows.specs.Packed.{packed, packed_option};
 
-use crate::column::{BlobColumn, TextColumn};
 use crate::packed::push_item;
 use crate::packed_names::{pack_names, pack_packages, pack_texts};
 use std::alloc::{AllocError, Global};
@@ -19,6 +18,7 @@ use vet_base::version::VetVersion;
 use vet_demand::policy_key::PolicyKey;
 use vet_entries::entry::Source;
 use vet_graph::class::Class;
+use vet_tables::column::{BlobColumn, TextColumn};
 
 /// The text of a version. Fails only if memory runs out.
 pub fn version_column(alloc: Global, version: &VetVersion) -> Result<TextColumn, AllocError>

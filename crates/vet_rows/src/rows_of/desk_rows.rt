@@ -5,12 +5,12 @@ ghost use Rattle.vet_desk.specs.SoundDesk.{IsEntryGiven};
 ghost use Rattle.vet_rows.specs.Numbers.{ReviewFits};
 ghost use Rattle.vet_rows.specs.DeskRows.{assigned_member, finishing_entry, member_row, review_row, state_number};
 
-use crate::column::TextColumn;
 use crate::row::{MemberRow, ReviewRow};
 use crate::rows_of::columns::{names_column, version_column};
 use std::alloc::{AllocError, Global};
 use vet_base::name::Name;
 use vet_desk::review::{Review, ReviewState};
+use vet_tables::column::TextColumn;
 
 /// The row of a member. Fails only if memory runs out.
 pub fn member_row(alloc: Global, member: &Name) -> Result<MemberRow, AllocError>

@@ -5,7 +5,6 @@ ghost use Rattle.vet_rows.specs.EntryRows.{all_entries, entry_row, package_rows,
 ghost use Rattle.vet_rows.specs.EntryRows.{with_audit, with_grant, with_kind, with_window};
 ghost use Rattle.vet_rows.specs.Numbers.{EntryFits, PeerFits};
 
-use crate::column::TextColumn;
 use crate::row::{EntryRow, PublisherRow};
 use crate::rows_of::columns::{
     flag, names_column, no_items, source_column, text_or_none, texts_column, version_column,
@@ -16,6 +15,7 @@ use vet_entries::facts::{EntryFacts, HeldEntry};
 use vet_entries::kind::{Audit, Grant, Kind, Window};
 use vet_entries::publisher::Publisher;
 use vet_entries::publisher_records::PackagePublishers;
+use vet_tables::column::TextColumn;
 
 /// The row of an entry. Asks that its number is below 2^63. Fails only if memory runs out.
 pub fn entry_row(alloc: Global, held: &HeldEntry) -> Result<EntryRow, AllocError>

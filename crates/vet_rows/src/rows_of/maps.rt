@@ -5,13 +5,13 @@ ghost use Rattle.vet_base.specs.Words.{Name};
 ghost use Rattle.vet_rows.specs.Columns.{packed_map};
 ghost use Rattle.vet_rows.specs.Packed.{packed};
 
-use crate::column::BlobColumn;
 use crate::packed::push_item;
 use crate::packed_names::pack_names;
 use std::alloc::{AllocError, Global};
 use vet_base::names::Names;
 use vet_demand::dependency_criteria::DependencyItem;
 use vet_entries::criteria_map::MappedCriterion;
+use vet_tables::column::BlobColumn;
 
 /// An item of a map: a name, and the names at which it leads.
 pub trait MapItem: Drop {

@@ -4,12 +4,12 @@ ghost use Rattle.std.specs.List.{flat_map};
 ghost use Rattle.vet_demand.specs.Project.{IsWithin, kind_place, party_place};
 ghost use Rattle.vet_rows.specs.ProjectRows.{edge_row, edge_rows, node_row, node_rows};
 
-use crate::column::TextColumn;
 use crate::row::{EdgeRow, NodeRow};
 use crate::rows_of::columns::version_column;
 use std::alloc::{AllocError, Global};
 use vet_base::name::PackageName;
 use vet_demand::project::{Edge, EdgeKind, NamedProject, Node, Party};
+use vet_tables::column::TextColumn;
 
 /// The row of a node of a project. Fails only if memory runs out.
 pub fn node_row(alloc: Global, project: &PackageName, node: &Node) -> Result<NodeRow, AllocError>

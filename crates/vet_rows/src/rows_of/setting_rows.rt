@@ -6,7 +6,6 @@ ghost use Rattle.vet_register.specs.HeldFiles.{further_at};
 ghost use Rattle.vet_rows.specs.Columns.{own_peer};
 ghost use Rattle.vet_rows.specs.SettingRows.{all_criteria, criteria_rows, criterion_row, peer_row, policy_row};
 
-use crate::column::TextColumn;
 use crate::row::{CriterionRow, PeerRow, PolicyRow};
 use crate::rows_of::columns::{
     flag, key_column, names_column, names_or_none, packages_column, text_or_none, texts_column,
@@ -21,6 +20,7 @@ use vet_entries::facts::EntryFacts;
 use vet_entries::held_peer::HeldPeer;
 use vet_entries::peer_settings::PeerSettings;
 use vet_register::held_files::further_at;
+use vet_tables::column::TextColumn;
 
 /// The row of a criterion of a peer; the name of the peer is empty for one's own. Fails only if memory runs out.
 pub fn criterion_row(

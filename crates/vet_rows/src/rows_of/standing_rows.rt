@@ -5,7 +5,6 @@ ghost use Rattle.vet_register.specs.State.{standing};
 ghost use Rattle.vet_rows.specs.Numbers.{MoveFits};
 ghost use Rattle.vet_rows.specs.StandingRows.{move_row, standing_row};
 
-use crate::column::TextColumn;
 use crate::row::{MoveRow, StandingRow};
 use crate::rows_of::columns::{class_number, class_or_none, version_column};
 use std::alloc::{AllocError, Global};
@@ -15,6 +14,7 @@ use vet_graph::keeper::Keeper;
 use vet_graph::laws::each_pair_has_its_class;
 use vet_register::moves::RecordedMove;
 use vet_register::register::Register;
+use vet_tables::column::TextColumn;
 
 /// The row of a pair that stands in a class. Fails only if memory runs out.
 pub fn standing_row(alloc: Global, pair: &Pair, class: Class) -> Result<StandingRow, AllocError>

@@ -8,14 +8,16 @@ ghost use Rattle.vet_rows.specs.RowChanges.{all_changed};
 ghost use Rattle.vet_rows.specs.RowsOf.{rows_of};
 ghost use Rattle.vet_rows.specs.declared.row.MetaRow.{MetaRow as MetaValue};
 ghost use Rattle.vet_store.specs.Committed.{no_rows};
-ghost use Rattle.vet_store.specs.Made.{AreFree, IsAsBefore, IsMade, SparesOthers};
+ghost use Rattle.vet_store.specs.Made.{IsAsBefore, IsMade};
+ghost use Rattle.vet_tables.specs.Extends.{SparesOthers};
+ghost use Rattle.vet_tables.specs.Free.{AreFree};
 ghost use Rattle.vet_store.specs.Runs.{IsOfStore};
-ghost use Rattle.vet_store.specs.Stands.{Rests, Stands};
+ghost use Rattle.vet_store.specs.Stands.{Stands};
+ghost use Rattle.vet_tables.specs.Read.{Rests};
 ghost use Rattle.vet_store.specs.Tied.{IsTied};
 
 use super::Store;
 use crate::change::{Stop, make_tables};
-use crate::find::has_name_taken;
 use crate::refused::{Refused, refusal_of};
 use sqlite::{Alter, Connection};
 use std::alloc::Global;
@@ -28,6 +30,7 @@ use vet_rows::row::MetaRow;
 use vet_rows::row_change::{Row, RowChange};
 use vet_rows::rows::Rows;
 use vet_rows::rows_of::rows_of;
+use vet_tables::find::has_name_taken;
 
 impl<S: Alter + Drop, K: Keeper> Store<S, K> {
     /// Makes the tables of a register that holds nothing, in a database where none of their names is taken, whatever

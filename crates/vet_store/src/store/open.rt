@@ -12,16 +12,15 @@ ghost use Rattle.vet_register.specs.State as machine;
 ghost use Rattle.vet_rows.specs.HeldState.{IsHeldState};
 ghost use Rattle.vet_rows.specs.RowsOf.{rows_of};
 ghost use Rattle.vet_rows.specs.SameRows.{SameRows};
-ghost use Rattle.vet_store.specs.Has.{HasTables};
+ghost use Rattle.vet_tables.specs.Has.{HasTables};
 ghost use Rattle.vet_store.specs.Made.{IsAsBefore};
 ghost use Rattle.vet_store.specs.Opened.{IsStored, IsToldBy};
-ghost use Rattle.vet_store.specs.Read.{KeepsRest};
+ghost use Rattle.vet_tables.specs.Read.{KeepsRest};
 ghost use Rattle.vet_store.specs.Runs.{IsOfStore};
 ghost use Rattle.vet_store.specs.Stands.{Holds};
 ghost use Rattle.vet_store.specs.Tied.{IsTied};
 
 use super::Store;
-use crate::find::has_tables;
 use crate::read::read_rows;
 use crate::refused::{Refused, refusal_of};
 use crate::same_rows::have_same_rows;
@@ -34,6 +33,7 @@ use vet_rows::held_register::register_is_held;
 use vet_rows::rows::Rows;
 use vet_rows::rows_of::rows_of;
 use vet_rows::state_of::{found_register, state_of};
+use vet_tables::find::has_tables;
 
 impl<S: Alter + Drop, K: Keeper> Store<S, K> {
     /// Opens the register whose rows stand in the tables, whatever else the database has. Nothing is written. Asks for

@@ -5,7 +5,7 @@ ghost use Rattle.sqlite.specs.State.{HasCleanDisk, Survives};
 ghost use Rattle.vet_register.specs.Machine.{CommandValue, next};
 ghost use Rattle.vet_register.specs.RegisterView.{IsPrepared};
 ghost use Rattle.vet_rows.specs.RowsOf.{rows_of};
-ghost use Rattle.vet_store.specs.Changes.{KeepsOthers};
+ghost use Rattle.vet_tables.specs.Contents.{KeepsOthers};
 ghost use Rattle.vet_store.specs.Runs.{IsOfStore};
 ghost use Rattle.vet_store.specs.Stands.{Stands};
 ghost use Rattle.vet_store.specs.Tied.{IsWritten};

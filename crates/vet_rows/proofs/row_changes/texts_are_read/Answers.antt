@@ -14,6 +14,7 @@ returns g c =
       policies = subst KeysAreRead c.policies.ensures c.keys_are_read.ensures;
       policies_after = subst (λ e. KeysAreRead (edited e held).policies) c.edit-2.ensures c.keys_after_are_read.ensures;
       projects = subst ProjectsComingAreRead c.edit-3.ensures c.projects_coming_are_read.ensures;
+      projects_held = rw (c.edit-4.ensures, c.projects.ensures) at c.projects_held_are_read.ensures;
       pairs = subst PairsAreRead c.demand.ensures c.pairs_are_read.ensures;
       moves = subst MovesAreRead (c.recorded_moves.ensures ∙ ap recorded_moves c.recording.ensures)
           c.moves_are_read.ensures;

@@ -5,7 +5,8 @@ use Rattle.sqlite.specs.State.{HasCleanDisk}
 use Rattle.vet_rows.specs.RowChanges.{changed}
 use Rattle.vet_rows.specs.declared.row_change.RowChange.{RowChange}
 use Rattle.vet_store.specs.Changes.{Changes}
-use Rattle.vet_store.proofs.Steps.{changes_more, keeps_then}
+use Rattle.vet_store.proofs.Steps.{changes_more}
+use Rattle.vet_tables.proofs.Steps.{keeps_then}
 use Rattle.vet_store.proofs.apply.apply_all.Goals as goal
 
 pub loop-change-preserved : goal.loop-change-preserved

@@ -6,8 +6,11 @@ use Rattle.vet_store.proofs.Making.{filled, made_after}
 use Rattle.vet_store.proofs.Steps.{uncommitted, undone}
 use Rattle.vet_store.proofs.change.make_tables.Goals as goal
 use Rattle.vet_store.specs.Committed.{no_rows}
-use Rattle.vet_store.specs.Made.{AreFree, IsMade, SparesOthers}
-use Rattle.vet_store.specs.Stands.{Rests, Stands}
+use Rattle.vet_store.specs.Made.{IsMade}
+use Rattle.vet_tables.specs.Extends.{SparesOthers}
+use Rattle.vet_tables.specs.Free.{AreFree}
+use Rattle.vet_store.specs.Stands.{Stands}
+use Rattle.vet_tables.specs.Read.{Rests}
 
 pub returns-in-Err-clause-kept : goal.returns-in-Err-clause-kept
 returns-in-Err-clause-kept g c =

@@ -2,14 +2,15 @@ use Rattle.std.proofs.Common.{Ok, ap, arith, subst, ◌⊎◌, ◌∙◌}
 use Rattle.sqlite.specs.Held.{state}
 use Rattle.sqlite.specs.State.{HasCleanDisk}
 use Rattle.vet_store.proofs.ReadRows.{all_stand, none_stands}
-use Rattle.vet_store.proofs.Resting.{keeps_then, keeps_three}
+use Rattle.vet_tables.proofs.Resting.{keeps_then, keeps_three}
 use Rattle.vet_store.proofs.read.read_rows.Goals as goal
 use Rattle.vet_rows.specs.Rows.{RowsValue}
 use Rattle.vet_store.specs.Cells.{cells_in}
-use Rattle.vet_store.specs.Read.{AreRead, IsUnread}
-use Rattle.vet_store.specs.declared.table_name.TableName.TheVariants.{Meta, Criteria, Entries, Publishers, Policies}
-use Rattle.vet_store.specs.declared.table_name.TableName.TheVariants.{Peers}
-use Rattle.vet_store.specs.declared.table_name.TableName.TheVariants.{Nodes, Edges, Standing, Moves, Members, Reviews}
+use Rattle.vet_store.specs.Read.{IsUnread}
+use Rattle.vet_tables.specs.Read.{AreRead}
+use Rattle.vet_tables.specs.declared.table_name.TableName.TheVariants.{Meta, Criteria, Entries, Publishers, Policies}
+use Rattle.vet_tables.specs.declared.table_name.TableName.TheVariants.{Peers}
+use Rattle.vet_tables.specs.declared.table_name.TableName.TheVariants.{Nodes, Edges, Standing, Moves, Members, Reviews}
 
 pub returns-in_default-clause-none : goal.returns-in_default-clause-none
 returns-in_default-clause-none g c clean _ =

@@ -1,10 +1,11 @@
 use Rattle.std.proofs.Common.{inl, inr, Ok, ap, arith, map, subst, ◌∙◌}
 use Rattle.sqlite.specs.Held.{state}
 use Rattle.sqlite.specs.State.{HasCleanDisk}
-use Rattle.vet_store.proofs.Resting.{keeps_then, keeps_three}
+use Rattle.vet_tables.proofs.Resting.{keeps_then, keeps_three}
 use Rattle.vet_store.proofs.read.read_three.Goals as goal
 use Rattle.vet_store.specs.Cells.{cells_of}
-use Rattle.vet_store.specs.Read.{AreRead, IsUnread}
+use Rattle.vet_store.specs.Read.{IsUnread}
+use Rattle.vet_tables.specs.Read.{AreRead}
 
 pub returns-in_default-clause-none : goal.returns-in_default-clause-none
 returns-in_default-clause-none g c clean _ = inl (c.in_ok-first.ensures.none clean (ap Ok c.in_default.is))

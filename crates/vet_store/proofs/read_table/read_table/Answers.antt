@@ -5,24 +5,25 @@ use Rattle.sqlite.proofs.Callers.{given_begin, unchanged_then}
 use Rattle.sqlite.proofs.StateLemmas.{survives_then}
 use Rattle.sqlite.specs.Held.{state}
 use Rattle.sqlite.specs.State.{CommitsShowing, HasCleanDisk, Survives}
-use Rattle.vet_store.proofs.Readings.{begun_quiet, read_shows, rise_more, rise_none, row_typed, survives_quiet}
-use Rattle.vet_store.proofs.Readings.{unchanged_self}
-use Rattle.vet_store.proofs.Rising.{fewer_above, ids_above}
-use Rattle.vet_store.proofs.Resting.{keeps_failed, keeps_unchanged}
+use Rattle.vet_tables.proofs.Readings.{begun_quiet, read_shows, rise_more, rise_none, row_typed, survives_quiet}
+use Rattle.vet_tables.proofs.Readings.{unchanged_self}
+use Rattle.vet_tables.proofs.Rising.{fewer_above, ids_above}
+use Rattle.vet_tables.proofs.Resting.{keeps_failed, keeps_unchanged}
 use Rattle.vet_store.proofs.read_table.read_table.Goals as goal
-use Rattle.vet_store.specs.Cells.{cells_of}
-use Rattle.vet_store.specs.Forms.{form_of}
-use Rattle.vet_store.specs.Read.{KeepsRest}
-use Rattle.vet_store.specs.Texts.{select_text}
-use Rattle.vet_store.specs.Typed.{AreTyped, kinds_of}
+use Rattle.vet_store.proofs.ReadRows.{rows_typed}
+use Rattle.vet_store.specs.Cells.{cells_in, cells_of}
+use Rattle.vet_tables.specs.Forms.{form_of}
+use Rattle.vet_tables.specs.Read.{KeepsRest}
+use Rattle.vet_tables.specs.Texts.{select_text}
+use Rattle.vet_tables.specs.Typed.{AreTyped, kinds_of}
 
 pub returns-in_err-found-clause-survives : goal.returns-in_err-found-clause-survives
 returns-in_err-found-clause-survives g c =
     let old = state g.S.Store c.args.conn.now in
     let new = state g.S.Store c.query.follows.lender-at-none in
     let held = c.query.follows.holds-at-none in
-    let kept : Survives old new (CommitsShowing c.select_text.result.now [] old) = search rules in
-    survives_quiet g.R.ReadRow.name old new (rw (c.select_text.ensures, c.table-table.ensures.named) at kept)
+    let kept : Survives old new (CommitsShowing c.select.result.now [] old) = search rules in
+    survives_quiet g.R.ReadRow.name old new (rw (c.select.ensures, c.form-form.ensures, c.table.ensures.named) at kept)
 
 pub returns-in_err-found-clause-kept : goal.returns-in_err-found-clause-kept
 returns-in_err-found-clause-kept g c clean =
@@ -30,17 +31,17 @@ returns-in_err-found-clause-kept g c clean =
     let new = state g.S.Store c.query.follows.lender-at-none in
     let held = rw c.in_err-found.was at c.query.follows.holds-at-none in
     keeps_failed g.R.ReadRow.name old new _
-    (rw (c.select_text.ensures, c.table-table.ensures.named) at (held.err clean))
+    (rw (c.select.ensures, c.form-form.ensures, c.table.ensures.named) at (held.err clean))
 
 pub rows-init : goal.rows-init
 rows-init g c =
     let made = c.in_ok-found.ensures in (
       refl,
       survives_quiet g.R.ReadRow.name _ _ (rw
-          (c.select_text.ensures, c.table-table.ensures.named) at made.survives),
+          (c.select.ensures, c.form-form.ensures, c.table.ensures.named) at made.survives),
       λ clean.
           let it = begun_quiet g.S.Store g.R.ReadRow.name c.args.conn.now c.in_ok-found.found.conn.now
-          (rw (c.select_text.ensures, c.table-table.ensures.named) at (made.begun clean)) in
+          (rw (c.select.ensures, c.form-form.ensures, c.table.ensures.named) at (made.begun clean)) in
           ([], it.0, it.1, rw c.new-rows.ensures.items refl, rise_none),
       made.mode,
     )
@@ -74,8 +75,9 @@ returns-then-not-are_typed-clause-none g c clean _ has rows readable shows =
     ∷ []) more in
     let typed = row_typed g.R.ReadRow.name old.now (c.schema-live.ensures.live was.2.0.was_open).0 has
     (state g.S.Store now) whole.0.now_is was.0 c.in-Some.row.now begins
-    (unchanged_self (state g.S.Store now) whole.0.is_open) rows readable shows in
-    c.are_typed.ensures.other c.if-not-are_typed.true (rw (c.kinds.ensures, c.table-table.ensures.named) typed)
+    (unchanged_self (state g.S.Store now) whole.0.is_open) (cells_in g.R.ReadRow.name rows)
+    (rows_typed g.R.ReadRow.name rows readable) shows in
+    c.are_typed.ensures.other c.if-not-are_typed.true (rw (c.form-form.ensures, c.table.ensures.named) typed)
 
 pub returns-in_err-push-clause-survives : goal.returns-in_err-push-clause-survives
 returns-in_err-push-clause-survives g c =
@@ -160,9 +162,9 @@ rows-preserved g c =
           (select_text (form_of g.R.ReadRow.name)) [] was.0 was.1 in
           let same = rw c.in_ok-row.was at (moved.same clean) in
           let typed : AreTyped (kinds_of (form_of g.R.ReadRow.name)) row =
-          rw (c.kinds.ensures, c.table-table.ensures.named) at
+          rw (c.form-form.ensures, c.table.ensures.named) at
           (c.are_typed.ensures.typed c.if-not-are_typed.false) in
-          let is = c.in_ok-read.ensures (rw (c.table-table.ensures.own read) typed) in
+          let is = c.in_ok-read.ensures (rw (c.table.ensures.own read) typed) in
           let id : to_z w64 (of_z w64 c.int_at-id.result) ≡ c.int_at-id.result = search rules in (
             was.0 ++ row ∷ [],
             more,

@@ -3,12 +3,12 @@ use Rattle.sqlite.specs.Given.{HasGiven}
 use Rattle.sqlite.specs.Held.{state}
 use Rattle.sqlite.specs.State.{HasCleanDisk, IsUnchanged, Survives}
 use Rattle.sqlite_value.specs.Order.{Row as Cells}
-use Rattle.vet_store.proofs.Readings.{Rise}
-use Rattle.vet_store.proofs.Rising.{ids_above}
+use Rattle.vet_tables.proofs.Readings.{Rise}
+use Rattle.vet_tables.proofs.Rising.{ids_above}
 use Rattle.vet_store.proofs.read_table.read_table.Given as goal
 use Rattle.vet_store.specs.Cells.{cells_of}
-use Rattle.vet_store.specs.Forms.{form_of}
-use Rattle.vet_store.specs.Texts.{select_text}
+use Rattle.vet_tables.specs.Forms.{form_of}
+use Rattle.vet_tables.specs.Texts.{select_text}
 
 abbrev pub invariant-rows : goal.invariant-rows
 invariant-rows g l =

@@ -1,7 +1,7 @@
 use Rattle.std.proofs.Common.{◌∙◌, not, refl, ap, subst}
 use Rattle.sqlite.specs.Held.{state}
 use Rattle.vet_rows.specs.RowsOf.{rows_of}
-use Rattle.vet_store.specs.Made.{AreFree}
+use Rattle.vet_tables.specs.Free.{AreFree}
 use Rattle.vet_store.proofs.Tying.{leaves_standing}
 use Rattle.vet_store.proofs.store.Store.create.Goals as goal
 

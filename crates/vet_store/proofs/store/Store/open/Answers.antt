@@ -3,9 +3,9 @@ use Rattle.sqlite.specs.Held.{state}
 use Rattle.vet_rows.specs.RowsOf.{rows_of}
 use Rattle.vet_store.proofs.Opening.{tied_opened}
 use Rattle.vet_store.proofs.store.Store.open.Goals as goal
-use Rattle.vet_store.specs.Has.{HasTables}
+use Rattle.vet_tables.specs.Has.{HasTables}
 use Rattle.vet_store.specs.Made.{IsAsBefore}
-use Rattle.vet_store.specs.Stands.{Rests}
+use Rattle.vet_tables.specs.Read.{Rests}
 
 -- ---- without the tables
 

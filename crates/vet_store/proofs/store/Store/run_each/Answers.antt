@@ -9,7 +9,7 @@ use Rattle.vet_store.specs.Repeats.{IsTurnWithRepeats}
 use Rattle.vet_store.specs.Runs.{AreRefused, Each, IsTurn}
 use Rattle.vet_store.specs.StoreView.{StoreView}
 use Rattle.vet_store.proofs.Crashes.{leaves_more, was_unshut}
-use Rattle.vet_store.proofs.Readings.{all_pushed}
+use Rattle.vet_tables.proofs.Readings.{all_pushed}
 use Rattle.vet_store.proofs.Running.{each_more, each_weaker, ran_of}
 use Rattle.vet_store.proofs.Tying.{others_as_were, others_then}
 use Rattle.vet_store.proofs.store.Store.run_each.Goals as goal

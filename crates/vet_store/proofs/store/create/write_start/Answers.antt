@@ -3,7 +3,8 @@ use Rattle.sqlite.specs.Held.{state}
 use Rattle.vet_rows.specs.RowChanges.{all_changed}
 use Rattle.vet_rows.specs.RowsOf.{rows_of}
 use Rattle.vet_store.specs.Committed.{no_rows}
-use Rattle.vet_store.specs.Stands.{Rests, Stands}
+use Rattle.vet_store.specs.Stands.{Stands}
+use Rattle.vet_tables.specs.Read.{Rests}
 use Rattle.vet_store.proofs.store.create.write_start.Goals as goal
 
 pub returns-in-Ok-clause-done : goal.returns-in-Ok-clause-done

@@ -1,8 +1,0 @@
-use Rattle.std.proofs.Common.{◌<◌, ◌+◌, ℕ, slice_index_or}
-use Rattle.sqlite_schema.specs.declared.schema.Kind.TheVariants as kind
-use Rattle.sqlite_value.specs.Order.{column}
-use Rattle.vet_store.proofs.cells.are_typed.Given as goal
-use Rattle.vet_store.specs.Typed.{IsKind}
-
-abbrev pub invariant-cells : goal.invariant-cells
-invariant-cells l = (k : ℕ) → k < l.at → IsKind (slice_index_or l.kinds k kind.Any) (column l.row (k + 1))

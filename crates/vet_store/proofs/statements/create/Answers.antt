@@ -1,9 +1,0 @@
-use Rattle.sqlite.specs.Held.{state}
-use Rattle.vet_store.proofs.Making.{makes}
-use Rattle.vet_store.proofs.statements.create.Goals as goal
-
-pub returns-clause-makes : goal.returns-clause-makes
-returns-clause-makes g c clean inside =
-    makes c.args.table (state g.S.Store c.args.tx.now.conn.now)
-    (state g.S.Store c.execute.new.self.conn.now) c.execute.result
-    (rw (← c.create_text.ensures) (c.execute.ensures.runs clean inside))

@@ -1,0 +1,158 @@
+-- A row as its tree keeps it.
+use Rattle.std.proofs.Common.{◌≡◌, ◌+◌, ◌++◌, ◌/◌, ℕ, ℤ, [], ◌∷◌, Bool, true, false, cond, None, Some, Option, length}
+use Rattle.std.proofs.Common.{refl, subst, sym, if◌then◌else◌}
+use Rattle.sqlite.specs.Cast.{cast}
+use Rattle.sqlite.specs.Edit.{edit_of}
+use Rattle.sqlite.specs.Effect.{value_rows}
+use Rattle.sqlite.specs.Kind.TheVariants as kind
+use Rattle.sqlite.specs.Rowids.TheVariants.{Chosen}
+use Rattle.sqlite_rules.specs.Edit.{next_rowid}
+use Rattle.sqlite_schema.specs.Names.{is_key}
+use Rattle.sqlite_sql.specs.Ops.{unary}
+use Rattle.sqlite_trees.specs.Tree.{Trees, rowid}
+use Rattle.sqlite_trees.specs.View.{is_int}
+use Rattle.sqlite_value.specs.Order.{Row as Cells, column}
+use Rattle.sqlite_value.specs.declared.value.Value.{Value}
+use Rattle.sqlite_value.specs.declared.value.Value.TheVariants.{Int, Null}
+use Rattle.vet_tables.proofs.Shapes.{insert_terms}
+use Rattle.vet_tables.specs.Form.{TableForm, rowid_of, shown, table_of}
+use Rattle.vet_tables.proofs.Payloads.{Payloads, cells_of, payloads}
+use Rattle.vet_tables.specs.Forms.{form_of}
+use Rattle.vet_tables.specs.Typed.{AreSorts, kinds_of}
+use Rattle.vet_tables.specs.declared.table_name.TableName.{TableName}
+use Rattle.vet_tables.specs.declared.table_name.TableName.TheVariants.{Meta, Criteria, Entries, Publishers, Policies}
+use Rattle.vet_tables.specs.declared.table_name.TableName.TheVariants.{Peers}
+use Rattle.vet_tables.specs.declared.table_name.TableName.TheVariants.{Nodes, Edges, Standing, Moves, Members, Reviews}
+
+abbrev pub rowid_cell : Option ℕ → ℤ → Cells → Value
+rowid_cell None next cells = Int next
+rowid_cell (Some at) next cells = column cells at
+
+abbrev pub kept_from : Option ℕ → ℕ → Cells → Cells
+kept_from key at [] = []
+kept_from key at (v ∷ more) = (if is_key key at then Null else v) ∷ kept_from key (at + 1) more
+
+-- the rowid, and then the cells but for that of the rowid
+abbrev pub stored_row : TableForm → ℤ → Cells → Cells
+stored_row form next cells = rowid_cell (rowid_of form) next cells ∷ kept_from (rowid_of form) 0 cells
+
+abbrev pub sorts_of : TableName → Type 0
+sorts_of n = Payloads (kinds_of (form_of n))
+
+abbrev made : (n : TableName) → sorts_of n → Cells
+made n all = cells_of (kinds_of (form_of n)) all
+
+made_shows : (n : TableName) (all : sorts_of n) (next : ℤ)
+    → shown (form_of n) (stored_row (form_of n) next (made n all)) ≡ made n all
+made_shows Meta all next = refl
+made_shows Criteria all next = refl
+made_shows Entries all next = refl
+made_shows Publishers all next = refl
+made_shows Policies all next = refl
+made_shows Peers all next = refl
+made_shows Nodes all next = refl
+made_shows Edges all next = refl
+made_shows Standing all next = refl
+made_shows Moves all next = refl
+made_shows Members all next = refl
+made_shows Reviews all next = refl
+
+made_rowid : (n : TableName) (all : sorts_of n) (next : ℤ)
+    → is_int (rowid (stored_row (form_of n) next (made n all))) ≡ true
+made_rowid Meta all next = refl
+made_rowid Criteria all next = refl
+made_rowid Entries all next = refl
+made_rowid Publishers all next = refl
+made_rowid Policies all next = refl
+made_rowid Peers all next = refl
+made_rowid Nodes all next = refl
+made_rowid Edges all next = refl
+made_rowid Standing all next = refl
+made_rowid Moves all next = refl
+made_rowid Members all next = refl
+made_rowid Reviews all next = refl
+
+either : (b : Bool) (x : Value) → cond b x x ≡ x
+either true x = refl
+either false x = refl
+
+cast_null : cast kind.Integer Null ≡ Null
+unfolding unary
+cast_null = either _ Null
+
+cast_int : (n : ℤ) → cast kind.Integer (Int n) ≡ Int n
+unfolding unary
+cast_int n = either _ (Int n)
+
+-- what an INSERT of the cells adds
+abbrev News : (n : TableName) → Trees → ℕ → Cells → Type 0
+News n db tree cells =
+    (edit_of db (table_of (form_of n) tree) [] Chosen 0
+    (value_rows (cells ++ []) (length (form_of n).columns + 1)
+    (length (insert_terms (form_of n)) / (length (form_of n).columns + 1)) (insert_terms (form_of n)))).news
+    ≡ stored_row (form_of n) (next_rowid (db tree)) cells ∷ []
+
+made_news : (n : TableName) (all : sorts_of n) (db : Trees) (tree : ℕ) → News n db tree (made n all)
+made_news Meta all db tree = rw (
+  cast_null,
+  cast_int all.0,
+  cast_int all.1.0,
+  cast_int all.1.1.0,
+  cast_int all.1.1.1.0,
+  cast_int all.1.1.1.1.0,
+  cast_int all.1.1.1.1.1.0,
+  cast_int all.1.1.1.1.1.1.0,
+  cast_int all.1.1.1.1.1.1.1.0,
+  cast_int all.1.1.1.1.1.1.1.1.0,
+  cast_int all.1.1.1.1.1.1.1.1.1.0,
+  cast_int all.1.1.1.1.1.1.1.1.1.1.0,
+)
+made_news Criteria all db tree = rw cast_null
+made_news Entries all db tree = rw (
+  cast_null,
+  cast_int all.0,
+  cast_int all.1.1.1.0,
+  cast_int all.1.1.1.1.1.1.0,
+  cast_int all.1.1.1.1.1.1.1.0,
+  cast_int all.1.1.1.1.1.1.1.1.0,
+  cast_int all.1.1.1.1.1.1.1.1.1.1.1.1.0,
+  cast_int all.1.1.1.1.1.1.1.1.1.1.1.1.1.0,
+  cast_int all.1.1.1.1.1.1.1.1.1.1.1.1.1.1.0,
+)
+made_news Publishers all db tree = rw (cast_null, cast_int all.1.1.0, cast_int all.1.1.1.0)
+made_news Policies all db tree = rw (cast_null, cast_int all.1.0)
+made_news Peers all db tree = rw cast_null
+made_news Nodes all db tree = rw (cast_null, cast_int all.1.1.1.0)
+made_news Edges all db tree = rw (cast_null, cast_int all.1.1.1.1.1.0)
+made_news Standing all db tree = rw (cast_null, cast_int all.1.1.1.0)
+made_news Moves all db tree = rw (
+  cast_null,
+  cast_int all.0,
+  cast_int all.1.1.1.1.0,
+  cast_int all.1.1.1.1.1.0,
+  cast_int all.1.1.1.1.1.1.0,
+)
+made_news Members all db tree = rw cast_null
+made_news Reviews all db tree = rw (
+  cast_null,
+  cast_int all.0,
+  cast_int all.1.1.1.1.0,
+  cast_int all.1.1.1.1.1.0,
+  cast_int all.1.1.1.1.1.1.1.0,
+)
+
+module _ (n : TableName) (cells : Cells) (sorts : AreSorts (kinds_of (form_of n)) cells) where
+  pub shows_cells : (next : ℤ) → shown (form_of n) (stored_row (form_of n) next cells) ≡ cells
+  shows_cells next =
+      let it = payloads (kinds_of (form_of n)) cells sorts in
+      subst (λ c. shown (form_of n) (stored_row (form_of n) next c) ≡ c) (sym it.1) (made_shows n it.0 next)
+
+  pub has_rowid : (next : ℤ) → is_int (rowid (stored_row (form_of n) next cells)) ≡ true
+  has_rowid next =
+      let it = payloads (kinds_of (form_of n)) cells sorts in
+      subst (λ c. is_int (rowid (stored_row (form_of n) next c)) ≡ true) (sym it.1) (made_rowid n it.0 next)
+
+  pub news_are : (db : Trees) (tree : ℕ) → News n db tree cells
+  news_are db tree =
+      let it = payloads (kinds_of (form_of n)) cells sorts in
+      subst (News n db tree) (sym it.1) (made_news n it.0 db tree)

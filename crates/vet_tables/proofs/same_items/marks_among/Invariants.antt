@@ -1,0 +1,14 @@
+-- What was seen are the items so far, and what was marked of the others so far.
+use Rattle.std.proofs.Common.{◌≡◌, map, take}
+use Rattle.std.specs.BTreeSet.{contains}
+use Rattle.std.specs.List.{list_any}
+use Rattle.std.specs.Ordering.{eq_by_cmp}
+use Rattle.vet_tables.proofs.same_items.marks_among.Given as goal
+
+abbrev pub invariant-ys : goal.invariant-ys
+invariant-ys g l =
+    (x : g.row.T.Denot) → contains g.T.Ord.cmp l.seen x
+    ≡ list_any (eq_by_cmp g.T.Ord.cmp x) (take l.y-index l.ys)
+
+abbrev pub invariant-xs : goal.invariant-xs
+invariant-xs g l = l.marks.items ≡ map (λ x. list_any (eq_by_cmp g.T.Ord.cmp x) l.ys) (take l.x-index l.xs)

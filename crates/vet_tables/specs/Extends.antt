@@ -1,0 +1,40 @@
+-- What making a table leaves of all else (ours).
+use Rattle.std.specs.Prelude.{◌≡◌, ◌++◌, List, []}
+use Rattle.sqlite.specs.Effect.{Database, IsDatabase}
+use Rattle.sqlite_catalog.specs.Change.{KeepsRows}
+use Rattle.sqlite_rules.specs.Lists.{Has}
+use Rattle.sqlite_schema.specs.declared.schema.Index.{Index}
+use Rattle.sqlite_schema.specs.declared.schema.Table.{Table}
+use Rattle.sqlite_schema.specs.declared.schema.View.{View}
+use Rattle.vet_tables.specs.Forms.{code, form_of}
+use Rattle.vet_tables.specs.Free.{IsFree}
+use Rattle.vet_tables.specs.Has.{HasTable}
+use Rattle.vet_tables.specs.declared.table_name.TableName.{TableName}
+
+-- each table, index and view that was there is, each table with its rows
+pub record SparesOthers (old new : Database) : Type 0 where
+  pub tables : (t : Table) → Has old.schema.tables t → Has new.schema.tables t
+  pub indexes : (i : Index) → Has old.schema.indexes i → Has new.schema.indexes i
+  pub views : (v : View) → Has old.schema.views v → Has new.schema.views v
+  pub rows : KeepsRows old.schema.tables old.trees new.trees
+
+-- more tables and indexes, behind those that were there
+pub record Extends (old new : Database) : Type 0 where
+  pub tables : List Table
+  pub indexes : List Index
+  pub tables_are : new.schema.tables ≡ old.schema.tables ++ tables
+  pub indexes_are : new.schema.indexes ≡ old.schema.indexes ++ indexes
+  pub views_are : new.schema.views ≡ old.schema.views
+  -- no new table has an old tree, and no new index is on one
+  pub fresh : (t : Table) → Has tables t → (u : Table) → Has old.schema.tables u → u.tree ≡ t.tree → ⊥
+  pub owned : (i : Index) → Has indexes i → (u : Table) → Has old.schema.tables u → i.table ≡ u.tree → ⊥
+  pub unbound : (t : Table) → Has tables t → t.references ≡ []
+  pub rows : KeepsRows old.schema.tables old.trees new.trees
+
+-- a table more, which has no row
+pub record Gains (old new : Database) (name : TableName) : Type 0 where
+  pub extends : Extends old new
+  pub has : IsDatabase old → IsFree old.schema (form_of name).name → (has : HasTable new.schema (form_of name))
+      × (new.trees has.tree ≡ [])
+  pub frees : (other : TableName) → (code name ≡ code other → ⊥) → IsFree old.schema (form_of other).name
+      → IsFree new.schema (form_of other).name

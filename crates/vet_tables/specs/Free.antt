@@ -1,0 +1,17 @@
+-- Whether the names of the twelve tables are free (ours).
+use Rattle.std.specs.Prelude.{◌≡◌, false, true}
+use Rattle.std.specs.List.{list_all}
+use Rattle.sqlite_catalog.specs.Change.{is_used}
+use Rattle.sqlite_schema.specs.declared.schema.Schema.{Schema}
+use Rattle.vet_base.specs.Words.{Name}
+use Rattle.vet_tables.specs.Forms.{form_of}
+use Rattle.vet_tables.specs.Has.{refers_not}
+use Rattle.vet_tables.specs.declared.table_name.TableName.{TableName}
+
+-- no table, index or view has the name, but for the case of ASCII letters, and no foreign key refers to it
+pub record IsFree (schema : Schema) (name : Name) : Type 0 where
+  pub unused : is_used schema name ≡ false
+  pub unreferred : list_all (refers_not name) schema.tables ≡ true
+
+abbrev pub AreFree : Schema → Type 0
+AreFree schema = (name : TableName) → IsFree schema (form_of name).name

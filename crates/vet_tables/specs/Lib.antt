@@ -1,0 +1,12 @@
+pub mod Contents
+pub mod Extends
+pub mod Form
+pub mod Forms
+pub mod Free
+pub mod Has
+pub mod Keyed
+pub mod Makes
+pub mod Numbered
+pub mod Read
+pub mod Texts
+pub mod Typed

@@ -1,0 +1,86 @@
+//! The cells of a row that was read.
+ghost use Rattle.std.specs.Prelude.{◌≡◌, false, IfOk, IsTrue};
+ghost use Rattle.sqlite_value.specs.Value.{owned};
+ghost use Rattle.sqlite_schema.specs.declared.schema.Kind.TheVariants as kind;
+ghost use Rattle.sqlite_value.specs.Order.{column};
+ghost use Rattle.sqlite_value.specs.declared.value.Value.TheVariants.{Blob, Int, Text};
+ghost use Rattle.vet_tables.specs.Typed.{AreTyped, IsKind, kinds_of};
+
+use crate::column::{BlobColumn, TextColumn};
+use crate::form::Form;
+use sqlite::Row;
+use sqlite::types::ValueRef;
+use sqlite_schema::schema::Kind;
+use std::alloc::{AllocError, Global};
+
+fn is_of(kind: Kind, value: ValueRef<'_>) -> bool
+    ensures of { IsTrue result → IsKind kind (owned value.entry) }
+    ensures other { result ≡ false → IsKind kind (owned value.entry) → ⊥ }
+{
+    match value {
+        ValueRef::Int(_) => kind == Kind::Integer,
+        ValueRef::Text(text) => kind == Kind::Text && std::str::from_utf8(text).is_ok(),
+        ValueRef::Blob(_) => kind == Kind::Blob,
+        _ => false,
+    }
+}
+
+fn is_of_at(row: &Row, at: usize, kind: Kind) -> bool
+    ensures of { IsTrue result → IsKind kind (column row.now at) }
+    ensures other { result ≡ false → IsKind kind (column row.now at) → ⊥ }
+{
+    match row.get_ref(at) {
+        Ok(value) => is_of(kind, value),
+        Err(_) => false,
+    }
+}
+
+/// Whether the row has its rowid, and then a value of its type for each column.
+pub fn are_typed(row: &Row, form: &Form) -> bool
+    ensures typed { IsTrue result → AreTyped (kinds_of form.now) row.now }
+    ensures other { result ≡ false → AreTyped (kinds_of form.now) row.now → ⊥ }
+{
+    let columns = form.columns();
+    if row.column_count() != columns.len() + 1 || !is_of_at(row, 0, Kind::Integer) {
+        return false;
+    }
+    'cells: for at in 0..columns.len() {
+        if !is_of_at(row, at + 1, columns[at].1) {
+            return false;
+        }
+    }
+    true
+}
+
+/// The number at a place.
+pub fn int_at(row: &Row, at: usize) -> i64
+    ensures { IsKind kind.Integer (column row.now at) → column row.now at ≡ Int result }
+{
+    match row.get_ref(at) {
+        Ok(ValueRef::Int(number)) => number,
+        _ => 0,
+    }
+}
+
+/// The text at a place.
+pub fn text_at(alloc: Global, row: &Row, at: usize) -> Result<TextColumn, AllocError>
+    ensures { IfOk result (λ text. IsKind kind.Text (column row.now at) → column row.now at ≡ Text text) }
+{
+    match row.get_ref(at) {
+        Ok(ValueRef::Text(bytes)) => match std::str::from_utf8(bytes) {
+            Ok(text) => TextColumn::of(alloc, text),
+            Err(_) => TextColumn::of(alloc, ""),
+        },
+        _ => TextColumn::of(alloc, ""),
+    }
+}
+
+/// The bytes at a place.
+pub fn blob_at(alloc: Global, row: &Row, at: usize) -> Result<BlobColumn, AllocError>
+    ensures { IfOk result (λ blob. IsKind kind.Blob (column row.now at) → column row.now at ≡ Blob blob) }
+{
+    match row.get_ref(at) {
+        Ok(ValueRef::Blob(bytes)) => Ok(BlobColumn::of(Vec::from_slice(alloc, bytes)?)),
+        _ => Ok(BlobColumn::of(Vec::new(alloc))),
+    }
+}

@@ -1,0 +1,78 @@
+//! The statements on a table, each in one call of the database.
+ghost use Rattle.std.specs.Prelude.{◌≡◌, IsTrue, OnOk};
+ghost use Rattle.sqlite.specs.Held.{state};
+ghost use Rattle.sqlite.specs.State.{HasCleanDisk, KeepsCommit, Survives};
+ghost use Rattle.sqlite.specs.Values.{bound};
+ghost use Rattle.vet_tables.specs.Contents.{Changes, added, dropped};
+ghost use Rattle.vet_tables.specs.Forms.{form_of};
+ghost use Rattle.vet_tables.specs.Makes.{MakesTable, MakesTables};
+ghost use Rattle.vet_tables.specs.Typed.{AreSorts, kinds_of};
+
+use crate::table_name::{TableName, table_at};
+use sqlite::types::ValueRef;
+use sqlite::{Alter, Error, Transaction};
+
+/// Adds a row of cells of the types of the columns, whose key is free.
+pub fn insert<S: Alter>(
+    tx: &mut Transaction<'_, S>,
+    table: TableName,
+    cells: &[ValueRef<'_>],
+) -> Result<usize, Error>
+    ensures same_reference { tx.new.conn.ghost_name ≡ tx.old.conn.ghost_name }
+    ensures changes { HasCleanDisk (state S.Store tx.new.conn.now) → IsTrue tx.old.conn.now.in_transaction
+        → AreSorts (kinds_of (form_of table)) (bound cells.now)
+        → OnOk result (Changes (state S.Store tx.old.conn.now) (state S.Store tx.new.conn.now)
+        (added table (bound cells.now))) }
+    ensures kept { HasCleanDisk (state S.Store tx.new.conn.now)
+        → KeepsCommit (state S.Store tx.old.conn.now) (state S.Store tx.new.conn.now) }
+    ensures survives { Survives (state S.Store tx.old.conn.now) (state S.Store tx.new.conn.now) (λ _. ⊥) }
+{
+    tx.execute(table.form().insert(), cells)
+}
+
+/// Takes out the row of a key, where there is one.
+pub fn remove<S: Alter>(
+    tx: &mut Transaction<'_, S>,
+    table: TableName,
+    key: &[ValueRef<'_>],
+) -> Result<usize, Error>
+    ensures same_reference { tx.new.conn.ghost_name ≡ tx.old.conn.ghost_name }
+    ensures changes { HasCleanDisk (state S.Store tx.new.conn.now) → IsTrue tx.old.conn.now.in_transaction
+        → OnOk result (Changes (state S.Store tx.old.conn.now) (state S.Store tx.new.conn.now)
+        (dropped table (bound key.now))) }
+    ensures kept { HasCleanDisk (state S.Store tx.new.conn.now)
+        → KeepsCommit (state S.Store tx.old.conn.now) (state S.Store tx.new.conn.now) }
+    ensures survives { Survives (state S.Store tx.old.conn.now) (state S.Store tx.new.conn.now) (λ _. ⊥) }
+{
+    tx.execute(table.form().delete(), key)
+}
+
+/// Makes a table, with no row.
+pub fn create<S: Alter>(tx: &mut Transaction<'_, S>, table: TableName) -> Result<usize, Error>
+    ensures same_reference { tx.new.conn.ghost_name ≡ tx.old.conn.ghost_name }
+    ensures makes { HasCleanDisk (state S.Store tx.new.conn.now) → IsTrue tx.old.conn.now.in_transaction
+        → OnOk result (MakesTable (state S.Store tx.old.conn.now) (state S.Store tx.new.conn.now) table) }
+    ensures kept { HasCleanDisk (state S.Store tx.new.conn.now)
+        → KeepsCommit (state S.Store tx.old.conn.now) (state S.Store tx.new.conn.now) }
+    ensures survives { Survives (state S.Store tx.old.conn.now) (state S.Store tx.new.conn.now) (λ _. ⊥) }
+{
+    tx.execute(table.form().create(), &[])
+}
+
+/// Makes the twelve tables, with no rows.
+pub fn create_all<S: Alter>(tx: &mut Transaction<'_, S>) -> Result<(), Error>
+    ensures same_reference { tx.new.conn.ghost_name ≡ tx.old.conn.ghost_name }
+    ensures makes { HasCleanDisk (state S.Store tx.new.conn.now) → IsTrue (state S.Store tx.old.conn.now).is_open
+        → IsTrue tx.old.conn.now.in_transaction
+        → OnOk result (MakesTables (state S.Store tx.old.conn.now) (state S.Store tx.new.conn.now) 12) }
+    ensures opens { HasCleanDisk (state S.Store tx.new.conn.now) → IsTrue tx.old.conn.now.in_transaction
+        → OnOk result (IsTrue (state S.Store tx.old.conn.now).is_open) }
+    ensures kept { HasCleanDisk (state S.Store tx.new.conn.now)
+        → KeepsCommit (state S.Store tx.old.conn.now) (state S.Store tx.new.conn.now) }
+    ensures survives { Survives (state S.Store tx.old.conn.now) (state S.Store tx.new.conn.now) (λ _. ⊥) }
+{
+    'tables: for at in 0..12 {
+        create(tx, table_at(at))?;
+    }
+    Ok(())
+}

@@ -1,0 +1,374 @@
+//! The twelve tables, as data.
+ghost use Rattle.std.specs.Prelude.{◌≡◌, ◌<◌};
+ghost use Rattle.vet_tables.specs.Forms.{code, form_of};
+ghost use Rattle.vet_tables.specs.declared.table_name.TableName.TheVariants as table;
+
+use crate::form::Form;
+use sqlite_schema::schema::Kind;
+
+/// One of the twelve tables.
+#[derive(Clone, Copy)]
+pub enum TableName {
+    Meta,
+    Criteria,
+    Entries,
+    Publishers,
+    Policies,
+    Peers,
+    Nodes,
+    Edges,
+    Standing,
+    Moves,
+    Members,
+    Reviews,
+}
+
+impl TableName {
+    /// The form of the table.
+    pub fn form(self) -> Form
+        ensures { result ≡ form_of self }
+    {
+        match self {
+            TableName::Meta => meta(),
+            TableName::Criteria => criteria(),
+            TableName::Entries => entries(),
+            TableName::Publishers => publishers(),
+            TableName::Policies => policies(),
+            TableName::Peers => peers(),
+            TableName::Nodes => nodes(),
+            TableName::Edges => edges(),
+            TableName::Standing => standing(),
+            TableName::Moves => moves(),
+            TableName::Members => members(),
+            TableName::Reviews => reviews(),
+        }
+    }
+}
+
+/// The table of a place among the twelve.
+pub fn table_at(at: usize) -> TableName
+    requires { at < 12 }
+    ensures { code result ≡ at }
+{
+    match at {
+        0 => TableName::Meta,
+        1 => TableName::Criteria,
+        2 => TableName::Entries,
+        3 => TableName::Publishers,
+        4 => TableName::Policies,
+        5 => TableName::Peers,
+        6 => TableName::Nodes,
+        7 => TableName::Edges,
+        8 => TableName::Standing,
+        9 => TableName::Moves,
+        10 => TableName::Members,
+        _ => TableName::Reviews,
+    }
+}
+
+// What there is one of.
+fn meta() -> Form
+    ensures { result ≡ form_of table.Meta }
+{
+    Form {
+        name: "meta",
+        columns: &[
+            ("one", Kind::Integer),
+            ("version", Kind::Integer),
+            ("step", Kind::Integer),
+            ("next_entry", Kind::Integer),
+            ("next_review", Kind::Integer),
+            ("moves_limit", Kind::Integer),
+            ("first0", Kind::Integer),
+            ("first1", Kind::Integer),
+            ("first2", Kind::Integer),
+            ("first3", Kind::Integer),
+            ("first4", Kind::Integer),
+            ("vet_version", Kind::Blob),
+            ("default_criteria", Kind::Blob),
+        ],
+        key: 1,
+        key_index: "sqlite_autoindex_meta_1",
+        create: "CREATE TABLE meta (one INTEGER NOT NULL, version INTEGER NOT NULL, step INTEGER \
+            NOT NULL, next_entry INTEGER NOT NULL, next_review INTEGER NOT NULL, moves_limit \
+            INTEGER NOT NULL, first0 INTEGER NOT NULL, first1 INTEGER NOT NULL, first2 INTEGER \
+            NOT NULL, first3 INTEGER NOT NULL, first4 INTEGER NOT NULL, vet_version BLOB NOT \
+            NULL, default_criteria BLOB NOT NULL, PRIMARY KEY (one)) STRICT",
+        insert: "INSERT INTO meta VALUES (?, ?, ?, ?, ?, ?, ?, ?, ?, ?, ?, ?, ?)",
+        delete: "DELETE FROM meta WHERE one = ?",
+        select: "SELECT rowid, * FROM meta ORDER BY rowid",
+    }
+}
+
+// Own criteria and those of peers.
+fn criteria() -> Form
+    ensures { result ≡ form_of table.Criteria }
+{
+    Form {
+        name: "criteria",
+        columns: &[
+            ("peer", Kind::Text),
+            ("name", Kind::Text),
+            ("about", Kind::Blob),
+            ("url", Kind::Blob),
+            ("implies", Kind::Blob),
+        ],
+        key: 2,
+        key_index: "sqlite_autoindex_criteria_1",
+        create: "CREATE TABLE criteria (peer TEXT NOT NULL, name TEXT NOT NULL, about BLOB NOT \
+            NULL, url BLOB NOT NULL, implies BLOB NOT NULL, PRIMARY KEY (peer, name)) STRICT",
+        insert: "INSERT INTO criteria VALUES (?, ?, ?, ?, ?)",
+        delete: "DELETE FROM criteria WHERE peer = ? AND name = ?",
+        select: "SELECT rowid, * FROM criteria ORDER BY rowid",
+    }
+}
+
+// Entries.
+fn entries() -> Form
+    ensures { result ≡ form_of table.Entries }
+{
+    Form {
+        name: "entries",
+        columns: &[
+            ("number", Kind::Integer),
+            ("peer", Kind::Text),
+            ("package", Kind::Text),
+            ("kind", Kind::Integer),
+            ("a", Kind::Text),
+            ("b", Kind::Text),
+            ("user", Kind::Integer),
+            ("day1", Kind::Integer),
+            ("day2", Kind::Integer),
+            ("criteria", Kind::Blob),
+            ("who", Kind::Blob),
+            ("notes", Kind::Blob),
+            ("suggest", Kind::Integer),
+            ("renew", Kind::Integer),
+            ("importable", Kind::Integer),
+        ],
+        key: 1,
+        key_index: "sqlite_autoindex_entries_1",
+        create: "CREATE TABLE entries (number INTEGER NOT NULL, peer TEXT NOT NULL, package TEXT \
+            NOT NULL, kind INTEGER NOT NULL, a TEXT NOT NULL, b TEXT NOT NULL, user INTEGER \
+            NOT NULL, day1 INTEGER NOT NULL, day2 INTEGER NOT NULL, criteria BLOB NOT NULL, \
+            who BLOB NOT NULL, notes BLOB NOT NULL, suggest INTEGER NOT NULL, renew INTEGER \
+            NOT NULL, importable INTEGER NOT NULL, PRIMARY KEY (number)) STRICT",
+        insert: "INSERT INTO entries VALUES (?, ?, ?, ?, ?, ?, ?, ?, ?, ?, ?, ?, ?, ?, ?)",
+        delete: "DELETE FROM entries WHERE number = ?",
+        select: "SELECT rowid, * FROM entries ORDER BY rowid",
+    }
+}
+
+// Publisher records.
+fn publishers() -> Form
+    ensures { result ≡ form_of table.Publishers }
+{
+    Form {
+        name: "publishers",
+        columns: &[
+            ("package", Kind::Text),
+            ("version", Kind::Text),
+            ("user", Kind::Integer),
+            ("day", Kind::Integer),
+            ("login", Kind::Blob),
+            ("name", Kind::Blob),
+        ],
+        key: 6,
+        key_index: "sqlite_autoindex_publishers_1",
+        create: "CREATE TABLE publishers (package TEXT NOT NULL, version TEXT NOT NULL, user \
+            INTEGER NOT NULL, day INTEGER NOT NULL, login BLOB NOT NULL, name BLOB NOT NULL, \
+            PRIMARY KEY (package, version, user, day, login, name)) STRICT",
+        insert: "INSERT INTO publishers VALUES (?, ?, ?, ?, ?, ?)",
+        delete: "DELETE FROM publishers WHERE package = ? AND version = ? AND user = ? AND day = ? \
+            AND login = ? AND name = ?",
+        select: "SELECT rowid, * FROM publishers ORDER BY rowid",
+    }
+}
+
+// Policies.
+fn policies() -> Form
+    ensures { result ≡ form_of table.Policies }
+{
+    Form {
+        name: "policies",
+        columns: &[
+            ("policy", Kind::Text),
+            ("as_crates", Kind::Integer),
+            ("criteria", Kind::Blob),
+            ("dev", Kind::Blob),
+            ("dependency", Kind::Blob),
+            ("notes", Kind::Blob),
+        ],
+        key: 1,
+        key_index: "sqlite_autoindex_policies_1",
+        create: "CREATE TABLE policies (policy TEXT NOT NULL, as_crates INTEGER NOT NULL, criteria \
+            BLOB NOT NULL, dev BLOB NOT NULL, dependency BLOB NOT NULL, notes BLOB NOT NULL, \
+            PRIMARY KEY (policy)) STRICT",
+        insert: "INSERT INTO policies VALUES (?, ?, ?, ?, ?, ?)",
+        delete: "DELETE FROM policies WHERE policy = ?",
+        select: "SELECT rowid, * FROM policies ORDER BY rowid",
+    }
+}
+
+// Peers and their settings.
+fn peers() -> Form
+    ensures { result ≡ form_of table.Peers }
+{
+    Form {
+        name: "peers",
+        columns: &[
+            ("name", Kind::Text),
+            ("url", Kind::Blob),
+            ("exclude", Kind::Blob),
+            ("map", Kind::Blob),
+        ],
+        key: 1,
+        key_index: "sqlite_autoindex_peers_1",
+        create: "CREATE TABLE peers (name TEXT NOT NULL, url BLOB NOT NULL, exclude BLOB NOT NULL, \
+            map BLOB NOT NULL, PRIMARY KEY (name)) STRICT",
+        insert: "INSERT INTO peers VALUES (?, ?, ?, ?)",
+        delete: "DELETE FROM peers WHERE name = ?",
+        select: "SELECT rowid, * FROM peers ORDER BY rowid",
+    }
+}
+
+// Packages of projects.
+fn nodes() -> Form
+    ensures { result ≡ form_of table.Nodes }
+{
+    Form {
+        name: "nodes",
+        columns: &[
+            ("project", Kind::Text),
+            ("name", Kind::Text),
+            ("version", Kind::Text),
+            ("party", Kind::Integer),
+        ],
+        key: 3,
+        key_index: "sqlite_autoindex_nodes_1",
+        create: "CREATE TABLE nodes (project TEXT NOT NULL, name TEXT NOT NULL, version TEXT NOT \
+            NULL, party INTEGER NOT NULL, PRIMARY KEY (project, name, version)) STRICT",
+        insert: "INSERT INTO nodes VALUES (?, ?, ?, ?)",
+        delete: "DELETE FROM nodes WHERE project = ? AND name = ? AND version = ?",
+        select: "SELECT rowid, * FROM nodes ORDER BY rowid",
+    }
+}
+
+// Dependencies of projects.
+fn edges() -> Form
+    ensures { result ≡ form_of table.Edges }
+{
+    Form {
+        name: "edges",
+        columns: &[
+            ("project", Kind::Text),
+            ("from_name", Kind::Text),
+            ("from_version", Kind::Text),
+            ("to_name", Kind::Text),
+            ("to_version", Kind::Text),
+            ("kind", Kind::Integer),
+        ],
+        key: 6,
+        key_index: "sqlite_autoindex_edges_1",
+        create: "CREATE TABLE edges (project TEXT NOT NULL, from_name TEXT NOT NULL, from_version \
+            TEXT NOT NULL, to_name TEXT NOT NULL, to_version TEXT NOT NULL, kind INTEGER NOT \
+            NULL, PRIMARY KEY (project, from_name, from_version, to_name, to_version, kind)) \
+            STRICT",
+        insert: "INSERT INTO edges VALUES (?, ?, ?, ?, ?, ?)",
+        delete: "DELETE FROM edges WHERE project = ? AND from_name = ? AND from_version = ? AND \
+            to_name = ? AND to_version = ? AND kind = ?",
+        select: "SELECT rowid, * FROM edges ORDER BY rowid",
+    }
+}
+
+// The class of each demanded pair.
+fn standing() -> Form
+    ensures { result ≡ form_of table.Standing }
+{
+    Form {
+        name: "standing",
+        columns: &[
+            ("package", Kind::Text),
+            ("version", Kind::Text),
+            ("criterion", Kind::Text),
+            ("class", Kind::Integer),
+        ],
+        key: 3,
+        key_index: "sqlite_autoindex_standing_1",
+        create: "CREATE TABLE standing (package TEXT NOT NULL, version TEXT NOT NULL, criterion \
+            TEXT NOT NULL, class INTEGER NOT NULL, PRIMARY KEY (package, version, criterion)) \
+            STRICT",
+        insert: "INSERT INTO standing VALUES (?, ?, ?, ?)",
+        delete: "DELETE FROM standing WHERE package = ? AND version = ? AND criterion = ?",
+        select: "SELECT rowid, * FROM standing ORDER BY rowid",
+    }
+}
+
+// Recorded moves.
+fn moves() -> Form
+    ensures { result ≡ form_of table.Moves }
+{
+    Form {
+        name: "moves",
+        columns: &[
+            ("step", Kind::Integer),
+            ("package", Kind::Text),
+            ("version", Kind::Text),
+            ("criterion", Kind::Text),
+            ("day", Kind::Integer),
+            ("before", Kind::Integer),
+            ("after", Kind::Integer),
+        ],
+        key: 4,
+        key_index: "sqlite_autoindex_moves_1",
+        create: "CREATE TABLE moves (step INTEGER NOT NULL, package TEXT NOT NULL, version TEXT NOT \
+            NULL, criterion TEXT NOT NULL, day INTEGER NOT NULL, before INTEGER NOT NULL, \
+            after INTEGER NOT NULL, PRIMARY KEY (step, package, version, criterion)) STRICT",
+        insert: "INSERT INTO moves VALUES (?, ?, ?, ?, ?, ?, ?)",
+        delete: "DELETE FROM moves WHERE step = ? AND package = ? AND version = ? AND criterion = ?",
+        select: "SELECT rowid, * FROM moves ORDER BY rowid",
+    }
+}
+
+// Members of the desk.
+fn members() -> Form
+    ensures { result ≡ form_of table.Members }
+{
+    Form {
+        name: "members",
+        columns: &[("name", Kind::Text)],
+        key: 1,
+        key_index: "sqlite_autoindex_members_1",
+        create: "CREATE TABLE members (name TEXT NOT NULL, PRIMARY KEY (name)) STRICT",
+        insert: "INSERT INTO members VALUES (?)",
+        delete: "DELETE FROM members WHERE name = ?",
+        select: "SELECT rowid, * FROM members ORDER BY rowid",
+    }
+}
+
+// Reviews.
+fn reviews() -> Form
+    ensures { result ≡ form_of table.Reviews }
+{
+    Form {
+        name: "reviews",
+        columns: &[
+            ("number", Kind::Integer),
+            ("package", Kind::Text),
+            ("version", Kind::Text),
+            ("criteria", Kind::Blob),
+            ("day", Kind::Integer),
+            ("state", Kind::Integer),
+            ("member", Kind::Text),
+            ("entry", Kind::Integer),
+        ],
+        key: 1,
+        key_index: "sqlite_autoindex_reviews_1",
+        create: "CREATE TABLE reviews (number INTEGER NOT NULL, package TEXT NOT NULL, version TEXT \
+            NOT NULL, criteria BLOB NOT NULL, day INTEGER NOT NULL, state INTEGER NOT NULL, \
+            member TEXT NOT NULL, entry INTEGER NOT NULL, PRIMARY KEY (number)) STRICT",
+        insert: "INSERT INTO reviews VALUES (?, ?, ?, ?, ?, ?, ?, ?)",
+        delete: "DELETE FROM reviews WHERE number = ?",
+        select: "SELECT rowid, * FROM reviews ORDER BY rowid",
+    }
+}
