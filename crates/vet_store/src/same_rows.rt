@@ -4,9 +4,9 @@ ghost use Rattle.std.specs.Prelude.{◌≡◌, IfOk};
 ghost use Rattle.vet_rows.specs.SameRows.{SameRows};
 ghost use Rattle.vet_store.specs.SomeRows.{SameAtDesk, SameHeld, SameNamed};
 
-use vet_tables::same_items::have_same_items;
 use std::alloc::{AllocError, Global};
 use vet_rows::rows::Rows;
+use vet_tables::same_items::have_same_items;
 
 /// Whether each table has the same rows, in whatever order. Costs two searches for each row, in an order.
 pub(crate) fn have_same_rows(alloc: Global, a: &Rows, b: &Rows) -> Result<bool, AllocError>
