@@ -12,11 +12,11 @@ use Rattle.vet_graph.specs.declared.class.Class.{Class}
 use Rattle.vet_http.specs.Told.{reply_told}
 use Rattle.vet_register.specs.Held.{project_at}
 use Rattle.vet_register.specs.State.{State, standing}
-use Rattle.vet_reports.specs.CountsText.{counts_text}
-use Rattle.vet_reports.specs.DeskText.{desk_text}
-use Rattle.vet_reports.specs.MovesText.{moves_text}
-use Rattle.vet_reports.specs.StandingCsv.{standing_csv}
+use Rattle.vet_reports.specs.Report.{layout_of, report_text}
 use Rattle.vet_reports.specs.StandingText.{standing_text}
+use Rattle.vet_reports.specs.declared.report.Layout.{Layout}
+use Rattle.vet_reports.specs.declared.report.Layout.TheVariants.{Csv, Lines}
+use Rattle.vet_reports.specs.declared.report.Report.{Report}
 use Rattle.vet_reports.specs.declared.standing_text.Filter.{Filter}
 use Rattle.vet_requests.specs.Parameter.{first_parameter, name_told, package_told, second_parameter}
 use Rattle.vet_requests.specs.Parameter.{third_parameter, version_told}
@@ -41,14 +41,22 @@ toml text = reply_with status.Ok content.Toml [] text
 
 -- ---- what is shown
 
--- the pairs of a package, or all
-abbrev pub pairs_of : Option Name → Filter
-pairs_of asked = record { «package» = asked; class = None }
+-- a report, laid out as it is
+abbrev pub laid_out : Layout → Text → Reply
+laid_out Lines text = lines text
+laid_out Csv text = csv text
+
+abbrev pub report_reply : Report → State → Reply
+report_reply report s = laid_out (layout_of report) (report_text report s)
+
+-- the pairs of a package
+abbrev pub pairs_of : Name → Filter
+pairs_of name = record { «package» = Some name; class = None }
 
 -- the pairs of the package that is the parameter
 abbrev pub package_standing_told : Text → State → Told Reply
 package_standing_told target s =
-    package_told (first_parameter target) >>= λ name. Ok (lines (standing_text (pairs_of (Some name)) s))
+    package_told (first_parameter target) >>= λ name. Ok (lines (standing_text (pairs_of name) s))
 
 -- the word of a class; a pair that isn't demanded has none
 abbrev pub class_line : Option Class → Text
@@ -81,12 +89,8 @@ IsFile None s reply = reply ≡ plain_reply status.NotFound
 
 -- the reply that shows it for a target
 abbrev pub IsShown : Shown → Text → State → Reply → Type 0
-IsShown shown.Counts target s reply = reply ≡ lines (counts_text s)
-IsShown shown.Standing target s reply = reply ≡ lines (standing_text (pairs_of None) s)
+IsShown (shown.Report report) target s reply = reply ≡ report_reply report s
 IsShown shown.StandingOf target s reply = reply ≡ reply_told (package_standing_told target s)
-IsShown shown.StandingCsv target s reply = reply ≡ csv (standing_csv s)
-IsShown shown.Moves target s reply = reply ≡ lines (moves_text s)
-IsShown shown.Desk target s reply = reply ≡ lines (desk_text s)
 IsShown shown.Class target s reply = reply ≡ reply_told (class_told target s)
 IsShown shown.File target s reply = IsFile (file_named (first_parameter target)) s reply
 IsShown shown.Project target s reply = reply ≡ reply_told (table_told target s)

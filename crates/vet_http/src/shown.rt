@@ -8,7 +8,7 @@ ghost use Rattle.vet_base.specs.Gives.{Gives};
 ghost use Rattle.vet_documents.specs.RegisterFile.{file_named};
 ghost use Rattle.vet_graph.specs.Standing.{class_in};
 ghost use Rattle.vet_http.specs.Shown.{IsFile, IsShown, class_line, class_told, csv, lines, package_standing_told};
-ghost use Rattle.vet_http.specs.Shown.{pairs_of, table_of, table_told, toml};
+ghost use Rattle.vet_http.specs.Shown.{pairs_of, report_reply, table_of, table_told, toml};
 ghost use Rattle.vet_http.specs.Told.{refusal_reply};
 ghost use Rattle.vet_register.specs.Held.{project_at};
 ghost use Rattle.vet_register.specs.State.{standing};
@@ -25,10 +25,7 @@ use vet_documents::register_file::{RegisterFile, file_text};
 use vet_graph::class::Class;
 use vet_graph::keeper::Keeper;
 use vet_register::register::Register;
-use vet_reports::counts_text::counts_text;
-use vet_reports::desk_text::desk_text;
-use vet_reports::moves_text::moves_text;
-use vet_reports::standing_csv::standing_csv;
+use vet_reports::report::{Layout, Report};
 use vet_reports::standing_text::{Filter, standing_text};
 use vet_requests::content_type::ContentType;
 use vet_requests::parameter::{first_parameter, second_parameter, third_parameter};
@@ -49,15 +46,27 @@ pub(crate) fn show<K: Keeper>(
         (e ≡ Refusal.NoMemory) ⊎ IsShown shown target.now register.now.state (refusal_reply e)) }
 {
     match shown {
-        Shown::Counts => lines(alloc, counts_text(alloc, register)?),
-        Shown::Standing => show_standing(alloc, register, None),
+        Shown::Report(report) => show_report(alloc, register, report),
         Shown::StandingOf => show_package(alloc, register, target),
-        Shown::StandingCsv => csv(alloc, standing_csv(alloc, register)?),
-        Shown::Moves => lines(alloc, moves_text(alloc, register)?),
-        Shown::Desk => lines(alloc, desk_text(alloc, register)?),
         Shown::Class => show_class(alloc, register, target),
         Shown::File => show_file(alloc, register, target),
         Shown::Project => show_project(alloc, register, target),
+    }
+}
+
+// A report, laid out as it is.
+fn show_report<K: Keeper>(
+    alloc: Global,
+    register: &Register<K>,
+    report: Report,
+) -> Result<Reply, Refusal>
+    ensures reply { IfOk result (λ r. r ≡ report_reply report register.now.state) }
+    ensures memory { IfErr result (λ e. e ≡ Refusal.NoMemory) }
+{
+    let text = report.text(alloc, register)?;
+    match report.layout() {
+        Layout::Lines => lines(alloc, text),
+        Layout::Csv => csv(alloc, text),
     }
 }
 
@@ -76,17 +85,17 @@ fn csv(alloc: Global, text: String) -> Result<Reply, Refusal>
     Ok(Reply::with(alloc, Status::Ok, ContentType::Csv, text.as_str())?)
 }
 
-// The standing of a package, or of all.
+// The standing of a package.
 fn show_standing<K: Keeper>(
     alloc: Global,
     register: &Register<K>,
-    package: Option<PackageName>,
+    package: PackageName,
 ) -> Result<Reply, Refusal>
     ensures reply { IfOk result (λ r. r ≡ lines (standing_text (pairs_of «package») register.now.state)) }
     ensures memory { IfErr result (λ e. e ≡ Refusal.NoMemory) }
 {
     let filter = Filter {
-        package,
+        package: Some(package),
         class: None,
     };
     lines(alloc, standing_text(alloc, register, &filter)?)
@@ -101,7 +110,7 @@ fn show_package<K: Keeper>(
     ensures { Gives (λ r. r) (package_standing_told target.now register.now.state) result }
 {
     let name = PackageName::parse(alloc, first_parameter(target))?;
-    show_standing(alloc, register, Some(name))
+    show_standing(alloc, register, name)
 }
 
 // The class of the pair that the parameters are.

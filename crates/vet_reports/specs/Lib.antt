@@ -5,5 +5,6 @@ pub mod DeskText
 pub mod MovesText
 pub mod OutcomeText
 pub mod RefusalText
+pub mod Report
 pub mod StandingCsv
 pub mod StandingText

@@ -16,5 +16,6 @@ pub mod desk_text;
 pub mod moves_text;
 pub mod outcome_text;
 pub mod refusal_text;
+pub mod report;
 pub mod standing_csv;
 pub mod standing_text;

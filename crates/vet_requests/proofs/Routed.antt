@@ -7,12 +7,13 @@ use Rattle.std.specs.Option.{option_map}
 use Rattle.matchit.proofs.OnLiterals.{matchit_on_literals}
 use Rattle.matchit.specs.Router.{RouteOf}
 use Rattle.matchit.specs.Seek.{first}
+use Rattle.vet_reports.specs.declared.report.Report.TheVariants as report
 use Rattle.vet_requests.specs.Parameter.{is_slash}
 use Rattle.vet_requests.specs.Path.{Part, Path, fit, parameter, paths, route_among, route_at, word}
 use Rattle.vet_requests.specs.RouteTable.{routed_at, table}
 use Rattle.vet_requests.specs.declared.route.Route.{Route}
-use Rattle.vet_requests.specs.declared.route.Route.TheVariants.{Counts, Standing, StandingOf, StandingCsv, Moves, Desk}
-use Rattle.vet_requests.specs.declared.route.Route.TheVariants.{Class, File, Project, Peer, Commands}
+use Rattle.vet_requests.specs.declared.route.Route.TheVariants.{Class, Commands, File, Peer, Project, Report}
+use Rattle.vet_requests.specs.declared.route.Route.TheVariants.{StandingOf}
 use Rattle.vet_requests.proofs.PartsFit.{cut, fitting, has_words, tokens}
 use Rattle.vet_requests.proofs.RoutesFound.{by_one, by_three, by_word, class, files, peers, projects, standing}
 use Rattle.vet_requests.proofs.RowsFound.{IsRow, Matches, seek_found}
@@ -70,23 +71,23 @@ module _ (path : List ℕ) (r : Route) (bytes : AreBytes path) where
       → IsFor (word w ∷ []) q parts → fit parts (cut path) ≡ true → routed_at (47 ∷ path) ≡ Some r
   plain w q found parts is does = by_word w q found path (fits_own (word w ∷ []) parts q is does) ∙ ap Some is.1
 
-  counts_found : routed_at (47 ∷ codes "counts") ≡ Some Counts
+  counts_found : routed_at (47 ∷ codes "counts") ≡ Some (Report report.Counts)
   unfolding matchit_on_literals table
   counts_found = refl
 
-  standing_found : routed_at (47 ∷ codes "standing") ≡ Some Standing
+  standing_found : routed_at (47 ∷ codes "standing") ≡ Some (Report report.Standing)
   unfolding matchit_on_literals table
   standing_found = refl
 
-  csv_found : routed_at (47 ∷ codes "standing.csv") ≡ Some StandingCsv
+  csv_found : routed_at (47 ∷ codes "standing.csv") ≡ Some (Report report.StandingCsv)
   unfolding matchit_on_literals table
   csv_found = refl
 
-  moves_found : routed_at (47 ∷ codes "moves") ≡ Some Moves
+  moves_found : routed_at (47 ∷ codes "moves") ≡ Some (Report report.Moves)
   unfolding matchit_on_literals table
   moves_found = refl
 
-  desk_found : routed_at (47 ∷ codes "desk") ≡ Some Desk
+  desk_found : routed_at (47 ∷ codes "desk") ≡ Some (Report report.Desk)
   unfolding matchit_on_literals table
   desk_found = refl
 
@@ -96,23 +97,23 @@ module _ (path : List ℕ) (r : Route) (bytes : AreBytes path) where
 
   by_row : (parts : List Part) → IsAmong parts r paths → fit parts (cut path) ≡ true → routed_at (47 ∷ path) ≡ Some r
   by_row parts at does = (elim at [
-    | inl it ↦ plain (codes "counts") Counts counts_found parts it does
+    | inl it ↦ plain (codes "counts") (Report report.Counts) counts_found parts it does
     | inr at ↦
         (elim at [
-          | inl it ↦ plain (codes "standing") Standing standing_found parts it does
+          | inl it ↦ plain (codes "standing") (Report report.Standing) standing_found parts it does
           | inr at ↦
               (elim at [
                 | inl it ↦ by_one (codes "standing") StandingOf standing path bytes
                     (fits_own (word (codes "standing") ∷ parameter ∷ []) parts StandingOf it does) ∙ ap Some it.1
                 | inr at ↦
                     (elim at [
-                      | inl it ↦ plain (codes "standing.csv") StandingCsv csv_found parts it does
+                      | inl it ↦ plain (codes "standing.csv") (Report report.StandingCsv) csv_found parts it does
                       | inr at ↦
                           (elim at [
-                            | inl it ↦ plain (codes "moves") Moves moves_found parts it does
+                            | inl it ↦ plain (codes "moves") (Report report.Moves) moves_found parts it does
                             | inr at ↦
                                 (elim at [
-                                  | inl it ↦ plain (codes "desk") Desk desk_found parts it does
+                                  | inl it ↦ plain (codes "desk") (Report report.Desk) desk_found parts it does
                                   | inr at ↦
                                       (elim at [
                                         | inl it ↦ by_three (codes "class") Class class path bytes
@@ -179,10 +180,11 @@ module _ (target : List ℕ) where
                   (inr (inr (inr (inr (inr (inr (inr (inr (inr (inr (inl (refl, refl)))))))))))) pattern it.0 m none
               | inr at ↦
                   (elim at [
-                    | inl it ↦ has_route (word (codes "counts")) [] Counts refl (inl (refl, refl)) pattern it.0 m none
+                    | inl it ↦ has_route (word (codes "counts")) [] (Report report.Counts) refl
+                        (inl (refl, refl)) pattern it.0 m none
                     | inr at ↦
                         (elim at [
-                          | inl it ↦ has_route (word (codes "desk")) [] Desk refl
+                          | inl it ↦ has_route (word (codes "desk")) [] (Report report.Desk) refl
                               (inr (inr (inr (inr (inr (inl (refl, refl))))))) pattern it.0 m none
                           | inr at ↦
                               (elim at [
@@ -190,7 +192,7 @@ module _ (target : List ℕ) where
                                     (inr (inr (inr (inr (inr (inr (inr (inl (refl, refl))))))))) pattern it.0 m none
                                 | inr at ↦
                                     (elim at [
-                                      | inl it ↦ has_route (word (codes "moves")) [] Moves refl
+                                      | inl it ↦ has_route (word (codes "moves")) [] (Report report.Moves) refl
                                           (inr (inr (inr (inr (inl (refl, refl)))))) pattern it.0 m none
                                       | inr at ↦
                                           (elim at [
@@ -206,7 +208,7 @@ module _ (target : List ℕ) where
                                                   | inr at ↦
                                                       (elim at [
                                                         | inl it ↦ has_route (word (codes "standing.csv")) []
-                                                            StandingCsv refl
+                                                            (Report report.StandingCsv) refl
                                                             (inr (inr (inr (inl (refl, refl))))) pattern it.0 m none
                                                         | inr at ↦
                                                             (elim at [
@@ -216,7 +218,7 @@ module _ (target : List ℕ) where
                                                               | inr at ↦
                                                                   (elim at [
                                                                     | inl it ↦ has_route (word (codes "standing")) []
-                                                                        Standing refl
+                                                                        (Report report.Standing) refl
                                                                         (inr (inl (refl, refl))) pattern it.0 m none
                                                                     | inr at ↦ absurd at
                                                                   ])

@@ -3,10 +3,11 @@ use Rattle.std.specs.Prelude.{List, [], ◌∷◌, Bool, true, false, ◌&&◌, 
 use Rattle.std.specs.List.{slice_split}
 use Rattle.std.specs.Str.{bytes_eq, is_utf8}
 use Rattle.vet_base.specs.Words.{Bytes, Text}
+use Rattle.vet_reports.specs.declared.report.Report.TheVariants as report
 use Rattle.vet_requests.specs.Parameter.{is_slash}
 use Rattle.vet_requests.specs.declared.route.Route.{Route}
-use Rattle.vet_requests.specs.declared.route.Route.TheVariants.{Counts, Standing, StandingOf, StandingCsv, Moves, Desk}
-use Rattle.vet_requests.specs.declared.route.Route.TheVariants.{Class, File, Project, Peer, Commands}
+use Rattle.vet_requests.specs.declared.route.Route.TheVariants.{Class, Commands, File, Peer, Project, Report}
+use Rattle.vet_requests.specs.declared.route.Route.TheVariants.{StandingOf}
 
 -- what a path has behind a slash: a word, or a parameter
 pub data Part : Type 0 where
@@ -22,12 +23,12 @@ path parts route = (parts, route)
 
 abbrev pub paths : List Path
 paths =
-    path (word (codes "counts") ∷ []) Counts
-    ∷ path (word (codes "standing") ∷ []) Standing
+    path (word (codes "counts") ∷ []) (Report report.Counts)
+    ∷ path (word (codes "standing") ∷ []) (Report report.Standing)
     ∷ path (word (codes "standing") ∷ parameter ∷ []) StandingOf
-    ∷ path (word (codes "standing.csv") ∷ []) StandingCsv
-    ∷ path (word (codes "moves") ∷ []) Moves
-    ∷ path (word (codes "desk") ∷ []) Desk
+    ∷ path (word (codes "standing.csv") ∷ []) (Report report.StandingCsv)
+    ∷ path (word (codes "moves") ∷ []) (Report report.Moves)
+    ∷ path (word (codes "desk") ∷ []) (Report report.Desk)
     ∷ path (word (codes "class") ∷ parameter ∷ parameter ∷ parameter ∷ []) Class
     ∷ path (word (codes "files") ∷ parameter ∷ []) File
     ∷ path (word (codes "projects") ∷ parameter ∷ []) Project

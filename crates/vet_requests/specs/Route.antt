@@ -29,12 +29,8 @@ shown_alone what = (GET, Shows what) ∷ []
 
 -- the methods of a route, in the order in which they are told
 abbrev pub asked_at : Route → List Row
-asked_at route.Counts = shown_alone shown.Counts
-asked_at route.Standing = shown_alone shown.Standing
+asked_at (route.Report report) = shown_alone (shown.Report report)
 asked_at route.StandingOf = shown_alone shown.StandingOf
-asked_at route.StandingCsv = shown_alone shown.StandingCsv
-asked_at route.Moves = shown_alone shown.Moves
-asked_at route.Desk = shown_alone shown.Desk
 asked_at route.Class = shown_alone shown.Class
 asked_at route.File = shown_alone shown.File
 asked_at route.Project = (GET, Shows shown.Project) ∷ (PUT, Runs given.Project) ∷ []

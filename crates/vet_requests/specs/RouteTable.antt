@@ -7,9 +7,10 @@ use Rattle.matchit.specs.Router.{RouteOf}
 use Rattle.matchit.specs.Rows.{RowsOf, param_token}
 use Rattle.matchit.specs.Seek.{first}
 use Rattle.vet_base.specs.Words.{Text}
+use Rattle.vet_reports.specs.declared.report.Report.TheVariants as report
 use Rattle.vet_requests.specs.declared.route.Route.{Route}
-use Rattle.vet_requests.specs.declared.route.Route.TheVariants.{Counts, Standing, StandingOf, StandingCsv, Moves, Desk}
-use Rattle.vet_requests.specs.declared.route.Route.TheVariants.{Class, File, Project, Peer, Commands}
+use Rattle.vet_requests.specs.declared.route.Route.TheVariants.{Class, Commands, File, Peer, Project, Report}
+use Rattle.vet_requests.specs.declared.route.Route.TheVariants.{StandingOf}
 
 -- a path with parameters
 abbrev pub with_names : Text → Text → List (ℕ × ℕ) → Route → Text × RouteOf Route
@@ -37,12 +38,12 @@ table =
     (placed (with_names (codes "/files/" ++ one_parameter) (codes "/files/{file}") ((8, 12) ∷ []) File)
     (placed (with_names (codes "/class/" ++ three_parameters) (codes "/class/{package}/{version}/{criterion}")
     ((8, 15) ∷ (18, 25) ∷ (28, 37) ∷ []) Class)
-    (placed (plain (codes "/desk") Desk)
-    (placed (plain (codes "/moves") Moves)
-    (placed (plain (codes "/standing.csv") StandingCsv)
+    (placed (plain (codes "/desk") (Report report.Desk))
+    (placed (plain (codes "/moves") (Report report.Moves))
+    (placed (plain (codes "/standing.csv") (Report report.StandingCsv))
     (placed (with_names (codes "/standing/" ++ one_parameter) (codes "/standing/{package}") ((11, 18) ∷ []) StandingOf)
-    (placed (plain (codes "/standing") Standing)
-    (placed (plain (codes "/counts") Counts) []))))))))))
+    (placed (plain (codes "/standing") (Report report.Standing))
+    (placed (plain (codes "/counts") (Report report.Counts)) []))))))))))
 
 -- the route that `matchit` finds of a target by these rows
 abbrev pub routed_at : Text → Option Route

@@ -2,8 +2,9 @@
 //!
 //! **A target has the route that the table gives it. What is asked there by a method is the row of the route.**
 //!
-//! A further route is a path in the table of `router`, and a row of `asked` and one of `methods`. What a path has in
-//! braces is a parameter: it matches what stands between two slashes, if that is not empty.
+//! A further report is a path in the table of `router`. Any other route is that too, and a row of `asked` and one of
+//! `methods`. What a path has in braces is a parameter: it matches what stands between two slashes, if that is not
+//! empty.
 ghost use Rattle.std.specs.Prelude.{◌≡◌, ◌≤◌, IfErr, IfOk, length};
 ghost use Rattle.matchit.specs.Seek.{first};
 ghost use Rattle.std.specs.Prelude.{Some, None, if◌then◌else◌};
@@ -16,16 +17,13 @@ use crate::reply::MOST_ALLOW_BYTES;
 use matchit::{InsertError, Router};
 use std::alloc::{AllocError, Global};
 use vet_base::refusal::Refusal;
+use vet_reports::report::Report;
 
 /// A route.
 #[derive(Clone, Copy)]
 pub enum Route {
-    Counts,
-    Standing,
+    Report(Report),
     StandingOf,
-    StandingCsv,
-    Moves,
-    Desk,
     Class,
     File,
     Project,
@@ -36,18 +34,10 @@ pub enum Route {
 /// What is shown of the register.
 #[derive(Clone, Copy)]
 pub enum Shown {
-    /// The counts by class.
-    Counts,
-    /// The class of each demanded pair.
-    Standing,
+    /// A report.
+    Report(Report),
     /// The class of each demanded pair of a package.
     StandingOf,
-    /// The class of each demanded pair, as CSV.
-    StandingCsv,
-    /// The moves since the first counts.
-    Moves,
-    /// The reviews.
-    Desk,
     /// The class of one pair.
     Class,
     /// One of the three files of cargo-vet.
@@ -114,12 +104,12 @@ fn router(alloc: Global) -> Result<Router<Route>, InsertError>
     ensures { IfOk result (λ router. router ≡ table) }
 {
     let mut router = Router::new(alloc);
-    router.insert("/counts", Route::Counts)?;
-    router.insert("/standing", Route::Standing)?;
+    router.insert("/counts", Route::Report(Report::Counts))?;
+    router.insert("/standing", Route::Report(Report::Standing))?;
     router.insert("/standing/{package}", Route::StandingOf)?;
-    router.insert("/standing.csv", Route::StandingCsv)?;
-    router.insert("/moves", Route::Moves)?;
-    router.insert("/desk", Route::Desk)?;
+    router.insert("/standing.csv", Route::Report(Report::StandingCsv))?;
+    router.insert("/moves", Route::Report(Report::Moves))?;
+    router.insert("/desk", Route::Report(Report::Desk))?;
     router.insert("/class/{package}/{version}/{criterion}", Route::Class)?;
     router.insert("/files/{file}", Route::File)?;
     router.insert("/projects/{project}", Route::Project)?;
@@ -145,12 +135,8 @@ impl Route {
         ensures { result ≡ asked_by method.now (asked_at self) }
     {
         match self {
-            Route::Counts => shown_by_get(method, Shown::Counts),
-            Route::Standing => shown_by_get(method, Shown::Standing),
+            Route::Report(report) => shown_by_get(method, Shown::Report(report)),
             Route::StandingOf => shown_by_get(method, Shown::StandingOf),
-            Route::StandingCsv => shown_by_get(method, Shown::StandingCsv),
-            Route::Moves => shown_by_get(method, Shown::Moves),
-            Route::Desk => shown_by_get(method, Shown::Desk),
             Route::Class => shown_by_get(method, Shown::Class),
             Route::File => shown_by_get(method, Shown::File),
             Route::Project => asked_of_project(method),
@@ -165,14 +151,7 @@ impl Route {
         ensures short { length result.now ≤ MOST_ALLOW_BYTES }
     {
         match self {
-            Route::Counts
-            | Route::Standing
-            | Route::StandingOf
-            | Route::StandingCsv
-            | Route::Moves
-            | Route::Desk
-            | Route::Class
-            | Route::File => "GET",
+            Route::Report(_) | Route::StandingOf | Route::Class | Route::File => "GET",
             Route::Project => "GET, PUT",
             Route::Peer => "PUT",
             Route::Commands => "POST",

@@ -1,10 +1,11 @@
 //! Which targets have which routes: laws of the table, which do nothing.
 ghost use Rattle.std.specs.Prelude.{◌≡◌, ◌<◌, ◌∷◌, ◌++◌, false, ℕ, All, List, None, Some, codes};
 ghost use Rattle.matchit.specs.Seek.{has_slash};
+ghost use Rattle.vet_reports.specs.declared.report.Report.TheVariants as report;
 ghost use Rattle.vet_requests.specs.Path.{route_at};
 ghost use Rattle.vet_requests.specs.RouteTable.{routed_at};
-ghost use Rattle.vet_requests.specs.declared.route.Route.TheVariants.{Counts, Standing, StandingOf, StandingCsv, Moves};
-ghost use Rattle.vet_requests.specs.declared.route.Route.TheVariants.{Desk, Class, File, Project, Peer, Commands};
+ghost use Rattle.vet_requests.specs.declared.route.Route.TheVariants.{Report, StandingOf, Class, File, Project, Peer};
+ghost use Rattle.vet_requests.specs.declared.route.Route.TheVariants.{Commands};
 
 /// The router finds the route of the definition for every target that is bytes, and none for any other.
 pub fn router_finds_the_paths()
@@ -13,11 +14,11 @@ pub fn router_finds_the_paths()
 
 /// Paths without parameters.
 pub fn plain_paths_have_routes()
-    ensures counts { route_at (codes "/counts") ≡ Some Counts }
-    ensures standing { route_at (codes "/standing") ≡ Some Standing }
-    ensures standing_csv { route_at (codes "/standing.csv") ≡ Some StandingCsv }
-    ensures moves { route_at (codes "/moves") ≡ Some Moves }
-    ensures desk { route_at (codes "/desk") ≡ Some Desk }
+    ensures counts { route_at (codes "/counts") ≡ Some (Report report.Counts) }
+    ensures standing { route_at (codes "/standing") ≡ Some (Report report.Standing) }
+    ensures standing_csv { route_at (codes "/standing.csv") ≡ Some (Report report.StandingCsv) }
+    ensures moves { route_at (codes "/moves") ≡ Some (Report report.Moves) }
+    ensures desk { route_at (codes "/desk") ≡ Some (Report report.Desk) }
     ensures commands { route_at (codes "/commands") ≡ Some Commands }
 {}
 

@@ -8,7 +8,6 @@ pub mod FileWord
 pub mod NewAsked
 pub mod NewWords
 pub mod ReadLine
-pub mod Reported
 pub mod ServeAsked
 pub mod ServeWords
 pub mod Surplus

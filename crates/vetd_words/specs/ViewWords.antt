@@ -2,7 +2,7 @@
 use Rattle.std.specs.Prelude.{List, Option, codes, option_and_then, option_map}
 use Rattle.clap.specs.Walk.{Row, Text, first_of}
 use Rattle.vetd_words.specs.FileWord.{file_of_word}
-use Rattle.vetd_words.specs.Reported.{report_kind}
+use Rattle.vet_reports.specs.Report.{report_named}
 use Rattle.vetd_words.specs.Words.{rows_given}
 use Rattle.vetd_words.specs.declared.view.View.{View}
 use Rattle.vetd_words.specs.declared.view.View.TheVariants.{Export, Report}
@@ -26,7 +26,7 @@ name_of AsReport = codes "report"
 
 abbrev pub view_named : ViewCommand → Text → Option View
 view_named AsExport word = option_map Export (file_of_word word)
-view_named AsReport word = option_map Report (report_kind word)
+view_named AsReport word = option_map Report (report_named word)
 
 -- the path and what is shown, where both were given
 abbrev pub view_from : ViewCommand → List Row → Option ViewAsked

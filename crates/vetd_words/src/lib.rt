@@ -20,7 +20,6 @@ mod file_word;
 pub mod help;
 pub mod new_words;
 pub mod read_line;
-pub mod report_kind;
 pub mod run;
 pub mod serve_words;
 mod surplus;

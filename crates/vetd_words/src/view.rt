@@ -2,19 +2,19 @@
 ghost use Rattle.std.specs.Prelude.{◌≡◌, IfErr, IfOk, string_bytes};
 ghost use Rattle.vetd_words.specs.View.{Shows};
 
-use crate::report_kind::{ReportKind, reported};
 use std::alloc::Global;
 use vet_base::refusal::Refusal;
 use vet_documents::register_file::{RegisterFile, file_text};
 use vet_graph::keeper::Keeper;
 use vet_register::register::Register;
+use vet_reports::report::Report;
 
 /// What a command shows of a register. A further one is a row here, a row in `text`, and the function that makes its
 /// text.
 #[derive(Clone, Copy)]
 pub enum View {
     Export(RegisterFile),
-    Report(ReportKind),
+    Report(Report),
 }
 
 impl View {
@@ -25,7 +25,7 @@ impl View {
     {
         match self {
             View::Export(file) => file_text(alloc, file, register),
-            View::Report(kind) => reported(alloc, kind, register),
+            View::Report(report) => report.text(alloc, register),
         }
     }
 }

@@ -5,7 +5,6 @@ ghost use Rattle.vetd_words.specs.ViewWords.{name_of, view_asked, view_from, vie
 ghost use Rattle.vetd_words.specs.Words.{IsErrorOf, faults_of, kind_word, rows_if_named};
 
 use crate::file_word::{FILE_WORDS, file_of_word};
-use crate::report_kind::{REPORT_WORDS, ReportKind};
 use crate::view::View;
 use crate::words::{
     export_command, invalid_kind, matches_if_named, matches_of, report_command, value,
@@ -14,6 +13,7 @@ use clap::error::ErrorKind;
 use clap::{ArgMatches, Error};
 use std::alloc::{AllocError, Global};
 use std::convert::AsStr;
+use vet_reports::report::{REPORT_WORDS, Report};
 
 /// A command that shows something of a register. A further one is a row here and in each function below.
 #[derive(Clone, Copy)]
@@ -46,7 +46,7 @@ impl ViewCommand {
     {
         match self {
             ViewCommand::Export => Some(View::Export(file_of_word(word)?)),
-            ViewCommand::Report => Some(View::Report(ReportKind::of_word(word)?)),
+            ViewCommand::Report => Some(View::Report(Report::named(word)?)),
         }
     }
 }
