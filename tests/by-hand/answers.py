@@ -11,6 +11,7 @@ ERRORS = {
     "AllocError": "std::alloc::AllocError",
     "IoFault": "{vet_requests}::io_fault::IoFault::NoMemory",
     "InsertError": "matchit::InsertError::OutOfMemory",
+    "Unread": "crate::read::unread::Unread::NoMemory",
     "Stop": f"crate::change::Stop::Before({OUT_OF_MEMORY})",
     "Refused": "crate::refused::Refused {{ refusal: {vet_base}::refusal::Refusal::NoMemory, conn: {conn} }}",
     "io": "std::io::Error::from(std::io::ErrorKind::OutOfMemory)",

@@ -8,8 +8,29 @@ from typing import NamedTuple
 
 from answers import LOWEST, answer_of
 
-# its contract says what it answers, and so not that it gives up; what it is given can't be let go
-EXACT = ("vet_rows::state_of::found_register",)
+# their contracts say what they answer, and so not that they give up; what one of them is given can't be let go
+EXACT = {
+    "vet_rows::state_of::found_register",
+    "vet_rows::read::cells::int_at",
+    "vet_rows::read::cells::text_at",
+    "vet_rows::read::cells::blob_at",
+    "vet_rows::read::columns::at_most_one",
+    "vet_rows::read::columns::flag",
+    "vet_rows::read::columns::number",
+    "vet_rows::read::columns::user",
+    "vet_rows::read::columns::day",
+    "vet_rows::read::kinds::kind_cells",
+    "vet_rows::read::kinds::kind_number",
+    "vet_rows::read::kinds::window",
+    "vet_rows::read::meta::check_form",
+    "vet_rows::read::meta::numbers",
+    "vet_rows::read::meta::first_counts",
+    "vet_rows::read::moves::class_or_none",
+    "vet_rows::read::projects::party",
+    "vet_rows::read::projects::kind",
+    "vet_rows::read::projects::edge_between",
+    "vet_rows::read::unread::found",
+}
 # not of the product
 PASSED_OVER = ("trials", "trial_clients", "trial_registers", "trial_times", "trial_values")
 # a planted program is slow, so that these are reached sooner in it

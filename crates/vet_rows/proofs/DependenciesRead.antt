@@ -1,7 +1,6 @@
 -- Criteria for dependencies, which are read of the items of a map.
-use Rattle.std.proofs.Common.{◌≡◌, ◌∙◌, List, [], ◌∷◌, Option, Some, None, map, refl, sym, ap}
+use Rattle.std.proofs.Common.{◌≡◌, ◌∙◌, List, [], ◌∷◌, map, refl, sym, ap}
 use Rattle.std.proofs.lemmas.Cmp.{nat_list_cmp_total}
-use Rattle.std.proofs.lemmas.Option.{same_Some}
 use Rattle.vet_base.specs.Keyed.{all_set}
 use Rattle.vet_base.specs.Name.{read_package_name}
 use Rattle.vet_base.specs.Names.{NameSet}
@@ -13,7 +12,7 @@ use Rattle.vet_demand.specs.declared.dependency_criteria.DependencyItem.{Depende
 use Rattle.vet_rows.specs.Columns.{packed_map}
 use Rattle.vet_rows.specs.HeldValues.{AreDependencies}
 use Rattle.vet_rows.specs.PackedItems.{as_text}
-use Rattle.vet_rows.specs.ReadBack.{IsReadBack, IsWritten}
+use Rattle.vet_rows.specs.ReadBack.{IsWritten}
 use Rattle.vet_rows.specs.ReadMaps.{AreMapItems, IsMapItem, map_column, map_item}
 use Rattle.vet_rows.specs.ReadValues.{dependency_column, dependency_of}
 use Rattle.vet_rows.specs.declared.read.gathered.Filed.{Filed}
@@ -23,39 +22,25 @@ use Rattle.vet_rows.proofs.ProjectsRead.{map_again, same_itself}
 abbrev own : Name → Bytes
 own name = name
 
-filed_of : DependencyItem → Filed Name NameSet
+abbrev pub filed_of : DependencyItem → Filed Name NameSet
 filed_of item = record { key = item.«package»; item = item.criteria }
 
 unfiled : (items : List DependencyItem) → map dependency_of (map filed_of items) ≡ items
-unfolding filed_of
 unfiled [] = refl
 unfiled (item ∷ items) = ap (λ xs. item ∷ xs) (unfiled items)
 
-abbrev pub ReadsMap : Bytes → Option (List (Filed Name NameSet)) → Type 0
-ReadsMap bytes found =
-    IsReadBack (IsWritten (AreMapItems own (as_text read_package_name)) (map_column own)) bytes found
-
-module _ (items : List DependencyItem) (are : AreDependencies items) (bytes : Bytes)
-    (is : bytes ≡ dependency_column items) where
-  column : map_column own (map filed_of items) ≡ dependency_column items
-  unfolding filed_of
-  column = ap packed_map (map_again (map_item own) filed_of items)
-
+module _ (items : List DependencyItem) (are : AreDependencies items) where
   held : AreMapItems own (as_text read_package_name) (map filed_of items)
-  unfolding filed_of
   held = all_mapped filed_of (IsMapItem own (as_text read_package_name)) items
       (λ k d l. ((are.each k d l).of_package, (are.each k d l).criteria))
 
-  found_map : (found : Option (List (Filed Name NameSet))) → ReadsMap bytes found → found ≡ Some (map filed_of items)
-  found_map found back = back (map filed_of items) (held, is ∙ sym column)
+  -- their column is that of the items of a map
+  pub dependencies_written : (bytes : Bytes) → bytes ≡ dependency_column items
+      → IsWritten (AreMapItems own (as_text read_package_name)) (map_column own) bytes (map filed_of items)
+  dependencies_written bytes is = (held, is ∙ sym (ap packed_map (map_again (map_item own) filed_of items)))
 
-  pub dependencies_some : (filed : List (Filed Name NameSet)) → ReadsMap bytes (Some filed)
-      → (deps : List DependencyItem) → deps ≡ all_set R item_name [] (map dependency_of filed) → Some deps ≡ Some items
-  dependencies_some filed back deps e =
-      let all = same_Some filed (map filed_of items) (found_map (Some filed) back) in
-      ap (λ xs. Some xs) (e ∙ ap (λ fs. all_set R item_name [] (map dependency_of fs)) all
-      ∙ ap (all_set R item_name []) (unfiled items)
-      ∙ all_set_is R nat_list_cmp_total only_equal item_name items items are.by_package (same_itself items))
-
-  pub dependencies_none : {B : Type 0} → ReadsMap bytes None → B
-  dependencies_none back = cc (found_map None back)
+  pub dependencies_read : (filed : List (Filed Name NameSet)) → filed ≡ map filed_of items
+      → (deps : List DependencyItem) → deps ≡ all_set R item_name [] (map dependency_of filed) → deps ≡ items
+  dependencies_read filed all deps e =
+      e ∙ ap (λ fs. all_set R item_name [] (map dependency_of fs)) all ∙ ap (all_set R item_name []) (unfiled items)
+      ∙ all_set_is R nat_list_cmp_total only_equal item_name items items are.by_package (same_itself items)

@@ -1,6 +1,6 @@
 -- What a change of the desk makes of its rows.
 use Rattle.std.proofs.Common.{◌≡◌, ℕ, pos, inl, inr, true, List, [], ◌∷◌, ◌++◌, map, refl, sym, ap, ◌∙◌}
-use Rattle.std.proofs.Common.{subst, Option, Some, None}
+use Rattle.std.proofs.Common.{subst, Bool, Option, Some, None, arith}
 use Rattle.std.specs.List.{slice_get}
 use Rattle.std.specs.Prelude.{option_map, slice_set}
 use Rattle.std.specs.Ordering.{nat_cmp}
@@ -10,7 +10,7 @@ use Rattle.std.proofs.lemmas.Cmp.{nat_cmp_total, nat_list_cmp_total}
 use Rattle.std.proofs.lemmas.Option.{get_or_from_slice_get, slice_get_within}
 use Rattle.vet_base.specs.Items.{IsIn}
 use Rattle.vet_base.specs.Keyed as keyed
-use Rattle.vet_base.specs.Keyed.{IsByKey, IsPlace}
+use Rattle.vet_base.specs.Keyed.{IsByKey}
 use Rattle.vet_base.specs.Words.{Name}
 use Rattle.vet_base.proofs.ItemLemmas.{in_append, in_back, in_front, in_map}
 use Rattle.vet_base.proofs.KeyedItems.{of_one_key}
@@ -27,18 +27,30 @@ use Rattle.vet_rows.specs.DeskChanges.{members_coming, members_going, reviews_co
 use Rattle.vet_rows.specs.DeskChanges.{the_review}
 use Rattle.vet_rows.specs.DeskRows.{member_row, review_row}
 use Rattle.vet_rows.specs.KeyedItems.{comes, goes, rows_if}
-use Rattle.vet_rows.specs.RowKeys.{same_member, same_review}
-use Rattle.vet_rows.specs.declared.row.MemberRow.{MemberRow}
-use Rattle.vet_rows.specs.declared.row.ReviewRow.{ReviewRow}
 use Rattle.vet_rows.proofs.Exchanges.{IsExchange, of_items, stays}
 use Rattle.vet_rows.proofs.KeyedExchanges.{IsOneForOne, edit_is, swap_is}
 use Rattle.vet_rows.proofs.RowViews.{only_mapped}
-use Rattle.vet_rows.proofs.SameKeys.{member_itself, member_same, review_itself, review_same}
+use Rattle.vet_rows.proofs.FitRows.{members_fit, reviews_fit}
+use Rattle.vet_rows.proofs.SameKeys.{number_at, own_key, same_number, same_text, same_whole, text_at}
+use Rattle.vet_tables.specs.Cells.{Row, same_key}
+use Rattle.vet_tables.specs.Forms.{form_of}
+use Rattle.vet_tables.specs.declared.table_name.TableName.TheVariants.{Members, Reviews}
+
+abbrev same_member : Row → Row → Bool
+same_member = same_key (form_of Members)
+
+abbrev same_review : Row → Row → Bool
+same_review = same_key (form_of Reviews)
 
 -- ---- members
 
-one_member : (g x : Name) (r s : MemberRow) → IsIn r (the_member g) → IsIn s (the_member x) → r ≡ s → g ≡ x
-one_member g x r s (inl a) (inl b) e = ap (λ (y : MemberRow). y.name) (sym a ∙ e ∙ b)
+members_keyed : (names : List Name) (r s : Row) → IsIn r (map member_row names) → IsIn s (map member_row names)
+    → same_member r s ≡ true → r ≡ s
+members_keyed names r s i j = same_whole Members refl r s (members_fit names r i) (members_fit names s j)
+
+one_member : (g x : Name) (r s : Row) → IsIn r (the_member g) → IsIn s (the_member x) → text_at 0 r ≡ text_at 0 s
+    → g ≡ x
+one_member g x r s (inl a) (inl b) e = ap (text_at 0) (sym a) ∙ e ∙ ap (text_at 0) b
 one_member g x r s (inl a) (inr none) e = absurd none
 one_member g x r s (inr none) b e = absurd none
 
@@ -48,13 +60,14 @@ pub members_become : (change : DeskChange) (old : DeskState) (room : DeskRoom) (
     (map member_row (desk_changed change entry old).members)
 members_become (Join change) old room entry fits up =
     let new = keyed.edited change old.members in
-    of_items same_member member_itself own_name the_member (goes change old.members) (comes change) old.members new []
-    (map member_row old.members) (map member_row new) (only_mapped member_row old.members) (only_mapped member_row new)
+    of_items same_member own_name the_member (goes change old.members) (comes change) old.members new []
+    (map member_row old.members) (map member_row new) (λ r i. own_key Members r (members_fit old.members r i))
+    (only_mapped member_row old.members) (only_mapped member_row new)
     (edit_is (slice_cmp nat_cmp) nat_list_cmp_total only_equal own_name change
     (record { items = old.members; room = room.members }) up fits)
-    (λ g x r s i j a b e. one_member g x r s a b (member_same r s e))
+    (λ g x r s i j a b e. one_member g x r s a b (same_text Members r s e 0 (omega arith)))
     (λ g r s i a none e. none)
-    (λ c r s i a j e. member_same r s e)
+    (λ c r s i a j e. members_keyed new r s ((only_mapped member_row new).item_in c r i a) j e)
 members_become (Open review) old room entry fits up = stays same_member (map member_row old.members)
 members_become (Turn place state) old room entry fits up = stays same_member (map member_row old.members)
 members_become (Finish place made) old room entry fits up = stays same_member (map member_row old.members)
@@ -64,11 +77,11 @@ members_become (Finish place made) old room entry fits up = stays same_member (m
 same_pos : (m n : ℕ) → pos m ≡ pos n → m ≡ n
 same_pos m n e = cc e
 
-one_number : (g x : Review) (r s : ReviewRow) → IsIn r (the_review g) → IsIn s (the_review x) → same_review r s ≡ true
+one_number : (g x : Review) (r s : Row) → IsIn r (the_review g) → IsIn s (the_review x) → same_review r s ≡ true
     → g.number ≡ x.number
 one_number g x r s (inl a) (inl b) e =
     same_pos g.number x.number
-    (ap (λ (y : ReviewRow). y.number) (sym a) ∙ review_same r s e ∙ ap (λ (y : ReviewRow). y.number) b)
+    (ap (number_at 0) (sym a) ∙ same_number Reviews r s e 0 (omega arith) ∙ ap (number_at 0) b)
 one_number g x r s (inl a) (inr none) e = absurd none
 one_number g x r s (inr none) b e = absurd none
 
@@ -77,13 +90,14 @@ review_exchange : (gone come : Option Review) (old new : List Review) → IsByKe
     → IsExchange same_review (rows_if the_review gone) (rows_if the_review come) (map review_row old)
     (map review_row new)
 review_exchange gone come old new up is =
-    of_items same_review review_itself review_number the_review gone come old new [] (map review_row old)
-    (map review_row new) (only_mapped review_row old) (only_mapped review_row new) is
+    of_items same_review review_number the_review gone come old new [] (map review_row old)
+    (map review_row new) (λ r i. own_key Reviews r (reviews_fit old r i)) (only_mapped review_row old)
+    (only_mapped review_row new) is
     (λ g x r s i j a b e. one_number g x r s a b e)
     (λ g r s i a none e. none)
     (λ c r s i a j e. (let x = in_map review_row new s j in keyed c x.0 r s i x.1.0 a (inl x.1.1) e))
   where
-    keyed : (c x : Review) (r s : ReviewRow) → IsIn c new → IsIn x new → IsIn r (the_review c) → IsIn s (the_review x)
+    keyed : (c x : Review) (r s : Row) → IsIn c new → IsIn x new → IsIn r (the_review c) → IsIn s (the_review x)
         → same_review r s ≡ true → r ≡ s
     keyed c x r s i j (inl a) (inl b) e =
         a ∙ ap review_row (of_one_key nat_cmp nat_cmp_total nat_cmp-IsAntisymmetric review_number new up c x i j

@@ -3,16 +3,22 @@ use Rattle.std.proofs.Common.{◌≡◌, ◌⊎◌, inl, inr, Bool, true, false,
 use Rattle.std.proofs.Common.{Option, Some, None}
 use Rattle.std.proofs.lemmas.Bool.{false≢true}
 use Rattle.std.specs.Bool.{Decides}
-use Rattle.std.specs.List.{list_any}
+use Rattle.std.specs.List.{filter, list_any}
 use Rattle.vet_base.specs.Items.{IsIn, SameItems}
 use Rattle.vet_base.proofs.ItemLemmas.{filter_in, in_filter}
-use Rattle.vet_rows.specs.RowChanges.{with_row, without}
-use Rattle.vet_rows.specs.RowExchanges.{less}
 use Rattle.vet_tables.proofs.Among.{among_is, is_among}
 use Rattle.vet_rows.specs.KeyedItems.{rows_if}
 use Rattle.vet_rows.proofs.KeyedExchanges.{IsOneForOne}
 
 -- ---- rows of which some have the same key
+
+-- the rows of another key
+abbrev pub without : {R : Type 0} → (R → R → Bool) → R → List R → List R
+without same r rows = filter (λ other. not (same r other)) rows
+
+-- a row, and those of another key
+abbrev pub with_row : {R : Type 0} → (R → R → Bool) → R → List R → List R
+with_row same r rows = r ∷ without same r rows
 
 module _ {R : Type 0} (same : R → R → Bool) where
   -- a row of some has the key of this one
@@ -134,12 +140,12 @@ module _ {R : Type 0} (same : R → R → Bool) where
   }
 
   -- all rows go, and all that are to be come
-  pub whole : ((x : R) → same x x ≡ true) → (old new : List R)
+  pub whole : (old new : List R) → ((x : R) → IsIn x old → same x x ≡ true)
       → ((c x : R) → IsIn c new → IsIn x new → same c x ≡ true → c ≡ x) → IsExchange old new old new
-  whole itself old new keyed = record {
+  whole old new itself keyed = record {
     come_in = λ x i. i;
     new_from = λ x i. inl i;
-    old_to = λ x i. inr (inl (x, (i, itself x)));
+    old_to = λ x i. inr (inl (x, (i, itself x i)));
     keyed = keyed;
   }
 
@@ -149,7 +155,7 @@ module _ {R : Type 0} (same eq : R → R → Bool) (only : (a b : R) → Decides
     (gone come old new : List R) (h : IsExchange same gone come old new) (there : (x : R) → IsIn x gone → IsIn x old)
     (once : (g x : R) → IsIn g old → IsIn x old → same g x ≡ true → g ≡ x) where
   abbrev left : List R → List R → List R
-  left = less eq
+  left rows others = filter (λ r. not (list_any (eq r) others)) rows
 
   left_of : (rows others : List R) (x : R) → IsIn x (left rows others) → IsIn x rows × (IsIn x others → ⊥)
   left_of rows others x i =
@@ -214,7 +220,7 @@ pub in_rows_if : {E R : Type 0} (rows_of : E → List R) (o : Option E) (x : E) 
     → IsIn r (rows_if rows_of o)
 in_rows_if rows_of o x r is i = rw is i
 
-module _ {R : Type 0} (same : R → R → Bool) (itself : (x : R) → same x x ≡ true) where
+module _ {R : Type 0} (same : R → R → Bool) where
   -- rows that stay the same need no change
   pub alike : (old new : List R) → SameItems old new → IsExchange same [] [] old new
   alike old new are = record {
@@ -226,14 +232,14 @@ module _ {R : Type 0} (same : R → R → Bool) (itself : (x : R) → same x x �
 
   -- an item in place of another, where no row of another item, and none of the others, has the key of a row of these
   pub of_coming : {K E : Type 0} (key : E → K) (rows_of : E → List R) (gone come : Option E) (xs ys : List E)
-      (rest old new : List R) → AreRowsOf rows_of xs rest old → AreRowsOf rows_of ys rest new
-      → IsOneForOne key gone come xs ys
+      (rest old new : List R) → ((x : R) → IsIn x old → same x x ≡ true) → AreRowsOf rows_of xs rest old
+      → AreRowsOf rows_of ys rest new → IsOneForOne key gone come xs ys
       → ((g x : E) (r s : R) → IsIn g xs → IsIn x xs → IsIn r (rows_of g) → IsIn s (rows_of x) → same r s ≡ true
       → key g ≡ key x)
       → ((g : E) (r s : R) → IsIn g xs → IsIn r (rows_of g) → IsIn s rest → same r s ≡ true → ⊥)
       → ((c : E) (r s : R) → come ≡ Some c → IsIn r (rows_of c) → IsIn s new → same r s ≡ true → r ≡ s)
       → IsExchange same (rows_if rows_of gone) (rows_if rows_of come) old new
-  of_coming {K} {E} key rows_of gone come xs ys rest old new of_old of_new is apart others keyed = record {
+  of_coming {K} {E} key rows_of gone come xs ys rest old new itself of_old of_new is apart others keyed = record {
     come_in = λ r i. (let c = rows_if_in rows_of come r i in of_new.item_in c.0 r (is.come_in c.0 c.1.0) c.1.1);
     new_from = λ r i. elim (of_new.row_from r i) [
       | inl at ↦ elim (is.new_from at.0 at.1.0) [
@@ -256,7 +262,7 @@ module _ {R : Type 0} (same : R → R → Bool) (itself : (x : R) → same x x �
     old_to = λ r i. elim (of_old.row_from r i) [
       | inl at ↦ elim (is.old_to at.0 at.1.0) [
         | inl there ↦ inl (of_new.item_in at.0 r there at.1.1)
-        | inr goes ↦ inr (inl (r, (in_rows_if rows_of gone at.0 r goes at.1.1, itself r)))
+        | inr goes ↦ inr (inl (r, (in_rows_if rows_of gone at.0 r goes at.1.1, itself r i)))
       ]
       | inr other ↦ inl (of_new.rest_in r other)
     ];
@@ -265,15 +271,15 @@ module _ {R : Type 0} (same : R → R → Bool) (itself : (x : R) → same x x �
 
   -- the same, where no two of the new rows have the same key
   pub of_items : {K E : Type 0} (key : E → K) (rows_of : E → List R) (gone come : Option E) (xs ys : List E)
-      (rest old new : List R) → AreRowsOf rows_of xs rest old → AreRowsOf rows_of ys rest new
-      → IsOneForOne key gone come xs ys
+      (rest old new : List R) → ((x : R) → IsIn x old → same x x ≡ true) → AreRowsOf rows_of xs rest old
+      → AreRowsOf rows_of ys rest new → IsOneForOne key gone come xs ys
       → ((g x : E) (r s : R) → IsIn g xs → IsIn x xs → IsIn r (rows_of g) → IsIn s (rows_of x) → same r s ≡ true
       → key g ≡ key x)
       → ((g : E) (r s : R) → IsIn g xs → IsIn r (rows_of g) → IsIn s rest → same r s ≡ true → ⊥)
       → ((c : E) (r s : R) → IsIn c ys → IsIn r (rows_of c) → IsIn s new → same r s ≡ true → r ≡ s)
       → IsExchange same (rows_if rows_of gone) (rows_if rows_of come) old new
-  of_items key rows_of gone come xs ys rest old new of_old of_new is apart others keyed =
-      of_coming key rows_of gone come xs ys rest old new of_old of_new is apart others
+  of_items key rows_of gone come xs ys rest old new itself of_old of_new is apart others keyed =
+      of_coming key rows_of gone come xs ys rest old new itself of_old of_new is apart others
       (λ c r s e. keyed c r s (is.come_in c e))
 
 -- the rows of an item that goes were there

@@ -1,5 +1,5 @@
 -- What an edit of facts makes of the rows of criteria, entries, peers and publishers.
-use Rattle.std.proofs.Common.{◌≡◌, ◌≢◌, ◌⊎◌, ℕ, pos, inl, inr, true, List, [], ◌++◌, map, refl}
+use Rattle.std.proofs.Common.{◌≡◌, ◌≢◌, ◌⊎◌, ℕ, pos, inl, inr, true, List, [], ◌++◌, Bool, arith, map, refl}
 use Rattle.std.proofs.Common.{sym, ap, subst, ◌∙◌, is_some, Option, Some, None}
 use Rattle.std.specs.List.{AllPairs, flat_map, slice_get}
 use Rattle.std.specs.Ordering.{nat_cmp}
@@ -18,23 +18,22 @@ use Rattle.vet_entries.specs.declared.facts.Edit.{Edit}
 use Rattle.vet_entries.specs.declared.facts.Edit.TheVariants as edit
 use Rattle.vet_entries.specs.declared.facts.HeldEntry.{HeldEntry}
 use Rattle.vet_entries.specs.declared.held_peer.HeldPeer.{HeldPeer}
-use Rattle.vet_entries.specs.declared.kind.Kind.{Kind}
-use Rattle.vet_entries.specs.declared.kind.Kind.TheVariants as kind
 use Rattle.vet_entries.specs.Facts.{Facts, Fits, Room, edited}
 use Rattle.vet_entries.specs.HeldPeer.{holding_or_none, peer_name, peer_of, with_content_of, with_peer}
 use Rattle.vet_entries.specs.PublisherRecords.{package_of}
 use Rattle.vet_rows.specs.Columns.{own_peer}
-use Rattle.vet_rows.specs.EntryRows.{all_entries, entry_row, peer_entries, plain_row}
-use Rattle.vet_rows.specs.EntryRows.{with_kind}
+use Rattle.vet_rows.specs.EntryRows.{all_entries, entry_row, peer_entries}
 use Rattle.vet_rows.specs.FactsRows.{entries_coming, entries_going, own_entry}
 use Rattle.vet_rows.specs.KeyedItems.{comes, goes, rows_if}
-use Rattle.vet_rows.specs.RowKeys.{same_entry}
-use Rattle.vet_rows.specs.declared.row.EntryRow.{EntryRow}
+use Rattle.vet_tables.specs.Cells.{Row, same_key}
+use Rattle.vet_tables.specs.Forms.{form_of}
+use Rattle.vet_tables.specs.declared.table_name.TableName.TheVariants.{Entries}
 use Rattle.vet_rows.proofs.Exchanges.{AreRowsOf, IsExchange, alike, gone_of, of_items, stays}
 use Rattle.vet_rows.proofs.KeyedExchanges.{IsOneForOne, edit_is, found_in, put_is, take_is, with_is}
 use Rattle.vet_rows.proofs.ListEdits.{flat_in, in_flat}
 use Rattle.vet_rows.proofs.RowViews.{flat_rows, mapped_rows, same_rows}
-use Rattle.vet_rows.proofs.SameKeys.{entry_itself, entry_same}
+use Rattle.vet_rows.proofs.FitRows.{entries_fit}
+use Rattle.vet_rows.proofs.SameKeys.{own_key, same_number}
 
 -- ---- facts whose rows have keys
 
@@ -77,26 +76,20 @@ module _ (peers : List HeldPeer) (up : IsByKey (slice_cmp nat_cmp) peer_name pee
 
 -- ---- the rows of entries
 
-kind_number : (k : Kind) (r : EntryRow) → (with_kind k r).number ≡ r.number
-kind_number (kind.Full v audit) r = refl
-kind_number (kind.Delta d audit) r = refl
-kind_number (kind.Violation v audit) r = refl
-kind_number (kind.Wildcard window grant) r = refl
-kind_number (kind.Trusted window) r = refl
-kind_number (kind.Exemption v s) r = refl
+abbrev same_entry : Row → Row → Bool
+same_entry = same_key (form_of Entries)
 
-row_number : (h : HeldEntry) → (entry_row h).number ≡ pos h.number
-row_number h = kind_number h.entry.kind (plain_row h)
+own_keys : (facts : Facts) (r : Row) → IsIn r (all_entries facts) → same_entry r r ≡ true
+own_keys facts r i = own_key Entries r (entries_fit facts r i)
 
 same_pos : (m n : ℕ) → pos m ≡ pos n → m ≡ n
 same_pos m n e = cc e
 
 same_held : (g h : HeldEntry) → same_entry (entry_row g) (entry_row h) ≡ true → g.number ≡ h.number
 same_held g h e =
-    same_pos g.number h.number
-    (sym (row_number g) ∙ entry_same (entry_row g) (entry_row h) e ∙ row_number h)
+    same_pos g.number h.number (same_number Entries (entry_row g) (entry_row h) e 0 (omega arith))
 
-entry_of : (facts : Facts) (r : EntryRow) → IsIn r (all_entries facts)
+entry_of : (facts : Facts) (r : Row) → IsIn r (all_entries facts)
     → (h : HeldEntry) × (IsHeldIn h facts × (r ≡ entry_row h))
 entry_of facts r i =
     elim (in_append (map entry_row facts.entries) (flat_map peer_entries facts.peers) r i) [
@@ -106,7 +99,7 @@ entry_of facts r i =
           (at.0, (inr (p.0, (p.1.0, at.1.0)), at.1.1)))
     ]
 
-pub entries_keyed : (facts : Facts) → HaveKeys facts → (r s : EntryRow) → IsIn r (all_entries facts)
+pub entries_keyed : (facts : Facts) → HaveKeys facts → (r s : Row) → IsIn r (all_entries facts)
     → IsIn s (all_entries facts) → same_entry r s ≡ true → r ≡ s
 entries_keyed facts k r s i j same =
     let g = entry_of facts r i in
@@ -121,8 +114,8 @@ own_exchange : (old new : Facts) (gone come : Option HeldEntry) → HaveKeys old
     → IsOneForOne (λ (h : HeldEntry). h.number) gone come old.entries new.entries
     → IsExchange same_entry (rows_if own_entry gone) (rows_if own_entry come) (all_entries old) (all_entries new)
 own_exchange old new gone come k l peers is =
-    of_items same_entry entry_itself (λ (h : HeldEntry). h.number) own_entry gone come old.entries new.entries
-    (flat_map peer_entries old.peers) (all_entries old) (all_entries new)
+    of_items same_entry (λ (h : HeldEntry). h.number) own_entry gone come old.entries new.entries
+    (flat_map peer_entries old.peers) (all_entries old) (all_entries new) (own_keys old)
     (mapped_rows entry_row old.entries (flat_map peer_entries old.peers))
     (subst (λ ps. AreRowsOf own_entry new.entries (flat_map peer_entries old.peers)
     (map entry_row new.entries ++ flat_map peer_entries ps)) peers
@@ -137,7 +130,7 @@ own_exchange old new gone come k l peers is =
     (λ c r s i a j e. entries_keyed new l r s
     (in_front (map entry_row new.entries) (flat_map peer_entries new.peers) r (among c r i a)) j e)
   where
-    sames : (g x : HeldEntry) (r s : EntryRow) → IsIn r (own_entry g) → IsIn s (own_entry x) → same_entry r s ≡ true
+    sames : (g x : HeldEntry) (r s : Row) → IsIn r (own_entry g) → IsIn s (own_entry x) → same_entry r s ≡ true
         → same_entry (entry_row g) (entry_row x) ≡ true
     sames g x r s (inl a) (inl b) e = subst (λ y. same_entry y (entry_row x) ≡ true) a
         (subst (λ y. same_entry r y ≡ true) b e)
@@ -147,7 +140,7 @@ own_exchange old new gone come k l peers is =
     apart : {n : Name} → Own ≡ Peer n → ⊥
     apart e = cc e
 
-    among : (c : HeldEntry) (r : EntryRow) → IsIn c new.entries → IsIn r (own_entry c)
+    among : (c : HeldEntry) (r : Row) → IsIn c new.entries → IsIn r (own_entry c)
         → IsIn r (map entry_row new.entries)
     among c r i (inl a) = subst (λ y. IsIn y (map entry_row new.entries)) (sym a) (map_in entry_row new.entries c i)
     among c r i (inr none) = absurd none
@@ -157,8 +150,8 @@ peer_exchange : (old new : Facts) (gone come : Option HeldPeer) → HaveKeys old
     → old.entries ≡ new.entries → IsOneForOne peer_name gone come old.peers new.peers
     → IsExchange same_entry (rows_if peer_entries gone) (rows_if peer_entries come) (all_entries old) (all_entries new)
 peer_exchange old new gone come k l entries is =
-    of_items same_entry entry_itself peer_name peer_entries gone come old.peers new.peers (map entry_row old.entries)
-    (all_entries old) (all_entries new) (flat_rows peer_entries old.peers (map entry_row old.entries))
+    of_items same_entry peer_name peer_entries gone come old.peers new.peers (map entry_row old.entries)
+    (all_entries old) (all_entries new) (own_keys old) (flat_rows peer_entries old.peers (map entry_row old.entries))
     (subst (λ es. AreRowsOf peer_entries new.peers (map entry_row old.entries)
     (map entry_row es ++ flat_map peer_entries new.peers)) entries
     (flat_rows peer_entries new.peers (map entry_row old.entries)))
@@ -175,7 +168,7 @@ peer_exchange old new gone come k l entries is =
     (in_back (map entry_row new.entries) (flat_map peer_entries new.peers) r
     (flat_in peer_entries new.peers c r i a)) j e)
   where
-    sames : (g x : HeldEntry) (r s : EntryRow) → r ≡ entry_row g → s ≡ entry_row x → same_entry r s ≡ true
+    sames : (g x : HeldEntry) (r s : Row) → r ≡ entry_row g → s ≡ entry_row x → same_entry r s ≡ true
         → g.number ≡ x.number
     sames g x r s a b e = same_held g x (subst (λ y. same_entry y (entry_row x) ≡ true) a
         (subst (λ y. same_entry r y ≡ true) b e))
@@ -219,7 +212,7 @@ module _ (old : Facts) (room : Room) (k : HaveKeys old) where
       by : (found : Option HeldPeer) → peer_of old.peers settings.name ≡ found → is_some found ≡ true
           → HaveKeys (after found) → IsExchange same_entry [] [] (all_entries old) (all_entries (after found))
       by (Some p) at there m =
-          alike same_entry entry_itself (all_entries old) (all_entries (after (Some p)))
+          alike same_entry (all_entries old) (all_entries (after (Some p)))
           (same_rows peer_name peer_entries p (record { settings = settings; content = p.content }) old.peers
           (after (Some p)).peers (map entry_row old.entries) (all_entries old) (all_entries (after (Some p)))
           (flat_rows peer_entries old.peers (map entry_row old.entries))
@@ -242,7 +235,7 @@ module _ (old : Facts) (room : Room) (k : HaveKeys old) where
   entries_become (edit.Publishers change) fits l = unchanged old (edited (edit.Publishers change) old) refl refl
 
   -- the rows that go are there
-  pub entries_there : (e : Edit) → Fits e (record { content = old; room = room }) → (r : EntryRow)
+  pub entries_there : (e : Edit) → Fits e (record { content = old; room = room }) → (r : Row)
       → IsIn r (entries_going e old) → IsIn r (all_entries old)
   entries_there (edit.Criteria table) fits r i = absurd i
   entries_there (edit.Insert place held) fits r i = absurd i

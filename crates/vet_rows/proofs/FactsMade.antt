@@ -1,5 +1,5 @@
 -- Facts, made of what is read of their rows.
-use Rattle.std.proofs.Common.{◌≡◌, List, [], ◌∷◌, ◌++◌, ◌∙◌, Option, Some, map, refl, sym, ap, subst, inl, inr}
+use Rattle.std.proofs.Common.{◌≡◌, List, [], ◌∷◌, ◌++◌, ◌∙◌, map, refl, sym, ap, subst, inl, inr}
 use Rattle.std.specs.List.{All, flat_map}
 use Rattle.std.proofs.lemmas.List.{map-append}
 use Rattle.vet_base.specs.Criteria.{Criteria}
@@ -35,14 +35,11 @@ use Rattle.vet_rows.specs.SettingRows.{all_criteria, criterion_row, peer_criteri
 use Rattle.vet_rows.specs.Values.{IsCriterion, IsHeldEntry, IsPublisher}
 use Rattle.vet_rows.specs.declared.read.criteria.SourcedCriterion.{SourcedCriterion}
 use Rattle.vet_rows.specs.declared.read.gathered.Filed.{Filed}
-use Rattle.std.proofs.lemmas.Option.{same_Some}
-use Rattle.vet_rows.specs.ReadBack.{EachStandsFor, IsReadBack, IsWritten}
-use Rattle.vet_rows.specs.declared.row.CriterionRow.{CriterionRow}
-use Rattle.vet_rows.specs.declared.row.EntryRow.{EntryRow}
-use Rattle.vet_rows.specs.declared.row.PeerRow.{PeerRow}
-use Rattle.vet_rows.specs.declared.row.PublisherRow.{PublisherRow}
-use Rattle.vet_rows.proofs.Reading.{read_as_set}
+use Rattle.vet_rows.specs.ReadBack.{EachStandsFor, IsWritten}
+use Rattle.vet_rows.proofs.Reading.{AreThose}
+use Rattle.vet_rows.proofs.SetsRead.{items_read, they_stand}
 use Rattle.vet_rows.proofs.Sourcing.{in_flat, map_flat, same_own, same_peer}
+use Rattle.vet_tables.specs.Cells.{Row}
 
 -- ---- lists of images
 
@@ -64,9 +61,6 @@ flat_same f g xs e = (let same : f ≡ g = λ i x. e x i in ap (λ h. flat_map h
 alone : (source : Source) (cs : List Criterion) → map criterion_in (map (sourced source) cs) ≡ cs
 alone source [] = refl
 alone source (c ∷ cs) = ap (λ ds. c ∷ ds) (alone source cs)
-
-source_of_criterion : SourcedCriterion → Source
-source_of_criterion c = c.source
 
 -- ---- parts of facts in form
 
@@ -137,7 +131,7 @@ criteria_of : (source : Source) (cs : List Criterion)
     → map sourced_criterion_row (map (sourced source) cs) ≡ map (criterion_row (peer_of_source source)) cs
 criteria_of source cs = map_twice (sourced source) sourced_criterion_row cs
 
-pub criteria_rows_are : (facts : Facts) → map sourced_criterion_row (sourced_criteria facts) ≡ all_criteria facts
+criteria_rows_are : (facts : Facts) → map sourced_criterion_row (sourced_criteria facts) ≡ all_criteria facts
 criteria_rows_are facts =
     map-append sourced_criterion_row (map (sourced Own) (further facts.criteria)) (flat_map peer_sourced facts.peers)
     ∙ (λ i. criteria_of Own (further facts.criteria) i
@@ -145,26 +139,26 @@ criteria_rows_are facts =
     ∙ flat_same (λ p. map sourced_criterion_row (peer_sourced p)) peer_criteria facts.peers
     (λ p. criteria_of (Peer p.settings.name) (further p.content.table))) i)
 
-pub entry_rows_are : (facts : Facts) → map entry_row (sourced_entries facts) ≡ all_entries facts
+entry_rows_are : (facts : Facts) → map entry_row (sourced_entries facts) ≡ all_entries facts
 entry_rows_are facts =
     map-append entry_row facts.entries (flat_map entries_of_peer facts.peers)
     ∙ ap (λ rows. map entry_row facts.entries ++ rows) (map_flat entry_row entries_of_peer facts.peers)
 
-pub publisher_rows_are : (packages : List PackagePublishers)
+publisher_rows_are : (packages : List PackagePublishers)
     → map filed_publisher_row (flat_map filed_records packages) ≡ flat_map package_rows packages
 publisher_rows_are packages =
     map_flat filed_publisher_row filed_records packages
     ∙ flat_same (λ p. map filed_publisher_row (filed_records p)) package_rows packages
     (λ p. map_twice (λ (x : Publisher). record { key = p.«package»; item = x }) filed_publisher_row p.publishers)
 
-pub peer_rows_are : (peers : List HeldPeer) → map peer_row (map settings_of peers)
+peer_rows_are : (peers : List HeldPeer) → map peer_row (map settings_of peers)
     ≡ map (λ (p : HeldPeer). peer_row p.settings) peers
 peer_rows_are peers = map_twice settings_of peer_row peers
 
 -- ---- their values can be held
 
 module _ (facts : Facts) (values : AreFactsValues facts) where
-  pub all_criteria_can : All IsSourcedCriterion (sourced_criteria facts)
+  all_criteria_can : All IsSourcedCriterion (sourced_criteria facts)
   all_criteria_can =
       all_in IsSourcedCriterion (sourced_criteria facts)
       (λ c i. elim (in_append (map (sourced Own) (further facts.criteria)) (flat_map peer_sourced facts.peers) c i) [
@@ -178,7 +172,7 @@ module _ (facts : Facts) (values : AreFactsValues facts) where
             (can.settings.name, in_all IsCriterion (further p.0.content.table) can.criteria x.0 x.1.0)
       ])
 
-  pub all_entries_can : All IsHeldEntry (sourced_entries facts)
+  all_entries_can : All IsHeldEntry (sourced_entries facts)
   all_entries_can =
       all_in IsHeldEntry (sourced_entries facts)
       (λ h i. elim (in_append facts.entries (flat_map entries_of_peer facts.peers) h i) [
@@ -188,13 +182,13 @@ module _ (facts : Facts) (values : AreFactsValues facts) where
             p.1.0).entries h p.1.1
       ])
 
-  pub all_settings_can : All IsPeerSettings (map settings_of facts.peers)
+  all_settings_can : All IsPeerSettings (map settings_of facts.peers)
   all_settings_can =
       all_in IsPeerSettings (map settings_of facts.peers)
       (λ s i. (let p = in_map settings_of facts.peers s i in
       subst IsPeerSettings (sym p.1.1) (in_all IsPeerValue facts.peers values.peers p.0 p.1.0).settings))
 
-  pub all_records_can : All IsFiledPublisher (flat_map filed_records facts.publishers)
+  all_records_can : All IsFiledPublisher (flat_map filed_records facts.publishers)
   all_records_can =
       all_in IsFiledPublisher (flat_map filed_records facts.publishers)
       (λ f i. (let p = in_flat filed_records facts.publishers f i in
@@ -204,52 +198,85 @@ module _ (facts : Facts) (values : AreFactsValues facts) where
 
 -- ---- so they are read
 
+these_rows : (written table shown rows : List Row) → shown ≡ rows → written ≡ table → SameItems rows table
+    → SameItems shown written
+these_rows written table shown rows is are same =
+    subst (λ (rs : List Row). SameItems rs written) (sym is) (subst (SameItems rows) (sym are) same)
+
 module _ (facts : Facts) (values : AreFactsValues facts) where
-  pub criteria_read : (shown rows : List CriterionRow) (found : Option (List SourcedCriterion)) → shown ≡ rows
-      → IsReadBack (EachStandsFor (IsWritten IsSourcedCriterion sourced_criterion_row)) shown found
-      → SameItems rows (all_criteria facts)
-      → (xs : List SourcedCriterion) × ((found ≡ Some xs) × SameItems xs (sourced_criteria facts))
-  criteria_read shown rows found e back same =
-      read_as_set IsSourcedCriterion sourced_criterion_row shown found back (sourced_criteria facts)
-      (all_criteria_can facts values)
-      (subst (λ (rs : List CriterionRow). SameItems rs (map sourced_criterion_row (sourced_criteria facts))) (sym e)
-      (subst (SameItems rows) (sym (criteria_rows_are facts)) same))
+  module _ (shown rows : List Row) (is : shown ≡ rows)
+      (same : SameItems rows (all_criteria facts)) where
+    criteria_same : SameItems shown (map sourced_criterion_row (sourced_criteria facts))
+    criteria_same =
+        these_rows (map sourced_criterion_row (sourced_criteria facts))
+        _ shown rows is (criteria_rows_are facts) same
 
-  pub entries_read : (shown rows : List EntryRow) (found : Option (List HeldEntry)) → shown ≡ rows
-      → IsReadBack (EachStandsFor (IsWritten IsHeldEntry entry_row)) shown found
-      → SameItems rows (all_entries facts)
-      → (xs : List HeldEntry) × ((found ≡ Some xs) × SameItems xs (sourced_entries facts))
-  entries_read shown rows found e back same =
-      read_as_set IsHeldEntry entry_row shown found back (sourced_entries facts) (all_entries_can facts values)
-      (subst (λ (rs : List EntryRow). SameItems rs (map entry_row (sourced_entries facts))) (sym e)
-      (subst (SameItems rows) (sym (entry_rows_are facts)) same))
+    pub criteria_read : (found : List SourcedCriterion)
+        → AreThose (IsWritten IsSourcedCriterion sourced_criterion_row) shown found
+        → SameItems found (sourced_criteria facts)
+    criteria_read =
+        items_read IsSourcedCriterion sourced_criterion_row shown (sourced_criteria facts)
+        (all_criteria_can facts values) criteria_same
 
-  pub settings_read : (shown rows : List PeerRow) (found : Option (List PeerSettings)) → shown ≡ rows
-      → IsReadBack (EachStandsFor (IsWritten IsPeerSettings peer_row)) shown found
-      → SameItems rows (map (λ (p : HeldPeer). peer_row p.settings) facts.peers)
-      → (xs : List PeerSettings) × ((found ≡ Some xs) × SameItems xs (map settings_of facts.peers))
-  settings_read shown rows found e back same =
-      read_as_set IsPeerSettings peer_row shown found back (map settings_of facts.peers) (all_settings_can facts values)
-      (subst (λ (rs : List PeerRow). SameItems rs (map peer_row (map settings_of facts.peers))) (sym e)
-      (subst (SameItems rows) (sym (peer_rows_are facts.peers)) same))
+    pub criteria_stand : (xs : List SourcedCriterion)
+        × EachStandsFor (IsWritten IsSourcedCriterion sourced_criterion_row) shown xs
+    criteria_stand =
+        they_stand IsSourcedCriterion sourced_criterion_row shown (sourced_criteria facts)
+        (all_criteria_can facts values) criteria_same
 
-  pub records_read : (shown rows : List PublisherRow) (found : Option (List (Filed Name Publisher))) → shown ≡ rows
-      → IsReadBack (EachStandsFor (IsWritten IsFiledPublisher filed_publisher_row)) shown found
-      → SameItems rows (flat_map package_rows facts.publishers)
-      → (xs : List (Filed Name Publisher)) × ((found ≡ Some xs) × SameItems xs
-      (flat_map filed_records facts.publishers))
-  records_read shown rows found e back same =
-      read_as_set IsFiledPublisher filed_publisher_row shown found back (flat_map filed_records facts.publishers)
-      (all_records_can facts values)
-      (subst (λ (rs : List PublisherRow). SameItems rs (map filed_publisher_row
-      (flat_map filed_records facts.publishers)))
-      (sym e) (subst (SameItems rows) (sym (publisher_rows_are facts.publishers)) same))
+  module _ (shown rows : List Row) (is : shown ≡ rows)
+      (same : SameItems rows (all_entries facts)) where
+    entries_same : SameItems shown (map entry_row (sourced_entries facts))
+    entries_same = these_rows (map entry_row (sourced_entries facts)) _ shown rows is (entry_rows_are facts) same
 
--- the items that were found are those
-pub those_found : {X : Type 0} (ys given : List X) (found : Option (List X)) → found ≡ Some ys
-    → (read : (xs : List X) × ((found ≡ Some xs) × SameItems xs given)) → SameItems ys given
-those_found ys given found here (xs, (there, same)) =
-    subst (λ zs. SameItems zs given) (same_Some xs ys (sym there ∙ here)) same
+    pub entries_read : (found : List HeldEntry)
+        → AreThose (IsWritten IsHeldEntry entry_row) shown found → SameItems found (sourced_entries facts)
+    entries_read =
+        items_read IsHeldEntry entry_row shown (sourced_entries facts) (all_entries_can facts values) entries_same
+
+    pub entries_stand : (xs : List HeldEntry)
+        × EachStandsFor (IsWritten IsHeldEntry entry_row) shown xs
+    entries_stand =
+        they_stand IsHeldEntry entry_row shown (sourced_entries facts) (all_entries_can facts values) entries_same
+
+  module _ (shown rows : List Row) (is : shown ≡ rows)
+      (same : SameItems rows (map (λ (p : HeldPeer). peer_row p.settings) facts.peers)) where
+    settings_same : SameItems shown (map peer_row (map settings_of facts.peers))
+    settings_same =
+        these_rows (map peer_row (map settings_of facts.peers))
+        _ shown rows is (peer_rows_are facts.peers) same
+
+    pub settings_read : (found : List PeerSettings)
+        → AreThose (IsWritten IsPeerSettings peer_row) shown found → SameItems found (map settings_of facts.peers)
+    settings_read =
+        items_read IsPeerSettings peer_row shown (map settings_of facts.peers)
+        (all_settings_can facts values) settings_same
+
+    pub settings_stand : (xs : List PeerSettings)
+        × EachStandsFor (IsWritten IsPeerSettings peer_row) shown xs
+    settings_stand =
+        they_stand IsPeerSettings peer_row shown (map settings_of facts.peers)
+        (all_settings_can facts values) settings_same
+
+  module _ (shown rows : List Row) (is : shown ≡ rows)
+      (same : SameItems rows (flat_map package_rows facts.publishers)) where
+    records_same : SameItems shown (map filed_publisher_row (flat_map filed_records facts.publishers))
+    records_same =
+        these_rows (map filed_publisher_row (flat_map filed_records facts.publishers))
+        _ shown rows is (publisher_rows_are facts.publishers) same
+
+    pub records_read : (found : List (Filed Name Publisher))
+        → AreThose (IsWritten IsFiledPublisher filed_publisher_row) shown found
+        → SameItems found (flat_map filed_records facts.publishers)
+    records_read =
+        items_read IsFiledPublisher filed_publisher_row shown (flat_map filed_records facts.publishers)
+        (all_records_can facts values) records_same
+
+    pub records_stand : (xs : List (Filed Name Publisher))
+        × EachStandsFor (IsWritten IsFiledPublisher filed_publisher_row) shown xs
+    records_stand =
+        they_stand IsFiledPublisher filed_publisher_row shown (flat_map filed_records facts.publishers)
+        (all_records_can facts values) records_same
 
 -- facts are those of their parts
 pub same_facts : (facts : Facts) {criteria : Criteria} {entries : List HeldEntry} {peers : List HeldPeer}

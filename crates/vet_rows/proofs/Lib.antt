@@ -1,6 +1,6 @@
+pub mod CellsRead
 pub mod ColumnsRead
 pub mod ComingNumbers
-pub mod CriteriaMade
 pub mod DemandExchanges
 pub mod DependenciesRead
 pub mod DeskExchanges
@@ -10,6 +10,8 @@ pub mod FactsExchanges
 pub mod FactsInForm
 pub mod FactsMade
 pub mod FirstRead
+pub mod FitGoing
+pub mod FitRows
 pub mod Gathering
 pub mod HeldExchanges
 pub mod HeldKeys

@@ -1,50 +1,46 @@
 -- What holds of all rows of the standing that go and come holds of the changes that exchange them.
-use Rattle.std.proofs.Common.{inl, inr, List, ◌++◌, map, sym, subst}
+use Rattle.std.proofs.Common.{inl, inr, List, [], ◌∷◌, map, sym, subst}
 use Rattle.vet_base.specs.Items.{IsIn}
 use Rattle.vet_base.proofs.ItemLemmas.{in_append, in_map}
 use Rattle.vet_graph.specs.declared.moves.Move.{Move}
 use Rattle.vet_rows.specs.RowExchanges.{exchange, exchanges}
-use Rattle.vet_rows.specs.Rows.{RowsValue}
-use Rattle.vet_rows.specs.StandingChanges.{IsOfMove, IsOfMoves}
-use Rattle.vet_rows.specs.declared.row.StandingRow.{StandingRow}
-use Rattle.vet_rows.specs.declared.row_change.Row.{Row}
-use Rattle.vet_rows.specs.declared.row_change.Row.TheVariants as row
+use Rattle.vet_rows.specs.StandingChanges.{IsOfMove, IsOfMoves, RowIsOfMoves}
 use Rattle.vet_rows.specs.declared.row_change.RowChange.{RowChange}
 use Rattle.vet_rows.specs.declared.row_change.RowChange.TheVariants.{Put, Drop}
+use Rattle.vet_tables.specs.Cells.{Row, RowsValue}
+use Rattle.vet_tables.specs.declared.table_name.TableName.{TableName}
+use Rattle.vet_tables.specs.declared.table_name.TableName.TheVariants as name
 
-module _ (P : RowChange → Type 0) where
-  abbrev Each : List RowChange → Type 0
-  Each changes = (x : RowChange) → IsIn x changes → P x
+module _ (moves : List Move) (g c : RowsValue) (going : (r : Row) → IsIn r (g name.Standing) → IsOfMove moves r)
+    (coming : (r : Row) → IsIn r (c name.Standing) → IsOfMove moves r) where
+  -- of a table, the rows that go or come
+  of_table : (rows : RowsValue) → ((r : Row) → IsIn r (rows name.Standing) → IsOfMove moves r) → (table : TableName)
+      → (r : Row) → IsIn r (rows table) → RowIsOfMoves moves table r
+  of_table rows each name.Standing r i = each r i
+  of_table rows each name.Meta r i = tt
+  of_table rows each name.Criteria r i = tt
+  of_table rows each name.Entries r i = tt
+  of_table rows each name.Publishers r i = tt
+  of_table rows each name.Policies r i = tt
+  of_table rows each name.Peers r i = tt
+  of_table rows each name.Nodes r i = tt
+  of_table rows each name.Edges r i = tt
+  of_table rows each name.Moves r i = tt
+  of_table rows each name.Members r i = tt
+  of_table rows each name.Reviews r i = tt
 
-  both : (first more : List RowChange) → Each first → Each more → Each (first ++ more)
-  both first more h k x i = elim (in_append first more x i) [ inl a ↦ h x a | inr b ↦ k x b ]
+  of_exchange : (table : TableName) (x : RowChange) → IsIn x (exchange table (g table) (c table)) → IsOfMoves moves x
+  of_exchange table x i =
+      elim (in_append (map (λ r. Drop table r) (g table)) (map (λ r. Put table r) (c table)) x i) [
+        | inl drops ↦ (let r = in_map (λ r. Drop table r) (g table) x drops in
+            subst (IsOfMoves moves) (sym r.1.1) (of_table g going table r.0 r.1.0))
+        | inr puts ↦ (let r = in_map (λ r. Put table r) (c table) x puts in
+            subst (IsOfMoves moves) (sym r.1.1) (of_table c coming table r.0 r.1.0))
+      ]
 
-  of_table : {R : Type 0} (row_of : R → Row) (going coming : List R) → ((r : R) → IsIn r going → P (Drop (row_of r)))
-      → ((r : R) → IsIn r coming → P (Put (row_of r))) → Each (exchange row_of going coming)
-  of_table row_of going coming h k =
-      both (map (λ r. Drop (row_of r)) going) (map (λ r. Put (row_of r)) coming)
-      (λ x i. (let r = in_map (λ r. Drop (row_of r)) going x i in subst P (sym r.1.1) (h r.0 r.1.0)))
-      (λ x i. (let r = in_map (λ r. Put (row_of r)) coming x i in subst P (sym r.1.1) (k r.0 r.1.0)))
-
-module _ (moves : List Move) (g c : RowsValue) (going : (r : StandingRow) → IsIn r g.standing → IsOfMove moves r)
-    (coming : (r : StandingRow) → IsIn r c.standing → IsOfMove moves r) where
-  abbrev P : RowChange → Type 0
-  P = IsOfMoves moves
-
-  pub only_standing : (x : RowChange) → IsIn x (exchanges g c) → IsOfMoves moves x
-  only_standing =
-      both P _ _
-      (both P _ _ (of_table P row.Criterion g.criteria c.criteria (λ r i. tt) (λ r i. tt))
-      (both P _ _ (of_table P row.Entry g.entries c.entries (λ r i. tt) (λ r i. tt))
-      (both P _ _ (of_table P row.Publisher g.publishers c.publishers (λ r i. tt) (λ r i. tt))
-      (of_table P row.Peer g.peers c.peers (λ r i. tt) (λ r i. tt)))))
-      (both P _ _
-      (both P _ _ (of_table P row.Policy g.policies c.policies (λ r i. tt) (λ r i. tt))
-      (both P _ _ (of_table P row.Node g.nodes c.nodes (λ r i. tt) (λ r i. tt))
-      (of_table P row.Edge g.edges c.edges (λ r i. tt) (λ r i. tt))))
-      (both P _ _
-      (both P _ _ (of_table P row.Standing g.standing c.standing going coming)
-      (of_table P row.Move g.moves c.moves (λ r i. tt) (λ r i. tt)))
-      (both P _ _ (of_table P row.Meta g.meta c.meta (λ r i. tt) (λ r i. tt))
-      (both P _ _ (of_table P row.Member g.members c.members (λ r i. tt) (λ r i. tt))
-      (of_table P row.Review g.reviews c.reviews (λ r i. tt) (λ r i. tt))))))
+  pub only_standing : (names : List TableName) (x : RowChange) → IsIn x (exchanges names g c) → IsOfMoves moves x
+  only_standing [] x none = absurd none
+  only_standing (table ∷ more) x i = elim (in_append (exchange table (g table) (c table)) (exchanges more g c) x i) [
+    | inl here ↦ of_exchange table x here
+    | inr later ↦ only_standing more x later
+  ]

@@ -4,7 +4,7 @@ use Rattle.std.proofs.Common.{arith}
 use Rattle.std.proofs.Common.{Less, inl, inr}
 use Rattle.std.specs.List.{AllPairs}
 use Rattle.std.specs.Ordering.{nat_cmp}
-use Rattle.std.specs.Prelude.{Err, None, Ok, Option, Some}
+use Rattle.std.specs.Prelude.{Err, Ok}
 use Rattle.vet_base.specs.Gives.{Told}
 use Rattle.vet_base.specs.declared.refusal.Refusal.{Refusal}
 use Rattle.std.specs.FinMap.{nat_cmp-IsAntisymmetric}
@@ -96,15 +96,11 @@ definitions_are criteria table (cs, made) same = (few, again)
         ∙ sym made.made
 
 -- what is told once
-pub told_once : {a b : Criteria} → ◌≡◌ {A = Told Criteria} (Ok a) (Ok b)
-    → ◌≡◌ {A = Option Criteria} (Some a) (Some b)
+pub told_once : {a b : Criteria} → ◌≡◌ {A = Told Criteria} (Ok a) (Ok b) → a ≡ b
 told_once e = cc e
 
 pub not_both_told : {e : Refusal} {b : Criteria} → ◌≡◌ {A = Told Criteria} (Err e) (Ok b) → ⊥
 not_both_told h = cc h
-
-pub nothing_told : {X : Type 0} {b : X} → ◌≡◌ {A = Option X} None (Some b) → ⊥
-nothing_told h = cc h
 
 -- a peer is that of its parts
 pub same_peer : {s : PeerSettings} {content : HoldingValue} {t : Criteria} {entries : List HeldEntry} {p : HeldPeer}

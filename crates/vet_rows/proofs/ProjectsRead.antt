@@ -1,14 +1,14 @@
 -- Projects whose nodes and edges are filed under their names.
-use Rattle.std.proofs.Common.{◌≡◌, ℕ, ◌<◌, ◌++◌, List, [], ◌∷◌, Option, Some, None, get_or, length}
+use Rattle.std.proofs.Common.{◌≡◌, ◌↔◌, ℕ, ◌<◌, ◌++◌, List, [], ◌∷◌, Option, Some, None, get_or, length}
 use Rattle.std.proofs.Common.{map, refl, sym, ap}
-use Rattle.std.proofs.Common.{subst, ◌∙◌, inl, inr, Ordering, Less, Equal, false, true, arith}
+use Rattle.std.proofs.Common.{subst, ◌∙◌, inl, inr, Ordering, Less, Equal, arith}
 use Rattle.std.proofs.lemmas.Bool.{false≢true}
+use Rattle.std.specs.Option.{IfSome, IsSome}
 use Rattle.std.specs.Cmp.{Equal-is, IsTotalOrder, tied_itself}
 use Rattle.std.specs.Cmp.Lexicographic.{nat_list_cmp_total}
 use Rattle.std.specs.List.{All, filter, flat_map}
 use Rattle.std.specs.Ordering.{is_eq}
 use Rattle.std.proofs.lemmas.List.{map-append}
-use Rattle.std.proofs.lemmas.Option.{same_Some}
 use Rattle.std.proofs.lemmas.List.Elements.{All-append, All-head, All-nil, All-tail}
 use Rattle.vet_base.specs.Items.{IsIn, SameItems}
 use Rattle.vet_base.specs.Keyed.{IsByKey, all_set}
@@ -25,15 +25,15 @@ use Rattle.vet_demand.specs.declared.project.Node.{Node}
 use Rattle.vet_rows.specs.Gathered.{Gathered, gathered, head_key, is_filed_at, items_at}
 use Rattle.vet_rows.specs.HeldValues.{IsNamedProject, IsNode}
 use Rattle.vet_rows.specs.ProjectRows.{edge_rows, node_rows}
-use Rattle.vet_rows.specs.ReadBack.{EachStandsFor, IsReadBack, IsWritten}
+use Rattle.vet_rows.specs.ReadBack.{EachStandsFor, IsWritten}
 use Rattle.vet_rows.specs.ReadProjects.{AreNodesAndEdgesOf, IsEdgeOf, IsFiledEnds, IsFiledNode, TellsGathered, ends_of}
 use Rattle.vet_rows.specs.ReadProjects.{filed_ends, filed_ends_row, filed_node_row, filed_nodes}
 use Rattle.vet_rows.specs.declared.read.gathered.Filed.{Filed}
 use Rattle.vet_rows.specs.declared.read.projects.Ends.{Ends}
-use Rattle.vet_rows.specs.declared.row.EdgeRow.{EdgeRow}
-use Rattle.vet_rows.specs.declared.row.NodeRow.{NodeRow}
 use Rattle.vet_rows.proofs.Gathering.{pairs_mapped}
-use Rattle.vet_rows.proofs.SetsRead.{none_read, some_read}
+use Rattle.vet_rows.proofs.Reading.{AreThose}
+use Rattle.vet_rows.proofs.SetsRead.{items_read, they_stand}
+use Rattle.vet_tables.specs.Cells.{Row}
 
 -- ---- items of lists of lists
 
@@ -192,10 +192,10 @@ module _ (nodes : List (Filed (List ℕ) Node)) (edges : List (Filed (List ℕ) 
   some_node : (p : NamedProject) → IsIn p ps → 0 < length p.project.nodes
   some_node p among = (in_all IsNamedProject ps of.each p among).project.some_nodes
 
-  pub names_are : all_set R own [] (map (λ f. f.key) nodes) ≡ map project_name ps
+  names_are : all_set R own [] (map (λ f. f.key) nodes) ≡ map project_name ps
   names_are = keys_are R nat_list_cmp_total only_equal project_name nodes_of ps of.by_name nodes of.same_nodes some_node
 
-  pub groups_tell : (names : List (List ℕ)) → names ≡ all_set R own [] (map (λ f. f.key) nodes)
+  groups_tell : (names : List (List ℕ)) → names ≡ all_set R own [] (map (λ f. f.key) nodes)
       → EachStandsFor TellsGathered (map (gathered R (head_key own) edges) (map (gathered R own nodes) names)) ps
   groups_tell names is = subst (λ ns. EachStandsFor TellsGathered
       (map (gathered R (head_key own) edges) (map (gathered R own nodes) ns)) ps)
@@ -223,12 +223,6 @@ filed_ends_held p is = all_in IsFiledEnds (filed_ends p) (λ f among.
 all_held : {X : Type 0} (P Q : X → Type 0) → ((x : X) → P x → Q x) → (xs : List X) → All P xs → All Q xs
 all_held P Q each xs h = λ k d l. each (get_or xs k d) (h k d l)
 
-abbrev pub NodesBack : List NodeRow → Option (List (Filed (List ℕ) Node)) → Type 0
-NodesBack rows found = IsReadBack (EachStandsFor (IsWritten IsFiledNode filed_node_row)) rows found
-
-abbrev pub EndsBack : List EdgeRow → Option (List (Filed (List ℕ) Ends)) → Type 0
-EndsBack rows found = IsReadBack (EachStandsFor (IsWritten IsFiledEnds filed_ends_row)) rows found
-
 module _ (ps : List NamedProject) (each : All IsNamedProject ps) where
   nodes_held : All IsFiledNode (flat_map filed_nodes ps)
   nodes_held = all_flat IsFiledNode filed_nodes ps
@@ -247,27 +241,28 @@ module _ (ps : List NamedProject) (each : All IsNamedProject ps) where
       (λ p. map_again filed_ends_row (λ (e : Edge). record { key = p.name; item = ends_of p.project.nodes e })
       p.project.edges) ps
 
-  module _ (rows : List NodeRow) (same : SameItems rows (flat_map node_rows ps)) where
+  module _ (rows : List Row) (same : SameItems rows (flat_map node_rows ps)) where
     of_nodes : SameItems rows (map filed_node_row (flat_map filed_nodes ps))
     of_nodes = subst (SameItems rows) (sym nodes_written) same
 
-    pub nodes_some : (found : List (Filed (List ℕ) Node)) → NodesBack rows (Some found)
-        → SameItems found (flat_map filed_nodes ps)
-    nodes_some = some_read IsFiledNode filed_node_row rows (flat_map filed_nodes ps) nodes_held of_nodes
+    pub nodes_read : (found : List (Filed (List ℕ) Node))
+        → AreThose (IsWritten IsFiledNode filed_node_row) rows found → SameItems found (flat_map filed_nodes ps)
+    nodes_read = items_read IsFiledNode filed_node_row rows (flat_map filed_nodes ps) nodes_held of_nodes
 
-    pub nodes_none : {B : Type 0} → NodesBack rows None → B
-    nodes_none = none_read IsFiledNode filed_node_row rows (flat_map filed_nodes ps) nodes_held of_nodes
+    pub nodes_stand : (ys : List (Filed (List ℕ) Node))
+        × EachStandsFor (IsWritten IsFiledNode filed_node_row) rows ys
+    nodes_stand = they_stand IsFiledNode filed_node_row rows (flat_map filed_nodes ps) nodes_held of_nodes
 
-  module _ (rows : List EdgeRow) (same : SameItems rows (flat_map edge_rows ps)) where
+  module _ (rows : List Row) (same : SameItems rows (flat_map edge_rows ps)) where
     of_ends : SameItems rows (map filed_ends_row (flat_map filed_ends ps))
     of_ends = subst (SameItems rows) (sym ends_written) same
 
-    pub ends_some : (found : List (Filed (List ℕ) Ends)) → EndsBack rows (Some found)
+    pub ends_read : (found : List (Filed (List ℕ) Ends)) → AreThose (IsWritten IsFiledEnds filed_ends_row) rows found
         → SameItems found (flat_map filed_ends ps)
-    ends_some = some_read IsFiledEnds filed_ends_row rows (flat_map filed_ends ps) ends_held of_ends
+    ends_read = items_read IsFiledEnds filed_ends_row rows (flat_map filed_ends ps) ends_held of_ends
 
-    pub ends_none : {B : Type 0} → EndsBack rows None → B
-    ends_none = none_read IsFiledEnds filed_ends_row rows (flat_map filed_ends ps) ends_held of_ends
+    pub ends_stand : (ys : List (Filed (List ℕ) Ends)) × EachStandsFor (IsWritten IsFiledEnds filed_ends_row) rows ys
+    ends_stand = they_stand IsFiledEnds filed_ends_row rows (flat_map filed_ends ps) ends_held of_ends
 
 -- ---- a project of its parts
 
@@ -275,51 +270,43 @@ parts_are : (p : NamedProject) (nodes : List Node) (edges : List Edge) → nodes
     → edges ≡ p.project.edges → (let v : ProjectValue = record { nodes = nodes; edges = edges } in v) ≡ p.project
 parts_are p nodes edges n e = λ i. record { nodes = n i; edges = e i }
 
-pub made_project : (p : NamedProject) (name : List ℕ) (nodes : List Node) (edges : List Edge) (project : ProjectValue)
-    → project ≡ record { nodes = nodes; edges = edges } → name ≡ p.name → nodes ≡ p.project.nodes
-    → edges ≡ p.project.edges → Some (let q : NamedProject = record { name = name; project = project } in q) ≡ Some p
-made_project p name nodes edges project is named n e =
-    let whole = is ∙ parts_are p nodes edges n e in
-    ap Some (λ i. record { name = named i; project = whole i })
-
-pub none_made : {A : Type 0} (p : NamedProject) (nodes : List Node) (edges : List Edge) → IsProject p.project
-    → nodes ≡ p.project.nodes → edges ≡ p.project.edges
-    → (IsProject (record { nodes = nodes; edges = edges }) → false ≡ true) → A
-none_made p nodes edges is n e never =
-    absurd (false≢true (never (subst IsProject (sym (parts_are p nodes edges n e)) is)))
+pub restored : (p : NamedProject) (nodes : List Node) (edges : List Edge) → IsProject p.project
+    → nodes ≡ p.project.nodes → edges ≡ p.project.edges → (found : Option ProjectValue)
+    → (IsSome found ↔ IsProject (record { nodes = nodes; edges = edges }))
+    → IfSome found (λ q. q ≡ record { nodes = nodes; edges = edges }) → found ≡ Some p.project
+restored p nodes edges is n e None sound value =
+    absurd (false≢true (sound.1 (subst IsProject (sym (parts_are p nodes edges n e)) is)))
+restored p nodes edges is n e (Some q) sound value = ap Some (value ∙ parts_are p nodes edges n e)
 
 -- ---- the edges of a project
 
 module _ (p : NamedProject) (is : IsProject p.project) (ends : List Ends)
     (same : SameItems ends (map (ends_of p.project.nodes) p.project.edges)) where
-  abbrev pub Back : List Node → Option (List Edge) → Type 0
-  Back nodes found = AreInNodeOrder nodes → IsReadBack (EachStandsFor (IsEdgeOf nodes)) ends found
+  abbrev pub Back : List Node → List Edge → Type 0
+  Back nodes found =
+      (edges : List Edge) → AreInNodeOrder nodes → EachStandsFor (IsEdgeOf nodes) ends edges → found ≡ edges
 
-  pub edges_some : (nodes : List Node) → nodes ≡ p.project.nodes → (found : List Edge) → Back nodes (Some found)
+  pub edges_read : (nodes : List Node) → nodes ≡ p.project.nodes → (found : List Edge) → Back nodes found
       → SameItems found p.project.edges
-  edges_some nodes e found back = some_read (IsWithin (length p.project.nodes)) (ends_of p.project.nodes) ends
-      p.project.edges is.within same found (subst (λ ns. Back ns (Some found)) e back is.nodes_in_order)
+  edges_read nodes e found back = items_read (IsWithin (length p.project.nodes)) (ends_of p.project.nodes) ends
+      p.project.edges is.within same found
+      (λ edges. subst (λ ns. Back ns found) e back edges is.nodes_in_order)
 
-  pub edges_none : {B : Type 0} (nodes : List Node) → nodes ≡ p.project.nodes
-      → Back nodes (let o : Option (List Edge) = None in o) → B
-  edges_none nodes e back = none_read (IsWithin (length p.project.nodes)) (ends_of p.project.nodes) ends
-      p.project.edges is.within same (subst (λ ns. Back ns None) e back is.nodes_in_order)
+  pub edges_stand : (nodes : List Node) → nodes ≡ p.project.nodes
+      → (edges : List Edge) × (AreInNodeOrder nodes × EachStandsFor (IsEdgeOf nodes) ends edges)
+  edges_stand nodes e =
+      let all = they_stand (IsWithin (length p.project.nodes)) (ends_of p.project.nodes) ends p.project.edges is.within
+      same in
+      subst (λ ns. (edges : List Edge) × (AreInNodeOrder ns × EachStandsFor (IsEdgeOf ns) ends edges)) (sym e)
+      (all.0, (is.nodes_in_order, all.1))
 
 -- ---- what is gathered
 
-pub projects_read : (nodes : List (Filed (List ℕ) Node)) (edges : List (Filed (List ℕ) Ends)) (names : List (List ℕ))
+pub projects_stand : (nodes : List (Filed (List ℕ) Node)) (edges : List (Filed (List ℕ) Ends)) (names : List (List ℕ))
     (with_nodes : List (Gathered (List ℕ) Node)) (groups : List (Gathered (Gathered (List ℕ) Node) Ends))
     → names ≡ all_set R own [] (map (λ f. f.key) nodes) → with_nodes ≡ map (gathered R own nodes) names
     → groups ≡ map (gathered R (head_key own) edges) with_nodes
-    → (found : Option (List NamedProject)) → IsReadBack (EachStandsFor TellsGathered) groups found
-    → (ps : List NamedProject) → AreNodesAndEdgesOf nodes edges ps → found ≡ Some ps
-projects_read nodes edges names with_nodes groups is first second found back ps of =
-    back ps (subst (λ gs. EachStandsFor TellsGathered gs ps) (sym (second ∙ ap (map (gathered R (head_key own)
-    edges)) first))
-    (groups_tell nodes edges ps of names is))
-
-pub projects_keyed : (nodes : List (Filed (List ℕ) Node)) (edges : List (Filed (List ℕ) Ends)) (ps : List NamedProject)
-    → AreNodesAndEdgesOf nodes edges ps → (found keyed : List NamedProject) → Some found ≡ Some ps
-    → keyed ≡ all_set R project_name [] found → Some keyed ≡ Some ps
-projects_keyed nodes edges ps of found keyed e is =
-    ap (λ xs. Some xs) (is ∙ ap (all_set R project_name []) (same_Some found ps e) ∙ projects_are nodes edges ps of)
+    → (ps : List NamedProject) → AreNodesAndEdgesOf nodes edges ps → EachStandsFor TellsGathered groups ps
+projects_stand nodes edges names with_nodes groups is first second ps of =
+    subst (λ gs. EachStandsFor TellsGathered gs ps)
+    (sym (second ∙ ap (map (gathered R (head_key own) edges)) first)) (groups_tell nodes edges ps of names is)

@@ -1,7 +1,7 @@
 -- Publisher records by their packages, made of records in whatever order.
 use Rattle.std.proofs.Common.{◌≡◌, ◌<◌, ◌≤◌, ◌+◌, ℕ, zero, suc, List, [], ◌∷◌, ◌++◌, ◌∙◌, length, map, get_or, take}
 use Rattle.std.proofs.Common.{refl, sym, ap}
-use Rattle.std.proofs.Common.{Option, subst, arith, inl, inr, Less}
+use Rattle.std.proofs.Common.{subst, arith, inl, inr, Less}
 use Rattle.std.specs.Cmp.{tied_itself}
 use Rattle.std.specs.List.{Contains, filter}
 use Rattle.std.specs.Ordering.{is_eq}
@@ -10,9 +10,7 @@ use Rattle.std.proofs.lemmas.List.Elements.{All-contains}
 use Rattle.std.proofs.lemmas.List.Sums.{sum_by-cons}
 use Rattle.vet_base.specs.Items.{IsIn, SameItems}
 use Rattle.vet_base.specs.Keyed.{all_set}
-use Rattle.vet_base.specs.Day.{DayValue}
-use Rattle.vet_base.specs.Version.{VersionValue}
-use Rattle.vet_base.specs.Words.{Name, Text}
+use Rattle.vet_base.specs.Words.{Name}
 use Rattle.vet_base.proofs.Comparisons.{equal}
 use Rattle.vet_base.proofs.ItemLemmas.{all_in, filter_in, in_all, in_filter, in_map, map_in}
 use Rattle.vet_base.proofs.KeyedItems.{all_set_is, of_one_key}
@@ -48,14 +46,6 @@ records_are given made held are same up =
     same_records made held are.in_order up
     (λ p c. contained held p (same.0 p (among given p ((are.same p).0 c))))
     (λ p c. (are.same p).1 (contained given p (same.1 p (among held p c))))
-
--- a record is that of its columns
-pub same_publisher : {v : VersionValue} {event : ℕ × DayValue} {texts : Option Text × Option Text} {p : Publisher}
-    → v ≡ p.version → event ≡ (p.user, p.day) → texts ≡ (p.login, p.name)
-    → ◌≡◌ {A = Publisher}
-    (record { version = v; user = event.0; day = event.1; login = texts.0; name = texts.1 }) p
-same_publisher e f g =
-    λ i. record { version = e i; user = (f i).0; day = (f i).1; login = (g i).0; name = (g i).1 }
 
 -- ---- by packages
 

@@ -15,7 +15,6 @@ use Rattle.vet_rows.specs.ComingNumbers.{NumbersComingFit, ReviewsFit}
 use Rattle.vet_rows.specs.Numbers.{CountsFit}
 use Rattle.vet_rows.specs.RowChanges.{all_changed}
 use Rattle.vet_rows.specs.RowExchanges.{exchanges}
-use Rattle.vet_rows.specs.SameRows.{SameRows}
 use Rattle.vet_demand.specs.declared.pair.Pair.{Pair}
 use Rattle.vet_demand.specs.DemandOf.{DemandIsLeast}
 use Rattle.vet_demand.specs.Pair.{pair_cmp}
@@ -46,16 +45,14 @@ use Rattle.vet_register.specs.State.{State, changes_of, demanded, standing}
 use Rattle.vet_register.proofs.Soundness.{standing_in_order}
 use Rattle.vet_rows.specs.ChangedRows.{members_coming, members_going, reviews_coming, reviews_going, rows_come}
 use Rattle.vet_rows.specs.ChangedRows.{rows_left}
+use Rattle.vet_rows.specs.Columns.{class_or_none}
 use Rattle.vet_rows.specs.DeskRows.{member_row, review_row}
 use Rattle.vet_rows.specs.KeyTexts.{AreRead, MovesAreRead}
-use Rattle.vet_rows.specs.RowKeys.{same_member, same_meta, same_move, same_review}
 use Rattle.vet_rows.specs.RowsOf.{meta_row, rows_of}
 use Rattle.vet_rows.specs.StandingChanges.{moves_coming, moves_going, recorded_moves}
 use Rattle.vet_rows.specs.StandingRows.{move_row}
-use Rattle.vet_rows.specs.declared.row.MetaRow.{MetaRow}
 use Rattle.vet_rows.specs.Numbers.{ReviewFits}
 use Rattle.vet_rows.specs.StandingChanges.{IsOfMove, IsOfMoves, leaves, moved_row, stands}
-use Rattle.vet_rows.specs.declared.row.StandingRow.{StandingRow}
 use Rattle.vet_rows.specs.declared.row_change.RowChange.{RowChange}
 use Rattle.vet_rows.proofs.ComingNumbers.{held_entries_come, moves_come, reviews_come}
 use Rattle.vet_rows.proofs.NumbersFit.{numbers_fit}
@@ -69,6 +66,15 @@ use Rattle.vet_rows.proofs.HeldExchanges.{held_policies, nodes_differ, publisher
 use Rattle.vet_rows.proofs.HeldKeys.{have_keys}
 use Rattle.vet_rows.proofs.StandingExchanges.{moves_anew, moves_behind, standing_becomes}
 use Rattle.vet_rows.proofs.TableChanges.{AreExchanges, exchanges_lead}
+use Rattle.vet_tables.specs.Cells.{Row, SameRows, same_key}
+use Rattle.vet_tables.specs.Forms.{form_of, tables}
+use Rattle.vet_tables.specs.declared.cell.Cell.TheVariants.{Int}
+use Rattle.vet_tables.specs.declared.table_name.TableName.{TableName}
+use Rattle.vet_tables.specs.declared.table_name.TableName.TheVariants as table
+
+-- rows of a table of the same key
+abbrev same_in : TableName → Row → Row → Bool
+same_in name = same_key (form_of name)
 
 -- ---- what is recorded
 
@@ -139,16 +145,16 @@ pairs_unmap f R (x ∷ xs) up =
 module _ (s : State) (room : DeskRoom) where
   members_are : (e : Option DeskEdit) → HoldsDesk e (record { content = s.desk; room = room })
       → IsSound s
-      → IsExchange same_member (members_going e s.desk) (members_coming e) (map member_row s.desk.members)
+      → IsExchange (same_in table.Members) (members_going e s.desk) (members_coming e) (map member_row s.desk.members)
       (map member_row (desk_edited e s.desk).members)
-  members_are None holds sound = stays same_member (map member_row s.desk.members)
+  members_are None holds sound = stays (same_in table.Members) (map member_row s.desk.members)
   members_are (Some e) holds sound =
       members_become e.change s.desk room e.entry holds.prepared.fits sound.desk.desk.members.by_name
 
   reviews_are : (e : Option DeskEdit) (after : State) → desk_edited e s.desk ≡ after.desk → IsSound s → IsSound after
-      → IsExchange same_review (reviews_going e s.desk) (reviews_coming e s.desk) (map review_row s.desk.reviews)
-      (map review_row (desk_edited e s.desk).reviews)
-  reviews_are None after is sound sound_after = stays same_review (map review_row s.desk.reviews)
+      → IsExchange (same_in table.Reviews) (reviews_going e s.desk) (reviews_coming e s.desk)
+      (map review_row s.desk.reviews) (map review_row (desk_edited e s.desk).reviews)
+  reviews_are None after is sound sound_after = stays (same_in table.Reviews) (map review_row s.desk.reviews)
   reviews_are (Some e) after is sound sound_after =
       reviews_become e.change s.desk e.entry sound.desk.desk.reviews.numbers_rise
       (subst (λ (d : DeskState). IsByKey nat_cmp review_number d.reviews) (sym is)
@@ -156,19 +162,20 @@ module _ (s : State) (room : DeskRoom) where
 
 -- ---- the one row of `meta`
 
-meta_becomes : (old new : State) → IsExchange same_meta [] (meta_row new ∷ []) (meta_row old ∷ []) (meta_row new ∷ [])
+meta_becomes : (old new : State)
+    → IsExchange (same_in table.Meta) [] (meta_row new ∷ []) (meta_row old ∷ []) (meta_row new ∷ [])
 meta_becomes old new = record {
   come_in = λ r i. i;
   new_from = λ r i. inl i;
   old_to = λ r i. elim i [
     | inl e ↦
-        inr (inr (meta_row new, (inl refl, subst (λ (x : MetaRow). same_meta (meta_row new) x ≡ true) (sym e) refl)))
+        inr (inr (meta_row new, (inl refl, subst (λ x. same_in table.Meta (meta_row new) x ≡ true) (sym e) refl)))
     | inr none ↦ absurd none
   ];
   keyed = λ r x i j e. only r x i j;
 }
   where
-    only : (r x : MetaRow) → IsIn r (meta_row new ∷ []) → IsIn x (meta_row new ∷ []) → r ≡ x
+    only : (r x : Row) → IsIn r (meta_row new ∷ []) → IsIn x (meta_row new ∷ []) → r ≡ x
     only r x (inl a) (inl b) = a ∙ sym b
     only r x (inl a) (inr none) = absurd none
     only r x (inr none) j = absurd none
@@ -278,42 +285,41 @@ module _ {K U : Type 0} (differences : MovesAreDifferences) (least : DemandIsLea
       ]
       by (Anew counts) e j = absurd j
 
-  moves_become : IsExchange same_move (moves_going change.recording s.moves) (moves_coming change.recording)
+  moves_become : IsExchange (same_in table.Moves) (moves_going change.recording s.moves) (moves_coming change.recording)
       (map move_row s.moves) (map move_row (moves_by change.recording s.moves))
   moves_become = by change.recording at_step differ read.moves
     where
       by : (recording : Recording) → ((m : RecordedMove) → IsIn m (recorded_moves recording) → m.step ≡ s.step + 1)
           → AllPairs (λ (m n : RecordedMove). m.change.pair ≡ n.change.pair → ⊥) (recorded_moves recording)
           → MovesAreRead (recorded_moves recording)
-          → IsExchange same_move (moves_going recording s.moves) (moves_coming recording) (map move_row s.moves)
-          (map move_row (moves_by recording s.moves))
+          → IsExchange (same_in table.Moves) (moves_going recording s.moves) (moves_coming recording)
+          (map move_row s.moves) (map move_row (moves_by recording s.moves))
       by (Behind behind) at apart read_moves =
           moves_behind s.moves behind.items (s.step + 1)
           (λ k d l. (let early = sound.moves.steps k d l in omega (arith, early))) at apart read_moves
       by (Anew counts) at apart read_moves = moves_anew s.moves
 
   pub rows_become : AreExchanges (rows_left s change) (rows_come s change) (rows_of s) (rows_of after)
-  rows_become = record {
-    meta = meta_becomes s after;
-    criteria = held_criteria s.held r.room.held texts change.edit is.fits texts_after;
-    entries = entries_differ s.held r.room.held texts change.edit is.fits texts_after;
-    publishers = publishers_differ s.held r.room.held texts change.edit is.fits;
-    policies = held_policies s.held r.room.held texts change.edit is.fits texts_after;
-    peers = held_peers s.held r.room.held texts change.edit is.fits texts_after;
-    nodes = nodes_differ s.held r.room.held texts change.edit is.fits texts_after read.projects read.projects_held;
-    edges = edges_differ s.held r.room.held texts change.edit is.fits;
-    standing = standing_becomes (standing s) (standing after) more standing_up after_up are_moves read_stands
-        read.moves;
-    moves = moves_become;
-    members = members_are s r.room.desk change.desk is.desk sound;
-    reviews = reviews_are s r.room.desk change.desk after refl sound sound_after;
-  }
+  rows_become table.Meta = meta_becomes s after
+  rows_become table.Criteria = held_criteria s.held r.room.held texts change.edit is.fits texts_after
+  rows_become table.Entries = entries_differ s.held r.room.held texts change.edit is.fits texts_after
+  rows_become table.Publishers = publishers_differ s.held r.room.held texts change.edit is.fits
+  rows_become table.Policies = held_policies s.held r.room.held texts change.edit is.fits texts_after
+  rows_become table.Peers = held_peers s.held r.room.held texts change.edit is.fits texts_after
+  rows_become table.Nodes =
+      nodes_differ s.held r.room.held texts change.edit is.fits texts_after read.projects read.projects_held
+  rows_become table.Edges = edges_differ s.held r.room.held texts change.edit is.fits
+  rows_become table.Standing =
+      standing_becomes (standing s) (standing after) more standing_up after_up are_moves read_stands read.moves
+  rows_become table.Moves = moves_become
+  rows_become table.Members = members_are s r.room.desk change.desk is.desk sound
+  rows_become table.Reviews = reviews_are s r.room.desk change.desk after refl sound sound_after
 
   -- made in order, they lead to the rows of the next state
-  pub changes_lead : SameRows (all_changed (exchanges (rows_left s change) (rows_come s change)) (rows_of s))
+  pub changes_lead : SameRows (all_changed (exchanges tables (rows_left s change) (rows_come s change)) (rows_of s))
       (rows_of (next s c))
   changes_lead =
-      subst (λ t. SameRows (all_changed (exchanges (rows_left s change) (rows_come s change)) (rows_of s))
+      subst (λ t. SameRows (all_changed (exchanges tables (rows_left s change) (rows_come s change)) (rows_of s))
       (rows_of t)) is.step.becomes
       (exchanges_lead (rows_left s change) (rows_come s change) (rows_of s) (rows_of after) rows_become)
 
@@ -337,20 +343,16 @@ module _ {K U : Type 0} (differences : MovesAreDifferences) (least : DemandIsLea
   -- ---- rows of the standing that go or come
 
   -- a row of a recorded move is that of a move of the command
-  of_moves : (x : StandingRow) (m : RecordedMove) → IsIn m more → x ≡ moved_row m
-      → IsOfMove (moves_of s c.day c.action) x
+  of_moves : (x : Row) (m : RecordedMove) → IsIn m more → x ≡ moved_row m → IsOfMove (moves_of s c.day c.action) x
   of_moves x m i e = (
     m.change,
     (
       subst (IsIn m.change) changes_are (map_in (λ (y : RecordedMove). y.change) more m i),
-      (
-        ap (λ (y : StandingRow). y.«package») e,
-        (ap (λ (y : StandingRow). y.version) e, ap (λ (y : StandingRow). y.criterion) e),
-      ),
+      (Int (class_or_none m.change.after), e),
     ),
   )
 
-  pub standing_named : (x : RowChange) → IsIn x (exchanges (rows_left s change) (rows_come s change))
+  pub standing_named : (x : RowChange) → IsIn x (exchanges tables (rows_left s change) (rows_come s change))
       → IsOfMoves (moves_of s c.day c.action) x
   standing_named =
       only_standing (moves_of s c.day c.action) (rows_left s change) (rows_come s change)
@@ -358,3 +360,4 @@ module _ {K U : Type 0} (differences : MovesAreDifferences) (least : DemandIsLea
       of_moves x m.0 (in_filter leaves more m.0 m.1.0).0 m.1.1))
       (λ x i. (let m = in_map moved_row (filter stands more) x i in
       of_moves x m.0 (in_filter stands more m.0 m.1.0).0 m.1.1))
+      tables

@@ -1,6 +1,6 @@
 -- What an edit of facts makes of the rows of criteria, peers and publishers.
 use Rattle.std.proofs.Common.{◌≡◌, ◌⊎◌, inl, inr, true, List, [], ◌∷◌, ◌++◌, map, refl, sym, ap, subst, ◌∙◌}
-use Rattle.std.proofs.Common.{is_some, Option, Some, None}
+use Rattle.std.proofs.Common.{is_some, Bool, Option, Some, None, arith}
 use Rattle.std.specs.List.{flat_map}
 use Rattle.std.specs.Ordering.{nat_cmp}
 use Rattle.std.specs.Cmp.Lexicographic.{slice_cmp}
@@ -26,64 +26,79 @@ use Rattle.vet_rows.specs.EntryRows.{package_rows, publisher_row}
 use Rattle.vet_rows.specs.FactsRows.{criteria_coming, criteria_going, peers_coming, peers_going, publishers_coming}
 use Rattle.vet_rows.specs.FactsRows.{publishers_going, the_peer}
 use Rattle.vet_rows.specs.KeyedItems.{comes, goes, rows_if}
-use Rattle.vet_rows.specs.RowKeys.{same_criterion, same_peer, same_publisher}
 use Rattle.vet_rows.specs.SettingRows.{all_criteria, criteria_rows, criterion_row, peer_criteria, peer_row}
-use Rattle.vet_rows.specs.declared.row.CriterionRow.{CriterionRow}
-use Rattle.vet_rows.specs.declared.row.PeerRow.{PeerRow}
-use Rattle.vet_rows.specs.declared.row.PublisherRow.{PublisherRow}
 use Rattle.vet_rows.proofs.Exchanges.{AreRowsOf, IsExchange, alike, gone_of, of_items, stays}
 use Rattle.vet_rows.proofs.FactsExchanges.{HaveKeys, name_of, peer_edit, put_for}
 use Rattle.vet_rows.proofs.KeyedExchanges.{IsOneForOne, edit_is}
 use Rattle.vet_rows.proofs.ListEdits.{flat_in, in_flat}
 use Rattle.vet_rows.proofs.RowViews.{flat_rows, front_rows, only_flat, only_mapped, same_rows, told_once}
-use Rattle.vet_rows.proofs.SameKeys.{criterion_itself, criterion_same, peer_itself, peer_same, publisher_itself}
-use Rattle.vet_rows.proofs.SameKeys.{publisher_same}
+use Rattle.vet_rows.proofs.FitRows.{criteria_fit, peers_fit, publishers_fit}
+use Rattle.vet_rows.proofs.SameKeys.{own_key, same_text, same_whole, text_at}
+use Rattle.vet_tables.specs.Cells.{IsRowOf, Row, same_key}
+use Rattle.vet_tables.specs.Forms.{form_of}
+use Rattle.vet_tables.specs.declared.table_name.TableName.TheVariants as table
+
+abbrev same_criterion : Row → Row → Bool
+same_criterion = same_key (form_of table.Criteria)
+
+abbrev same_peer : Row → Row → Bool
+same_peer = same_key (form_of table.Peers)
+
+abbrev same_publisher : Row → Row → Bool
+same_publisher = same_key (form_of table.Publishers)
 
 -- ---- the rows of criteria
 
+criterion_same : (r s : Row) → same_criterion r s ≡ true → (text_at 0 r ≡ text_at 0 s) × (text_at 1 r ≡ text_at 1 s)
+criterion_same r s e =
+    (same_text table.Criteria r s e 0 (omega arith), same_text table.Criteria r s e 1 (omega arith))
+
+own_criteria : (facts : Facts) (r : Row) → IsIn r (all_criteria facts) → same_criterion r r ≡ true
+own_criteria facts r i = own_key table.Criteria r (criteria_fit facts r i)
+
 -- a row of a table has the table's peer, and the name of a criterion of the table
-abbrev IsOfTable : Name → Criteria → CriterionRow → Type 0
+abbrev IsOfTable : Name → Criteria → Row → Type 0
 IsOfTable peer table r = (c : Criterion) × (IsIn c (further table) × (r ≡ criterion_row peer c))
 
-of_table : (peer : Name) (table : Criteria) (r : CriterionRow) → IsIn r (criteria_rows peer table)
+of_table : (peer : Name) (table : Criteria) (r : Row) → IsIn r (criteria_rows peer table)
     → IsOfTable peer table r
 of_table peer table r i = in_map (criterion_row peer) (further table) r i
 
-peer_is : (peer : Name) (table : Criteria) (r : CriterionRow) → IsIn r (criteria_rows peer table) → r.peer ≡ peer
-peer_is peer table r i = ap (λ (x : CriterionRow). x.peer) (of_table peer table r i).1.1
+peer_is : (peer : Name) (table : Criteria) (r : Row) → IsIn r (criteria_rows peer table) → text_at 0 r ≡ peer
+peer_is peer table r i = ap (text_at 0) (of_table peer table r i).1.1
 
 -- rows of one table that have the same name are the same
-in_table : (peer other : Name) (table : Criteria) → NamedOnce (λ c. c.name) (further table) → (r s : CriterionRow)
+in_table : (peer other : Name) (table : Criteria) → NamedOnce (λ c. c.name) (further table) → (r s : Row)
     → IsIn r (criteria_rows peer table) → IsIn s (criteria_rows other table) → same_criterion r s ≡ true → r ≡ s
 in_table peer other table once r s i j e =
     let c = of_table peer table r i in
     let d = of_table other table s j in
     let cols = criterion_same r s e in
     let names : c.0.name ≡ d.0.name =
-    ap (λ (x : CriterionRow). x.name) (sym c.1.1) ∙ cols.1 ∙ ap (λ (x : CriterionRow). x.name) d.1.1 in
+    ap (text_at 1) (sym c.1.1) ∙ cols.1 ∙ ap (text_at 1) d.1.1 in
     let peers : peer ≡ other =
-    ap (λ (x : CriterionRow). x.peer) (sym c.1.1) ∙ cols.0 ∙ ap (λ (x : CriterionRow). x.peer) d.1.1 in
+    ap (text_at 0) (sym c.1.1) ∙ cols.0 ∙ ap (text_at 0) d.1.1 in
     let one = told_once (λ (x : Criterion). x.name) (further table) once c.0 d.0 c.1.0 d.1.0 names in
     c.1.1 ∙ (λ n. criterion_row (peers n) (one n)) ∙ sym d.1.1
 
 -- a row of one's own criteria, and one of a peer's, have different keys
-not_peers : (facts : Facts) → HaveKeys facts → (table : Criteria) (r s : CriterionRow)
+not_peers : (facts : Facts) → HaveKeys facts → (table : Criteria) (r s : Row)
     → IsIn r (criteria_rows own_peer table) → (p : HeldPeer) → IsIn p facts.peers → IsIn s (peer_criteria p)
-    → r.peer ≡ s.peer → ⊥
+    → text_at 0 r ≡ text_at 0 s → ⊥
 not_peers facts k table r s i p j l e =
     k.named p j
     (sym (peer_is p.settings.name p.content.table s l) ∙ sym e ∙ peer_is own_peer table r i)
 
-pub criteria_keyed : (facts : Facts) → HaveKeys facts → (r s : CriterionRow) → IsIn r (all_criteria facts)
+pub criteria_keyed : (facts : Facts) → HaveKeys facts → (r s : Row) → IsIn r (all_criteria facts)
     → IsIn s (all_criteria facts) → same_criterion r s ≡ true → r ≡ s
 criteria_keyed facts k r s i j e =
     by (in_append (criteria_rows own_peer facts.criteria) (flat_map peer_criteria facts.peers) r i)
     (in_append (criteria_rows own_peer facts.criteria) (flat_map peer_criteria facts.peers) s j)
   where
-    own : List CriterionRow
+    own : List Row
     own = criteria_rows own_peer facts.criteria
 
-    theirs : List CriterionRow
+    theirs : List Row
     theirs = flat_map peer_criteria facts.peers
 
     by : IsIn r own ⊎ IsIn r theirs → IsIn s own ⊎ IsIn s theirs → r ≡ s
@@ -108,9 +123,9 @@ table_exchange : (old new : Facts) → HaveKeys old → HaveKeys new → old.pee
     → IsExchange same_criterion (criteria_rows own_peer old.criteria) (criteria_rows own_peer new.criteria)
     (all_criteria old) (all_criteria new)
 table_exchange old new k l peers =
-    of_items same_criterion criterion_itself (λ (t : Criteria). own_peer) (criteria_rows own_peer) (Some old.criteria)
+    of_items same_criterion (λ (t : Criteria). own_peer) (criteria_rows own_peer) (Some old.criteria)
     (Some new.criteria) (old.criteria ∷ []) (new.criteria ∷ []) (flat_map peer_criteria old.peers) (all_criteria old)
-    (all_criteria new)
+    (all_criteria new) (own_criteria old)
     (front_rows (criteria_rows own_peer) old.criteria (flat_map peer_criteria old.peers))
     (subst (λ ps. AreRowsOf (criteria_rows own_peer) (new.criteria ∷ []) (flat_map peer_criteria old.peers)
     (criteria_rows own_peer new.criteria ++ flat_map peer_criteria ps)) peers
@@ -126,7 +141,7 @@ table_exchange old new k l peers =
     not_peers old k g r s a p.0 p.1.0 p.1.1 (criterion_same r s e).0))
     (λ c r s i a j e. criteria_keyed new l r s (among c r i a) j e)
   where
-    among : (c : Criteria) (r : CriterionRow) → IsIn c (new.criteria ∷ []) → IsIn r (criteria_rows own_peer c)
+    among : (c : Criteria) (r : Row) → IsIn c (new.criteria ∷ []) → IsIn r (criteria_rows own_peer c)
         → IsIn r (all_criteria new)
     among c r (inl e) a =
         in_front (criteria_rows own_peer new.criteria) (flat_map peer_criteria new.peers) r
@@ -139,8 +154,8 @@ peer_tables : (old new : Facts) (gone come : Option HeldPeer) → HaveKeys old �
     → IsExchange same_criterion (rows_if peer_criteria gone) (rows_if peer_criteria come) (all_criteria old)
     (all_criteria new)
 peer_tables old new gone come k l criteria is =
-    of_items same_criterion criterion_itself peer_name peer_criteria gone come old.peers new.peers
-    (criteria_rows own_peer old.criteria) (all_criteria old) (all_criteria new)
+    of_items same_criterion peer_name peer_criteria gone come old.peers new.peers
+    (criteria_rows own_peer old.criteria) (all_criteria old) (all_criteria new) (own_criteria old)
     (flat_rows peer_criteria old.peers (criteria_rows own_peer old.criteria))
     (subst (λ t. AreRowsOf peer_criteria new.peers (criteria_rows own_peer old.criteria)
     (criteria_rows own_peer t ++ flat_map peer_criteria new.peers)) criteria
@@ -164,15 +179,15 @@ same_tables old new criteria peers =
 
 -- ---- the rows of peers
 
-abbrev peer_rows : List HeldPeer → List PeerRow
+abbrev peer_rows : List HeldPeer → List Row
 peer_rows peers = map (λ (peer : HeldPeer). peer_row peer.settings) peers
 
-pub peers_keyed : (facts : Facts) → HaveKeys facts → (r s : PeerRow) → IsIn r (peer_rows facts.peers)
+pub peers_keyed : (facts : Facts) → HaveKeys facts → (r s : Row) → IsIn r (peer_rows facts.peers)
     → IsIn s (peer_rows facts.peers) → same_peer r s ≡ true → r ≡ s
 peers_keyed facts k r s i j e =
     let p = in_map (λ (peer : HeldPeer). peer_row peer.settings) facts.peers r i in
     let q = in_map (λ (peer : HeldPeer). peer_row peer.settings) facts.peers s j in
-    let names = ap (λ (y : PeerRow). y.name) (sym p.1.1) ∙ peer_same r s e ∙ ap (λ (y : PeerRow). y.name) q.1.1 in
+    let names = ap (text_at 0) (sym p.1.1) ∙ same_text table.Peers r s e 0 (omega arith) ∙ ap (text_at 0) q.1.1 in
     p.1.1
     ∙ ap (λ (x : HeldPeer). peer_row x.settings)
     (of_one_key (slice_cmp nat_cmp) nat_list_cmp_total only_equal peer_name facts.peers k.peers p.0 q.0 p.1.0 q.1.0
@@ -183,25 +198,36 @@ settings_exchange : (old new : Facts) (gone come : Option HeldPeer) → HaveKeys
     → IsOneForOne peer_name gone come old.peers new.peers
     → IsExchange same_peer (rows_if the_peer gone) (rows_if the_peer come) (peer_rows old.peers) (peer_rows new.peers)
 settings_exchange old new gone come l is =
-    of_items same_peer peer_itself peer_name the_peer gone come old.peers new.peers [] (peer_rows old.peers)
-    (peer_rows new.peers) (only_mapped (λ (peer : HeldPeer). peer_row peer.settings) old.peers)
+    of_items same_peer peer_name the_peer gone come old.peers new.peers [] (peer_rows old.peers)
+    (peer_rows new.peers) (λ r i. own_key table.Peers r (peers_fit old.peers r i))
+    (only_mapped (λ (peer : HeldPeer). peer_row peer.settings) old.peers)
     (only_mapped (λ (peer : HeldPeer). peer_row peer.settings) new.peers) is
     (λ g x r s i j a b e. named g x r s a b e)
     (λ g r s i a none e. none)
     (λ c r s i a j e. peers_keyed new l r s
     ((only_mapped (λ (peer : HeldPeer). peer_row peer.settings) new.peers).item_in c r i a) j e)
   where
-    named : (g x : HeldPeer) (r s : PeerRow) → IsIn r (the_peer g) → IsIn s (the_peer x) → same_peer r s ≡ true
+    named : (g x : HeldPeer) (r s : Row) → IsIn r (the_peer g) → IsIn s (the_peer x) → same_peer r s ≡ true
         → peer_name g ≡ peer_name x
     named g x r s (inl a) (inl b) e =
-        ap (λ (y : PeerRow). y.name) (sym a) ∙ peer_same r s e ∙ ap (λ (y : PeerRow). y.name) b
+        ap (text_at 0) (sym a) ∙ same_text table.Peers r s e 0 (omega arith) ∙ ap (text_at 0) b
     named g x r s (inl a) (inr none) e = absurd none
     named g x r s (inr none) b e = absurd none
 
 -- ---- the rows of publishers
 
-package_is : (p : PackagePublishers) (r : PublisherRow) → IsIn r (package_rows p) → r.«package» ≡ p.«package»
-package_is p r i = ap (λ (x : PublisherRow). x.«package») (in_map (publisher_row p.«package») p.publishers r i).1.1
+package_is : (p : PackagePublishers) (r : Row) → IsIn r (package_rows p) → text_at 0 r ≡ p.«package»
+package_is p r i = ap (text_at 0) (in_map (publisher_row p.«package») p.publishers r i).1.1
+
+-- all columns of a publisher's row are its key
+pub publisher_same : (r s : Row) → IsRowOf (form_of table.Publishers) r → IsRowOf (form_of table.Publishers) s
+    → same_publisher r s ≡ true → r ≡ s
+publisher_same = same_whole table.Publishers refl
+
+pub publishers_keyed : (packages : List PackagePublishers) (r s : Row) → IsIn r (flat_map package_rows packages)
+    → IsIn s (flat_map package_rows packages) → same_publisher r s ≡ true → r ≡ s
+publishers_keyed packages r s i j =
+    publisher_same r s (publishers_fit packages r i) (publishers_fit packages s j)
 
 -- ---- what an edit makes of each table
 
@@ -224,7 +250,7 @@ module _ (old : Facts) (room : Room) (k : HaveKeys old) where
       by : (found : Option HeldPeer) → peer_of old.peers settings.name ≡ found → is_some found ≡ true
           → IsExchange same_criterion [] [] (all_criteria old) (all_criteria (after found))
       by (Some p) at there =
-          alike same_criterion criterion_itself (all_criteria old) (all_criteria (after (Some p)))
+          alike same_criterion (all_criteria old) (all_criteria (after (Some p)))
           (same_rows peer_name peer_criteria p (record { settings = settings; content = p.content }) old.peers
           (after (Some p)).peers (criteria_rows own_peer old.criteria) (all_criteria old)
           (all_criteria (after (Some p)))
@@ -281,7 +307,7 @@ module _ (old : Facts) (room : Room) (k : HaveKeys old) where
       by : (found : Option HeldPeer) → peer_of old.peers name ≡ found → is_some found ≡ true
           → IsExchange same_peer [] [] (peer_rows old.peers) (peer_rows (after found))
       by (Some p) at there =
-          alike same_peer peer_itself (peer_rows old.peers) (peer_rows (after (Some p)))
+          alike same_peer (peer_rows old.peers) (peer_rows (after (Some p)))
           (same_rows peer_name the_peer p (record p { content = content }) old.peers (after (Some p)) []
           (peer_rows old.peers) (peer_rows (after (Some p)))
           (only_mapped (λ (peer : HeldPeer). peer_row peer.settings) old.peers)
@@ -302,18 +328,19 @@ module _ (old : Facts) (room : Room) (k : HaveKeys old) where
   publishers_become (edit.Content name content) fits = stays same_publisher (flat_map package_rows old.publishers)
   publishers_become (edit.Publishers change) fits =
       let new = keyed.edited change old.publishers in
-      of_items same_publisher publisher_itself package_of package_rows (goes change old.publishers) (comes change)
+      of_items same_publisher package_of package_rows (goes change old.publishers) (comes change)
       old.publishers new [] (flat_map package_rows old.publishers) (flat_map package_rows new)
+      (λ r i. own_key table.Publishers r (publishers_fit old.publishers r i))
       (only_flat package_rows old.publishers) (only_flat package_rows new)
       (edit_is (slice_cmp nat_cmp) nat_list_cmp_total only_equal package_of change
       (record { items = old.publishers; room = room.packages }) k.packages fits.place)
-      (λ g x r s i j a b e. sym (package_is g r a) ∙ ap (λ (y : PublisherRow). y.«package») (publisher_same r s e)
+      (λ g x r s i j a b e. sym (package_is g r a) ∙ same_text table.Publishers r s e 0 (omega arith)
       ∙ package_is x s b)
       (λ g r s i a none e. none)
-      (λ c r s i a j e. publisher_same r s e)
+      (λ c r s i a j e. publishers_keyed new r s (flat_in package_rows new c r i a) j e)
 
   -- the rows that go are there
-  pub publishers_there : (e : Edit) → Fits e (record { content = old; room = room }) → (r : PublisherRow)
+  pub publishers_there : (e : Edit) → Fits e (record { content = old; room = room }) → (r : Row)
       → IsIn r (publishers_going e old) → IsIn r (flat_map package_rows old.publishers)
   publishers_there (edit.Criteria table) fits r i = absurd i
   publishers_there (edit.Insert place held) fits r i = absurd i

@@ -22,14 +22,23 @@ use Rattle.vet_graph.specs.Standing.{IsStanding, class_in, pairs_of}
 use Rattle.vet_register.specs.declared.moves.RecordedMove.{RecordedMove}
 use Rattle.vet_register.specs.State.{changes_of}
 use Rattle.vet_rows.specs.Columns.{class_or_none}
-use Rattle.vet_rows.specs.RowKeys.{same_move, same_standing}
 use Rattle.vet_rows.specs.StandingChanges.{leaves, moved_row, stands}
 use Rattle.vet_rows.specs.StandingRows.{move_row, standing_row}
-use Rattle.vet_rows.specs.declared.row.StandingRow.{StandingRow}
 use Rattle.vet_rows.proofs.DemandExchanges.{one_version}
 use Rattle.vet_rows.proofs.Exchanges.{HasKeyOf, IsExchange}
 use Rattle.vet_rows.proofs.RowViews.{told_once}
-use Rattle.vet_rows.proofs.SameKeys.{move_itself, move_same, standing_itself, standing_same}
+use Rattle.vet_rows.proofs.FitRows.{moved_fits, moves_fit}
+use Rattle.vet_rows.proofs.SameKeys.{own_key, same_number, same_text}
+use Rattle.vet_tables.specs.Cells.{Row, same_key as same_keys}
+use Rattle.vet_tables.specs.Forms.{form_of}
+use Rattle.vet_tables.specs.declared.cell.Cell.TheVariants.{Int, Text}
+use Rattle.vet_tables.specs.declared.table_name.TableName.TheVariants.{Moves, Standing}
+
+abbrev same_standing : Row → Row → Bool
+same_standing = same_keys (form_of Standing)
+
+abbrev same_move : Row → Row → Bool
+same_move = same_keys (form_of Moves)
 
 -- ---- the class of a pair in a standing
 
@@ -166,31 +175,28 @@ module _ (before after : List Stand) (moves : List RecordedMove) (up : IsStandin
   pair_of : (m : RecordedMove) (s : Stand) → IsIn m moves → IsVersion s.pair.version
       → same_standing (moved_row m) (standing_row s) ≡ true → m.change.pair ≡ s.pair
   pair_of m s i is e =
-      let cols = standing_same (moved_row m) (standing_row s) e in
-      one_pair m.change.pair s.pair (read_moves m i) is cols.0 cols.1.0 cols.1.1
+      let same = same_text Standing (moved_row m) (standing_row s) e in
+      one_pair m.change.pair s.pair (read_moves m i) is (same 0 (omega arith)) (same 1 (omega arith))
+      (same 2 (omega arith))
 
   same_key : (m : RecordedMove) (s : Stand) → m.change.pair ≡ s.pair
       → same_standing (moved_row m) (standing_row s) ≡ true
   same_key m s e =
       ap (λ (p : Pair). same_standing (moved_row m) (standing_row (stand p s.class))) (sym e)
-      ∙ standing_itself (moved_row m)
+      ∙ own_key Standing (moved_row m) (moved_fits m)
 
-  abbrev going : List StandingRow
+  abbrev going : List Row
   going = map moved_row (filter leaves moves)
 
-  abbrev coming : List StandingRow
+  abbrev coming : List Row
   coming = map moved_row (filter stands moves)
 
   -- the row of a move to a class is that of the stand
   row_of : (m : RecordedMove) (s : Stand) → m.change.pair ≡ s.pair → m.change.after ≡ Some s.class
       → moved_row m ≡ standing_row s
   row_of m s pairs classes =
-      λ i. record {
-        «package» = (pairs i).«package»;
-        version = version_text (pairs i).version;
-        criterion = (pairs i).criterion;
-        class = class_or_none (classes i);
-      }
+      λ i. Text (pairs i).«package» ∷ Text (version_text (pairs i).version) ∷ Text (pairs i).criterion
+      ∷ Int (class_or_none (classes i)) ∷ []
 
   come : (m : RecordedMove) (c : Class) → IsIn m moves → m.change.after ≡ Some c → IsIn (moved_row m) coming
   come m c i e = map_in moved_row (filter stands moves) m (filter_in stands moves m i (ap is_some e))
@@ -199,7 +205,7 @@ module _ (before after : List Stand) (moves : List RecordedMove) (up : IsStandin
   go m i e = map_in moved_row (filter leaves moves) m (filter_in leaves moves m i (ap is_none e))
 
   -- what comes has a class after, and what goes has none
-  comes_from : (r : StandingRow) → IsIn r coming
+  comes_from : (r : Row) → IsIn r coming
       → (m : RecordedMove) × ((c : Class) × (IsIn m moves × ((r ≡ moved_row m) × (m.change.after ≡ Some c))))
   comes_from r i =
       let m = in_map moved_row (filter stands moves) r i in
@@ -207,7 +213,7 @@ module _ (before after : List Stand) (moves : List RecordedMove) (up : IsStandin
       let c = some_is m.0.change.after at.1 in
       (m.0, (c.0, (at.0, (m.1.1, c.1))))
 
-  goes_from : (r : StandingRow) → IsIn r going
+  goes_from : (r : Row) → IsIn r going
       → (m : RecordedMove) × (IsIn m moves × ((r ≡ moved_row m) × (m.change.after ≡ None)))
   goes_from r i =
       let m = in_map moved_row (filter leaves moves) r i in
@@ -219,13 +225,13 @@ module _ (before after : List Stand) (moves : List RecordedMove) (up : IsStandin
       → m.change.after ≡ class_in after p
   class_after m p i e = (moved m i).1 ∙ ap (class_in after) e
 
-  stays_there : (s : Stand) (r : StandingRow) (standing : List Stand) → class_in standing s.pair ≡ Some s.class
+  stays_there : (s : Stand) (r : Row) (standing : List Stand) → class_in standing s.pair ≡ Some s.class
       → r ≡ standing_row s → IsIn r (map standing_row standing)
   stays_there s r standing e is =
       subst (λ x. IsIn x (map standing_row standing)) (sym is)
       (map_in standing_row standing s (class_stands standing s.pair s.class e))
 
-  new_from : (s : Stand) (r : StandingRow) → IsIn s after → r ≡ standing_row s
+  new_from : (s : Stand) (r : Row) → IsIn s after → r ≡ standing_row s
       → (class_in before s.pair ≡ class_in after s.pair) ⊎ (class_in before s.pair ≢ class_in after s.pair)
       → IsIn r coming ⊎ (IsIn r (map standing_row before) × (HasKeyOf same_standing r going → ⊥))
   new_from s r i is (inl same) =
@@ -242,7 +248,7 @@ module _ (before after : List Stand) (moves : List RecordedMove) (up : IsStandin
       let e = class_after m.0 s.pair m.1.0 m.1.1 ∙ stands_class after s up_after i in
       inl (subst (λ x. IsIn x coming) (row_of m.0 s m.1.1 e ∙ sym is) (come m.0 s.class m.1.0 e))
 
-  old_to : (s : Stand) (r : StandingRow) → IsIn s before → r ≡ standing_row s
+  old_to : (s : Stand) (r : Row) → IsIn s before → r ≡ standing_row s
       → (class_in before s.pair ≡ class_in after s.pair) ⊎ (class_in before s.pair ≢ class_in after s.pair)
       → IsIn r (map standing_row after) ⊎ (HasKeyOf same_standing r going ⊎ HasKeyOf same_standing r coming)
   old_to s r i is (inl same) = inl (stays_there s r after (sym same ∙ stands_class before s up i) is)
@@ -303,16 +309,17 @@ moves_behind old more step earlier now differ read = record {
       (map_in move_row (old ++ more) m.0 (in_front old more m.0 m.1.0))));
   keyed = λ r s i j e. (let m = in_map move_row more r i in
       let n = in_map move_row (old ++ more) s j in
-      let cols = move_same (move_row m.0) (move_row n.0)
-      (subst (λ x. same_move x (move_row n.0) ≡ true) m.1.1 (subst (λ x. same_move r x ≡ true) n.1.1 e)) in
-      let steps = same_pos m.0.step n.0.step cols.0 in
+      let one = subst (λ x. same_move x (move_row n.0) ≡ true) m.1.1 (subst (λ x. same_move r x ≡ true) n.1.1 e) in
+      let same = same_text Moves (move_row m.0) (move_row n.0) one in
+      let steps = same_pos m.0.step n.0.step (same_number Moves (move_row m.0) (move_row n.0) one 0 (omega arith)) in
       let at = now m.0 m.1.0 in
       elim (in_append old more n.0 n.1.0) [
         | inl before ↦ (let less : n.0.step < step = in_all (λ (x : RecordedMove). x.step < step) old earlier n.0 before
             in absurd (omega (arith, less, at, steps)))
         | inr here ↦ m.1.1
             ∙ ap move_row (told_once (λ (x : RecordedMove). x.change.pair) more differ m.0 n.0 m.1.0 here
-            (one_pair m.0.change.pair n.0.change.pair (read m.0 m.1.0) (read n.0 here) cols.1.0 cols.1.1.0 cols.1.1.1))
+            (one_pair m.0.change.pair n.0.change.pair (read m.0 m.1.0) (read n.0 here) (same 1 (omega arith))
+            (same 2 (omega arith)) (same 3 (omega arith))))
             ∙ sym n.1.1
       ]);
 }
@@ -322,6 +329,6 @@ pub moves_anew : (old : List RecordedMove) → IsExchange same_move (map move_ro
 moves_anew old = record {
   come_in = λ r i. absurd i;
   new_from = λ r i. absurd i;
-  old_to = λ r i. inr (inl (r, (i, move_itself r)));
+  old_to = λ r i. inr (inl (r, (i, own_key Moves r (moves_fit old r i))));
   keyed = λ r s i. absurd i;
 }

@@ -1,7 +1,7 @@
 -- A state of parts that are read.
-use Rattle.std.proofs.Common.{◌≡◌, ◌∙◌, List, Option, Some, None, sym, subst}
-use Rattle.std.proofs.lemmas.Option.{same_Some}
+use Rattle.std.proofs.Common.{◌≡◌, ◌⊎◌, ◌==◌, Bool, List, T, true, false, not, eq-eqb, inl, inr, refl, sym, subst}
 use Rattle.vet_base.specs.Items.{SameItems}
+use Rattle.vet_base.specs.declared.refusal.Refusal.TheVariants as refusal
 use Rattle.vet_demand.specs.declared.policies.KeyedPolicy.{KeyedPolicy}
 use Rattle.vet_demand.specs.declared.project.NamedProject.{NamedProject}
 use Rattle.vet_desk.specs.Desk.{DeskState}
@@ -9,32 +9,57 @@ use Rattle.vet_entries.specs.Facts.{Facts}
 use Rattle.vet_register.specs.State.{State}
 use Rattle.vet_register.specs.declared.moves.RecordedMove.{RecordedMove}
 use Rattle.vet_rows.specs.HeldState.{SameButStanding}
+use Rattle.vet_rows.specs.ReadBack.{refusal_of}
 use Rattle.vet_rows.specs.ReadHeld.{AreRowsOf}
-use Rattle.vet_rows.specs.ReadState.{single_in, state_in}
-use Rattle.vet_rows.specs.Rows.{RowsValue}
+use Rattle.vet_rows.specs.ReadState.{meta_in, state_in}
 use Rattle.vet_rows.specs.RowsOf.{rows_of}
-use Rattle.vet_rows.specs.declared.read.single.Single.{Single}
+use Rattle.vet_rows.specs.declared.meta.Meta.{Meta}
+use Rattle.vet_rows.specs.declared.read.unread.Unread.{Unread}
+use Rattle.vet_rows.specs.declared.read.unread.Unread.TheVariants as unread
+use Rattle.vet_rows.proofs.ProjectsRead.{same_itself}
+use Rattle.vet_tables.specs.Cells.{Row, RowsValue}
+use Rattle.vet_tables.specs.Forms.{code}
+use Rattle.vet_tables.specs.declared.table_name.TableName.{TableName}
+use Rattle.vet_tables.specs.declared.table_name.TableName.TheVariants as table
 
-pub never : {A B : Type 0} (o : Option A) (x : A) → o ≡ None → o ≡ Some x → B
-never o x none some = cc (sym none ∙ some)
+-- ---- rows of tables
 
-pub that_one : {A : Type 0} (o : Option A) (a x : A) → o ≡ Some a → o ≡ Some x → a ≡ x
-that_one o a x is some = same_Some a x (sym is ∙ some)
+-- a table that isn't `standing`
+apart : (name : TableName) → T (not (code name == code table.Standing)) → code name ≡ code table.Standing → ⊥
+apart name t e = differ (code name == code table.Standing) (eq-eqb (code name) (code table.Standing) e) t
+  where
+    differ : (c : Bool) → c ≡ true → T (not c) → ⊥
+    differ true h t = t
+    differ false h t = cc h
 
-pub rows_are : {A : Type 0} (xs ys zs : List A) → xs ≡ ys → SameItems ys zs → SameItems xs zs
-rows_are xs ys zs e same = subst (λ rows. SameItems rows zs) (sym e) same
+module _ (rows : RowsValue) (s : State) (same : SameButStanding rows (rows_of s)) where
+  pub table_rows : (name : TableName) → T (not (code name == code table.Standing)) → (shown : List Row)
+      → shown ≡ rows name → SameItems shown (rows_of s name)
+  table_rows name t shown e = subst (λ these. SameItems these (rows_of s name)) (sym e) (same name (apart name t))
 
-pub facts_rows : (rows : RowsValue) (s : State) → SameButStanding rows (rows_of s) → AreRowsOf rows s.held.facts
-facts_rows rows s same = record {
-  criteria = same.criteria;
-  entries = same.entries;
-  publishers = same.publishers;
-  peers = same.peers;
-}
+  pub facts_rows : AreRowsOf rows s.held.facts
+  facts_rows = record {
+    criteria = table_rows table.Criteria tt (rows table.Criteria) refl;
+    entries = table_rows table.Entries tt (rows table.Entries) refl;
+    publishers = table_rows table.Publishers tt (rows table.Publishers) refl;
+    peers = table_rows table.Peers tt (rows table.Peers) refl;
+  }
 
-pub made_is : (s : State) (single : Single) (facts : Facts) (policies : List KeyedPolicy) (projects : List NamedProject)
-    (desk : DeskState) (moves : List RecordedMove) → single ≡ single_in s → facts ≡ s.held.facts
+-- the rows of a state are its own
+pub own_rows : (s : State) → SameButStanding (rows_of s) (rows_of s)
+own_rows s name other = same_itself (rows_of s name)
+
+-- ---- the state
+
+pub made_is : (s : State) (meta : Meta) (facts : Facts) (policies : List KeyedPolicy) (projects : List NamedProject)
+    (desk : DeskState) (moves : List RecordedMove) → meta ≡ meta_in s → facts ≡ s.held.facts
     → policies ≡ s.held.policies → projects ≡ s.held.projects → desk ≡ s.desk → moves ≡ s.moves
-    → state_in single facts policies projects desk moves ≡ s
-made_is s single facts policies projects desk moves a f p q d m =
+    → state_in meta facts policies projects desk moves ≡ s
+made_is s meta facts policies projects desk moves a f p q d m =
     λ i. state_in (a i) (f i) (p i) (q i) (d i) (m i)
+
+-- ---- refusals
+
+pub refused_as : (e : Unread) → (refusal_of e ≡ refusal.NoMemory) ⊎ (refusal_of e ≡ refusal.NotARegister)
+refused_as unread.NotARegister = inr refl
+refused_as unread.NoMemory = inl refl

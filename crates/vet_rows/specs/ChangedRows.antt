@@ -10,27 +10,26 @@ use Rattle.vet_rows.specs.HeldChanges.{criteria_coming, criteria_going, edges_co
 use Rattle.vet_rows.specs.HeldChanges.{entries_going, nodes_coming, nodes_going, peers_coming, peers_going}
 use Rattle.vet_rows.specs.HeldChanges.{policies_coming, policies_going, publishers_coming, publishers_going}
 use Rattle.vet_rows.specs.RowExchanges.{differing}
-use Rattle.vet_rows.specs.Rows.{RowsValue}
 use Rattle.vet_rows.specs.RowsOf.{meta_row}
 use Rattle.vet_rows.specs.StandingChanges.{moves_coming, moves_going, standing_coming, standing_going}
-use Rattle.vet_rows.specs.declared.row.MemberRow.{MemberRow}
-use Rattle.vet_rows.specs.declared.row.ReviewRow.{ReviewRow}
+use Rattle.vet_tables.specs.Cells.{Row, RowsValue}
+use Rattle.vet_tables.specs.declared.table_name.TableName.TheVariants as table
 
 -- ---- the desk, where it changes
 
-abbrev pub members_going : Option DeskEdit → DeskState → List MemberRow
+abbrev pub members_going : Option DeskEdit → DeskState → List Row
 members_going None d = []
 members_going (Some e) d = desk.members_going e.change d
 
-abbrev pub members_coming : Option DeskEdit → List MemberRow
+abbrev pub members_coming : Option DeskEdit → List Row
 members_coming None = []
 members_coming (Some e) = desk.members_coming e.change
 
-abbrev pub reviews_going : Option DeskEdit → DeskState → List ReviewRow
+abbrev pub reviews_going : Option DeskEdit → DeskState → List Row
 reviews_going None d = []
 reviews_going (Some e) d = desk.reviews_going e.change e.entry d
 
-abbrev pub reviews_coming : Option DeskEdit → DeskState → List ReviewRow
+abbrev pub reviews_coming : Option DeskEdit → DeskState → List Row
 reviews_coming None d = []
 reviews_coming (Some e) d = desk.reviews_coming e.change e.entry d
 
@@ -38,36 +37,32 @@ reviews_coming (Some e) d = desk.reviews_coming e.change e.entry d
 
 -- the one row of `meta` is put in place of the one that is there
 abbrev pub rows_going : {K U : Type 0} → State → Change K U → RowsValue
-rows_going s change = record {
-  meta = [];
-  criteria = criteria_going change.edit s.held;
-  entries = entries_going change.edit s.held;
-  publishers = publishers_going change.edit s.held;
-  policies = policies_going change.edit s.held;
-  peers = peers_going change.edit s.held;
-  nodes = nodes_going change.edit s.held;
-  edges = edges_going change.edit s.held;
-  standing = standing_going change.recording;
-  moves = moves_going change.recording s.moves;
-  members = members_going change.desk s.desk;
-  reviews = reviews_going change.desk s.desk;
-}
+rows_going s change table.Meta = []
+rows_going s change table.Criteria = criteria_going change.edit s.held
+rows_going s change table.Entries = entries_going change.edit s.held
+rows_going s change table.Publishers = publishers_going change.edit s.held
+rows_going s change table.Policies = policies_going change.edit s.held
+rows_going s change table.Peers = peers_going change.edit s.held
+rows_going s change table.Nodes = nodes_going change.edit s.held
+rows_going s change table.Edges = edges_going change.edit s.held
+rows_going s change table.Standing = standing_going change.recording
+rows_going s change table.Moves = moves_going change.recording s.moves
+rows_going s change table.Members = members_going change.desk s.desk
+rows_going s change table.Reviews = reviews_going change.desk s.desk
 
 abbrev pub rows_coming : {K U : Type 0} → State → Change K U → RowsValue
-rows_coming s change = record {
-  meta = meta_row (changed change s) ∷ [];
-  criteria = criteria_coming change.edit;
-  entries = entries_coming change.edit;
-  publishers = publishers_coming change.edit;
-  policies = policies_coming change.edit;
-  peers = peers_coming change.edit;
-  nodes = nodes_coming change.edit;
-  edges = edges_coming change.edit;
-  standing = standing_coming change.recording;
-  moves = moves_coming change.recording;
-  members = members_coming change.desk;
-  reviews = reviews_coming change.desk s.desk;
-}
+rows_coming s change table.Meta = meta_row (changed change s) ∷ []
+rows_coming s change table.Criteria = criteria_coming change.edit
+rows_coming s change table.Entries = entries_coming change.edit
+rows_coming s change table.Publishers = publishers_coming change.edit
+rows_coming s change table.Policies = policies_coming change.edit
+rows_coming s change table.Peers = peers_coming change.edit
+rows_coming s change table.Nodes = nodes_coming change.edit
+rows_coming s change table.Edges = edges_coming change.edit
+rows_coming s change table.Standing = standing_coming change.recording
+rows_coming s change table.Moves = moves_coming change.recording
+rows_coming s change table.Members = members_coming change.desk
+rows_coming s change table.Reviews = reviews_coming change.desk s.desk
 
 -- ---- of these, the rows that differ
 

@@ -1,9 +1,10 @@
 -- The rows of what is held beside facts, and those that go and that come by an edit of all that is held (ours).
-use Rattle.std.specs.Prelude.{List, [], ◌∷◌}
+use Rattle.std.specs.Prelude.{List}
 use Rattle.vet_demand.specs.declared.policies.KeyedPolicy.{KeyedPolicy}
+use Rattle.vet_rows.specs.KeyedItems.{one_row}
 use Rattle.vet_rows.specs.SettingRows.{policy_row}
-use Rattle.vet_rows.specs.declared.row.PolicyRow.{PolicyRow}
+use Rattle.vet_tables.specs.Cells.{Row}
 
 -- of a policy
-abbrev pub the_policy : KeyedPolicy → List PolicyRow
-the_policy policy = policy_row policy ∷ []
+abbrev pub the_policy : KeyedPolicy → List Row
+the_policy = one_row policy_row

@@ -1,5 +1,5 @@
 -- The rows of the review desk (ours).
-use Rattle.std.specs.Prelude.{ℤ, pos, []}
+use Rattle.std.specs.Prelude.{ℤ, pos, [], ◌∷◌}
 use Rattle.vet_base.specs.Day.{day_number}
 use Rattle.vet_base.specs.Version.{version_text}
 use Rattle.vet_base.specs.Words.{Name}
@@ -7,11 +7,11 @@ use Rattle.vet_desk.specs.declared.review.Review.{Review}
 use Rattle.vet_desk.specs.declared.review.ReviewState.{ReviewState}
 use Rattle.vet_desk.specs.declared.review.ReviewState.TheVariants.{Waiting, Assigned, Finished, Withdrawn}
 use Rattle.vet_rows.specs.Columns.{packed_names}
-use Rattle.vet_rows.specs.declared.row.MemberRow.{MemberRow}
-use Rattle.vet_rows.specs.declared.row.ReviewRow.{ReviewRow}
+use Rattle.vet_tables.specs.Cells.{Row}
+use Rattle.vet_tables.specs.declared.cell.Cell.TheVariants.{Blob, Int, Text}
 
-abbrev pub member_row : Name → MemberRow
-member_row name = record { name = name }
+abbrev pub member_row : Name → Row
+member_row name = Text name ∷ []
 
 -- how far a review has come
 abbrev pub state_number : ReviewState → ℤ
@@ -30,14 +30,8 @@ abbrev pub finishing_entry : ReviewState → ℤ
 finishing_entry (Finished entry) = pos entry
 finishing_entry _ = pos 0
 
-abbrev pub review_row : Review → ReviewRow
-review_row r = record {
-  number = pos r.number;
-  «package» = r.«package»;
-  version = version_text r.version;
-  criteria = packed_names r.criteria;
-  day = day_number r.day;
-  state = state_number r.state;
-  member = assigned_member r.state;
-  entry = finishing_entry r.state;
-}
+abbrev pub review_row : Review → Row
+review_row r =
+    Int (pos r.number) ∷ Text r.«package» ∷ Text (version_text r.version) ∷ Blob (packed_names r.criteria)
+    ∷ Int (day_number r.day) ∷ Int (state_number r.state) ∷ Text (assigned_member r.state)
+    ∷ Int (finishing_entry r.state) ∷ []

@@ -6,9 +6,12 @@ use Rattle.vet_register.specs.Sound.{IsSound}
 use Rattle.vet_register.specs.State.{State}
 use Rattle.vet_rows.specs.HeldValues.{AreSettings, IsKeyedPolicy, IsNamedProject, IsRecordedMove, IsReview}
 use Rattle.vet_rows.specs.ReadHeld.{AreFactsValues}
-use Rattle.vet_rows.specs.Rows.{RowsValue}
 use Rattle.vet_rows.specs.RowsOf.{rows_of}
 use Rattle.vet_rows.specs.Values.{IsName}
+use Rattle.vet_tables.specs.Cells.{RowsValue}
+use Rattle.vet_tables.specs.Forms.{code}
+use Rattle.vet_tables.specs.declared.table_name.TableName.{TableName}
+use Rattle.vet_tables.specs.declared.table_name.TableName.TheVariants as table
 
 pub record IsHeldState (s : State) : Type 0 where
   pub facts : AreFactsValues s.held.facts
@@ -20,18 +23,9 @@ pub record IsHeldState (s : State) : Type 0 where
   pub moves : All IsRecordedMove s.moves
 
 -- each table but `standing` has the same rows, in whatever order
-pub record SameButStanding (a b : RowsValue) : Type 0 where
-  pub meta : SameItems a.meta b.meta
-  pub criteria : SameItems a.criteria b.criteria
-  pub entries : SameItems a.entries b.entries
-  pub publishers : SameItems a.publishers b.publishers
-  pub policies : SameItems a.policies b.policies
-  pub peers : SameItems a.peers b.peers
-  pub nodes : SameItems a.nodes b.nodes
-  pub edges : SameItems a.edges b.edges
-  pub moves : SameItems a.moves b.moves
-  pub members : SameItems a.members b.members
-  pub reviews : SameItems a.reviews b.reviews
+abbrev pub SameButStanding : RowsValue → RowsValue → Type 0
+SameButStanding a b =
+    (name : TableName) → (code name ≡ code table.Standing → ⊥) → SameItems (a name) (b name)
 
 -- two sound states that can be held, of which these are the rows but for `standing`, are one
 abbrev pub AreOfOneState : RowsValue → Type 0

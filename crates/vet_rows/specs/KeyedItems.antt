@@ -1,5 +1,5 @@
 -- The items of a list by key that an edit takes out of it and puts into it (ours).
-use Rattle.std.specs.Prelude.{List, [], Option, Some, None}
+use Rattle.std.specs.Prelude.{List, [], ◌∷◌, Option, Some, None}
 use Rattle.std.specs.List.{slice_get}
 use Rattle.vet_base.specs.declared.keyed.KeyedEdit.{KeyedEdit}
 use Rattle.vet_base.specs.declared.keyed.KeyedEdit.TheVariants as edit
@@ -20,3 +20,7 @@ comes (edit.Swap place e) = Some e
 abbrev pub rows_if : {E R : Type 0} → (E → List R) → Option E → List R
 rows_if rows_of None = []
 rows_if rows_of (Some e) = rows_of e
+
+-- the one row of an item
+abbrev pub one_row : {E R : Type 0} → (E → R) → E → List R
+one_row row_of e = row_of e ∷ []

@@ -1,9 +1,39 @@
 -- What is read again of rows and columns is what was written (ours).
-use Rattle.std.specs.Prelude.{◌≡◌, List, [], ◌∷◌, Option, Some, None}
+use Rattle.std.specs.Prelude.{◌≡◌, Err, List, [], ◌∷◌, MatchResult, None, Ok, Option, Result, Some}
+use Rattle.vet_base.specs.declared.refusal.Refusal.{Refusal}
+use Rattle.vet_base.specs.declared.refusal.Refusal.TheVariants as refusal
+use Rattle.vet_rows.specs.declared.read.unread.Unread.{Unread}
+use Rattle.vet_rows.specs.declared.read.unread.Unread.TheVariants.{NoMemory, NotARegister}
 
--- if what was read stands for a value, that value is found
-abbrev pub IsReadBack : {A X : Type 0} → (A → X → Type 0) → A → Option X → Type 0
-IsReadBack {A} {X} StandsFor a found = (x : X) → StandsFor a x → found ≡ Some x
+-- ---- what was read
+
+-- this value was read, unless memory ran out
+abbrev pub Reads : {X : Type 0} → Result X Unread → X → Type 0
+Reads result x = MatchResult result (λ found. found ≡ x) (λ e. e ≡ NoMemory)
+
+-- a value was read that is seen as this one
+abbrev pub ReadsAs : {T X : Type 0} → (T → X) → Result T Unread → X → Type 0
+ReadsAs view result x = MatchResult result (λ found. view found ≡ x) (λ e. e ≡ NoMemory)
+
+-- if what was read stands for a value, that value is read
+abbrev pub IsReadBack : {A X : Type 0} → (A → X → Type 0) → A → Result X Unread → Type 0
+IsReadBack {A} {X} StandsFor a result = (x : X) → StandsFor a x → Reads result x
+
+-- what was found, or that nothing was
+abbrev pub found_or_unread : {X : Type 0} → Option X → Result X Unread
+found_or_unread None = Err NotARegister
+found_or_unread (Some x) = Ok x
+
+-- a refusal for want of memory stays one
+abbrev pub unread_of : Refusal → Unread
+unread_of refusal.NoMemory = NoMemory
+unread_of _ = NotARegister
+
+abbrev pub refusal_of : Unread → Refusal
+refusal_of NotARegister = refusal.NotARegister
+refusal_of NoMemory = refusal.NoMemory
+
+-- ---- what stands for it
 
 -- each of one list stands for the one at its place in another
 abbrev pub EachStandsFor : {A X : Type 0} → (A → X → Type 0) → List A → List X → Type 0

@@ -11,35 +11,34 @@ use Rattle.vet_entries.specs.declared.peer_settings.PeerSettings.{PeerSettings}
 use Rattle.vet_entries.specs.declared.publisher.Publisher.{Publisher}
 use Rattle.vet_rows.specs.Columns.{packed_map, peer_of_source}
 use Rattle.vet_rows.specs.EntryRows.{publisher_row, with_kind}
+use Rattle.vet_rows.specs.KindColumns.{KindColumns}
 use Rattle.vet_rows.specs.SettingRows.{criterion_row}
 use Rattle.vet_rows.specs.Values.{AreNames, ArePackages, AreTexts, IsCriterion, IsKind, IsName, IsPackage, IsPublisher}
 use Rattle.vet_rows.specs.Values.{IsSource}
 use Rattle.vet_rows.specs.declared.read.criteria.SourcedCriterion.{SourcedCriterion}
 use Rattle.vet_rows.specs.declared.read.gathered.Filed.{Filed}
-use Rattle.vet_rows.specs.declared.row.CriterionRow.{CriterionRow}
-use Rattle.vet_rows.specs.declared.row.EntryRow.{EntryRow}
-use Rattle.vet_rows.specs.declared.row.PublisherRow.{PublisherRow}
+use Rattle.vet_tables.specs.Cells.{Row}
 
 -- ---- criteria
 
 abbrev pub IsSourcedCriterion : SourcedCriterion → Type 0
 IsSourcedCriterion c = IsSource c.source × IsCriterion c.criterion
 
-abbrev pub sourced_criterion_row : SourcedCriterion → CriterionRow
+abbrev pub sourced_criterion_row : SourcedCriterion → Row
 sourced_criterion_row c = criterion_row (peer_of_source c.source) c.criterion
 
 -- ---- entries
 
--- a row says this of its package, whatever else it says
-abbrev pub IsSaidIn : EntryRow → Kind → Type 0
-IsSaidIn row kind = IsKind kind × ((plain : EntryRow) × (row ≡ with_kind kind plain))
+-- columns say this of a package, whatever stands in those that the kind doesn't use
+abbrev pub IsSaidIn : KindColumns → Kind → Type 0
+IsSaidIn said kind = IsKind kind × ((plain : KindColumns) × (said ≡ with_kind kind plain))
 
 -- ---- publisher records
 
 abbrev pub IsFiledPublisher : Filed Name Publisher → Type 0
 IsFiledPublisher filed = IsPackage filed.key × IsPublisher filed.item
 
-abbrev pub filed_publisher_row : Filed Name Publisher → PublisherRow
+abbrev pub filed_publisher_row : Filed Name Publisher → Row
 filed_publisher_row filed = publisher_row filed.key filed.item
 
 -- ---- peers

@@ -23,10 +23,11 @@ use Rattle.vet_entries.specs.declared.publisher_records.PackagePublishers.{Packa
 use Rattle.vet_rows.specs.EntryRows.{all_entries, package_rows}
 use Rattle.vet_rows.specs.ReadFacts.{IsPeerSettings}
 use Rattle.vet_rows.specs.ReadPeers.{IsHeldPeer}
-use Rattle.vet_rows.specs.Rows.{RowsValue}
 use Rattle.vet_rows.specs.SettingRows.{all_criteria, peer_row}
 use Rattle.vet_rows.specs.Values.{IsCriterion, IsHeldEntry, IsPackage, IsPublisher}
 use Rattle.vet_rows.specs.declared.read.criteria.SourcedCriterion.{SourcedCriterion}
+use Rattle.vet_tables.specs.Cells.{RowsValue}
+use Rattle.vet_tables.specs.declared.table_name.TableName.TheVariants as table
 
 -- ---- facts as they are held
 
@@ -104,7 +105,7 @@ pub record AreItemsOf (criteria : List SourcedCriterion) (entries : List HeldEnt
 
 -- the rows of four tables are those of some facts, in whatever order
 pub record AreRowsOf (rows : RowsValue) (facts : Facts) : Type 0 where
-  pub criteria : SameItems rows.criteria (all_criteria facts)
-  pub entries : SameItems rows.entries (all_entries facts)
-  pub publishers : SameItems rows.publishers (flat_map package_rows facts.publishers)
-  pub peers : SameItems rows.peers (map (λ peer. peer_row peer.settings) facts.peers)
+  pub criteria : SameItems (rows table.Criteria) (all_criteria facts)
+  pub entries : SameItems (rows table.Entries) (all_entries facts)
+  pub publishers : SameItems (rows table.Publishers) (flat_map package_rows facts.publishers)
+  pub peers : SameItems (rows table.Peers) (map (λ peer. peer_row peer.settings) facts.peers)

@@ -1,7 +1,9 @@
 -- For what facts parts stand that were read (ours).
-use Rattle.std.specs.Prelude.{◌≡◌, Option, Some, None}
+use Rattle.std.specs.Prelude.{◌≡◌, MatchResult, Result}
 use Rattle.vet_entries.specs.Facts.{Facts}
 use Rattle.vet_rows.specs.declared.read.facts.Parts.{Parts}
+use Rattle.vet_rows.specs.declared.read.unread.Unread.{Unread}
+use Rattle.vet_rows.specs.declared.read.unread.Unread.TheVariants.{NoMemory}
 
 -- all of some facts but the publisher records
 pub record ArePartsOfFacts (parts : Parts) (facts : Facts) : Type 0 where
@@ -9,7 +11,6 @@ pub record ArePartsOfFacts (parts : Parts) (facts : Facts) : Type 0 where
   pub entries : parts.entries.items ≡ facts.entries
   pub peers : parts.peers.items ≡ facts.peers
 
--- they are found
-abbrev pub AreFound : Option Parts → Facts → Type 0
-AreFound None facts = ⊥
-AreFound (Some parts) facts = ArePartsOfFacts parts facts
+-- they are read, unless memory ran out
+abbrev pub AreFound : Result Parts Unread → Facts → Type 0
+AreFound result facts = MatchResult result (λ parts. ArePartsOfFacts parts facts) (λ e. e ≡ NoMemory)

@@ -1,5 +1,5 @@
 -- What the rows of nodes and edges tell (ours).
-use Rattle.std.specs.Prelude.{◌≡◌, List, map}
+use Rattle.std.specs.Prelude.{◌≡◌, List, [], ◌∷◌, map}
 use Rattle.std.specs.List.{All, flat_map}
 use Rattle.std.specs.Ordering.{nat_cmp}
 use Rattle.std.specs.Cmp.Lexicographic.{slice_cmp}
@@ -21,15 +21,15 @@ use Rattle.vet_rows.specs.Values.{IsPackage}
 use Rattle.vet_rows.specs.declared.read.gathered.Filed.{Filed}
 use Rattle.vet_rows.specs.declared.read.projects.End.{End}
 use Rattle.vet_rows.specs.declared.read.projects.Ends.{Ends}
-use Rattle.vet_rows.specs.declared.row.EdgeRow.{EdgeRow}
-use Rattle.vet_rows.specs.declared.row.NodeRow.{NodeRow}
+use Rattle.vet_tables.specs.Cells.{Row}
+use Rattle.vet_tables.specs.declared.cell.Cell.TheVariants.{Int, Text}
 
 -- ---- nodes
 
 abbrev pub IsFiledNode : Filed Name Node → Type 0
 IsFiledNode filed = IsPackage filed.key × IsNode filed.item
 
-abbrev pub filed_node_row : Filed Name Node → NodeRow
+abbrev pub filed_node_row : Filed Name Node → Row
 filed_node_row filed = node_row filed.key filed.item
 
 -- the nodes of a project, under its name
@@ -44,15 +44,11 @@ IsEnd end = IsPackage end.«package» × IsVersion end.version
 abbrev pub IsFiledEnds : Filed Name Ends → Type 0
 IsFiledEnds filed = IsPackage filed.key × (IsEnd filed.item.from × IsEnd filed.item.to)
 
-abbrev pub filed_ends_row : Filed Name Ends → EdgeRow
-filed_ends_row filed = record {
-  project = filed.key;
-  from_name = filed.item.from.«package»;
-  from_version = version_text filed.item.from.version;
-  to_name = filed.item.to.«package»;
-  to_version = version_text filed.item.to.version;
-  kind = pos (kind_place filed.item.kind);
-}
+abbrev pub filed_ends_row : Filed Name Ends → Row
+filed_ends_row filed =
+    Text filed.key ∷ Text filed.item.from.«package» ∷ Text (version_text filed.item.from.version)
+    ∷ Text filed.item.to.«package» ∷ Text (version_text filed.item.to.version) ∷ Int (pos (kind_place filed.item.kind))
+    ∷ []
 
 -- the end that is a node, and the ends of an edge between nodes
 abbrev pub end_of : Node → End

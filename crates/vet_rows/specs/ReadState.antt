@@ -6,11 +6,11 @@ use Rattle.vet_desk.specs.Desk.{DeskState}
 use Rattle.vet_entries.specs.Facts.{Facts}
 use Rattle.vet_register.specs.State.{State}
 use Rattle.vet_register.specs.declared.moves.RecordedMove.{RecordedMove}
-use Rattle.vet_rows.specs.declared.read.single.Single.{Single}
+use Rattle.vet_rows.specs.declared.meta.Meta.{Meta}
 
 -- all of which a state has just one
-abbrev pub single_in : State → Single
-single_in s = record {
+abbrev pub meta_in : State → Meta
+meta_in s = record {
   numbers = record {
     step = s.step;
     next_entry = s.next_entry;
@@ -22,13 +22,13 @@ single_in s = record {
 }
 
 -- the state of these parts
-abbrev pub state_in : Single → Facts → List KeyedPolicy → List NamedProject → DeskState → List RecordedMove → State
-state_in single facts policies projects desk moves = record {
-  held = record { facts = facts; policies = policies; projects = projects; settings = single.settings };
+abbrev pub state_in : Meta → Facts → List KeyedPolicy → List NamedProject → DeskState → List RecordedMove → State
+state_in meta facts policies projects desk moves = record {
+  held = record { facts = facts; policies = policies; projects = projects; settings = meta.settings };
   desk = desk;
-  step = single.numbers.step;
-  next_entry = single.numbers.next_entry;
-  moves_limit = single.numbers.moves_limit;
-  first = single.first;
+  step = meta.numbers.step;
+  next_entry = meta.numbers.next_entry;
+  moves_limit = meta.numbers.moves_limit;
+  first = meta.first;
   moves = moves;
 }

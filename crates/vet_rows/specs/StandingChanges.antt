@@ -1,5 +1,5 @@
 -- The rows of the standing and of moves that go and that come by what is recorded (ours).
-use Rattle.std.specs.Prelude.{◌≡◌, Bool, List, [], filter, is_none, is_some, map}
+use Rattle.std.specs.Prelude.{◌≡◌, Bool, List, [], ◌∷◌, filter, is_none, is_some, map}
 use Rattle.vet_base.specs.Items.{IsIn}
 use Rattle.vet_base.specs.Version.{version_text}
 use Rattle.vet_graph.specs.declared.moves.Move.{Move}
@@ -8,12 +8,13 @@ use Rattle.vet_register.specs.declared.moves.Recording.{Recording}
 use Rattle.vet_register.specs.declared.moves.Recording.TheVariants.{Behind, Anew}
 use Rattle.vet_rows.specs.Columns.{class_or_none}
 use Rattle.vet_rows.specs.StandingRows.{move_row}
-use Rattle.vet_rows.specs.declared.row.MoveRow.{MoveRow}
-use Rattle.vet_rows.specs.declared.row.StandingRow.{StandingRow}
-use Rattle.vet_rows.specs.declared.row_change.Row.{Row}
-use Rattle.vet_rows.specs.declared.row_change.Row.TheVariants as row
 use Rattle.vet_rows.specs.declared.row_change.RowChange.{RowChange}
 use Rattle.vet_rows.specs.declared.row_change.RowChange.TheVariants.{Put, Drop}
+use Rattle.vet_tables.specs.Cells.{Row}
+use Rattle.vet_tables.specs.declared.cell.Cell.{Cell}
+use Rattle.vet_tables.specs.declared.cell.Cell.TheVariants.{Int, Text}
+use Rattle.vet_tables.specs.declared.table_name.TableName.{TableName}
+use Rattle.vet_tables.specs.declared.table_name.TableName.TheVariants as table
 
 -- the moves that are recorded
 abbrev pub recorded_moves : Recording → List RecordedMove
@@ -21,13 +22,10 @@ recorded_moves (Behind more) = more.items
 recorded_moves (Anew counts) = []
 
 -- the row of a pair after a recorded move; where it isn't demanded any more, with the class of none
-abbrev pub moved_row : RecordedMove → StandingRow
-moved_row m = record {
-  «package» = m.change.pair.«package»;
-  version = version_text m.change.pair.version;
-  criterion = m.change.pair.criterion;
-  class = class_or_none m.change.after;
-}
+abbrev pub moved_row : RecordedMove → Row
+moved_row m =
+    Text m.change.pair.«package» ∷ Text (version_text m.change.pair.version) ∷ Text m.change.pair.criterion
+    ∷ Int (class_or_none m.change.after) ∷ []
 
 -- a pair isn't demanded any more; a pair stands
 abbrev pub leaves : RecordedMove → Bool
@@ -36,33 +34,32 @@ leaves m = is_none m.change.after
 abbrev pub stands : RecordedMove → Bool
 stands m = is_some m.change.after
 
-abbrev pub standing_going : Recording → List StandingRow
+abbrev pub standing_going : Recording → List Row
 standing_going recording = map moved_row (filter leaves (recorded_moves recording))
 
-abbrev pub standing_coming : Recording → List StandingRow
+abbrev pub standing_coming : Recording → List Row
 standing_coming recording = map moved_row (filter stands (recorded_moves recording))
 
-abbrev pub moves_going : Recording → List RecordedMove → List MoveRow
+abbrev pub moves_going : Recording → List RecordedMove → List Row
 moves_going (Behind more) moves = []
 moves_going (Anew counts) moves = map move_row moves
 
-abbrev pub moves_coming : Recording → List MoveRow
+abbrev pub moves_coming : Recording → List Row
 moves_coming recording = map move_row (recorded_moves recording)
 
 -- ---- whose rows these are
 
--- a row is that of the pair of one of some moves
-abbrev pub IsOfMove : List Move → StandingRow → Type 0
-IsOfMove moves r = (m : Move) × (IsIn m moves
-    × ((r.«package» ≡ m.pair.«package»)
-    × ((r.version ≡ version_text m.pair.version) × (r.criterion ≡ m.pair.criterion))))
+-- a row is that of the pair of one of some moves, in whatever class
+abbrev pub IsOfMove : List Move → Row → Type 0
+IsOfMove moves r = (m : Move) × (IsIn m moves × ((class : Cell)
+    × (r ≡ Text m.pair.«package» ∷ Text (version_text m.pair.version) ∷ Text m.pair.criterion ∷ class ∷ [])))
 
 -- a row of the standing is so; of the other tables nothing is asked
-abbrev pub RowIsOfMoves : List Move → Row → Type 0
-RowIsOfMoves moves (row.Standing r) = IsOfMove moves r
-RowIsOfMoves moves _ = Unit {0}
+abbrev pub RowIsOfMoves : List Move → TableName → Row → Type 0
+RowIsOfMoves moves table.Standing r = IsOfMove moves r
+RowIsOfMoves moves _ r = Unit {0}
 
 -- so is the row that a change puts or takes out
 abbrev pub IsOfMoves : List Move → RowChange → Type 0
-IsOfMoves moves (Put r) = RowIsOfMoves moves r
-IsOfMoves moves (Drop r) = RowIsOfMoves moves r
+IsOfMoves moves (Put table r) = RowIsOfMoves moves table r
+IsOfMoves moves (Drop table r) = RowIsOfMoves moves table r

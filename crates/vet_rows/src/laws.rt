@@ -3,16 +3,17 @@ ghost use Rattle.std.specs.Prelude.{◌≡◌, IfErr, OnOk};
 ghost use Rattle.vet_rows.specs.HeldState.{AreOfOneState, SameButStanding};
 ghost use Rattle.vet_rows.specs.PackedLaws.{PackedOnce, ValuesAreReadBack};
 ghost use Rattle.vet_rows.specs.RowsOf.{rows_of};
+ghost use Rattle.vet_tables.specs.Cells.{rows_in};
 
 use crate::held_register::register_is_held;
 use crate::packed_item::PackedItem;
-use crate::rows::Rows;
 use crate::rows_of::rows_of;
 use crate::state_of::state_of;
 use std::alloc::Global;
 use vet_base::refusal::Refusal;
 use vet_graph::keeper::Keeper;
 use vet_register::register::Register;
+use vet_tables::rows::Rows;
 
 /// Two lists of values that a column keeps as the same bytes are the same list. Does nothing.
 pub fn packed_lists_are_read_back()
@@ -26,7 +27,7 @@ pub fn values_are_read_back<T: PackedItem>()
 
 /// Rows are those of one sound state at most, as far as there is memory to read them. Refused as `state_of` is.
 pub fn rows_are_of_one_state(alloc: Global, rows: &Rows) -> Result<(), Refusal>
-    ensures { OnOk result (AreOfOneState rows.now) }
+    ensures { OnOk result (AreOfOneState (rows_in rows.now)) }
 {
     match state_of(alloc, rows) {
         Ok(_) => Ok(()),

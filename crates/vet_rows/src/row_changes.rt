@@ -9,22 +9,24 @@
 //!
 //! Two rows of a state never have the same key. That rests on their texts: what a key's text is read as is what it is
 //! of, and no peer has the empty name, which stands for oneself (`key_texts`).
-ghost use Rattle.std.specs.Prelude.{◌≡◌, ◌++◌, ◌∷◌, [], IfErr, IfOk, OnOk};
+ghost use Rattle.std.specs.Prelude.{◌≡◌, ◌++◌, IfErr, IfOk, OnOk};
 ghost use Rattle.vet_base.specs.Items.{IsIn};
 ghost use Rattle.vet_register.specs.Changes.{changed};
 ghost use Rattle.vet_register.specs.Machine.{CommandValue, moves_of, next};
 ghost use Rattle.vet_register.specs.RegisterView.{IsPrepared};
-ghost use Rattle.vet_rows.specs.ChangedRows.{members_coming, rows_come, rows_coming, rows_going, rows_left};
+ghost use Rattle.vet_rows.specs.ChangedRows.{members_coming, members_going, reviews_coming, reviews_going};
+ghost use Rattle.vet_rows.specs.ChangedRows.{rows_come, rows_coming, rows_going, rows_left};
 ghost use Rattle.vet_rows.specs.ComingNumbers.{NumbersComingFit};
 ghost use Rattle.vet_rows.specs.KeyTexts.{AreRead};
 ghost use Rattle.vet_rows.specs.Numbers.{CountsFit};
 ghost use Rattle.vet_rows.specs.RowChanges.{all_changed};
-ghost use Rattle.vet_rows.specs.RowExchanges.{desk_exchanges, exchanges, fact_exchanges, project_exchanges};
-ghost use Rattle.vet_rows.specs.RowExchanges.{standing_exchanges};
+ghost use Rattle.vet_rows.specs.RowExchanges.{exchange, exchanges};
 ghost use Rattle.vet_rows.specs.RowsOf.{rows_of};
-ghost use Rattle.vet_rows.specs.SameRows.{SameRows};
 ghost use Rattle.vet_rows.specs.StandingChanges.{IsOfMoves};
+ghost use Rattle.vet_rows.specs.FitChanges.{Fits};
 ghost use Rattle.vet_rows.specs.declared.row_change.RowChange.{RowChange};
+ghost use Rattle.vet_tables.specs.Cells.{SameRows};
+ghost use Rattle.vet_tables.specs.Forms.{tables};
 
 mod desk_changes;
 mod exchange;
@@ -35,9 +37,8 @@ mod keyed_items;
 mod meta_change;
 mod standing_changes;
 
-use crate::row::{MemberRow, MetaRow, ReviewRow};
 use crate::row_change::RowChange;
-use crate::row_changes::exchange::{push_difference, push_exchange};
+use crate::row_changes::exchange::{is_compared, push_difference, push_exchange};
 use crate::row_changes::held_changes::{
     criteria_coming, criteria_going, edges_coming, edges_going, entries_coming, entries_going,
     nodes_coming, nodes_going, peers_coming, peers_going, policies_coming, policies_going,
@@ -52,7 +53,7 @@ use crate::row_changes::standing_changes::{
     moves_going, recorded_moves, standing_coming, standing_going,
 };
 use crate::rows_of::meta_rows::{counts_fit, numbers_fit};
-use crate::rows_of::standing_rows::all_moves;
+use crate::rows_of::to_row::rows_each;
 use std::alloc::{AllocError, Global};
 use vet_base::refusal::Refusal;
 use vet_demand::laws::demand_is_least;
@@ -60,6 +61,8 @@ use vet_graph::keeper::Keeper;
 use vet_graph::laws::moves_are_differences;
 use vet_register::change::Change;
 use vet_register::register::Register;
+use vet_tables::sequence::Row;
+use vet_tables::table_name::{TableName, table_at};
 
 /// The changes of rows that a change makes which this register prepared on this state. Costs a look at each row that
 /// goes or comes, and at each demanded pair, policy and peer. Refused: `NoMemory`.
@@ -77,6 +80,7 @@ pub fn row_changes<K: Keeper>(
         → IsPrepared K.keeping register.now command change.now
         → (c : RowChange) → IsIn c changes.items
         → IsOfMoves (moves_of register.now.state command.day command.action) c) }
+    ensures fit { IfOk result (λ changes. (c : RowChange) → IsIn c changes.items → Fits c) }
     ensures memory { IfErr result (λ e. e ≡ Refusal.NoMemory) }
 {
     moves_are_differences();
@@ -115,7 +119,7 @@ fn counts_fit_after<K: Keeper>(register: &Register<K>, change: &Change<K>)
     let _ = register.demand();
 }
 
-// The changes of all tables.
+// The changes of all tables, one after the other.
 fn exchanges<K: Keeper>(
     alloc: Global,
     register: &Register<K>,
@@ -123,105 +127,88 @@ fn exchanges<K: Keeper>(
 ) -> Result<Vec<RowChange>, AllocError>
     requires numbers { NumbersComingFit register.now.state change.now }
     ensures { IfOk result (λ changes. changes.items
-        ≡ exchanges (rows_left register.now.state change.now) (rows_come register.now.state change.now)) }
+        ≡ exchanges tables (rows_left register.now.state change.now) (rows_come register.now.state change.now)) }
 {
     let mut changes = Vec::new(alloc);
-    push_facts(alloc, &mut changes, register, change)?;
-    push_projects(alloc, &mut changes, register, change)?;
-    push_standing(alloc, &mut changes, register, change)?;
-    push_desk(alloc, &mut changes, register, change)?;
+    'tables: for at in 0..12 {
+        push_table(alloc, &mut changes, register, change, table_at(at))?;
+    }
     Ok(changes)
 }
 
-// Adds the changes of criteria, entries, publishers and peers.
-fn push_facts<K: Keeper>(
+// Adds the changes of a table.
+fn push_table<K: Keeper>(
     alloc: Global,
     changes: &mut Vec<RowChange>,
     register: &Register<K>,
     change: &Change<K>,
+    table: TableName,
 ) -> Result<(), AllocError>
     requires { NumbersComingFit register.now.state change.now }
-    ensures { OnOk result (changes.new.items ≡ changes.old.items
-        ++ fact_exchanges (rows_left register.now.state change.now) (rows_come register.now.state change.now)) }
+    ensures { OnOk result (changes.new.items ≡ changes.old.items ++ exchange table
+        (rows_left register.now.state change.now table) (rows_come register.now.state change.now table)) }
 {
-    let edit = change.edit();
-    let going = criteria_going(alloc, edit, register)?;
-    let coming = criteria_coming(alloc, edit)?;
-    push_exchange(changes, going, coming)?;
-    let going = entries_going(alloc, edit, register)?;
-    let coming = entries_coming(alloc, edit)?;
-    push_difference(alloc, changes, going, coming)?;
-    let going = publishers_going(alloc, edit, register)?;
-    let coming = publishers_coming(alloc, edit)?;
-    push_difference(alloc, changes, going, coming)?;
-    let going = peers_going(alloc, edit, register)?;
-    let coming = peers_coming(alloc, edit)?;
-    push_exchange(changes, going, coming)
+    let going = rows_going(alloc, register, change, table)?;
+    let coming = rows_coming(alloc, register, change, table)?;
+    if is_compared(table) {
+        return push_difference(alloc, changes, table, going, coming);
+    }
+    push_exchange(changes, table, going, coming)
 }
 
-// Adds the changes of policies, nodes and edges.
-fn push_projects<K: Keeper>(
+// The rows of a table that go.
+fn rows_going<K: Keeper>(
     alloc: Global,
-    changes: &mut Vec<RowChange>,
     register: &Register<K>,
     change: &Change<K>,
-) -> Result<(), AllocError>
-    ensures { OnOk result (changes.new.items ≡ changes.old.items
-        ++ project_exchanges (rows_left register.now.state change.now) (rows_come register.now.state change.now)) }
-{
-    let edit = change.edit();
-    let going = policies_going(alloc, edit, register)?;
-    let coming = policies_coming(alloc, edit)?;
-    push_exchange(changes, going, coming)?;
-    let going = nodes_going(alloc, edit, register)?;
-    let coming = nodes_coming(alloc, edit)?;
-    push_difference(alloc, changes, going, coming)?;
-    let going = edges_going(alloc, edit, register)?;
-    let coming = edges_coming(alloc, edit)?;
-    push_difference(alloc, changes, going, coming)
-}
-
-// Adds the changes of the standing and of moves.
-fn push_standing<K: Keeper>(
-    alloc: Global,
-    changes: &mut Vec<RowChange>,
-    register: &Register<K>,
-    change: &Change<K>,
-) -> Result<(), AllocError>
-    requires { NumbersComingFit register.now.state change.now }
-    ensures { OnOk result (changes.new.items ≡ changes.old.items
-        ++ standing_exchanges (rows_left register.now.state change.now) (rows_come register.now.state change.now)) }
+    table: TableName,
+) -> Result<Vec<Row>, AllocError>
+    ensures { IfOk result (λ rows. rows.items ≡ rows_going register.now.state change.now table) }
 {
     numbers_fit(register);
-    let more = recorded_moves(change.recording());
-    let going = standing_going(alloc, more)?;
-    let coming = standing_coming(alloc, more)?;
-    push_exchange(changes, going, coming)?;
-    let going = moves_going(alloc, change.recording(), register.moves())?;
-    let coming = all_moves(alloc, more)?;
-    push_exchange(changes, going, coming)
+    let edit = change.edit();
+    match table {
+        TableName::Meta => Ok(Vec::new(alloc)),
+        TableName::Criteria => criteria_going(alloc, edit, register),
+        TableName::Entries => entries_going(alloc, edit, register),
+        TableName::Publishers => publishers_going(alloc, edit, register),
+        TableName::Policies => policies_going(alloc, edit, register),
+        TableName::Peers => peers_going(alloc, edit, register),
+        TableName::Nodes => nodes_going(alloc, edit, register),
+        TableName::Edges => edges_going(alloc, edit, register),
+        TableName::Standing => standing_going(alloc, recorded_moves(change.recording())),
+        TableName::Moves => moves_going(alloc, change.recording(), register.moves()),
+        TableName::Members => members_going(alloc, register, change),
+        TableName::Reviews => reviews_going(alloc, register, change),
+    }
 }
 
-// Adds the changes of the one row of `meta`, of members and of reviews.
-fn push_desk<K: Keeper>(
+// The rows of a table that come.
+fn rows_coming<K: Keeper>(
     alloc: Global,
-    changes: &mut Vec<RowChange>,
     register: &Register<K>,
     change: &Change<K>,
-) -> Result<(), AllocError>
+    table: TableName,
+) -> Result<Vec<Row>, AllocError>
     requires { NumbersComingFit register.now.state change.now }
-    ensures { OnOk result (changes.new.items ≡ changes.old.items
-        ++ desk_exchanges (rows_left register.now.state change.now) (rows_come register.now.state change.now)) }
+    ensures { IfOk result (λ rows. rows.items ≡ rows_coming register.now.state change.now table) }
 {
-    let mut coming = Vec::new(alloc);
-    coming.push(meta_row_after(alloc, register, change)?)?;
-    push_exchange(changes, Vec::new(alloc), coming)?;
-    let going = members_going(alloc, register, change)?;
-    let coming = members_coming(alloc, change)?;
-    push_exchange(changes, going, coming)?;
-    let going = reviews_going(alloc, register, change)?;
-    let coming = reviews_coming(alloc, register, change)?;
-    push_exchange(changes, going, coming)
+    let edit = change.edit();
+    let more = recorded_moves(change.recording());
+    match table {
+        TableName::Meta => Ok(vec![in alloc; meta_row_after(alloc, register, change)?]?),
+        TableName::Criteria => criteria_coming(alloc, edit),
+        TableName::Entries => entries_coming(alloc, edit),
+        TableName::Publishers => publishers_coming(alloc, edit),
+        TableName::Policies => policies_coming(alloc, edit),
+        TableName::Peers => peers_coming(alloc, edit),
+        TableName::Nodes => nodes_coming(alloc, edit),
+        TableName::Edges => edges_coming(alloc, edit),
+        TableName::Standing => standing_coming(alloc, more),
+        TableName::Moves => rows_each(alloc, more),
+        TableName::Members => members_coming(alloc, change),
+        TableName::Reviews => reviews_coming(alloc, register, change),
+    }
 }
 
 // The rows of members that go.
@@ -229,8 +216,8 @@ fn members_going<K: Keeper>(
     alloc: Global,
     register: &Register<K>,
     change: &Change<K>,
-) -> Result<Vec<MemberRow>, AllocError>
-    ensures { IfOk result (λ rows. rows.items ≡ (rows_going register.now.state change.now).members) }
+) -> Result<Vec<Row>, AllocError>
+    ensures { IfOk result (λ rows. rows.items ≡ members_going change.now.desk register.now.state.desk) }
 {
     match change.desk() {
         Some(edit) => desk_changes::members_going(alloc, &edit.change, register.desk()),
@@ -239,10 +226,7 @@ fn members_going<K: Keeper>(
 }
 
 // The rows of members that come.
-fn members_coming<K: Keeper>(
-    alloc: Global,
-    change: &Change<K>,
-) -> Result<Vec<MemberRow>, AllocError>
+fn members_coming<K: Keeper>(alloc: Global, change: &Change<K>) -> Result<Vec<Row>, AllocError>
     ensures { IfOk result (λ rows. rows.items ≡ members_coming change.now.desk) }
 {
     match change.desk() {
@@ -256,8 +240,8 @@ fn reviews_going<K: Keeper>(
     alloc: Global,
     register: &Register<K>,
     change: &Change<K>,
-) -> Result<Vec<ReviewRow>, AllocError>
-    ensures { IfOk result (λ rows. rows.items ≡ (rows_going register.now.state change.now).reviews) }
+) -> Result<Vec<Row>, AllocError>
+    ensures { IfOk result (λ rows. rows.items ≡ reviews_going change.now.desk register.now.state.desk) }
 {
     numbers_fit(register);
     match change.desk() {
@@ -273,9 +257,9 @@ fn reviews_coming<K: Keeper>(
     alloc: Global,
     register: &Register<K>,
     change: &Change<K>,
-) -> Result<Vec<ReviewRow>, AllocError>
+) -> Result<Vec<Row>, AllocError>
     requires { NumbersComingFit register.now.state change.now }
-    ensures { IfOk result (λ rows. rows.items ≡ (rows_coming register.now.state change.now).reviews) }
+    ensures { IfOk result (λ rows. rows.items ≡ reviews_coming change.now.desk register.now.state.desk) }
 {
     numbers_fit(register);
     match change.desk() {

@@ -4,7 +4,7 @@
 //!
 //! What else may be given of other rows is not said: whoever has to know compares the rows of what was given. The rows
 //! of `standing` aren't looked at, as the facts say what they are to be.
-ghost use Rattle.std.specs.Prelude.{◌≡◌, ◌⊎◌, IfErr, IfOk, MatchResult, Some, map, option_map};
+ghost use Rattle.std.specs.Prelude.{◌≡◌, ◌⊎◌, IfErr, MatchResult, map};
 ghost use Rattle.std.specs.List.{All};
 ghost use Rattle.vet_base.specs.Gives.{found_or};
 ghost use Rattle.vet_base.specs.Items.{SameItems};
@@ -15,16 +15,20 @@ ghost use Rattle.vet_register.specs.State as machine;
 ghost use Rattle.vet_rows.specs.DeskRows.{member_row, review_row};
 ghost use Rattle.vet_rows.specs.HeldState.{IsHeldState, SameButStanding};
 ghost use Rattle.vet_rows.specs.HeldValues.{IsReview};
+ghost use Rattle.vet_rows.specs.ReadBack.{Reads};
 ghost use Rattle.vet_rows.specs.ReadState.{state_in};
 ghost use Rattle.vet_rows.specs.RowsOf.{rows_of};
 ghost use Rattle.vet_rows.specs.Values.{IsName};
+ghost use Rattle.vet_tables.specs.Cells.{rows_in};
+ghost use Rattle.vet_tables.specs.declared.table_name.TableName.TheVariants as table;
 
+use crate::meta::Meta;
 use crate::read::facts::facts_of;
 use crate::read::lists::{members, policies, reviews};
+use crate::read::meta::read_meta;
 use crate::read::moves::moves;
 use crate::read::projects::projects;
-use crate::read::single::{Single, read_single};
-use crate::rows::Rows;
+use crate::read::unread::{Unread, found};
 use std::alloc::Global;
 use vet_base::keyed::Keyed;
 use vet_base::refusal::Refusal;
@@ -34,15 +38,17 @@ use vet_desk::desk::Desk;
 use vet_entries::facts::EntryFacts;
 use vet_register::moves::RecordedMove;
 use vet_register::state::State;
+use vet_tables::rows::Rows;
+use vet_tables::table_name::TableName;
 
 /// The state of which these are the rows, in whatever order; those of `standing` aren't looked at. Takes a time of
 /// n log n. Refused: `NotARegister`, only where they are the rows of no sound state; and `NoMemory`.
 pub fn state_of(alloc: Global, rows: &Rows) -> Result<State, Refusal>
-    ensures back { (s : machine.State) → IsSound s → IsHeldState s → SameButStanding rows.now (rows_of s)
+    ensures back { (s : machine.State) → IsSound s → IsHeldState s → SameButStanding (rows_in rows.now) (rows_of s)
         → MatchResult result (λ found. found ≡ s) (λ e. e ≡ Refusal.NoMemory) }
     ensures refused { IfErr result (λ e. (e ≡ Refusal.NoMemory) ⊎ (e ≡ Refusal.NotARegister)) }
 {
-    found_register(read_state(alloc, rows)?)
+    Ok(read_state(alloc, rows)?)
 }
 
 /// What was found of a register in its tables, or `NotARegister` where nothing was. Takes no memory.
@@ -52,53 +58,35 @@ pub fn found_register<T>(found: Option<T>) -> Result<T, Refusal>
     found.ok_or(Refusal::NotARegister)
 }
 
-// The state of which these are the rows, if they are those of one.
-fn read_state(alloc: Global, rows: &Rows) -> Result<Option<State>, Refusal>
-    ensures back { IfOk result (λ found. (s : machine.State) → IsSound s → IsHeldState s
-        → SameButStanding rows.now (rows_of s) → found ≡ Some s) }
-    ensures memory { IfErr result (λ e. e ≡ Refusal.NoMemory) }
+// The state of which these are the rows.
+fn read_state(alloc: Global, rows: &Rows) -> Result<State, Unread>
+    ensures { (s : machine.State) → IsSound s → IsHeldState s → SameButStanding (rows_in rows.now) (rows_of s)
+        → Reads result s }
 {
-    let Some(single) = read_single(alloc, rows.meta.as_slice())? else {
-        return Ok(None);
-    };
-    let Some(facts) = facts_of(alloc, rows)? else {
-        return Ok(None);
-    };
-    let Some(policies) = policies(alloc, rows.policies.as_slice())? else {
-        return Ok(None);
-    };
-    let Some(projects) = projects(alloc, rows.nodes.as_slice(), rows.edges.as_slice())? else {
-        return Ok(None);
-    };
-    let Some(desk) = read_desk(alloc, rows, single.numbers.next_review)? else {
-        return Ok(None);
-    };
-    match moves(alloc, rows.moves.as_slice())? {
-        Some(moves) => Ok(Some(made(single, facts, policies, projects, desk, moves))),
-        None => Ok(None),
-    }
+    let meta = read_meta(alloc, rows.of(TableName::Meta))?;
+    let facts = facts_of(alloc, rows)?;
+    let policies = policies(alloc, rows.of(TableName::Policies))?;
+    let projects = projects(alloc, rows.of(TableName::Nodes), rows.of(TableName::Edges))?;
+    let desk = read_desk(alloc, rows, meta.numbers.next_review)?;
+    let moves = moves(alloc, rows.of(TableName::Moves))?;
+    Ok(made(meta, facts, policies, projects, desk, moves))
 }
 
-// The desk of which these are the rows, if they are those of one.
-fn read_desk(alloc: Global, rows: &Rows, next_review: u64) -> Result<Option<Desk>, Refusal>
-    ensures back { IfOk result (λ found. (d : DeskState) → IsSoundDesk d → All IsName d.members → All IsReview d.reviews
-        → SameItems rows.now.members (map member_row d.members)
-        → SameItems rows.now.reviews (map review_row d.reviews)
-        → next_review ≡ d.next_review → option_map (λ desk. desk.content) found ≡ Some d) }
-    ensures memory { IfErr result (λ e. e ≡ Refusal.NoMemory) }
+// The desk of which these are the rows.
+fn read_desk(alloc: Global, rows: &Rows, next_review: u64) -> Result<Desk, Unread>
+    ensures { (d : DeskState) → IsSoundDesk d → All IsName d.members → All IsReview d.reviews
+        → SameItems (rows_in rows.now table.Members) (map member_row d.members)
+        → SameItems (rows_in rows.now table.Reviews) (map review_row d.reviews) → next_review ≡ d.next_review
+        → MatchResult result (λ desk. desk.content ≡ d) (λ e. e ≡ Unread.NoMemory) }
 {
-    let Some(members) = members(alloc, rows.members.as_slice())? else {
-        return Ok(None);
-    };
-    match reviews(alloc, rows.reviews.as_slice())? {
-        Some(reviews) => Ok(Desk::restored(members, reviews, next_review)),
-        None => Ok(None),
-    }
+    let members = members(alloc, rows.of(TableName::Members))?;
+    let reviews = reviews(alloc, rows.of(TableName::Reviews))?;
+    found(Desk::restored(members, reviews, next_review))
 }
 
 // The state of these parts. Takes no memory.
 fn made(
-    single: Single,
+    meta: Meta,
     facts: EntryFacts,
     policies: Keyed<KeyedPolicy>,
     projects: Keyed<NamedProject>,
@@ -106,13 +94,13 @@ fn made(
     moves: Vec<RecordedMove>,
 ) -> State
     ensures { result
-        ≡ state_in single facts.content policies.items projects.items desk.content moves.items }
+        ≡ state_in meta facts.content policies.items projects.items desk.content moves.items }
 {
-    let Single {
+    let Meta {
         numbers,
         first,
         settings,
-    } = single;
+    } = meta;
     State {
         facts,
         policies,

@@ -5,9 +5,7 @@ use Rattle.std.specs.Cmp.Lexicographic.{bytes_decides, pointwise}
 use Rattle.std.specs.FinMap as map
 use Rattle.std.specs.List.{All, Contains, flat_map}
 use Rattle.std.proofs.lemmas.Bool.{cases_Bool}
-use Rattle.sqlite_value.specs.Order.{Row as Cells}
-use Rattle.sqlite_value.specs.declared.value.Value.{Value}
-use Rattle.sqlite_value.specs.declared.value.Value.TheVariants.{Text}
+use Rattle.sqlite_value.specs.declared.value.Value.TheVariants as value
 use Rattle.vet_base.proofs.FurtherLaws.{find_in, in_values}
 use Rattle.vet_base.proofs.ItemLemmas.{filter_in, in_all, in_append, in_map}
 use Rattle.vet_base.proofs.ListLemmas.{Contains-here, Contains-later}
@@ -16,7 +14,7 @@ use Rattle.vet_base.specs.CriteriaChanges.{is_built_in}
 use Rattle.vet_base.specs.FurtherCriteria.{further, is_further}
 use Rattle.vet_base.specs.Items.{IsIn}
 use Rattle.vet_base.specs.Version.{version_text}
-use Rattle.vet_base.specs.Words.{Name}
+use Rattle.vet_base.specs.Words.{Bytes, Name}
 use Rattle.vet_base.specs.declared.criterion.Criterion.{Criterion}
 use Rattle.vet_demand.proofs.DemandLaws.{demand_is_least, demanded_known}
 use Rattle.vet_demand.specs.Needs.{no_node, node_at}
@@ -42,121 +40,121 @@ use Rattle.vet_graph.specs.declared.standing.Stand.{Stand}
 use Rattle.vet_register.specs.Sound.{IsSound}
 use Rattle.vet_register.specs.State.{State, demanded, standing}
 use Rattle.vet_register.specs.declared.moves.RecordedMove.{RecordedMove}
+use Rattle.vet_rows.proofs.FitRows.{rows_fit}
 use Rattle.vet_rows.proofs.ListEdits.{in_flat}
 use Rattle.vet_rows.specs.Columns.{own_peer, peer_of_source}
 use Rattle.vet_rows.specs.DeskRows.{assigned_member, member_row, review_row}
-use Rattle.vet_rows.specs.EntryRows.{all_entries, entry_row, package_rows, peer_entries, plain_row, publisher_row}
-use Rattle.vet_rows.specs.EntryRows.{with_kind}
+use Rattle.vet_rows.specs.EntryRows.{all_entries, entry_row, package_rows, peer_entries, publisher_row, row_saying}
+use Rattle.vet_rows.specs.EntryRows.{unused, with_kind}
 use Rattle.vet_rows.specs.HeldState.{IsHeldState}
 use Rattle.vet_rows.specs.HeldValues.{IsKeyedPolicy, IsNamedProject, IsNode, IsRecordedMove, IsReview, IsReviewState}
+use Rattle.vet_rows.specs.KindColumns.{KindColumns}
 use Rattle.vet_rows.specs.ProjectRows.{edge_row, edge_rows, node_row, node_rows}
 use Rattle.vet_rows.specs.ReadHeld.{AreCriteria, IsPackageValue, IsPeerValue}
-use Rattle.vet_rows.specs.RowsOf.{meta_row, rows_of}
+use Rattle.vet_rows.specs.RowsOf.{rows_of}
 use Rattle.vet_rows.specs.SettingRows.{all_criteria, criterion_row, peer_criteria, peer_row, policy_row}
 use Rattle.vet_rows.specs.StandingRows.{move_row, standing_row}
 use Rattle.vet_rows.specs.Values.{IsCriterion, IsHeldEntry, IsKind, IsName, IsPublisher, IsSource}
-use Rattle.vet_rows.specs.declared.row.CriterionRow.{CriterionRow}
-use Rattle.vet_rows.specs.declared.row.EdgeRow.{EdgeRow}
-use Rattle.vet_rows.specs.declared.row.EntryRow.{EntryRow}
-use Rattle.vet_rows.specs.declared.row.NodeRow.{NodeRow}
-use Rattle.vet_rows.specs.declared.row.PublisherRow.{PublisherRow}
-use Rattle.vet_rows.specs.declared.row.StandingRow.{StandingRow}
 use Rattle.vet_store.proofs.HeldTexts.{key_is_text, name_text, no_text, package_text, plain_text, req_text}
 use Rattle.vet_store.proofs.HeldTexts.{version_is_text}
-use Rattle.vet_store.specs.Cells.{criterion_cells, edge_cells, entry_cells, member_cells, meta_cells}
-use Rattle.vet_store.specs.Cells.{move_cells, node_cells, peer_cells, policy_cells, publisher_cells, review_cells}
-use Rattle.vet_store.specs.Cells.{standing_cells}
 use Rattle.vet_store.specs.Readable.{AreReadable}
+use Rattle.vet_tables.specs.Cells.{Row, value_of, values_of}
 use Rattle.vet_tables.specs.Typed.{IsReadable}
+use Rattle.vet_tables.specs.declared.cell.Cell.{Cell}
+use Rattle.vet_tables.specs.declared.cell.Cell.TheVariants.{Int, Text, Blob}
+use Rattle.vet_tables.specs.declared.table_name.TableName.{TableName}
 use Rattle.vet_tables.specs.declared.table_name.TableName.TheVariants.{Meta, Criteria as CriteriaTable, Entries}
 use Rattle.vet_tables.specs.declared.table_name.TableName.TheVariants.{Publishers, Policies, Peers, Nodes, Edges}
 use Rattle.vet_tables.specs.declared.table_name.TableName.TheVariants.{Standing, Moves, Members, Reviews}
 
 -- ---- cells
 
-abbrev IsTold : Value → Type 0
+abbrev IsTold : Cell → Type 0
 IsTold (Text t) = IsUtf8 t
 IsTold _ = Unit {0}
 
-abbrev AreTold : Cells → Type 0
+abbrev AreTold : Row → Type 0
 AreTold [] = Unit {0}
-AreTold (v ∷ cells) = IsTold v × AreTold cells
+AreTold (cell ∷ row) = IsTold cell × AreTold row
 
-told_at : (cells : Cells) → AreTold cells → IsReadable cells
+told_cell : (cell : Cell) → IsTold cell → (t : Bytes) → value_of cell ≡ value.Text t → IsUtf8 t
+told_cell (Int n) told t is = cc is
+told_cell (Text text) told t is = let same : text ≡ t = cc is in subst IsUtf8 same told
+told_cell (Blob b) told t is = cc is
+
+told_at : (row : Row) → AreTold row → IsReadable (values_of row)
 told_at [] all at t is = cc is
-told_at (v ∷ cells) all zero t is = subst IsTold is all.0
-told_at (v ∷ cells) all (suc at) t is = told_at cells all.1 at t is
+told_at (cell ∷ row) all zero t is = told_cell cell all.0 t is
+told_at (cell ∷ row) all (suc at) t is = told_at row all.1 at t is
 
-told_rows : {R : Type 0} (cells : R → Cells) (rows : List R) → ((r : R) → IsIn r rows → AreTold (cells r)) → (c : Cells)
-    → IsIn c (mapped cells rows) → IsReadable c
-told_rows cells rows each c i =
-    let it = in_map cells rows c i in subst IsReadable (sym it.1.1) (told_at (cells it.0) (each it.0 it.1.0))
+-- the rows of items are told where that of each item is
+each_row : {X : Type 0} (P : X → Type 0) (row : X → Row) → ((x : X) → P x → AreTold (row x)) → (xs : List X) → All P xs
+    → (r : Row) → IsIn r (mapped row xs) → AreTold r
+each_row P row each xs all r i =
+    let it = in_map row xs r i in subst AreTold (sym it.1.1) (each it.0 (in_all P xs all it.0 it.1.0))
 
--- what holds of the rows of some items holds of each row of their list
-each_row : {X R : Type 0} (P : X → Type 0) (Q : R → Type 0) (row : X → R) → ((x : X) → P x → Q (row x)) → (xs : List X)
-    → All P xs → (r : R) → IsIn r (mapped row xs) → Q r
-each_row P Q row each xs all r i =
-    let it = in_map row xs r i in subst Q (sym it.1.1) (each it.0 (in_all P xs all it.0 it.1.0))
-
-each_flat : {X R : Type 0} (P : X → Type 0) (Q : R → Type 0) (rows : X → List R)
-    → ((x : X) → P x → (r : R) → IsIn r (rows x) → Q r) → (xs : List X) → All P xs → (r : R)
-    → IsIn r (flat_map rows xs) → Q r
-each_flat P Q rows each xs all r i =
+each_flat : {X : Type 0} (P : X → Type 0) (rows : X → List Row)
+    → ((x : X) → P x → (r : Row) → IsIn r (rows x) → AreTold r) → (xs : List X) → All P xs → (r : Row)
+    → IsIn r (flat_map rows xs) → AreTold r
+each_flat P rows each xs all r i =
     let it = in_flat rows xs r i in each it.0 (in_all P xs all it.0 it.1.0) r it.1.1
 
 -- ---- rows of what is held
 
 criterion_told : (peer : Name) → IsUtf8 peer → (c : Criterion) → IsCriterion c
-    → AreTold (criterion_cells (criterion_row peer c))
+    → AreTold (criterion_row peer c)
 criterion_told peer text c h = (text, (name_text c.name h.name, (tt, (tt, (tt, tt)))))
 
 source_text : (source : Source) → IsSource source → IsUtf8 (peer_of_source source)
 source_text Own h = no_text
 source_text (Peer name) h = name_text name h
 
-entry_told : (r : EntryRow) → IsUtf8 r.peer → IsUtf8 r.«package» → IsUtf8 r.a → IsUtf8 r.b → AreTold (entry_cells r)
-entry_told r peer of_package a b =
-    (tt, (peer, (of_package, (tt, (a, (b, (tt, (tt, (tt, (tt, (tt, (tt, (tt, (tt, (tt, tt)))))))))))))))
+-- the columns of a kind that are texts
+kind_texts : (k : Kind) → IsKind k → IsUtf8 (with_kind k unused).a × IsUtf8 (with_kind k unused).b
+kind_texts (kind.Full v audit) h = (version_is_text v h.0, no_text)
+kind_texts (kind.Delta d audit) h = (version_is_text d.from h.0.0, version_is_text d.to h.0.1)
+kind_texts (kind.Violation req audit) h = (req_text req h.0, no_text)
+kind_texts (kind.Wildcard w g) h = (no_text, no_text)
+kind_texts (kind.Trusted w) h = (no_text, no_text)
+kind_texts (kind.Exemption v g) h = (version_is_text v h, no_text)
 
-by_kind : (k : Kind) → IsKind k → (r : EntryRow) → IsUtf8 r.peer → IsUtf8 r.«package» → IsUtf8 r.a → IsUtf8 r.b
-    → AreTold (entry_cells (with_kind k r))
-by_kind (kind.Full v audit) h r peer of_package a b =
-    entry_told (with_kind (kind.Full v audit) r) peer of_package (version_is_text v h.0) b
-by_kind (kind.Delta d audit) h r peer of_package a b =
-    entry_told (with_kind (kind.Delta d audit) r) peer of_package (version_is_text d.from h.0.0)
-    (version_is_text d.to h.0.1)
-by_kind (kind.Violation req audit) h r peer of_package a b =
-    entry_told (with_kind (kind.Violation req audit) r) peer of_package (req_text req h.0) b
-by_kind (kind.Wildcard w g) h r peer of_package a b =
-    entry_told (with_kind (kind.Wildcard w g) r) peer of_package a b
-by_kind (kind.Trusted w) h r peer of_package a b = entry_told (with_kind (kind.Trusted w) r) peer of_package a b
-by_kind (kind.Exemption v g) h r peer of_package a b =
-    entry_told (with_kind (kind.Exemption v g) r) peer of_package (version_is_text v h) b
+entry_told : (h : HeldEntry) (said : KindColumns) → IsHeldEntry h → IsUtf8 said.a → IsUtf8 said.b
+    → AreTold (row_saying h said)
+entry_told h said is a b = (
+  tt,
+  (
+    source_text h.entry.source is.source,
+    (
+      package_text h.entry.«package» is.of_package,
+      (tt, (a, (b, (tt, (tt, (tt, (tt, (tt, (tt, (tt, (tt, (tt, tt)))))))))))),
+    ),
+  ),
+)
 
-held_told : (h : HeldEntry) → IsHeldEntry h → AreTold (entry_cells (entry_row h))
+held_told : (h : HeldEntry) → IsHeldEntry h → AreTold (entry_row h)
 held_told h is =
-    by_kind h.entry.kind is.kind (plain_row h) (source_text h.entry.source is.source)
-    (package_text h.entry.«package» is.of_package) no_text no_text
+    let texts = kind_texts h.entry.kind is.kind in
+    entry_told h (with_kind h.entry.kind unused) is texts.0 texts.1
 
 publisher_told : (name : Name) → IsUtf8 name → (p : Publisher) → IsPublisher p
-    → AreTold (publisher_cells (publisher_row name p))
+    → AreTold (publisher_row name p)
 publisher_told name text p h = (text, (version_is_text p.version h.version, (tt, (tt, (tt, (tt, tt))))))
 
-policy_told : (p : KeyedPolicy) → IsKeyedPolicy p → AreTold (policy_cells (policy_row p))
+policy_told : (p : KeyedPolicy) → IsKeyedPolicy p → AreTold (policy_row p)
 policy_told p h = (key_is_text p.key h.key, (tt, (tt, (tt, (tt, (tt, tt))))))
 
-peer_told : (p : HeldPeer) → IsPeerValue p → AreTold (peer_cells (peer_row p.settings))
+peer_told : (p : HeldPeer) → IsPeerValue p → AreTold (peer_row p.settings)
 peer_told p h = (name_text p.settings.name h.settings.name, (tt, (tt, (tt, tt))))
 
 -- ---- rows of projects
 
 node_told : (project : Name) → IsUtf8 project → (node : Node) → IsNode node
-    → AreTold (node_cells (node_row project node))
+    → AreTold (node_row project node)
 node_told project text node h =
     (text, (package_text node.«package» h.of_package, (version_is_text node.version h.version, (tt, tt))))
 
 edge_told : (p : NamedProject) → IsNamedProject p → (e : Edge) → IsNode (node_at p.project.nodes e.from)
-    → IsNode (node_at p.project.nodes e.to) → AreTold (edge_cells (edge_row p.name p.project.nodes e))
+    → IsNode (node_at p.project.nodes e.to) → AreTold (edge_row p.name p.project.nodes e)
 edge_told p h e from to = (
   package_text p.name h.name,
   (
@@ -171,16 +169,16 @@ edge_told p h e from to = (
   ),
 )
 
-edges_told : (p : NamedProject) → IsNamedProject p → (r : EdgeRow) → IsIn r (edge_rows p) → AreTold (edge_cells r)
+edges_told : (p : NamedProject) → IsNamedProject p → (r : Row) → IsIn r (edge_rows p) → AreTold r
 edges_told p h r i =
     let it = in_map (edge_row p.name p.project.nodes) p.project.edges r i in
     let within = in_all (IsWithin (length p.project.nodes)) p.project.edges h.project.within it.0 it.1.0 in
-    subst (λ x. AreTold (edge_cells x)) (sym it.1.1)
+    subst AreTold (sym it.1.1)
     (edge_told p h it.0 (h.nodes it.0.from no_node within.0) (h.nodes it.0.to no_node within.1))
 
 -- ---- rows of moves and of the desk
 
-move_told : (m : RecordedMove) → IsRecordedMove m → AreTold (move_cells (move_row m))
+move_told : (m : RecordedMove) → IsRecordedMove m → AreTold (move_row m)
 move_told m h =
     let pair = m.change.pair in (
       tt,
@@ -193,7 +191,7 @@ move_told m h =
       ),
     )
 
-member_told : (n : Name) → IsName n → AreTold (member_cells (member_row n))
+member_told : (n : Name) → IsName n → AreTold (member_row n)
 member_told n h = (name_text n h, tt)
 
 assigned_text : (state : ReviewState) → IsReviewState state → IsUtf8 (assigned_member state)
@@ -202,7 +200,7 @@ assigned_text (Assigned member) h = name_text member h
 assigned_text (Finished entry) h = no_text
 assigned_text Withdrawn h = no_text
 
-review_told : (r : Review) → IsReview r → AreTold (review_cells (review_row r))
+review_told : (r : Review) → IsReview r → AreTold (review_row r)
 review_told r h = (
   tt,
   (
@@ -270,7 +268,7 @@ module _ (s : State) (sound : IsSound s) (held : IsHeldState s) where
       )
 
   stand_told : (p : Pair) (class : Class) → IsIn p (demanded s)
-      → AreTold (standing_cells (standing_row (record { pair = p; class = class })))
+      → AreTold (standing_row (record { pair = p; class = class }))
   stand_told p class i =
       let node = of_node p i in
       let facts = s.held.facts in
@@ -286,92 +284,63 @@ module _ (s : State) (sound : IsSound s) (held : IsHeldState s) where
         ),
       )
 
-  criteria_told : (r : CriterionRow) → IsIn r (all_criteria s.held.facts) → AreTold (criterion_cells r)
+  criteria_told : (r : Row) → IsIn r (all_criteria s.held.facts) → AreTold r
   criteria_told r i = elim (in_append (mapped (criterion_row own_peer) (further s.held.facts.criteria))
       (flat_map peer_criteria s.held.facts.peers) r i) [
-        | inl own ↦ each_row IsCriterion (λ x. AreTold (criterion_cells x)) (criterion_row own_peer)
+        | inl own ↦ each_row IsCriterion (criterion_row own_peer)
             (criterion_told own_peer no_text) (further s.held.facts.criteria) held.facts.criteria r own
-        | inr theirs ↦ each_flat IsPeerValue (λ x. AreTold (criterion_cells x)) peer_criteria
-            (λ p h. each_row IsCriterion (λ x. AreTold (criterion_cells x)) (criterion_row p.settings.name)
+        | inr theirs ↦ each_flat IsPeerValue peer_criteria
+            (λ p h. each_row IsCriterion (criterion_row p.settings.name)
             (criterion_told p.settings.name (name_text p.settings.name h.settings.name)) (further p.content.table)
             h.criteria) s.held.facts.peers held.facts.peers r theirs
       ]
 
-  entries_told : (r : EntryRow) → IsIn r (all_entries s.held.facts) → AreTold (entry_cells r)
+  entries_told : (r : Row) → IsIn r (all_entries s.held.facts) → AreTold r
   entries_told r i = elim (in_append (mapped entry_row s.held.facts.entries)
       (flat_map peer_entries s.held.facts.peers) r i) [
-        | inl own ↦ each_row IsHeldEntry (λ x. AreTold (entry_cells x)) entry_row held_told s.held.facts.entries
+        | inl own ↦ each_row IsHeldEntry entry_row held_told s.held.facts.entries
             held.facts.entries r own
-        | inr theirs ↦ each_flat IsPeerValue (λ x. AreTold (entry_cells x)) peer_entries
-            (λ p h. each_row IsHeldEntry (λ x. AreTold (entry_cells x)) entry_row held_told p.content.entries h.entries)
+        | inr theirs ↦ each_flat IsPeerValue peer_entries
+            (λ p h. each_row IsHeldEntry entry_row held_told p.content.entries h.entries)
             s.held.facts.peers held.facts.peers r theirs
       ]
 
-  publishers_told : (r : PublisherRow) → IsIn r (flat_map package_rows s.held.facts.publishers)
-      → AreTold (publisher_cells r)
-  publishers_told = each_flat IsPackageValue (λ x. AreTold (publisher_cells x)) package_rows
-      (λ p h. each_row IsPublisher (λ x. AreTold (publisher_cells x)) (publisher_row p.«package»)
+  publishers_told : (r : Row) → IsIn r (flat_map package_rows s.held.facts.publishers)
+      → AreTold r
+  publishers_told = each_flat IsPackageValue package_rows
+      (λ p h. each_row IsPublisher (publisher_row p.«package»)
       (publisher_told p.«package» (package_text p.«package» h.name)) p.publishers h.records)
       s.held.facts.publishers held.facts.publishers
 
-  nodes_told : (r : NodeRow) → IsIn r (flat_map node_rows s.held.projects) → AreTold (node_cells r)
-  nodes_told = each_flat IsNamedProject (λ x. AreTold (node_cells x)) node_rows
-      (λ p h. each_row IsNode (λ x. AreTold (node_cells x)) (node_row p.name)
+  nodes_told : (r : Row) → IsIn r (flat_map node_rows s.held.projects) → AreTold r
+  nodes_told = each_flat IsNamedProject node_rows
+      (λ p h. each_row IsNode (node_row p.name)
       (node_told p.name (package_text p.name h.name)) p.project.nodes h.nodes) s.held.projects held.projects
 
-  standing_told : (r : StandingRow) → IsIn r (mapped standing_row (standing s)) → AreTold (standing_cells r)
+  standing_told : (r : Row) → IsIn r (mapped standing_row (standing s)) → AreTold r
   standing_told r i =
       let stand = in_map standing_row (standing s) r i in
       let pair = in_map (λ p. let t : Stand = record { pair = p; class = class_of_pair s.held.facts p } in t)
       (demanded s) stand.0 stand.1.0 in
-      subst (λ x. AreTold (standing_cells x)) (sym (stand.1.1 ∙ ap standing_row pair.1.1))
+      subst AreTold (sym (stand.1.1 ∙ ap standing_row pair.1.1))
       (stand_told pair.0 (class_of_pair s.held.facts pair.0) pair.1.0)
 
+  rows_told : (n : TableName) (r : Row) → IsIn r (rows_of s n) → AreTold r
+  rows_told Meta r (inl is) =
+      subst AreTold (sym is) (tt, (tt, (tt, (tt, (tt, (tt, (tt, (tt, (tt, (tt, (tt, (tt, (tt, tt)))))))))))))
+  rows_told Meta r (inr none) = absurd none
+  rows_told CriteriaTable r i = criteria_told r i
+  rows_told Entries r i = entries_told r i
+  rows_told Publishers r i = publishers_told r i
+  rows_told Policies r i = each_row IsKeyedPolicy policy_row policy_told s.held.policies held.policies r i
+  rows_told Peers r i =
+      each_row IsPeerValue (λ (p : HeldPeer). peer_row p.settings) peer_told s.held.facts.peers held.facts.peers r i
+  rows_told Nodes r i = nodes_told r i
+  rows_told Edges r i = each_flat IsNamedProject edge_rows edges_told s.held.projects held.projects r i
+  rows_told Standing r i = standing_told r i
+  rows_told Moves r i = each_row IsRecordedMove move_row move_told s.moves held.moves r i
+  rows_told Members r i = each_row IsName member_row member_told s.desk.members held.members r i
+  rows_told Reviews r i = each_row IsReview review_row review_told s.desk.reviews held.reviews r i
+
   pub rows_readable : AreReadable (rows_of s)
-  rows_readable Meta = told_rows meta_cells (meta_row s ∷ []) (λ r i. (
-    tt,
-    (
-      tt,
-      (
-        tt,
-        (
-          tt,
-          (
-            tt,
-            (
-              tt,
-              (
-                tt,
-                (
-                  tt,
-                  (
-                    tt,
-                    (tt, (tt, (tt, (tt, tt)))),
-                  ),
-                ),
-              ),
-            ),
-          ),
-        ),
-      ),
-    ),
-  ))
-  rows_readable CriteriaTable = told_rows criterion_cells (all_criteria s.held.facts) criteria_told
-  rows_readable Entries = told_rows entry_cells (all_entries s.held.facts) entries_told
-  rows_readable Publishers =
-      told_rows publisher_cells (flat_map package_rows s.held.facts.publishers) publishers_told
-  rows_readable Policies = told_rows policy_cells (mapped policy_row s.held.policies)
-      (each_row IsKeyedPolicy (λ x. AreTold (policy_cells x)) policy_row policy_told s.held.policies held.policies)
-  rows_readable Peers = told_rows peer_cells (mapped (λ peer. peer_row peer.settings) s.held.facts.peers)
-      (each_row IsPeerValue (λ x. AreTold (peer_cells x)) (λ (p : HeldPeer). peer_row p.settings) peer_told
-      s.held.facts.peers held.facts.peers)
-  rows_readable Nodes = told_rows node_cells (flat_map node_rows s.held.projects) nodes_told
-  rows_readable Edges = told_rows edge_cells (flat_map edge_rows s.held.projects)
-      (each_flat IsNamedProject (λ x. AreTold (edge_cells x)) edge_rows edges_told s.held.projects held.projects)
-  rows_readable Standing = told_rows standing_cells (mapped standing_row (standing s)) standing_told
-  rows_readable Moves = told_rows move_cells (mapped move_row s.moves)
-      (each_row IsRecordedMove (λ x. AreTold (move_cells x)) move_row move_told s.moves held.moves)
-  rows_readable Members = told_rows member_cells (mapped member_row s.desk.members)
-      (each_row IsName (λ x. AreTold (member_cells x)) member_row member_told s.desk.members held.members)
-  rows_readable Reviews = told_rows review_cells (mapped review_row s.desk.reviews)
-      (each_row IsReview (λ x. AreTold (review_cells x)) review_row review_told s.desk.reviews held.reviews)
+  rows_readable n r i = record { fits = rows_fit s n r i; texts = told_at r (rows_told n r i) }

@@ -1,10 +1,7 @@
-pub mod Among
-pub mod Contents
 pub mod Crashes
 pub mod Exactness
 pub mod HeldRows
 pub mod HeldTexts
-pub mod Keyed
 pub mod Making
 pub mod MemoryFiles
 pub mod OneRows
@@ -19,4 +16,3 @@ pub mod StartRows
 pub mod Steps
 pub mod Tying
 pub mod TypedCells
-pub mod WholeRows

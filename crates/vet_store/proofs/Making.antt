@@ -1,6 +1,6 @@
 -- The tables are made one after another.
-use Rattle.std.proofs.Common.{◌≡◌, [], true, false, IsTrue}
-use Rattle.std.proofs.Common.{refl, sym, subst, ◌∙◌, arith}
+use Rattle.std.proofs.Common.{◌≡◌, true, false, IsTrue}
+use Rattle.std.proofs.Common.{sym, subst, ◌∙◌, arith}
 use Rattle.sqlite.proofs.Callers.{survives_begin}
 use Rattle.sqlite.proofs.StateLemmas.{survives_then}
 use Rattle.sqlite.specs.Held.{Held, state}
@@ -8,12 +8,10 @@ use Rattle.sqlite.specs.State.{HasCleanDisk, IsLive, Shows as ShowsState, State,
 use Rattle.sqlite.specs.Store.{Ghosts}
 use Rattle.sqlite_rules.proofs.ListLemmas.{all_from, all_has}
 use Rattle.sqlite_rules.specs.Lists.{Has}
-use Rattle.vet_rows.specs.Rows.{RowsValue}
 use Rattle.vet_tables.proofs.Making.{in_longer, other_table}
 use Rattle.vet_tables.proofs.TablePlaces.{few}
-use Rattle.vet_store.specs.Cells.{cells_in}
 use Rattle.vet_store.specs.Changes.{Changes}
-use Rattle.vet_store.specs.Committed.{no_rows}
+use Rattle.vet_tables.specs.Cells.{RowsValue, no_rows}
 use Rattle.vet_tables.specs.Has.{HasTables}
 use Rattle.vet_store.specs.Stands.{Holds, Stands}
 use Rattle.vet_tables.specs.Read.{Rests}
@@ -22,25 +20,8 @@ use Rattle.vet_tables.specs.Makes.{MakesTables}
 use Rattle.vet_tables.specs.Extends.{SparesOthers}
 use Rattle.vet_tables.specs.Free.{AreFree}
 use Rattle.vet_tables.specs.declared.table_name.TableName.{TableName}
-use Rattle.vet_tables.specs.declared.table_name.TableName.TheVariants.{Meta, Criteria, Entries, Publishers, Policies}
-use Rattle.vet_tables.specs.declared.table_name.TableName.TheVariants.{Peers}
-use Rattle.vet_tables.specs.declared.table_name.TableName.TheVariants.{Nodes, Edges, Standing, Moves, Members, Reviews}
 
 -- ---- the tables with their first rows
-
-none_in : (n : TableName) → cells_in n no_rows ≡ []
-none_in Meta = refl
-none_in Criteria = refl
-none_in Entries = refl
-none_in Publishers = refl
-none_in Policies = refl
-none_in Peers = refl
-none_in Nodes = refl
-none_in Edges = refl
-none_in Standing = refl
-none_in Moves = refl
-none_in Members = refl
-none_in Reviews = refl
 
 pub fills : (a b c : State) (change : RowsValue → RowsValue) → MakesTables a b 12 → Changes b c change
     → FillsTables a c (change no_rows)
@@ -55,7 +36,7 @@ fills a b c change made changes = record {
       let holds : Holds b.now no_rows = record {
         sound = made.sound sound;
         has = has;
-        shows = λ n. rw (empty n, none_in n) (record {
+        shows = λ n. rw (empty n) (record {
           numbered = record { ints = tt; apart = tt };
           same =
               (λ x i. i, λ x i. i);

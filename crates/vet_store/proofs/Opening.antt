@@ -12,9 +12,7 @@ use Rattle.vet_base.specs.declared.refusal.Refusal.TheVariants.{NoMemory, NotARe
 use Rattle.vet_register.specs.Sound.{IsSound}
 use Rattle.vet_register.specs.State.{State}
 use Rattle.vet_rows.specs.HeldState.{IsHeldState, SameButStanding}
-use Rattle.vet_rows.specs.Rows.{RowsValue}
 use Rattle.vet_rows.specs.RowsOf.{rows_of}
-use Rattle.vet_rows.specs.SameRows.{SameRows}
 use Rattle.vet_store.proofs.HeldRows.{rows_readable}
 use Rattle.vet_store.proofs.OneRows.{one_rows}
 use Rattle.vet_store.proofs.Tying.{leaves_standing}
@@ -22,21 +20,10 @@ use Rattle.vet_store.specs.Opened.{IsStored, IsToldBy}
 use Rattle.vet_store.specs.Stands.{Holds, Stands}
 use Rattle.vet_store.specs.Tied.{IsTied}
 use Rattle.vet_store.specs.Readable.{AreReadable}
+use Rattle.vet_tables.specs.Cells.{RowsValue, SameRows}
 
 but_standing : (a b : RowsValue) → SameRows a b → SameButStanding a b
-but_standing a b h = record {
-  meta = h.meta;
-  criteria = h.criteria;
-  entries = h.entries;
-  publishers = h.publishers;
-  policies = h.policies;
-  peers = h.peers;
-  nodes = h.nodes;
-  edges = h.edges;
-  moves = h.moves;
-  members = h.members;
-  reviews = h.reviews;
-}
+but_standing a b h name apart = h name
 
 -- what reads back each state of these rows, reads the one that they tell
 pub read_is : (rows : RowsValue) (answer : Told State)
@@ -44,11 +31,6 @@ pub read_is : (rows : RowsValue) (answer : Told State)
     → MatchResult answer (λ found. found ≡ s) (λ e. e ≡ NoMemory))
     → (t : State) → IsToldBy rows t → MatchResult answer (λ found. found ≡ t) (λ e. e ≡ NoMemory)
 read_is rows answer back t h = back t h.sound h.held (but_standing rows (rows_of t) h.same)
-
--- another state is not told by rows that differ from those of the one that was read
-pub told_differ : (rows : RowsValue) (read t : State) → read ≡ t → (SameRows rows (rows_of read) → ⊥)
-    → IsToldBy rows t → ⊥
-told_differ rows read t same differ h = differ (subst (λ s. SameRows rows (rows_of s)) (sym same) h.same)
 
 -- a state that is stored is told by the rows that stand in the tables
 pub told_stored : (db : Database) (rows : RowsValue) → Holds db rows → (t : State) → IsStored db t → IsToldBy rows t

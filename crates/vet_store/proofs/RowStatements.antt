@@ -1,27 +1,24 @@
 -- What a statement does to the contents of a table, told of the rows.
-use Rattle.std.proofs.Common.{◌≡◌, inl, inr, ℕ, List, Bool, Ok, Err, Result, OnOk, filter, map, not, sym, ap, subst}
-use Rattle.std.proofs.Common.{◌∙◌}
+use Rattle.std.proofs.Common.{◌≡◌, ◌≤◌, ℕ, inl, inr, List, filter, length, map, not, sym, ap, subst, ◌∙◌, take}
+use Rattle.std.proofs.lemmas.List.{get_or-take, length-map, length-take-le, take-map}
+use Rattle.std.proofs.lemmas.List.FromFn.{fill_by_all}
+use Rattle.std.specs.List.{range_with_len}
 use Rattle.sqlite.specs.State.{State}
-use Rattle.sqlite.specs.declared.error.Error.{Error}
+use Rattle.sqlite.specs.Values.{bound, bound_value}
 use Rattle.sqlite_rules.proofs.ListLemmas.{all_from}
 use Rattle.sqlite_trees.proofs.ListLemmas.{filter-map, filter_same}
-use Rattle.sqlite_value.specs.Order.{Row as Cells}
-use Rattle.vet_rows.specs.RowChanges.{dropped, without}
-use Rattle.vet_rows.specs.RowKeys.{same_criterion, same_edge, same_entry, same_member, same_meta, same_move, same_node}
-use Rattle.vet_rows.specs.RowKeys.{same_peer, same_policy, same_publisher, same_review, same_standing}
-use Rattle.vet_rows.specs.Rows.{RowsValue}
-use Rattle.vet_rows.specs.declared.row_change.Row.{Row}
-use Rattle.vet_rows.specs.declared.row_change.Row.TheVariants as row
-use Rattle.vet_store.proofs.Contents.{added_elsewhere, added_here, dropped_elsewhere}
-use Rattle.vet_store.proofs.Keyed.{keyed_criterion, keyed_edge, keyed_entry, keyed_member, keyed_meta, keyed_move}
-use Rattle.vet_store.proofs.Keyed.{keyed_node, keyed_peer, keyed_policy, keyed_publisher, keyed_review, keyed_standing}
-use Rattle.vet_store.specs.Cells.{cells_in, cells_of, criterion_cells, edge_cells, entry_cells, member_cells}
-use Rattle.vet_store.specs.Cells.{meta_cells, move_cells, node_cells, peer_cells, policy_cells, publisher_cells}
-use Rattle.vet_store.specs.Cells.{review_cells, standing_cells, table_for}
-use Rattle.vet_store.specs.Changes.{Changes, added}
+use Rattle.sqlite_value.specs.Order.{Row as Values, column}
+use Rattle.sqlite_value.specs.Value.{owned}
+use Rattle.sqlite_value.specs.declared.value.Value.TheVariants.{Null}
+use Rattle.sqlite_value.specs.declared.value.ValueRef.{ValueRef}
+use Rattle.vet_store.specs.Changes.{Changes, TellsRow}
 use Rattle.vet_tables.proofs.Effects as effects
 use Rattle.vet_tables.proofs.Effects.{same_contents}
-use Rattle.vet_tables.proofs.TablePlaces.{same_or_other}
+use Rattle.vet_tables.proofs.KeyedRows.{same_key_is}
+use Rattle.vet_tables.proofs.RowForms.{is_wide}
+use Rattle.vet_tables.proofs.TablePlaces.{key_within, same_or_other}
+use Rattle.vet_tables.proofs.TableRows.{added_elsewhere, added_here, dropped_elsewhere, dropped_here}
+use Rattle.vet_tables.specs.Cells.{IsRowOf, Row, RowsValue, added, contents_of, dropped, same_key, value_of, values_of}
 use Rattle.vet_tables.specs.Contents as tables
 use Rattle.vet_tables.specs.Contents.{Contents}
 use Rattle.vet_tables.specs.Form.{TableForm, key_of}
@@ -30,29 +27,8 @@ use Rattle.vet_tables.specs.Keyed.{is_keyed}
 use Rattle.vet_tables.specs.Typed.{AreSorts, kinds_of}
 use Rattle.vet_tables.specs.declared.table_name.TableName.{TableName}
 
-abbrev pub form_for : Row → TableForm
-form_for r = form_of (table_for r)
-
--- the cells of a row have the types of the columns
-pub sorts_for : (r : Row) → AreSorts (kinds_of (form_for r)) (cells_of r)
-sorts_for (row.Meta r) = (tt, (tt, (tt, (tt, (tt, (tt, (tt, (tt, (tt, (tt, (tt, (tt, (tt, tt)))))))))))))
-sorts_for (row.Criterion r) = (tt, (tt, (tt, (tt, (tt, tt)))))
-sorts_for (row.Entry r) = (tt, (tt, (tt, (tt, (tt, (tt, (tt, (tt, (tt, (tt, (tt, (tt, (tt, (tt, (tt, tt)))))))))))))))
-sorts_for (row.Publisher r) = (tt, (tt, (tt, (tt, (tt, (tt, tt))))))
-sorts_for (row.Policy r) = (tt, (tt, (tt, (tt, (tt, (tt, tt))))))
-sorts_for (row.Peer r) = (tt, (tt, (tt, (tt, tt))))
-sorts_for (row.Node r) = (tt, (tt, (tt, (tt, tt))))
-sorts_for (row.Edge r) = (tt, (tt, (tt, (tt, (tt, (tt, tt))))))
-sorts_for (row.Standing r) = (tt, (tt, (tt, (tt, tt))))
-sorts_for (row.Move r) = (tt, (tt, (tt, (tt, (tt, (tt, (tt, tt)))))))
-sorts_for (row.Member r) = (tt, tt)
-sorts_for (row.Review r) = (tt, (tt, (tt, (tt, (tt, (tt, (tt, (tt, tt))))))))
-
-abbrev contents_of : RowsValue → Contents
-contents_of rows = λ name. cells_in name rows
-
 changes_of : (old new : State) (change : Contents → Contents) (next : RowsValue → RowsValue)
-    → ((rows : RowsValue) (n : TableName) → change (contents_of rows) n ≡ cells_in n (next rows))
+    → ((rows : RowsValue) (n : TableName) → change (contents_of rows) n ≡ contents_of (next rows) n)
     → tables.Changes old new change → Changes old new next
 changes_of old new change next same h = record {
   was_open = h.was_open;
@@ -66,61 +42,83 @@ changes_of old new change next same h = record {
 
 -- ---- a row is added
 
-added_is : (r : Row) (rows : RowsValue) (n : TableName)
-    → tables.added (table_for r) (cells_of r) (contents_of rows) n ≡ cells_in n (added r rows)
-added_is r rows n = elim (same_or_other n (table_for r)) [
+added_is : (table : TableName) (row : Row) (rows : RowsValue) (n : TableName)
+    → tables.added table (values_of row) (contents_of rows) n ≡ contents_of (added table row rows) n
+added_is table row rows n = elim (same_or_other n table) [
   | inl same ↦ subst
-      (λ m. tables.added (table_for r) (cells_of r) (contents_of rows) m ≡ cells_in m (added r rows)) (sym same)
-      (effects.added_here (table_for r) (cells_of r) (contents_of rows) ∙ sym (added_here r rows))
-  | inr apart ↦ effects.added_elsewhere n (table_for r) (cells_of r) (contents_of rows) apart
-      ∙ sym (added_elsewhere n r rows apart)
+      (λ m. tables.added table (values_of row) (contents_of rows) m ≡ contents_of (added table row rows) m) (sym same)
+      (effects.added_here table (values_of row) (contents_of rows)
+      ∙ ap (map values_of) (sym (added_here table row rows)))
+  | inr apart ↦ effects.added_elsewhere n table (values_of row) (contents_of rows) apart
+      ∙ ap (map values_of) (sym (added_elsewhere n table row rows apart))
 ]
 
-pub adds : (r : Row) (old new : State) (result : Result ℕ Error)
-    → OnOk result (tables.Changes old new (tables.added (table_for r) (cells_of r)))
-    → OnOk result (Changes old new (added r))
-adds r old new (Err e) h = tt
-adds r old new (Ok count) h =
-    changes_of old new (tables.added (table_for r) (cells_of r)) (added r) (added_is r) h
+pub adds : (table : TableName) (row : Row) (values : Values) (old new : State) → TellsRow table row values
+    → (AreSorts (kinds_of (form_of table)) values → tables.Changes old new (tables.added table values))
+    → Changes old new (added table row)
+adds table row values old new tells h =
+    let sorts = subst (AreSorts (kinds_of (form_of table))) (sym tells.are) tells.fits in
+    changes_of old new (tables.added table (values_of row)) (added table row) (added_is table row)
+    (subst (λ v. tables.Changes old new (tables.added table v)) tells.are (h sorts))
 
 -- ---- a row is dropped
 
-kept : {X : Type 0} (cells : X → Cells) (same : X → X → Bool) (test : Cells → Bool) (r : X)
-    → ((e : X) → test (cells e) ≡ same r e) → (rows : List X)
-    → filter (λ c. not (test c)) (map cells rows) ≡ map cells (without same r rows)
-kept cells same test r agrees rows =
-    filter-map (λ c. not (test c)) cells rows
-    ∙ ap (map cells) (filter_same _ _ rows (all_from _ rows (λ e h. ap not (agrees e))))
+kept : (form : TableForm) (row : Row) (rows : List Row)
+    → filter (λ values. not (is_keyed form (key_of form (values_of row)) values)) (map values_of rows)
+    ≡ map values_of (filter (λ other. not (same_key form row other)) rows)
+kept form row rows =
+    filter-map (λ values. not (is_keyed form (key_of form (values_of row)) values)) values_of rows
+    ∙ ap (map values_of) (filter_same _ _ rows (all_from _ rows (λ other i. ap not (same_key_is form row other))))
 
-dropped_here : (r : Row) (rows : RowsValue)
-    → filter (λ c. not (is_keyed (form_for r) (key_of (form_for r) (cells_of r)) c)) (cells_in (table_for r) rows)
-    ≡ cells_in (table_for r) (dropped r rows)
-dropped_here (row.Meta r) rows = kept meta_cells same_meta _ r (keyed_meta r) rows.meta
-dropped_here (row.Criterion r) rows = kept criterion_cells same_criterion _ r (keyed_criterion r) rows.criteria
-dropped_here (row.Entry r) rows = kept entry_cells same_entry _ r (keyed_entry r) rows.entries
-dropped_here (row.Publisher r) rows = kept publisher_cells same_publisher _ r (keyed_publisher r) rows.publishers
-dropped_here (row.Policy r) rows = kept policy_cells same_policy _ r (keyed_policy r) rows.policies
-dropped_here (row.Peer r) rows = kept peer_cells same_peer _ r (keyed_peer r) rows.peers
-dropped_here (row.Node r) rows = kept node_cells same_node _ r (keyed_node r) rows.nodes
-dropped_here (row.Edge r) rows = kept edge_cells same_edge _ r (keyed_edge r) rows.edges
-dropped_here (row.Standing r) rows = kept standing_cells same_standing _ r (keyed_standing r) rows.standing
-dropped_here (row.Move r) rows = kept move_cells same_move _ r (keyed_move r) rows.moves
-dropped_here (row.Member r) rows = kept member_cells same_member _ r (keyed_member r) rows.members
-dropped_here (row.Review r) rows = kept review_cells same_review _ r (keyed_review r) rows.reviews
-
-dropped_is : (r : Row) (rows : RowsValue) (n : TableName)
-    → tables.dropped (table_for r) (key_of (form_for r) (cells_of r)) (contents_of rows) n ≡ cells_in n (dropped r rows)
-dropped_is r rows n = let key = key_of (form_for r) (cells_of r) in elim (same_or_other n (table_for r)) [
+dropped_is : (table : TableName) (row : Row) (rows : RowsValue) (n : TableName)
+    → tables.dropped table (key_of (form_of table) (values_of row)) (contents_of rows) n
+    ≡ contents_of (dropped table row rows) n
+dropped_is table row rows n = let key = key_of (form_of table) (values_of row) in elim (same_or_other n table) [
   | inl same ↦ subst
-      (λ m. tables.dropped (table_for r) key (contents_of rows) m ≡ cells_in m (dropped r rows)) (sym same)
-      (effects.dropped_here (table_for r) key (contents_of rows) ∙ dropped_here r rows)
-  | inr apart ↦ effects.dropped_elsewhere n (table_for r) key (contents_of rows) apart
-      ∙ sym (dropped_elsewhere n r rows apart)
+      (λ m. tables.dropped table key (contents_of rows) m ≡ contents_of (dropped table row rows) m) (sym same)
+      (effects.dropped_here table key (contents_of rows) ∙ kept (form_of table) row (rows table)
+      ∙ ap (map values_of) (sym (dropped_here table row rows)))
+  | inr apart ↦ effects.dropped_elsewhere n table key (contents_of rows) apart
+      ∙ ap (map values_of) (sym (dropped_elsewhere n table row rows apart))
 ]
 
-pub takes : (r : Row) (old new : State) (result : Result ℕ Error)
-    → OnOk result (tables.Changes old new (tables.dropped (table_for r) (key_of (form_for r) (cells_of r))))
-    → OnOk result (Changes old new (dropped r))
-takes r old new (Err e) h = tt
-takes r old new (Ok count) h =
-    changes_of old new (tables.dropped (table_for r) (key_of (form_for r) (cells_of r))) (dropped r) (dropped_is r) h
+pub takes : (table : TableName) (row : Row) (key : Values) (old new : State)
+    → key ≡ key_of (form_of table) (values_of row) → tables.Changes old new (tables.dropped table key)
+    → Changes old new (dropped table row)
+takes table row key old new is h =
+    changes_of old new (tables.dropped table (key_of (form_of table) (values_of row))) (dropped table row)
+    (dropped_is table row) (subst (λ k. tables.Changes old new (tables.dropped table k)) is h)
+
+-- ---- what a row lends
+
+-- what was lent of the cells of a row tells it
+pub lent_tells : (table : TableName) (row items : Row) (lent cells : List ValueRef) → IsRowOf (form_of table) row
+    → items ≡ row → bound lent ≡ values_of items → cells ≡ lent → TellsRow table row (bound cells)
+lent_tells table row items lent cells fits is told same =
+    record { fits = fits; are = ap bound same ∙ told ∙ ap values_of is }
+
+-- ---- the key of a row
+
+first_columns : (values : Values) (n : ℕ) → n ≤ length values → take n values ≡ map (column values) (range_with_len 0 n)
+first_columns values n within =
+    fill_by_all (column values) (take n values) n Null (length-take-le n values within)
+    (λ k low. get_or-take n values k Null low)
+
+-- a row has as many cells as its table has columns, so the key is among them
+pub wide_enough : (table : TableName) (row : Row) (cells : List ValueRef) → TellsRow table row (bound cells)
+    → (form_of table).key ≤ length cells
+wide_enough table row cells tells =
+    let wide : length cells ≡ length (form_of table).columns =
+    sym (length-map cells (λ v. bound_value (owned v))) ∙ ap length tells.are ∙ length-map row value_of
+    ∙ is_wide (form_of table) row tells.fits in
+    subst (λ n. (form_of table).key ≤ n) (sym wide) (key_within table)
+
+-- the first cells are the key
+pub key_cells_are : (table : TableName) (row : Row) (cells : List ValueRef) → TellsRow table row (bound cells)
+    → bound (take (form_of table).key cells) ≡ key_of (form_of table) (values_of row)
+key_cells_are table row cells tells =
+    let key = (form_of table).key in
+    let within : key ≤ length (bound cells) = subst (λ n. key ≤ n)
+    (sym (length-map cells (λ v. bound_value (owned v)))) (wide_enough table row cells tells) in
+    sym (take-map (λ v. bound_value (owned v)) key cells) ∙ first_columns (bound cells) key within
+    ∙ ap (key_of (form_of table)) tells.are

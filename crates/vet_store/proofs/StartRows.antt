@@ -1,5 +1,5 @@
 -- The rows of a register that holds nothing.
-use Rattle.std.proofs.Common.{◌≡◌, ℕ, List, [], ◌∷◌, ◌++◌, map, ap₂, refl, inl, rules}
+use Rattle.std.proofs.Common.{◌≡◌, ℕ, List, [], ◌∷◌, ◌++◌, map, ap, refl, inl, rules}
 use Rattle.vet_base.specs.Criteria.{built_in_criteria}
 use Rattle.vet_base.specs.declared.criterion.Criterion.{Criterion}
 use Rattle.vet_base.specs.FurtherCriteria.{further}
@@ -11,11 +11,14 @@ use Rattle.vet_entries.specs.Facts.{no_facts}
 use Rattle.vet_graph.specs.StandingOf.{standing_of}
 use Rattle.vet_register.specs.State.{start}
 use Rattle.vet_rows.specs.Columns.{own_peer}
-use Rattle.vet_rows.specs.Rows.{RowsValue}
 use Rattle.vet_rows.specs.RowsOf.{meta_row, rows_of}
 use Rattle.vet_rows.specs.SettingRows.{criterion_row}
 use Rattle.vet_rows.specs.StandingRows.{standing_row}
-use Rattle.vet_store.specs.Committed.{no_rows}
+use Rattle.vet_tables.specs.Cells.{no_rows, put}
+use Rattle.vet_tables.specs.declared.table_name.TableName.{TableName}
+use Rattle.vet_tables.specs.declared.table_name.TableName.TheVariants.{Meta, Criteria, Entries, Publishers, Policies}
+use Rattle.vet_tables.specs.declared.table_name.TableName.TheVariants.{Peers}
+use Rattle.vet_tables.specs.declared.table_name.TableName.TheVariants.{Nodes, Edges, Standing, Moves, Members, Reviews}
 
 nothing_among : {X : Type 0} (xs : List X) → SameItems xs [] → xs ≡ []
 nothing_among [] same = refl
@@ -24,13 +27,23 @@ nothing_among (x ∷ xs) same = absurd (same.0 x (inl refl))
 none_further : further built_in_criteria ≡ []
 none_further = nothing_among (further built_in_criteria) (further_are_defined [] (search rules) (search rules)).0
 
+at_table : NothingIsDemanded → (limit : ℕ) (n : TableName)
+    → rows_of (start limit) n ≡ put Meta (meta_row (start limit)) no_rows n
+at_table law limit Meta = refl
+at_table law limit Criteria =
+    ap (λ (criteria : List Criterion). map (criterion_row own_peer) criteria ++ []) none_further
+at_table law limit Entries = refl
+at_table law limit Publishers = refl
+at_table law limit Policies = refl
+at_table law limit Peers = refl
+at_table law limit Nodes = refl
+at_table law limit Edges = refl
+at_table law limit Standing =
+    ap (λ (demand : List Pair). map standing_row (standing_of no_facts demand)) (law [] built_in_criteria)
+at_table law limit Moves = refl
+at_table law limit Members = refl
+at_table law limit Reviews = refl
+
 -- just the one row of `meta`
-pub start_rows : NothingIsDemanded → (limit : ℕ)
-    → rows_of (start limit) ≡ record no_rows { meta = meta_row (start limit) ∷ [] }
-start_rows law limit =
-    let rows : List Pair → List Criterion → RowsValue = λ demand criteria. record no_rows {
-      meta = meta_row (start limit) ∷ [];
-      criteria = map (criterion_row own_peer) criteria ++ [];
-      standing = map standing_row (standing_of no_facts demand);
-    } in
-    ap₂ rows (law [] built_in_criteria) none_further
+pub start_rows : NothingIsDemanded → (limit : ℕ) → rows_of (start limit) ≡ put Meta (meta_row (start limit)) no_rows
+start_rows law limit = λ i n. at_table law limit n i

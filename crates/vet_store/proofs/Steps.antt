@@ -1,7 +1,6 @@
 -- What a statement inside a transaction does to the rows.
-use Rattle.std.proofs.Common.{◌≡◌, inl, inr, ℕ, List, [], ◌∷◌, ◌++◌, add-one, take-suc, true, false, IsTrue}
-use Rattle.std.proofs.Common.{refl, sym, ap, subst, ◌∙◌, arith, take, length, get_or, ◌<◌}
-use Rattle.std.proofs.Common.{◌+◌}
+use Rattle.std.proofs.Common.{◌≡◌, inl, inr, ℕ, zero, suc, List, [], ◌∷◌, ◌++◌, add-one, take-suc, true, false, IsTrue}
+use Rattle.std.proofs.Common.{refl, sym, ap, subst, ◌∙◌, arith, take, length, get_or, ◌<◌, ◌+◌}
 use Rattle.std.proofs.lemmas.Bool.{true≢false}
 use Rattle.sqlite.proofs.Callers.{survives_begin}
 use Rattle.sqlite.proofs.StateLemmas.{survives_then}
@@ -14,17 +13,17 @@ use Rattle.sqlite.specs.Store.{Ghosts}
 use Rattle.sqlite.specs.declared.error.Error.{Error}
 use Rattle.sqlite_rules.specs.Lists.{Has}
 use Rattle.sqlite_schema.specs.declared.schema.Table.{Table}
-use Rattle.vet_rows.specs.RowChanges.{all_changed, changed, dropped, put}
-use Rattle.vet_rows.specs.Rows.{RowsValue}
-use Rattle.vet_rows.specs.declared.row_change.Row.{Row}
+use Rattle.vet_base.specs.Items.{IsIn}
+use Rattle.vet_rows.specs.RowChanges.{all_changed, changed}
 use Rattle.vet_rows.specs.declared.row_change.RowChange.{RowChange}
-use Rattle.vet_store.proofs.Contents.{put_is}
-use Rattle.vet_store.specs.Changes.{Changes, added}
-use Rattle.vet_tables.specs.Contents.{IsOther, KeepsOthers}
+use Rattle.vet_store.specs.Changes.{Changes}
 use Rattle.vet_store.specs.Committed.{IsAfter}
-use Rattle.vet_tables.specs.Has.{HasTables}
 use Rattle.vet_store.specs.Stands.{Holds, Stands}
+use Rattle.vet_tables.specs.Cells.{Row, RowsValue, added, dropped, put}
+use Rattle.vet_tables.specs.Contents.{IsOther, KeepsOthers}
+use Rattle.vet_tables.specs.Has.{HasTables}
 use Rattle.vet_tables.specs.Read.{Rests}
+use Rattle.vet_tables.specs.declared.table_name.TableName.{TableName}
 
 -- ---- one step after another
 
@@ -50,26 +49,23 @@ changes_then a b c f g one two = record {
       (two.spares (subst HasTables (sym first.schema) has));
 }
 
-pub changes_none : (a : State) → IsTrue a.is_open → IsTrue a.in_transaction → Changes a a (λ rows. rows)
-changes_none a serves inside = record {
-  was_open = serves;
-  is_open = serves;
-  committed = refl;
-  inside = inside;
-  holds = λ rows was. was;
-  spares = λ has. record { schema = refl; rows = λ t there other. refl };
-}
-
 -- a row in place of the one of its key
-pub puts : (r : Row) (a b c : State) → Changes a b (dropped r) → Changes b c (added r) → Changes a c (put r)
-puts r a b c one two = let both = changes_then a b c _ _ one two in record {
+pub puts : (table : TableName) (row : Row) (a b c : State) → Changes a b (dropped table row)
+    → Changes b c (added table row) → Changes a c (put table row)
+puts table row a b c one two = let both = changes_then a b c _ _ one two in record {
   was_open = both.was_open;
   is_open = both.is_open;
   committed = both.committed;
   inside = both.inside;
-  holds = λ rows was. subst (Holds c.now) (put_is r rows) (both.holds rows was);
+  holds = both.holds;
   spares = both.spares;
 }
+
+-- the item at a place is one of the list
+pub in_at : {X : Type 0} (xs : List X) (i : ℕ) (x : X) → i < length xs → x ≡ get_or xs i x → IsIn x xs
+in_at [] i x low is = absurd (omega (arith, low))
+in_at (y ∷ xs) zero x low is = inl is
+in_at (y ∷ xs) (suc i) x low is = inr (in_at xs i x (omega (arith, low)) is)
 
 -- changes made in their order
 pub changed_later : (first : List RowChange) (change : RowChange) (rows : RowsValue)
@@ -92,7 +88,7 @@ changes_more a b c changes change i low one two is =
       is_open = both.is_open;
       committed = both.committed;
       inside = both.inside;
-      holds = λ rows was. rw (same rows) (both.holds rows was);
+      holds = λ rows was. subst (Holds c.now) (sym (same rows)) (both.holds rows was);
       spares = both.spares;
     }
 

@@ -1,5 +1,5 @@
 -- The tables stay tied to the register.
-use Rattle.std.proofs.Common.{◌≡◌, ◌⊎◌, ◌+◌, Bool, false, IsTrue, List, [], ◌∷◌, map, pos, sym, ap, subst, ◌∙◌, inl}
+use Rattle.std.proofs.Common.{◌≡◌, ◌⊎◌, ◌+◌, ℤ, Bool, false, IsTrue, List, [], ◌∷◌, map, pos, sym, ap, subst, ◌∙◌, inl}
 use Rattle.std.proofs.Common.{inr, arith, refl}
 use Rattle.sqlite_trees.specs.Tree.{Trees}
 use Rattle.sqlite.specs.Effect.{Database}
@@ -12,22 +12,17 @@ use Rattle.vet_register.specs.declared.command.Command.{Command}
 use Rattle.vet_register.specs.Machine.{next}
 use Rattle.vet_register.specs.State.{State}
 use Rattle.vet_rows.specs.RowChanges.{all_changed}
-use Rattle.vet_rows.specs.Rows.{RowsValue}
 use Rattle.vet_rows.specs.RowsOf.{meta_row, rows_of}
-use Rattle.vet_rows.specs.SameRows.{SameRows}
-use Rattle.vet_rows.specs.declared.row.MetaRow.{MetaRow}
 use Rattle.vet_rows.specs.declared.row_change.RowChange.{RowChange}
 use Rattle.vet_store.proofs.Steps.{others_same, spares_then}
 use Rattle.vet_store.specs.Beside.{OthersStay}
-use Rattle.vet_store.specs.Cells.{cells_in}
-use Rattle.vet_tables.specs.Contents.{KeepsOthers}
 use Rattle.vet_store.specs.Committed.{AreTreesBeside, AreTreesOf, IsAfter}
 use Rattle.vet_store.specs.Stands.{Holds, Stands}
 use Rattle.vet_store.specs.Tied.{IsTied, IsWritten, Leaves}
-use Rattle.vet_tables.specs.declared.table_name.TableName.{TableName}
-use Rattle.vet_tables.specs.declared.table_name.TableName.TheVariants.{Meta, Criteria, Entries, Publishers}
-use Rattle.vet_tables.specs.declared.table_name.TableName.TheVariants.{Policies, Peers, Nodes, Edges, Standing}
-use Rattle.vet_tables.specs.declared.table_name.TableName.TheVariants.{Moves, Members, Reviews}
+use Rattle.vet_tables.specs.Cells.{Row, RowsValue, SameRows, values_of}
+use Rattle.vet_tables.specs.Contents.{KeepsOthers}
+use Rattle.vet_tables.specs.declared.cell.Cell.TheVariants.{Int}
+use Rattle.vet_tables.specs.declared.table_name.TableName.TheVariants.{Meta}
 
 -- ---- the same rows in whatever order
 
@@ -37,25 +32,11 @@ same_map f xs ys same = (
   λ y i. (let m = in_map f ys y i in subst (λ v. IsIn v (map f xs)) (sym m.1.1) (map_in f xs m.0 (same.1 m.0 m.1.0))),
 )
 
-same_cells : (name : TableName) (a b : RowsValue) → SameRows a b → SameItems (cells_in name a) (cells_in name b)
-same_cells Meta a b same = same_map _ a.meta b.meta same.meta
-same_cells Criteria a b same = same_map _ a.criteria b.criteria same.criteria
-same_cells Entries a b same = same_map _ a.entries b.entries same.entries
-same_cells Publishers a b same = same_map _ a.publishers b.publishers same.publishers
-same_cells Policies a b same = same_map _ a.policies b.policies same.policies
-same_cells Peers a b same = same_map _ a.peers b.peers same.peers
-same_cells Nodes a b same = same_map _ a.nodes b.nodes same.nodes
-same_cells Edges a b same = same_map _ a.edges b.edges same.edges
-same_cells Standing a b same = same_map _ a.standing b.standing same.standing
-same_cells Moves a b same = same_map _ a.moves b.moves same.moves
-same_cells Members a b same = same_map _ a.members b.members same.members
-same_cells Reviews a b same = same_map _ a.reviews b.reviews same.reviews
-
 pub holds_also : (db : Database) (a b : RowsValue) → SameRows a b → Holds db a → Holds db b
 holds_also db a b same h = record {
   sound = h.sound;
   has = h.has;
-  shows = λ name. (let cells = same_cells name a b same in record {
+  shows = λ name. (let cells = same_map values_of (a name) (b name) (same name) in record {
     numbered = (h.shows name).numbered;
     same = (
       λ x i. (h.shows name).same.0 x (cells.1 x i),
@@ -94,16 +75,21 @@ pub written_next : (c : sqlite.State) (change : RowsValue → RowsValue) (rows n
 written_next c change rows next same trees h =
     (h.0, h.1, λ stands. let after = h.2 rows stands in (holds_also h.0 (change rows) next same after.0, after.1))
 
+-- the step that a row of `meta` has
+abbrev step_in : Row → ℤ
+step_in (one ∷ version ∷ Int step ∷ more) = step
+step_in _ = pos 0
+
 -- changes that make the next rows are not none, since the step is another
 pub changes_next : (s : State) (c : Command) (changes : List RowChange)
     → SameRows (all_changed changes (rows_of s)) (rows_of (next s c)) → changes ≡ [] → ⊥
 changes_next s c changes same none =
     let rows = subst (λ cs. SameRows (all_changed cs (rows_of s)) (rows_of (next s c))) none same in
-    by (rows.meta.0 (meta_row s) (inl refl))
+    by ((rows Meta).0 (meta_row s) (inl refl))
   where
     by : IsIn (meta_row s) (meta_row (next s c) ∷ []) → ⊥
     by (inl e) =
-        let steps : pos s.step ≡ pos (s.step + 1) = ap (λ (r : MetaRow). r.step) e in
+        let steps : pos s.step ≡ pos (s.step + 1) = ap step_in e in
         let step : s.step ≡ s.step + 1 = cc in
         omega (arith, step)
     by (inr none) = none

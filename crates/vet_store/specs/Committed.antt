@@ -1,9 +1,9 @@
 -- What a transaction leaves (ours).
-use Rattle.std.specs.Prelude.{◌≡◌, [], ⊤}
+use Rattle.std.specs.Prelude.{◌≡◌, ⊤}
 use Rattle.sqlite.specs.Effect.{Database}
 use Rattle.sqlite.specs.State.{State}
 use Rattle.sqlite_trees.specs.Tree.{Trees}
-use Rattle.vet_rows.specs.Rows.{RowsValue}
+use Rattle.vet_tables.specs.Cells.{RowsValue}
 use Rattle.vet_tables.specs.Contents.{KeepsOthers}
 use Rattle.vet_store.specs.Stands.{Holds, Stands}
 use Rattle.vet_store.specs.declared.change.Stop.{Stop}
@@ -26,19 +26,3 @@ AreTreesBeside before rows trees = (db : Database) × (trees ≡ db.trees) × Ho
 abbrev pub IsAfter : State → (RowsValue → RowsValue) → Trees → Type 0
 IsAfter s change trees = (db : Database) × (trees ≡ db.trees)
     × ((rows : RowsValue) → Stands s rows → Holds db (change rows) × KeepsOthers s.now db)
-
-abbrev pub no_rows : RowsValue
-no_rows = record {
-  meta = [];
-  criteria = [];
-  entries = [];
-  publishers = [];
-  policies = [];
-  peers = [];
-  nodes = [];
-  edges = [];
-  standing = [];
-  moves = [];
-  members = [];
-  reviews = [];
-}

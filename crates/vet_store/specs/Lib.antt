@@ -1,5 +1,4 @@
 pub mod Beside
-pub mod Cells
 pub mod Changes
 pub mod Classes
 pub mod Committed
@@ -15,7 +14,6 @@ pub mod Refusals
 pub mod Repeats
 pub mod RunLaws
 pub mod Runs
-pub mod SomeRows
 pub mod Stands
 pub mod StoreView
 pub mod Tied

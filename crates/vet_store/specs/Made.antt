@@ -3,7 +3,7 @@ use Rattle.std.specs.Prelude.{◌≡◌, IsTrue}
 use Rattle.sqlite.specs.Effect.{Database, IsDatabase}
 use Rattle.sqlite.specs.State.{State}
 use Rattle.sqlite_trees.specs.Tree.{Trees}
-use Rattle.vet_rows.specs.Rows.{RowsValue}
+use Rattle.vet_tables.specs.Cells.{RowsValue}
 use Rattle.vet_store.specs.Stands.{Holds, Stands}
 use Rattle.vet_tables.specs.Read.{Rests}
 use Rattle.vet_store.specs.Tied.{Leaves}

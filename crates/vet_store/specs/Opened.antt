@@ -3,9 +3,8 @@ use Rattle.sqlite.specs.Effect.{Database}
 use Rattle.vet_register.specs.Sound.{IsSound}
 use Rattle.vet_register.specs.State.{State}
 use Rattle.vet_rows.specs.HeldState.{IsHeldState}
-use Rattle.vet_rows.specs.Rows.{RowsValue}
+use Rattle.vet_tables.specs.Cells.{RowsValue, SameRows}
 use Rattle.vet_rows.specs.RowsOf.{rows_of}
-use Rattle.vet_rows.specs.SameRows.{SameRows}
 use Rattle.vet_store.specs.Stands.{Holds}
 
 -- a sound state that can be held, of which these are the rows, in whatever order

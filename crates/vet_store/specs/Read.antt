@@ -1,8 +1,7 @@
 -- Where no rows stand in a table (ours).
 use Rattle.sqlite.specs.Effect.{Database}
-use Rattle.vet_rows.specs.Rows.{RowsValue}
-use Rattle.vet_store.specs.Cells.{cells_in}
 use Rattle.vet_store.specs.Readable.{AreReadable}
+use Rattle.vet_tables.specs.Cells.{RowsValue, contents_of}
 use Rattle.vet_tables.specs.Contents.{Shows}
 use Rattle.vet_tables.specs.Forms.{form_of}
 use Rattle.vet_tables.specs.Has.{HasTable}
@@ -12,4 +11,4 @@ use Rattle.vet_tables.specs.declared.table_name.TableName.{TableName}
 abbrev pub IsUnread : Database → TableName → Type 0
 IsUnread db name =
     (has : HasTable db.schema (form_of name)) (rows : RowsValue) → AreReadable rows
-    → Shows (form_of name) (db.trees has.tree) (cells_in name rows) → ⊥
+    → Shows (form_of name) (db.trees has.tree) (contents_of rows name) → ⊥

@@ -1,11 +1,15 @@
--- Rows whose texts are UTF-8 (ours).
-use Rattle.sqlite_value.specs.Order.{Row as Cells}
+-- Rows as they are read from the tables (ours).
 use Rattle.vet_base.specs.Items.{IsIn}
-use Rattle.vet_rows.specs.Rows.{RowsValue}
-use Rattle.vet_store.specs.Cells.{cells_in}
+use Rattle.vet_tables.specs.Cells.{IsRowOf, Row, RowsValue, values_of}
+use Rattle.vet_tables.specs.Forms.{form_of}
 use Rattle.vet_tables.specs.Typed.{IsReadable}
 use Rattle.vet_tables.specs.declared.table_name.TableName.{TableName}
 
--- each text of the rows is one
+-- a row has the columns of its table, and each text in it is one
+pub record IsReadableRow (table : TableName) (row : Row) : Type 0 where
+  pub fits : IsRowOf (form_of table) row
+  pub texts : IsReadable (values_of row)
+
+-- so has each of the rows
 abbrev pub AreReadable : RowsValue → Type 0
-AreReadable rows = (name : TableName) (cells : Cells) → IsIn cells (cells_in name rows) → IsReadable cells
+AreReadable rows = (table : TableName) (row : Row) → IsIn row (rows table) → IsReadableRow table row

@@ -4,7 +4,7 @@ use Rattle.sqlite_trees.specs.Tree.{Trees}
 use Rattle.sqlite.specs.Effect.{Database}
 use Rattle.sqlite.specs.State.{HasCleanDisk}
 use Rattle.sqlite.specs.State as sqlite
-use Rattle.vet_rows.specs.Rows.{RowsValue}
+use Rattle.vet_tables.specs.Cells.{RowsValue}
 use Rattle.vet_tables.specs.Contents.{KeepsOthers}
 use Rattle.vet_store.specs.Committed.{AreTreesOf}
 use Rattle.vet_store.specs.Stands.{Holds, Stands}

@@ -2,9 +2,13 @@
 ghost use Rattle.std.specs.Prelude.{◌≡◌, ◌⊎◌, [], false, IfErr, IsTrue, OnErr, OnOk};
 ghost use Rattle.sqlite.specs.Held.{state};
 ghost use Rattle.sqlite.specs.State.{HasCleanDisk, Survives};
+ghost use Rattle.vet_base.specs.Items.{IsIn};
+ghost use Rattle.vet_rows.specs.FitChanges.{Fits};
 ghost use Rattle.vet_rows.specs.RowChanges.{all_changed};
+ghost use Rattle.vet_rows.specs.declared.row_change.RowChange.{RowChange as Change};
+ghost use Rattle.vet_tables.specs.Cells.{no_rows};
 ghost use Rattle.vet_tables.specs.Contents.{KeepsOthers};
-ghost use Rattle.vet_store.specs.Committed.{IsAfter, IsBefore, no_rows};
+ghost use Rattle.vet_store.specs.Committed.{IsAfter, IsBefore};
 ghost use Rattle.vet_store.specs.Made.{IsMade};
 ghost use Rattle.vet_tables.specs.Extends.{SparesOthers};
 ghost use Rattle.vet_tables.specs.Free.{AreFree};
@@ -13,6 +17,7 @@ ghost use Rattle.vet_tables.specs.Read.{Rests};
 
 use crate::apply::{apply_all, fill};
 use sqlite::{Alter, Connection, Error};
+use std::alloc::Global;
 use vet_rows::row_change::RowChange;
 
 /// Where the changes stopped. At `Commit` a crash may leave either state.
@@ -22,9 +27,15 @@ pub enum Stop {
     Commit(Error),
 }
 
-/// Makes the changes in one transaction, in their order. All else that the database has stays.
-pub fn commit_changes<S: Alter>(conn: &mut Connection<S>, changes: &[RowChange]) -> Result<(), Stop>
-    requires { conn.old.in_transaction ≡ false }
+/// Makes the changes in one transaction, in their order. All else that the database has stays. Asks that the rows of
+/// the changes have the columns of their tables.
+pub fn commit_changes<S: Alter>(
+    alloc: Global,
+    conn: &mut Connection<S>,
+    changes: &[RowChange],
+) -> Result<(), Stop>
+    requires autocommit { conn.old.in_transaction ≡ false }
+    requires fit { (c : Change) → IsIn c changes.now → Fits c }
     ensures autocommit { conn.new.in_transaction ≡ false }
     ensures done { HasCleanDisk (state S.Store conn.new) → OnOk result (
         (rows : _) → Stands (state S.Store conn.old) rows
@@ -45,7 +56,7 @@ pub fn commit_changes<S: Alter>(conn: &mut Connection<S>, changes: &[RowChange])
         (IsAfter (state S.Store conn.old) (all_changed changes.now)) }
 {
     let mut tx = conn.transaction();
-    if let Err(error) = apply_all(&mut tx, changes) {
+    if let Err(error) = apply_all(alloc, &mut tx, changes) {
         tx.rollback();
         return Err(Stop::Before(error));
     }
@@ -56,9 +67,14 @@ pub fn commit_changes<S: Alter>(conn: &mut Connection<S>, changes: &[RowChange])
 }
 
 /// Makes the twelve tables and then the changes, all in one transaction. Other tables stay as they are. It stops
-/// where a name of a table is taken.
-pub fn make_tables<S: Alter>(conn: &mut Connection<S>, changes: &[RowChange]) -> Result<(), Stop>
-    requires { conn.old.in_transaction ≡ false }
+/// where a name of a table is taken. Asks that the rows of the changes have the columns of their tables.
+pub fn make_tables<S: Alter>(
+    alloc: Global,
+    conn: &mut Connection<S>,
+    changes: &[RowChange],
+) -> Result<(), Stop>
+    requires autocommit { conn.old.in_transaction ≡ false }
+    requires fit { (c : Change) → IsIn c changes.now → Fits c }
     ensures autocommit { conn.new.in_transaction ≡ false }
     ensures done { HasCleanDisk (state S.Store conn.new) → OnOk result (Rests (state S.Store conn.old)
         → AreFree (state S.Store conn.old).now.schema
@@ -79,7 +95,7 @@ pub fn make_tables<S: Alter>(conn: &mut Connection<S>, changes: &[RowChange]) ->
 {
     let _live = conn.schema();
     let mut tx = conn.transaction();
-    if let Err(error) = fill(&mut tx, changes) {
+    if let Err(error) = fill(alloc, &mut tx, changes) {
         tx.rollback();
         return Err(Stop::Before(error));
     }

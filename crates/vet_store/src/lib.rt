@@ -12,17 +12,11 @@
 
 pub mod apply;
 pub mod change;
-mod demand_rows;
-mod desk_rows;
-mod fact_rows;
 pub mod laws;
 pub mod memory;
 pub mod memory_file;
 pub mod read;
-mod read_row;
 mod read_table;
 pub mod refused;
-mod same_rows;
 pub mod statements;
 pub mod store;
-pub mod table_row;

@@ -2,15 +2,16 @@
 ghost use Rattle.std.specs.Prelude.{◌≡◌, ◌<ℤ◌, false, IfOk, IfSome, IsTrue, map, OnOk};
 ghost use Rattle.sqlite.specs.Held.{state};
 ghost use Rattle.sqlite.specs.State.{HasCleanDisk, IsUnchanged, Survives};
-ghost use Rattle.vet_store.specs.Cells.{cells_of};
+ghost use Rattle.vet_tables.specs.Cells.{values_of};
 ghost use Rattle.vet_tables.specs.Has.{HasTables};
 ghost use Rattle.vet_store.specs.Read.{IsUnread};
 ghost use Rattle.vet_tables.specs.Read.{AreRead, KeepsRest};
 
-use crate::read_row::ReadRow;
 use sqlite::{Alter, Connection, Error, ErrorCode};
 use std::alloc::Global;
-use vet_tables::cells::{are_typed, int_at};
+use vet_tables::cells::{are_typed, int_at, row_cells};
+use vet_tables::sequence::Row;
+use vet_tables::table_name::TableName;
 
 fn rises(last: Option<i64>, id: i64) -> bool
     ensures { IsTrue result → IfSome last (λ m. m <ℤ id) }
@@ -22,15 +23,16 @@ fn rises(last: Option<i64>, id: i64) -> bool
 }
 
 /// The rows of a table. None where a cell isn't of the type of its column.
-pub fn read_table<R: ReadRow + Drop, S: Alter>(
+pub fn read_table<S: Alter>(
     alloc: Global,
     conn: &mut Connection<S>,
-) -> Result<Option<Vec<R>>, Error>
+    table: TableName,
+) -> Result<Option<Vec<Row>>, Error>
     requires { HasCleanDisk (state S.Store conn.old) → HasTables (state S.Store conn.old).now.schema }
     ensures found { HasCleanDisk (state S.Store conn.new) → IfOk result (λ found. IfSome found (λ rows.
-        AreRead (state S.Store conn.old).now R.ReadRow.name (map (λ r. cells_of (R.TableRow.any r)) rows.items))) }
+        AreRead (state S.Store conn.old).now table (map values_of rows.items))) }
     ensures none { HasCleanDisk (state S.Store conn.new) → result ≡ Ok None
-        → IsUnread (state S.Store conn.old).now R.ReadRow.name }
+        → IsUnread (state S.Store conn.old).now table }
     ensures same { HasCleanDisk (state S.Store conn.new) → OnOk result (
         IsUnchanged (state S.Store conn.old) (state S.Store conn.new)) }
     ensures kept { HasCleanDisk (state S.Store conn.new)
@@ -39,7 +41,7 @@ pub fn read_table<R: ReadRow + Drop, S: Alter>(
     ensures survives { Survives (state S.Store conn.old) (state S.Store conn.new) (λ _. ⊥) }
 {
     let _live = conn.schema();
-    let form = R::table().form();
+    let form = table.form();
     let mut rows = Vec::new(alloc);
     let mut last = None;
     let mut found = conn.query(form.select(), &[])?;
@@ -55,6 +57,6 @@ pub fn read_table<R: ReadRow + Drop, S: Alter>(
             return Err(Error::SqliteFailure(ErrorCode::DatabaseCorrupt));
         }
         last = Some(id);
-        rows.push(R::read(alloc, &row)?)?;
+        rows.push(row_cells(alloc, &row, &form)?)?;
     }
 }

@@ -1,52 +1,121 @@
-//! The statements on the row of a table.
-//!
-//! A change names a row of any table: what it says of the rows holds for whichever row has these cells.
-ghost use Rattle.std.specs.Prelude.{◌≡◌, IsTrue, OnOk};
+//! Rows that are put and dropped inside a transaction.
 ghost use Rattle.sqlite.specs.Held.{state};
 ghost use Rattle.sqlite.specs.State.{HasCleanDisk, KeepsCommit, Survives};
 ghost use Rattle.sqlite.specs.Values.{bound};
-ghost use Rattle.vet_rows.specs.RowChanges.{dropped};
-ghost use Rattle.vet_rows.specs.declared.row_change.Row.{Row};
-ghost use Rattle.vet_store.specs.Cells.{cells_of, table_for};
-ghost use Rattle.vet_store.specs.Changes.{added, Changes};
+ghost use Rattle.std.specs.Prelude.{◌≡◌, IsTrue, OnOk};
+ghost use Rattle.vet_store.specs.Changes.{Changes, TellsRow};
+ghost use Rattle.vet_tables.specs.Cells.{IsRowOf, Row as RowValue, added, dropped, put, values_of};
 ghost use Rattle.vet_tables.specs.Form.{key_of};
 ghost use Rattle.vet_tables.specs.Forms.{form_of};
 
 use sqlite::types::ValueRef;
 use sqlite::{Alter, Error, Transaction};
+use std::alloc::Global;
+use vet_tables::cell::lend_all;
+use vet_tables::sequence::Row;
 use vet_tables::statements;
 use vet_tables::table_name::TableName;
 
-/// Adds a row, whose key is free.
-pub fn insert<S: Alter>(
+/// Puts a row into its table, in place of the one of its key. Asks for a row of the table.
+pub fn put<S: Alter>(
+    alloc: Global,
+    tx: &mut Transaction<'_, S>,
+    table: TableName,
+    row: &Row,
+) -> Result<(), Error>
+    requires { IsRowOf (form_of table) row.now }
+    ensures same_reference { tx.new.conn.ghost_name ≡ tx.old.conn.ghost_name }
+    ensures changes { HasCleanDisk (state S.Store tx.new.conn.now) → IsTrue tx.old.conn.now.in_transaction
+        → OnOk result (Changes (state S.Store tx.old.conn.now) (state S.Store tx.new.conn.now) (put table row.now)) }
+    ensures kept { HasCleanDisk (state S.Store tx.new.conn.now)
+        → KeepsCommit (state S.Store tx.old.conn.now) (state S.Store tx.new.conn.now) }
+    ensures survives { Survives (state S.Store tx.old.conn.now) (state S.Store tx.new.conn.now) (λ _. ⊥) }
+{
+    let cells = lend_all(alloc, row.as_slice())?;
+    put_cells(tx, table, cells.as_slice())
+}
+
+/// Takes the row of this row's key out of its table, where there is one. Asks for a row of the table.
+pub fn drop_row<S: Alter>(
+    alloc: Global,
+    tx: &mut Transaction<'_, S>,
+    table: TableName,
+    row: &Row,
+) -> Result<(), Error>
+    requires { IsRowOf (form_of table) row.now }
+    ensures same_reference { tx.new.conn.ghost_name ≡ tx.old.conn.ghost_name }
+    ensures changes { HasCleanDisk (state S.Store tx.new.conn.now) → IsTrue tx.old.conn.now.in_transaction
+        → OnOk result (Changes (state S.Store tx.old.conn.now) (state S.Store tx.new.conn.now)
+        (dropped table row.now)) }
+    ensures kept { HasCleanDisk (state S.Store tx.new.conn.now)
+        → KeepsCommit (state S.Store tx.old.conn.now) (state S.Store tx.new.conn.now) }
+    ensures survives { Survives (state S.Store tx.old.conn.now) (state S.Store tx.new.conn.now) (λ _. ⊥) }
+{
+    let cells = lend_all(alloc, row.as_slice())?;
+    drop_cells(tx, table, cells.as_slice())
+}
+
+// Puts the row of these cells.
+fn put_cells<S: Alter>(
     tx: &mut Transaction<'_, S>,
     table: TableName,
     cells: &[ValueRef<'_>],
-) -> Result<usize, Error>
+) -> Result<(), Error>
+    requires { (row : RowValue) × TellsRow table row (bound cells.now) }
     ensures same_reference { tx.new.conn.ghost_name ≡ tx.old.conn.ghost_name }
     ensures changes { HasCleanDisk (state S.Store tx.new.conn.now) → IsTrue tx.old.conn.now.in_transaction
-        → (r : Row) → table_for r ≡ table → cells_of r ≡ bound cells.now
-        → OnOk result (Changes (state S.Store tx.old.conn.now) (state S.Store tx.new.conn.now) (added r)) }
+        → (row : RowValue) → TellsRow table row (bound cells.now)
+        → OnOk result (Changes (state S.Store tx.old.conn.now) (state S.Store tx.new.conn.now) (put table row)) }
     ensures kept { HasCleanDisk (state S.Store tx.new.conn.now)
         → KeepsCommit (state S.Store tx.old.conn.now) (state S.Store tx.new.conn.now) }
     ensures survives { Survives (state S.Store tx.old.conn.now) (state S.Store tx.new.conn.now) (λ _. ⊥) }
 {
-    statements::insert(tx, table, cells)
+    drop_cells(tx, table, cells)?;
+    insert_cells(tx, table, cells)
 }
 
-/// Takes out the row of a key, where there is one.
-pub fn remove<S: Alter>(
+// Takes out the row of the key of these cells.
+fn drop_cells<S: Alter>(
     tx: &mut Transaction<'_, S>,
     table: TableName,
-    key: &[ValueRef<'_>],
-) -> Result<usize, Error>
+    cells: &[ValueRef<'_>],
+) -> Result<(), Error>
+    requires { (row : RowValue) × TellsRow table row (bound cells.now) }
     ensures same_reference { tx.new.conn.ghost_name ≡ tx.old.conn.ghost_name }
     ensures changes { HasCleanDisk (state S.Store tx.new.conn.now) → IsTrue tx.old.conn.now.in_transaction
-        → (r : Row) → table_for r ≡ table → key_of (form_of table) (cells_of r) ≡ bound key.now
-        → OnOk result (Changes (state S.Store tx.old.conn.now) (state S.Store tx.new.conn.now) (dropped r)) }
+        → (row : RowValue) → TellsRow table row (bound cells.now)
+        → OnOk result (Changes (state S.Store tx.old.conn.now) (state S.Store tx.new.conn.now) (dropped table row)) }
     ensures kept { HasCleanDisk (state S.Store tx.new.conn.now)
         → KeepsCommit (state S.Store tx.old.conn.now) (state S.Store tx.new.conn.now) }
     ensures survives { Survives (state S.Store tx.old.conn.now) (state S.Store tx.new.conn.now) (λ _. ⊥) }
 {
-    statements::remove(tx, table, key)
+    statements::remove(tx, table, key_cells(table, cells))?;
+    Ok(())
+}
+
+// Adds the row of these cells, whose key is free.
+fn insert_cells<S: Alter>(
+    tx: &mut Transaction<'_, S>,
+    table: TableName,
+    cells: &[ValueRef<'_>],
+) -> Result<(), Error>
+    ensures same_reference { tx.new.conn.ghost_name ≡ tx.old.conn.ghost_name }
+    ensures changes { HasCleanDisk (state S.Store tx.new.conn.now) → IsTrue tx.old.conn.now.in_transaction
+        → (row : RowValue) → TellsRow table row (bound cells.now)
+        → OnOk result (Changes (state S.Store tx.old.conn.now) (state S.Store tx.new.conn.now) (added table row)) }
+    ensures kept { HasCleanDisk (state S.Store tx.new.conn.now)
+        → KeepsCommit (state S.Store tx.old.conn.now) (state S.Store tx.new.conn.now) }
+    ensures survives { Survives (state S.Store tx.old.conn.now) (state S.Store tx.new.conn.now) (λ _. ⊥) }
+{
+    statements::insert(tx, table, cells)?;
+    Ok(())
+}
+
+// The cells of the key.
+fn key_cells<'a, 'b>(table: TableName, cells: &'a [ValueRef<'b>]) -> &'a [ValueRef<'b>]
+    requires { (row : RowValue) × TellsRow table row (bound cells.now) }
+    ensures { (row : RowValue) → TellsRow table row (bound cells.now)
+        → bound result.now ≡ key_of (form_of table) (values_of row) }
+{
+    &cells[..table.form().key()]
 }

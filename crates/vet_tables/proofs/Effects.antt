@@ -89,11 +89,11 @@ same_contents db a b same holds = record {
   shows = λ n. subst (Shows (form_of n) (db.trees (holds.has n).tree)) (same n) (holds.shows n);
 }
 
-here_is : (n : TableName) → (code n == code n) ≡ true
+pub here_is : (n : TableName) → (code n == code n) ≡ true
 here_is n = eq-eqb (code n) (code n) refl
 
 -- a table that is another
-apart_is : (m n : TableName) → (code m ≡ code n → ⊥) → (code m == code n) ≡ false
+pub apart_is : (m n : TableName) → (code m ≡ code n → ⊥) → (code m == code n) ≡ false
 apart_is m n apart = elim (cases_Bool (code m == code n)) [
   | inl same ↦ absurd (apart (eqb-true (code m) (code n) same))
   | inr other ↦ other

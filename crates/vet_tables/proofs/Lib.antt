@@ -7,6 +7,7 @@ pub mod Extends
 pub mod FormColumns
 pub mod KeyPasses
 pub mod KeyTests
+pub mod KeyedRows
 pub mod Makes
 pub mod Making
 pub mod Meanings
@@ -16,6 +17,7 @@ pub mod Payloads
 pub mod Readings
 pub mod Resting
 pub mod Rising
+pub mod RowForms
 pub mod RowSets
 pub mod Selects
 pub mod Shapes
@@ -23,4 +25,6 @@ pub mod Steps
 pub mod StoredRows
 pub mod TableMeanings
 pub mod TablePlaces
+pub mod TableRows
 pub mod Unreferred
+pub mod WholeRows

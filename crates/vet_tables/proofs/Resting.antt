@@ -37,9 +37,6 @@ keeps_then a b c h k = record {
   same = λ serves was. k.same serves (h.rests (k.was_open serves) was) ∙ h.same (k.was_open serves) was;
 }
 
-pub keeps_three : (a b c d : State) → KeepsRest a b → KeepsRest b c → KeepsRest c d → KeepsRest a d
-keeps_three a b c d h k l = keeps_then a c d (keeps_then a b c h k) l
-
 -- so does one that fails to begin
 pub keeps_failed : (n : TableName) (old new : State) (e : Error) → FailsToQuery (select_text (form_of n)) [] old new e
     → KeepsRest old new

@@ -1,18 +1,18 @@
 -- The tables by their places among the twelve.
-use Rattle.std.proofs.Common.{◌≡◌, ◌⊎◌, inl, inr, ℕ, List, [], ◌∷◌, Bool, true, false, Some, Option}
-use Rattle.std.proofs.Common.{slice_get, ◌==◌, ◌+◌, ◌<◌, arith, eq-or-lt_of_le, refl, sym, ap, subst, ◌∙◌}
+use Rattle.std.proofs.Common.{◌≡◌, ◌⊎◌, inl, inr, ℕ, [], ◌∷◌, Bool, true, false, Some, Option}
+use Rattle.std.proofs.Common.{length, map, slice_get, slice_index_or, take, ◌==◌, ◌+◌, ◌++◌, ◌<◌, ◌≤◌, arith, ap, refl}
+use Rattle.std.proofs.Common.{eq-or-lt_of_le, subst, sym, ◌∙◌}
 use Rattle.std.proofs.lemmas.Bool.{eqb-true, eqb-false}
-use Rattle.vet_tables.specs.Forms.{code}
+use Rattle.std.proofs.lemmas.List.{get_or-map, take_more}
+use Rattle.std.proofs.lemmas.Option.{get_or_from_slice_get}
+use Rattle.vet_base.specs.Items.{IsIn}
+use Rattle.vet_tables.specs.Forms.{code, form_of, tables}
 use Rattle.vet_tables.specs.declared.table_name.TableName.{TableName}
 use Rattle.vet_tables.specs.declared.table_name.TableName.TheVariants.{Meta, Criteria, Entries, Publishers, Policies}
 use Rattle.vet_tables.specs.declared.table_name.TableName.TheVariants.{Peers}
 use Rattle.vet_tables.specs.declared.table_name.TableName.TheVariants.{Nodes, Edges, Standing, Moves, Members, Reviews}
 
-abbrev all_names : List TableName
-all_names = Meta ∷ Criteria ∷ Entries ∷ Publishers ∷ Policies ∷ Peers ∷ Nodes ∷ Edges ∷ Standing ∷ Moves ∷ Members
-    ∷ Reviews ∷ []
-
-decoded : (n : TableName) → slice_get all_names (code n) ≡ Some n
+pub decoded : (n : TableName) → slice_get tables (code n) ≡ Some n
 decoded Meta = refl
 decoded Criteria = refl
 decoded Entries = refl
@@ -28,7 +28,7 @@ decoded Reviews = refl
 
 pub same_code : (m n : TableName) → code m ≡ code n → m ≡ n
 same_code m n e = let both : ◌≡◌ {A = Option TableName} (Some m) (Some n) = sym (decoded m)
-    ∙ ap (slice_get all_names) e ∙ decoded n in cc
+    ∙ ap (slice_get tables) e ∙ decoded n in cc
 
 -- the same table, or another
 pub same_or_other : (m n : TableName) → (m ≡ n) ⊎ (code m ≡ code n → ⊥)
@@ -59,3 +59,47 @@ few Standing = omega arith
 few Moves = omega arith
 few Members = omega arith
 few Reviews = omega arith
+
+-- the key is among the columns
+pub key_within : (n : TableName) → (form_of n).key ≤ length (form_of n).columns
+key_within Meta = omega arith
+key_within Criteria = omega arith
+key_within Entries = omega arith
+key_within Publishers = omega arith
+key_within Policies = omega arith
+key_within Peers = omega arith
+key_within Nodes = omega arith
+key_within Edges = omega arith
+key_within Standing = omega arith
+key_within Moves = omega arith
+key_within Members = omega arith
+key_within Reviews = omega arith
+
+-- each is one of the twelve
+pub among_tables : (n : TableName) → IsIn n tables
+among_tables Meta = inl refl
+among_tables Criteria = inr (inl refl)
+among_tables Entries = inr (inr (inl refl))
+among_tables Publishers = inr (inr (inr (inl refl)))
+among_tables Policies = inr (inr (inr (inr (inl refl))))
+among_tables Peers = inr (inr (inr (inr (inr (inl refl)))))
+among_tables Nodes = inr (inr (inr (inr (inr (inr (inl refl))))))
+among_tables Edges = inr (inr (inr (inr (inr (inr (inr (inl refl)))))))
+among_tables Standing = inr (inr (inr (inr (inr (inr (inr (inr (inl refl))))))))
+among_tables Moves = inr (inr (inr (inr (inr (inr (inr (inr (inr (inl refl)))))))))
+among_tables Members = inr (inr (inr (inr (inr (inr (inr (inr (inr (inr (inl refl))))))))))
+among_tables Reviews = inr (inr (inr (inr (inr (inr (inr (inr (inr (inr (inr (inl refl)))))))))))
+
+-- ---- what each table has, in a list in their order
+
+found_at : (n : TableName) → slice_index_or tables (code n) n ≡ n
+found_at n = get_or_from_slice_get tables (code n) n n (decoded n)
+
+pub found_of : {X : Type 0} (f : TableName → X) (none : X) (n : TableName)
+    → slice_index_or (map f tables) (code n) none ≡ f n
+found_of f none n = get_or-map f tables (code n) n none (few n) ∙ ap f (found_at n)
+
+pub one_more_table : (at : ℕ) (n : TableName) → code n ≡ at → take at tables ++ n ∷ [] ≡ take (at + 1) tables
+one_more_table at n is =
+    subst (λ k. take k tables ++ n ∷ [] ≡ take (k + 1) tables) is
+    (ap (λ m. take (code n) tables ++ m ∷ []) (sym (found_at n)) ∙ sym (take_more tables (code n) n (few n)))

@@ -1,5 +1,5 @@
 -- The forms of the twelve tables (ours).
-use Rattle.std.specs.Prelude.{[], ◌∷◌, codes, ℕ}
+use Rattle.std.specs.Prelude.{List, [], ◌∷◌, codes, ℕ}
 use Rattle.sqlite_schema.specs.declared.schema.Kind.TheVariants.{Blob, Integer, Text}
 use Rattle.vet_tables.specs.Form.{TableForm}
 use Rattle.vet_tables.specs.declared.table_name.TableName.{TableName}
@@ -95,3 +95,8 @@ code Standing = 8
 code Moves = 9
 code Members = 10
 code Reviews = 11
+
+-- the twelve tables, each at its place
+abbrev pub tables : List TableName
+tables = Meta ∷ Criteria ∷ Entries ∷ Publishers ∷ Policies ∷ Peers ∷ Nodes ∷ Edges ∷ Standing ∷ Moves ∷ Members
+    ∷ Reviews ∷ []

@@ -1,3 +1,5 @@
+pub mod CellLaws
+pub mod Cells
 pub mod Contents
 pub mod Extends
 pub mod Form

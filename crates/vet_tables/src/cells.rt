@@ -1,13 +1,16 @@
 //! The cells of a row that was read.
-ghost use Rattle.std.specs.Prelude.{◌≡◌, false, IfOk, IsTrue};
+ghost use Rattle.std.specs.Prelude.{◌≡◌, ◌∷◌, false, IfOk, IsTrue};
 ghost use Rattle.sqlite_value.specs.Value.{owned};
 ghost use Rattle.sqlite_schema.specs.declared.schema.Kind.TheVariants as kind;
 ghost use Rattle.sqlite_value.specs.Order.{column};
 ghost use Rattle.sqlite_value.specs.declared.value.Value.TheVariants.{Blob, Int, Text};
+ghost use Rattle.vet_tables.specs.Cells.{value_of, values_of};
 ghost use Rattle.vet_tables.specs.Typed.{AreTyped, IsKind, kinds_of};
 
+use crate::cell::Cell;
 use crate::column::{BlobColumn, TextColumn};
 use crate::form::Form;
+use crate::sequence::{Row as TableRow, Sequence};
 use sqlite::Row;
 use sqlite::types::ValueRef;
 use sqlite_schema::schema::Kind;
@@ -62,8 +65,32 @@ pub fn int_at(row: &Row, at: usize) -> i64
     }
 }
 
-/// The text at a place.
-pub fn text_at(alloc: Global, row: &Row, at: usize) -> Result<TextColumn, AllocError>
+/// The cells behind the rowid, where each has the type of its column. Fails only if memory runs out.
+pub fn row_cells(alloc: Global, row: &Row, form: &Form) -> Result<TableRow, AllocError>
+    ensures { IfOk result (λ cells. AreTyped (kinds_of form.now) row.now
+        → row.now ≡ column row.now 0 ∷ values_of cells) }
+{
+    let columns = form.columns();
+    let mut cells = Vec::with_capacity(alloc, columns.len())?;
+    'cells: for at in 0..columns.len() {
+        cells.push(cell_at(alloc, row, at + 1, columns[at].1)?)?;
+    }
+    Ok(Sequence::of(cells))
+}
+
+// The cell at a place, where it is of this type.
+fn cell_at(alloc: Global, row: &Row, at: usize, kind: Kind) -> Result<Cell, AllocError>
+    ensures { IfOk result (λ cell. IsKind kind (column row.now at) → column row.now at ≡ value_of cell) }
+{
+    match kind {
+        Kind::Text => Ok(Cell::Text(text_at(alloc, row, at)?)),
+        Kind::Blob => Ok(Cell::Blob(blob_at(alloc, row, at)?)),
+        _ => Ok(Cell::Int(int_at(row, at))),
+    }
+}
+
+// The text at a place.
+fn text_at(alloc: Global, row: &Row, at: usize) -> Result<TextColumn, AllocError>
     ensures { IfOk result (λ text. IsKind kind.Text (column row.now at) → column row.now at ≡ Text text) }
 {
     match row.get_ref(at) {
@@ -75,8 +102,8 @@ pub fn text_at(alloc: Global, row: &Row, at: usize) -> Result<TextColumn, AllocE
     }
 }
 
-/// The bytes at a place.
-pub fn blob_at(alloc: Global, row: &Row, at: usize) -> Result<BlobColumn, AllocError>
+// The bytes at a place.
+fn blob_at(alloc: Global, row: &Row, at: usize) -> Result<BlobColumn, AllocError>
     ensures { IfOk result (λ blob. IsKind kind.Blob (column row.now at) → column row.now at ≡ Blob blob) }
 {
     match row.get_ref(at) {

@@ -11,12 +11,16 @@
 //! For example, a table `peers` whose column `url` takes NULL is none of these tables.
 #![tactic(auto)]
 
+pub mod cell;
 pub mod cells;
 pub mod column;
 pub mod find;
 pub mod form;
 mod has_form;
 mod lent;
+pub mod rows;
 pub mod same_items;
+pub mod same_rows;
+pub mod sequence;
 pub mod statements;
 pub mod table_name;

@@ -1,4 +1,10 @@
 //! The twelve tables, as data.
+//!
+//! A column of texts or of names holds their bytes. A column that holds many values holds them as a packed list; one
+//! that may be missing is a packed list of none or one. A map is a packed list of keys and packed lists in turn, in the
+//! order of the keys. A day is its number: how many days it is behind 1970-01-01. What may be said or not, and is true
+//! or false, is -1 where nothing is said, 0 for false, 1 for true. Classes are 0 to 4 in their order: conflicting,
+//! full, partial, exempted, unvetted; 5 means none.
 ghost use Rattle.std.specs.Prelude.{◌≡◌, ◌<◌};
 ghost use Rattle.vet_tables.specs.Forms.{code, form_of};
 ghost use Rattle.vet_tables.specs.declared.table_name.TableName.TheVariants as table;
@@ -43,6 +49,26 @@ impl TableName {
             TableName::Reviews => reviews(),
         }
     }
+
+    /// The place of the table among the twelve, from 0 on.
+    pub fn place(self) -> usize
+        ensures { result ≡ code self }
+    {
+        match self {
+            TableName::Meta => 0,
+            TableName::Criteria => 1,
+            TableName::Entries => 2,
+            TableName::Publishers => 3,
+            TableName::Policies => 4,
+            TableName::Peers => 5,
+            TableName::Nodes => 6,
+            TableName::Edges => 7,
+            TableName::Standing => 8,
+            TableName::Moves => 9,
+            TableName::Members => 10,
+            TableName::Reviews => 11,
+        }
+    }
 }
 
 /// The table of a place among the twelve.
@@ -73,18 +99,26 @@ fn meta() -> Form
     Form {
         name: "meta",
         columns: &[
+            // Always 1.
             ("one", Kind::Integer),
+            // The version of the form of the tables, always 1.
             ("version", Kind::Integer),
+            // How many commands were accepted.
             ("step", Kind::Integer),
+            // The numbers that the next entry and the next review get, from 1.
             ("next_entry", Kind::Integer),
             ("next_review", Kind::Integer),
+            // The most moves that are recorded.
             ("moves_limit", Kind::Integer),
+            // How many pairs of each class there were at first.
             ("first0", Kind::Integer),
             ("first1", Kind::Integer),
             ("first2", Kind::Integer),
             ("first3", Kind::Integer),
             ("first4", Kind::Integer),
+            // The version of cargo-vet that a config file names, if it does.
             ("vet_version", Kind::Blob),
+            // The packed list of the criteria that a new audit has by default, if there are some.
             ("default_criteria", Kind::Blob),
         ],
         key: 1,
@@ -107,9 +141,11 @@ fn criteria() -> Form
     Form {
         name: "criteria",
         columns: &[
+            // The peer whose criterion it is, empty for our own.
             ("peer", Kind::Text),
             ("name", Kind::Text),
             ("about", Kind::Blob),
+            // Where the description is, if that is said.
             ("url", Kind::Blob),
             ("implies", Kind::Blob),
         ],
@@ -131,19 +167,29 @@ fn entries() -> Form
         name: "entries",
         columns: &[
             ("number", Kind::Integer),
+            // The peer whose entry it is, empty for our own.
             ("peer", Kind::Text),
             ("package", Kind::Text),
+            // 0 a full audit, 1 a delta, 2 a violation, 3 a wildcard entry, 4 a trusted entry, 5 an exemption.
             ("kind", Kind::Integer),
+            // The version, the version that a delta begins with, or the requirement of a violation; else empty.
             ("a", Kind::Text),
+            // The version that a delta ends with; else empty.
             ("b", Kind::Text),
+            // The user of a window, else 0.
             ("user", Kind::Integer),
+            // The first and the last day of a window, else 0.
             ("day1", Kind::Integer),
             ("day2", Kind::Integer),
             ("criteria", Kind::Blob),
+            // Who vouches: none for a trusted entry or an exemption.
             ("who", Kind::Blob),
             ("notes", Kind::Blob),
+            // Whether a review is suggested in place of an exemption; -1 for all else.
             ("suggest", Kind::Integer),
+            // Whether the window of a wildcard entry is to be renewed; -1 for all else.
             ("renew", Kind::Integer),
+            // Whether others may import an audit; -1 for all else.
             ("importable", Kind::Integer),
         ],
         key: 1,
@@ -168,8 +214,10 @@ fn publishers() -> Form
         columns: &[
             ("package", Kind::Text),
             ("version", Kind::Text),
+            // The number of the user, from 0.
             ("user", Kind::Integer),
             ("day", Kind::Integer),
+            // The user's names at crates.io and in full, if they are said.
             ("login", Kind::Blob),
             ("name", Kind::Blob),
         ],
@@ -192,10 +240,15 @@ fn policies() -> Form
     Form {
         name: "policies",
         columns: &[
+            // A package, or a package, a colon and a version.
             ("policy", Kind::Text),
+            // Whether the package is audited as that of its name at crates.io, where that is said.
             ("as_crates", Kind::Integer),
+            // The packed list of what the package needs, if it is said.
             ("criteria", Kind::Blob),
+            // The packed list of what is passed along dev edges, if it is said.
             ("dev", Kind::Blob),
+            // From dependencies to the packed lists of what is passed to them.
             ("dependency", Kind::Blob),
             ("notes", Kind::Blob),
         ],
@@ -218,8 +271,11 @@ fn peers() -> Form
         name: "peers",
         columns: &[
             ("name", Kind::Text),
+            // Where its audits are published.
             ("url", Kind::Blob),
+            // The packages of which nothing is taken.
             ("exclude", Kind::Blob),
+            // From the peer's criteria to the packed lists of our own that they imply.
             ("map", Kind::Blob),
         ],
         key: 1,
@@ -242,6 +298,7 @@ fn nodes() -> Form
             ("project", Kind::Text),
             ("name", Kind::Text),
             ("version", Kind::Text),
+            // 0 a root, 1 first-party, 2 third-party.
             ("party", Kind::Integer),
         ],
         key: 3,
@@ -266,6 +323,7 @@ fn edges() -> Form
             ("from_version", Kind::Text),
             ("to_name", Kind::Text),
             ("to_version", Kind::Text),
+            // 0 normal, 1 build, 2 dev.
             ("kind", Kind::Integer),
         ],
         key: 6,
@@ -291,6 +349,7 @@ fn standing() -> Form
             ("package", Kind::Text),
             ("version", Kind::Text),
             ("criterion", Kind::Text),
+            // The class, 0 to 4.
             ("class", Kind::Integer),
         ],
         key: 3,
@@ -311,11 +370,14 @@ fn moves() -> Form
     Form {
         name: "moves",
         columns: &[
+            // The step of the command that moved it.
             ("step", Kind::Integer),
             ("package", Kind::Text),
             ("version", Kind::Text),
             ("criterion", Kind::Text),
+            // The day of that command.
             ("day", Kind::Integer),
+            // The classes before and after, 0 to 5.
             ("before", Kind::Integer),
             ("after", Kind::Integer),
         ],
@@ -356,10 +418,15 @@ fn reviews() -> Form
             ("number", Kind::Integer),
             ("package", Kind::Text),
             ("version", Kind::Text),
+            // The names of the criteria.
             ("criteria", Kind::Blob),
+            // The day on which it was opened.
             ("day", Kind::Integer),
+            // 0 waiting, 1 assigned, 2 finished, 3 withdrawn.
             ("state", Kind::Integer),
+            // The member to whom it is assigned, else empty.
             ("member", Kind::Text),
+            // The number of the entry that finished it, else 0.
             ("entry", Kind::Integer),
         ],
         key: 1,

@@ -8,11 +8,11 @@ use trial_values::fault::Fault;
 use vet_base::refusal::Refusal;
 use vet_graph::keeper::Keeper;
 use vet_register::register::Register;
-use vet_rows::rows::Rows;
 use vet_rows::rows_of::rows_of;
 use vet_rows::state_of::state_of;
 use vet_store::read::read_rows;
 use vet_tables::find::has_tables;
+use vet_tables::rows::Rows;
 
 /// Opens the register in a file by the calls of which a store's opening consists, except that the rows are not compared
 /// with those that were read. Then it sets another peer, for which the plain keeper finds every class anew. Prints of

@@ -87,7 +87,7 @@ fn write<S: Alter, K: Keeper>(
     let changes = row_changes(rt.alloc(), register, change)?;
     let rows = begun.elapsed(rt)?.as_nanos();
     let begun = Instant::now(rt)?;
-    match commit_changes(conn, changes.as_slice()) {
+    match commit_changes(rt.alloc(), conn, changes.as_slice()) {
         Ok(()) => Ok(Parts {
             prepare,
             rows,

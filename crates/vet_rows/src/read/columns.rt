@@ -1,8 +1,10 @@
 //! Columns that are read again: what was written of a value is read as that value. What else is answered is not said.
-ghost use Rattle.std.specs.Prelude.{◌≡◌, ℕ, IfOk, Bool, Option, Some, map, pos};
+ghost use Rattle.std.specs.Prelude.{◌≡◌, ℕ, Bool, Ok, Option, Some, map, pos};
 ghost use Rattle.vet_base.specs.Day.{DayValue, day_number};
 ghost use Rattle.vet_base.specs.Req.{IsReq};
 ghost use Rattle.vet_base.specs.Version.{IsVersion, version_text};
+ghost use Rattle.vet_demand.specs.PolicyKey.{key_text, read_key};
+ghost use Rattle.vet_demand.specs.declared.policy_key.PolicyKey.{PolicyKey as KeyValue};
 ghost use Rattle.vet_rows.specs.Columns.{flag, packed_names, packed_names_option, peer_of_source};
 ghost use Rattle.vet_rows.specs.ReadColumns.{items_of_names};
 ghost use Rattle.vet_rows.specs.Packed.{packed_option};
@@ -13,7 +15,8 @@ ghost use Rattle.vet_rows.specs.Values.{IsText, IsUser, MayBe};
 use crate::packed::read_items;
 use crate::packed_item::unpack;
 use crate::packed_names::{unpack_names, unpack_packages, unpack_texts};
-use std::alloc::{AllocError, Global};
+use crate::read::unread::{Unread, found};
+use std::alloc::Global;
 use vet_base::day::Day;
 use vet_base::name::{Name, PackageName};
 use vet_base::names::Names;
@@ -22,158 +25,152 @@ use vet_base::req::Req;
 use vet_base::text::Text;
 use vet_base::texts::Texts;
 use vet_base::version::VetVersion;
+use vet_demand::policy_key::PolicyKey;
 use vet_entries::entry::Source;
 use vet_entries::user::User;
 
-/// A name. Fails only if memory runs out.
-pub(crate) fn name(alloc: Global, text: &str) -> Result<Option<Name>, AllocError>
-    ensures { IfOk result (λ found. IsReadBack (IsWritten IsName (λ n. n)) text.now found) }
+/// A name.
+pub(crate) fn name(alloc: Global, text: &str) -> Result<Name, Unread>
+    ensures { IsReadBack (IsWritten IsName (λ n. n)) text.now result }
 {
-    Name::read(alloc, text)
+    found(Name::read(alloc, text)?)
 }
 
-/// A name of a package. Fails only if memory runs out.
-pub(crate) fn package_name(alloc: Global, text: &str) -> Result<Option<PackageName>, AllocError>
-    ensures { IfOk result (λ found. IsReadBack (IsWritten IsPackage (λ n. n)) text.now found) }
+/// A name of a package.
+pub(crate) fn package_name(alloc: Global, text: &str) -> Result<PackageName, Unread>
+    ensures { IsReadBack (IsWritten IsPackage (λ n. n)) text.now result }
 {
-    PackageName::read(alloc, text)
+    found(PackageName::read(alloc, text)?)
 }
 
-/// A version. Fails only if memory runs out.
-pub(crate) fn version(alloc: Global, text: &str) -> Result<Option<VetVersion>, AllocError>
-    ensures { IfOk result (λ found. IsReadBack (IsWritten IsVersion version_text) text.now found) }
+/// A version.
+pub(crate) fn version(alloc: Global, text: &str) -> Result<VetVersion, Unread>
+    ensures { IsReadBack (IsWritten IsVersion version_text) text.now result }
 {
-    VetVersion::read(alloc, text)
+    found(VetVersion::read(alloc, text)?)
 }
 
-/// A requirement of versions. Fails only if memory runs out.
-pub(crate) fn requirement(alloc: Global, text: &str) -> Result<Option<Req>, AllocError>
-    ensures { IfOk result (λ found. IsReadBack (IsWritten IsReq (λ r. r)) text.now found) }
+/// A requirement of versions.
+pub(crate) fn requirement(alloc: Global, text: &str) -> Result<Req, Unread>
+    ensures { IsReadBack (IsWritten IsReq (λ r. r)) text.now result }
 {
-    Req::read(alloc, text)
+    found(Req::read(alloc, text)?)
 }
 
-/// A text that may be missing. Fails only if memory runs out.
-pub(crate) fn optional_text(alloc: Global, bytes: &[u8]) -> Result<Option<Option<Text>>, AllocError>
-    ensures { IfOk result (λ found. IsReadBack (IsWritten (MayBe IsText) packed_option) bytes.now found) }
+/// The key of a policy.
+pub(crate) fn policy_key(alloc: Global, text: &str) -> Result<PolicyKey, Unread>
+    ensures { IsReadBack (IsWritten (λ (k : KeyValue). read_key (key_text k) ≡ Some k) key_text) text.now result }
 {
-    match unpack::<Text>(alloc, bytes)? {
-        Some(texts) => Ok(at_most_one(texts)),
-        None => Ok(None),
-    }
+    found(PolicyKey::read(alloc, text)?)
+}
+
+/// A text that may be missing.
+pub(crate) fn optional_text(alloc: Global, bytes: &[u8]) -> Result<Option<Text>, Unread>
+    ensures { IsReadBack (IsWritten (MayBe IsText) packed_option) bytes.now result }
+{
+    let texts = found(unpack::<Text>(alloc, bytes)?)?;
+    at_most_one(texts)
 }
 
 // The one of some values, if there is one, where there are not more.
-fn at_most_one<X: Drop>(mut values: Vec<X>) -> Option<Option<X>>
-    ensures { (o : Option X) → values.items ≡ in_list o → result ≡ Some o }
+fn at_most_one<X: Drop>(mut values: Vec<X>) -> Result<Option<X>, Unread>
+    ensures { (o : Option X) → values.items ≡ in_list o → result ≡ Ok o }
 {
     let Some(last) = values.pop() else {
-        return Some(None);
+        return Ok(None);
     };
     if !values.is_empty() {
-        return None;
+        return Err(Unread::NotARegister);
     }
-    Some(Some(last))
+    Ok(Some(last))
 }
 
-/// A set of texts. Fails only if memory runs out.
-pub(crate) fn texts(alloc: Global, bytes: &[u8]) -> Result<Option<Texts>, AllocError>
-    ensures { IfOk result (λ found. IsReadBack (IsWritten AreTexts packed_names) bytes.now found) }
+/// A set of texts.
+pub(crate) fn texts(alloc: Global, bytes: &[u8]) -> Result<Texts, Unread>
+    ensures { IsReadBack (IsWritten AreTexts packed_names) bytes.now result }
 {
-    unpack_texts(alloc, bytes)
+    found(unpack_texts(alloc, bytes)?)
 }
 
-/// A set of names. Fails only if memory runs out.
-pub(crate) fn names(alloc: Global, bytes: &[u8]) -> Result<Option<Names>, AllocError>
-    ensures { IfOk result (λ found. IsReadBack (IsWritten AreNames packed_names) bytes.now found) }
+/// A set of names.
+pub(crate) fn names(alloc: Global, bytes: &[u8]) -> Result<Names, Unread>
+    ensures { IsReadBack (IsWritten AreNames packed_names) bytes.now result }
 {
-    unpack_names(alloc, bytes)
+    found(unpack_names(alloc, bytes)?)
 }
 
-/// A set of packages. Fails only if memory runs out.
-pub(crate) fn packages(alloc: Global, bytes: &[u8]) -> Result<Option<PackageNames>, AllocError>
-    ensures { IfOk result (λ found. IsReadBack (IsWritten ArePackages packed_names) bytes.now found) }
+/// A set of packages.
+pub(crate) fn packages(alloc: Global, bytes: &[u8]) -> Result<PackageNames, Unread>
+    ensures { IsReadBack (IsWritten ArePackages packed_names) bytes.now result }
 {
-    unpack_packages(alloc, bytes)
+    found(unpack_packages(alloc, bytes)?)
 }
 
-/// A set of names that may be missing. Fails only if memory runs out.
-pub(crate) fn optional_names(
-    alloc: Global,
-    bytes: &[u8],
-) -> Result<Option<Option<Names>>, AllocError>
-    ensures { IfOk result (λ found. IsReadBack (IsWritten (MayBe AreNames) packed_names_option) bytes.now found) }
+/// A set of names that may be missing.
+pub(crate) fn optional_names(alloc: Global, bytes: &[u8]) -> Result<Option<Names>, Unread>
+    ensures { IsReadBack (IsWritten (MayBe AreNames) packed_names_option) bytes.now result }
 {
-    match read_items(alloc, bytes)? {
-        Some(items) => names_in(alloc, items.as_slice()),
-        None => Ok(None),
-    }
+    let items = found(read_items(alloc, bytes)?)?;
+    names_in(alloc, items.as_slice())
 }
 
 // The names in the one of some items, if there is one, where there are not more.
-fn names_in(alloc: Global, items: &[&[u8]]) -> Result<Option<Option<Names>>, AllocError>
-    ensures { IfOk result (λ found. IsReadBack (IsWritten (MayBe AreNames) items_of_names)
-        (map (λ item. item.now) items.now) found) }
+fn names_in(alloc: Global, items: &[&[u8]]) -> Result<Option<Names>, Unread>
+    ensures { IsReadBack (IsWritten (MayBe AreNames) items_of_names) (map (λ item. item.now) items.now) result }
 {
     if items.is_empty() {
-        return Ok(Some(None));
-    }
-    if items.len() > 1 {
         return Ok(None);
     }
-    match names(alloc, items[0])? {
-        Some(names) => Ok(Some(Some(names))),
-        None => Ok(None),
+    if items.len() > 1 {
+        return Err(Unread::NotARegister);
     }
+    Ok(Some(names(alloc, items[0])?))
 }
 
 /// What may be said or not, and is true or false. Takes no memory.
-pub(crate) fn flag(number: i64) -> Option<Option<bool>>
-    ensures { (said : Option Bool) → number ≡ flag said → result ≡ Some said }
+pub(crate) fn flag(number: i64) -> Result<Option<bool>, Unread>
+    ensures { (said : Option Bool) → number ≡ flag said → result ≡ Ok said }
 {
     if number == -1 {
-        return Some(None);
+        return Ok(None);
     }
     match number {
-        0 => Some(Some(false)),
-        1 => Some(Some(true)),
-        _ => None,
+        0 => Ok(Some(false)),
+        1 => Ok(Some(true)),
+        _ => Err(Unread::NotARegister),
     }
 }
 
 /// A number from 0 on. Takes no memory.
-pub(crate) fn number(column: i64) -> Option<u64>
-    ensures { (n : ℕ) → column ≡ pos n → result ≡ Some n }
+pub(crate) fn number(column: i64) -> Result<u64, Unread>
+    ensures { (n : ℕ) → column ≡ pos n → result ≡ Ok n }
 {
     if column < 0 {
-        return None;
+        return Err(Unread::NotARegister);
     }
-    Some(column as u64)
+    Ok(column as u64)
 }
 
 /// A user. Takes no memory.
-pub(crate) fn user(column: i64) -> Option<User>
-    ensures { (u : ℕ) → IsUser u → column ≡ pos u → result ≡ Some u }
+pub(crate) fn user(column: i64) -> Result<User, Unread>
+    ensures { (u : ℕ) → IsUser u → column ≡ pos u → result ≡ Ok u }
 {
-    User::new(number(column)?)
+    found(User::new(number(column)?))
 }
 
 /// A day. Takes no memory.
-pub(crate) fn day(column: i64) -> Option<Day>
-    ensures { (d : DayValue) → IsDay d → column ≡ day_number d → result ≡ Some d }
+pub(crate) fn day(column: i64) -> Result<Day, Unread>
+    ensures { (d : DayValue) → IsDay d → column ≡ day_number d → result ≡ Ok d }
 {
-    Day::of_number(column)
+    found(Day::of_number(column))
 }
 
-/// Whose something is. Fails only if memory runs out.
-pub(crate) fn source(alloc: Global, peer: &str) -> Result<Option<Source>, AllocError>
-    ensures { IfOk result (λ found. IsReadBack (IsWritten IsSource peer_of_source) peer.now found) }
+/// Whose something is.
+pub(crate) fn source(alloc: Global, peer: &str) -> Result<Source, Unread>
+    ensures { IsReadBack (IsWritten IsSource peer_of_source) peer.now result }
 {
     if peer.is_empty() {
-        return Ok(Some(Source::Own));
+        return Ok(Source::Own);
     }
-    match Name::read(alloc, peer)? {
-        Some(name) => Ok(Some(Source::Peer(name))),
-        None => Ok(None),
-    }
+    Ok(Source::Peer(name(alloc, peer)?))
 }

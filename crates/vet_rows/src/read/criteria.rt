@@ -1,22 +1,18 @@
 //! Rows of criteria, which are read again.
-ghost use Rattle.std.specs.Prelude.{◌≡◌, IfOk, Some};
-ghost use Rattle.vet_base.specs.Words as words;
-ghost use Rattle.vet_base.specs.declared.criterion.Criterion.{Criterion};
-ghost use Rattle.vet_rows.specs.ReadBack.{IsReadBack, IsWritten};
+ghost use Rattle.std.specs.Prelude.{◌≡◌};
+ghost use Rattle.vet_rows.specs.ReadBack.{IsWritten, Reads};
 ghost use Rattle.vet_rows.specs.ReadFacts.{IsSourcedCriterion, sourced_criterion_row};
-ghost use Rattle.vet_rows.specs.SettingRows.{criterion_row};
-ghost use Rattle.vet_rows.specs.Values.{IsCriterion};
+ghost use Rattle.vet_rows.specs.declared.read.criteria.SourcedCriterion.{SourcedCriterion as SourcedValue};
 
+use crate::read::cells::{blob_at, text_at};
 use crate::read::columns::{name, names, optional_text, source};
-use crate::read::rows::ReadRow;
+use crate::read::from_row::FromRow;
 use crate::read::sourced::Sourced;
-use crate::row::CriterionRow;
-use std::alloc::{AllocError, Global};
+use crate::read::unread::Unread;
+use std::alloc::Global;
 use vet_base::criterion::Criterion;
-use vet_base::name::Name;
-use vet_base::names::Names;
-use vet_base::text::Text;
 use vet_entries::entry::Source;
+use vet_tables::sequence::Row;
 
 /// A criterion, and whose it is.
 pub(crate) struct SourcedCriterion {
@@ -54,65 +50,26 @@ impl Sourced for SourcedCriterion {
     }
 }
 
-impl ReadRow for CriterionRow {
-    type Value = SourcedCriterion;
-
+impl FromRow for SourcedCriterion {
     ghost stands_for = { IsWritten IsSourcedCriterion sourced_criterion_row };
 
-    fn read(&self, alloc: Global) -> Result<Option<SourcedCriterion>, AllocError> {
-        let Some(source) = source(alloc, self.peer.as_str())? else {
-            return Ok(None);
-        };
-        match criterion(alloc, self)? {
-            Some(criterion) => Ok(Some(SourcedCriterion { source, criterion })),
-            None => Ok(None),
-        }
+    fn from_row(alloc: Global, row: &Row) -> Result<SourcedCriterion, Unread> {
+        Ok(SourcedCriterion {
+            source: source(alloc, text_at(row, 0)?)?,
+            criterion: criterion(alloc, row)?,
+        })
     }
 }
 
 // The criterion of a row, whosever it is.
-fn criterion(alloc: Global, row: &CriterionRow) -> Result<Option<Criterion>, AllocError>
-    ensures { IfOk result (λ found. (c : Criterion) (peer : words.Name) → IsCriterion c → row.now ≡ criterion_row peer c
-        → found ≡ Some c) }
+fn criterion(alloc: Global, row: &Row) -> Result<Criterion, Unread>
+    ensures { (c : SourcedValue) → IsWritten IsSourcedCriterion sourced_criterion_row row.now c
+        → Reads result c.criterion }
 {
-    let Some(texts) = texts_of(alloc, row)? else {
-        return Ok(None);
-    };
-    let Some(name) = name(alloc, row.name.as_str())? else {
-        return Ok(None);
-    };
-    match names(alloc, row.implies.as_slice())? {
-        Some(implies) => Ok(Some(described(name, texts, implies))),
-        None => Ok(None),
-    }
-}
-
-// A criterion of these texts.
-fn described(name: Name, texts: (Option<Text>, Option<Text>), implies: Names) -> Criterion
-    ensures { result ≡ record { name = name; description = texts.0; url = texts.1; implies = implies } }
-{
-    let (description, url) = texts;
-    Criterion {
-        name,
-        description,
-        url,
-        implies,
-    }
-}
-
-// The description, and where it stands.
-fn texts_of(
-    alloc: Global,
-    row: &CriterionRow,
-) -> Result<Option<(Option<Text>, Option<Text>)>, AllocError>
-    ensures { IfOk result (λ found. (c : Criterion) (peer : words.Name) → IsCriterion c → row.now ≡ criterion_row peer c
-        → found ≡ Some (c.description, c.url)) }
-{
-    let Some(description) = optional_text(alloc, row.about.as_slice())? else {
-        return Ok(None);
-    };
-    match optional_text(alloc, row.url.as_slice())? {
-        Some(url) => Ok(Some((description, url))),
-        None => Ok(None),
-    }
+    Ok(Criterion {
+        name: name(alloc, text_at(row, 1)?)?,
+        description: optional_text(alloc, blob_at(row, 2)?)?,
+        url: optional_text(alloc, blob_at(row, 3)?)?,
+        implies: names(alloc, blob_at(row, 4)?)?,
+    })
 }

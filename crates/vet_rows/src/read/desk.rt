@@ -1,95 +1,74 @@
 //! The rows of the review desk, read again.
-ghost use Rattle.std.specs.Prelude.{◌≡◌, ℕ, pos, IfOk, Some};
-ghost use Rattle.vet_desk.specs.declared.review.ReviewState.TheVariants.{Assigned, Finished};
-ghost use Rattle.vet_rows.specs.DeskRows.{member_row, review_row};
+ghost use Rattle.std.specs.Prelude.{◌≡◌, pos};
+ghost use Rattle.vet_desk.specs.declared.review.Review.{Review as ReviewValue};
+ghost use Rattle.vet_rows.specs.DeskRows.{member_row, review_row, state_number};
 ghost use Rattle.vet_rows.specs.HeldValues.{IsReview};
-ghost use Rattle.vet_rows.specs.ReadBack.{IsReadBack, IsWritten};
-ghost use Rattle.vet_rows.specs.ReadValues.{TellsState};
+ghost use Rattle.vet_rows.specs.ReadBack.{IsWritten, Reads};
 ghost use Rattle.vet_rows.specs.Values.{IsName};
 
+use crate::read::cells::{blob_at, int_at, text_at};
 use crate::read::columns::{day, name, names, number, package_name, version};
-use crate::read::rows::ReadRow;
-use crate::row::{MemberRow, ReviewRow};
-use std::alloc::{AllocError, Global};
-use vet_base::day::Day;
-use vet_base::name::{Name, PackageName};
-use vet_base::names::Names;
-use vet_base::version::VetVersion;
+use crate::read::from_row::FromRow;
+use crate::read::unread::Unread;
+use std::alloc::Global;
+use vet_base::name::Name;
 use vet_desk::review::{Review, ReviewState};
+use vet_tables::sequence::Row;
 
-impl ReadRow for MemberRow {
-    type Value = Name;
-
+impl FromRow for Name {
     ghost stands_for = { IsWritten IsName member_row };
 
-    fn read(&self, alloc: Global) -> Result<Option<Name>, AllocError> {
-        name(alloc, self.name.as_str())
+    fn from_row(alloc: Global, row: &Row) -> Result<Name, Unread> {
+        name(alloc, text_at(row, 0)?)
     }
 }
 
-impl ReadRow for ReviewRow {
-    type Value = Review;
-
+impl FromRow for Review {
     ghost stands_for = { IsWritten IsReview review_row };
 
-    fn read(&self, alloc: Global) -> Result<Option<Review>, AllocError> {
-        let package = package_name(alloc, self.package.as_str())?;
-        let version = version(alloc, self.version.as_str())?;
-        let criteria = names(alloc, self.criteria.as_slice())?;
-        let state = review_state(alloc, self)?;
-        let (number, day) = (number(self.number), day(self.day));
-        Ok(review(number, package, version, criteria, day, state))
+    fn from_row(alloc: Global, row: &Row) -> Result<Review, Unread> {
+        Ok(Review {
+            number: number(int_at(row, 0)?)?,
+            package: package_name(alloc, text_at(row, 1)?)?,
+            version: version(alloc, text_at(row, 2)?)?,
+            criteria: names(alloc, blob_at(row, 3)?)?,
+            day: day(int_at(row, 4)?)?,
+            state: review_state(alloc, row)?,
+        })
     }
 }
 
 // How far the review of a row has come.
-fn review_state(alloc: Global, row: &ReviewRow) -> Result<Option<ReviewState>, AllocError>
-    ensures { IfOk result (λ found. IsReadBack TellsState row.now found) }
+fn review_state(alloc: Global, row: &Row) -> Result<ReviewState, Unread>
+    ensures { (r : ReviewValue) → IsWritten IsReview review_row row.now r → Reads result r.state }
 {
-    match row.state {
-        0 => Ok(Some(ReviewState::Waiting)),
-        1 => assigned(alloc, row.member.as_str()),
-        2 => Ok(finished(row.entry)),
-        3 => Ok(Some(ReviewState::Withdrawn)),
-        _ => Ok(None),
+    let state = number(int_at(row, 5)?)?;
+    if state == 0 {
+        return Ok(ReviewState::Waiting);
     }
-}
-
-// A review that is assigned to somebody.
-fn assigned(alloc: Global, member: &str) -> Result<Option<ReviewState>, AllocError>
-    ensures { IfOk result (λ found. IsName member.now → found ≡ Some (Assigned member.now)) }
-{
-    match name(alloc, member)? {
-        Some(name) => Ok(Some(ReviewState::Assigned(name))),
-        None => Ok(None),
+    if state == 1 {
+        return assigned(alloc, row);
     }
+    if state == 2 {
+        return finished(row);
+    }
+    if state == 3 {
+        return Ok(ReviewState::Withdrawn);
+    }
+    Err(Unread::NotARegister)
 }
 
-// A review that is finished by an entry of a number.
-fn finished(entry: i64) -> Option<ReviewState>
-    ensures { (n : ℕ) → entry ≡ pos n → result ≡ Some (Finished n) }
+// That the review of a row is assigned to somebody.
+fn assigned(alloc: Global, row: &Row) -> Result<ReviewState, Unread>
+    ensures { (r : ReviewValue) → IsWritten IsReview review_row row.now r → state_number r.state ≡ pos 1
+        → Reads result r.state }
 {
-    Some(ReviewState::Finished(number(entry)?))
+    Ok(ReviewState::Assigned(name(alloc, text_at(row, 6)?)?))
 }
 
-// The review of these parts, if all are there.
-fn review(
-    number: Option<u64>,
-    package: Option<PackageName>,
-    version: Option<VetVersion>,
-    criteria: Option<Names>,
-    day: Option<Day>,
-    state: Option<ReviewState>,
-) -> Option<Review>
-    ensures { (r : Review) → number ≡ Some r.number → «package» ≡ Some r.«package» → version ≡ Some r.version
-        → criteria ≡ Some r.criteria → day ≡ Some r.day → state ≡ Some r.state → result ≡ Some r }
+// That an entry finished the review of a row. Takes no memory.
+fn finished(row: &Row) -> Result<ReviewState, Unread>
+    ensures { (r : ReviewValue) → row.now ≡ review_row r → state_number r.state ≡ pos 2 → Reads result r.state }
 {
-    Some(Review {
-        number: number?,
-        package: package?,
-        version: version?,
-        criteria: criteria?,
-        day: day?,
-        state: state?,
-    })
+    Ok(ReviewState::Finished(number(int_at(row, 7)?)?))
 }

@@ -1,5 +1,5 @@
 //! What is held of packages, read again from its rows.
-ghost use Rattle.std.specs.Prelude.{◌≡◌, IfErr, IfOk, IfSome, Some, map, option_map};
+ghost use Rattle.std.specs.Prelude.{◌≡◌, IfOk, MatchResult, map};
 ghost use Rattle.std.specs.Cmp.Lexicographic.{slice_cmp};
 ghost use Rattle.std.specs.Ordering.{nat_cmp};
 ghost use Rattle.vet_base.specs.FurtherCriteria.{further};
@@ -11,20 +11,22 @@ ghost use Rattle.vet_entries.specs.Numbered.{AreByNumber};
 ghost use Rattle.vet_rows.specs.ReadHeld.{AreFactsValues, AreInForm, AreItemsOf, AreRowsOf};
 ghost use Rattle.vet_rows.specs.ReadParts.{AreFound};
 ghost use Rattle.vet_rows.specs.ReadPeers.{criterion_in};
+ghost use Rattle.vet_tables.specs.Cells.{rows_in};
 
 use crate::read::criteria::SourcedCriterion;
+use crate::read::from_row::read_rows;
 use crate::read::held_peers::{in_order, peers_of};
 use crate::read::records::records_of;
-use crate::read::rows::read_rows;
 use crate::read::sourced::by_source;
 use crate::read::tables::{criteria_in, table_of};
-use crate::rows::Rows;
+use crate::read::unread::Unread;
 use std::alloc::Global;
 use vet_base::criteria_table::CriteriaTable;
-use vet_base::refusal::Refusal;
 use vet_entries::facts::{EntryFacts, HeldEntry};
 use vet_entries::held_peer::HeldPeer;
 use vet_entries::peer_settings::PeerSettings;
+use vet_tables::rows::Rows;
+use vet_tables::table_name::TableName;
 
 /// What is held of packages, but for publisher records.
 #[derive(Drop)]
@@ -34,48 +36,33 @@ pub(crate) struct Parts {
     peers: Vec<HeldPeer>,
 }
 
-/// What is held of packages, if the rows of criteria, entries, publishers and peers are those of it, in whatever order.
-/// Takes a time of n log n. Refused: `NoMemory`.
-pub(crate) fn facts_of(alloc: Global, rows: &Rows) -> Result<Option<EntryFacts>, Refusal>
-    ensures back { IfOk result (λ found. (facts : Facts) → AreInForm facts → AreFactsValues facts
-        → AreRowsOf rows.now facts → option_map (λ held. held.content) found ≡ Some facts) }
-    ensures memory { IfErr result (λ e. e ≡ Refusal.NoMemory) }
+/// What is held of packages, where the rows of criteria, entries, publishers and peers are those of it, in whatever
+/// order. Takes a time of n log n.
+pub(crate) fn facts_of(alloc: Global, rows: &Rows) -> Result<EntryFacts, Unread>
+    ensures { (facts : Facts) → AreInForm facts → AreFactsValues facts → AreRowsOf (rows_in rows.now) facts
+        → MatchResult result (λ held. held.content ≡ facts) (λ e. e ≡ Unread.NoMemory) }
 {
-    let Some(parts) = parts_in(alloc, rows)? else {
-        return Ok(None);
-    };
-    let Some(records) = read_rows(alloc, rows.publishers.as_slice())? else {
-        return Ok(None);
-    };
-    let Some(publishers) = records_of(alloc, records)? else {
-        return Ok(None);
-    };
+    let parts = parts_in(alloc, rows)?;
+    let records = read_rows(alloc, rows.of(TableName::Publishers))?;
+    let publishers = records_of(alloc, records)?;
     let Parts {
         criteria,
         entries,
         peers,
     } = parts;
-    Ok(Some(EntryFacts::of_parts(alloc, criteria, entries, peers, publishers)?))
+    Ok(EntryFacts::of_parts(alloc, criteria, entries, peers, publishers)?)
 }
 
 // The parts that some rows are of.
-fn parts_in(alloc: Global, rows: &Rows) -> Result<Option<Parts>, Refusal>
-    ensures by_number { IfOk result (λ found. IfSome found (λ parts. AreByNumber parts.entries.items)) }
-    ensures by_name { IfOk result (λ found. IfSome found (λ parts.
-        IsByKey (slice_cmp nat_cmp) peer_name parts.peers.items)) }
-    ensures back { IfOk result (λ found. (facts : Facts) → AreInForm facts → AreFactsValues facts
-        → AreRowsOf rows.now facts → AreFound found facts) }
-    ensures memory { IfErr result (λ e. e ≡ Refusal.NoMemory) }
+fn parts_in(alloc: Global, rows: &Rows) -> Result<Parts, Unread>
+    ensures by_number { IfOk result (λ parts. AreByNumber parts.entries.items) }
+    ensures by_name { IfOk result (λ parts. IsByKey (slice_cmp nat_cmp) peer_name parts.peers.items) }
+    ensures back { (facts : Facts) → AreInForm facts → AreFactsValues facts → AreRowsOf (rows_in rows.now) facts
+        → AreFound result facts }
 {
-    let Some(criteria) = read_rows(alloc, rows.criteria.as_slice())? else {
-        return Ok(None);
-    };
-    let Some(entries) = read_rows(alloc, rows.entries.as_slice())? else {
-        return Ok(None);
-    };
-    let Some(settings) = read_rows(alloc, rows.peers.as_slice())? else {
-        return Ok(None);
-    };
+    let criteria = read_rows(alloc, rows.of(TableName::Criteria))?;
+    let entries = read_rows(alloc, rows.of(TableName::Entries))?;
+    let settings = read_rows(alloc, rows.of(TableName::Peers))?;
     parts_of(alloc, criteria, entries, settings)
 }
 
@@ -85,20 +72,16 @@ fn parts_of(
     criteria: Vec<SourcedCriterion>,
     entries: Vec<HeldEntry>,
     settings: Vec<PeerSettings>,
-) -> Result<Option<Parts>, Refusal>
-    ensures by_number { IfOk result (λ found. IfSome found (λ parts. AreByNumber parts.entries.items)) }
-    ensures by_name { IfOk result (λ found. IfSome found (λ parts.
-        IsByKey (slice_cmp nat_cmp) peer_name parts.peers.items)) }
-    ensures back { IfOk result (λ found. (facts : Facts) → AreInForm facts
-        → AreItemsOf criteria.items entries.items settings.items facts → AreFound found facts) }
-    ensures memory { IfErr result (λ e. e ≡ Refusal.NoMemory) }
+) -> Result<Parts, Unread>
+    ensures by_number { IfOk result (λ parts. AreByNumber parts.entries.items) }
+    ensures by_name { IfOk result (λ parts. IsByKey (slice_cmp nat_cmp) peer_name parts.peers.items) }
+    ensures back { (facts : Facts) → AreInForm facts → AreItemsOf criteria.items entries.items settings.items facts
+        → AreFound result facts }
 {
     let criteria = by_source(alloc, criteria)?;
     let entries = by_source(alloc, entries)?;
-    match peers_of(alloc, settings, entries.peers, criteria.peers)? {
-        Some(peers) => with_own(alloc, criteria.own, entries.own, peers),
-        None => Ok(None),
-    }
+    let peers = peers_of(alloc, settings, entries.peers, criteria.peers)?;
+    with_own(alloc, criteria.own, entries.own, peers)
 }
 
 // These peers, and one's own criteria and entries, which stand in whatever order.
@@ -107,23 +90,18 @@ fn with_own(
     criteria: Vec<SourcedCriterion>,
     entries: Vec<HeldEntry>,
     peers: Vec<HeldPeer>,
-) -> Result<Option<Parts>, Refusal>
+) -> Result<Parts, Unread>
     requires { IsByKey (slice_cmp nat_cmp) peer_name peers.items }
-    ensures by_number { IfOk result (λ found. IfSome found (λ parts. AreByNumber parts.entries.items)) }
-    ensures by_name { IfOk result (λ found. IfSome found (λ parts.
-        IsByKey (slice_cmp nat_cmp) peer_name parts.peers.items)) }
-    ensures back { IfOk result (λ found. (facts : Facts) → AreInForm facts
+    ensures by_number { IfOk result (λ parts. AreByNumber parts.entries.items) }
+    ensures by_name { IfOk result (λ parts. IsByKey (slice_cmp nat_cmp) peer_name parts.peers.items) }
+    ensures back { (facts : Facts) → AreInForm facts
         → SameItems (map criterion_in criteria.items) (further facts.criteria)
-        → SameItems entries.items facts.entries → peers.items ≡ facts.peers → AreFound found facts) }
-    ensures memory { IfErr result (λ e. e ≡ Refusal.NoMemory) }
+        → SameItems entries.items facts.entries → peers.items ≡ facts.peers → AreFound result facts }
 {
-    let Some(criteria) = table_of(alloc, criteria_in(alloc, criteria)?)? else {
-        return Ok(None);
-    };
-    let entries = in_order(alloc, entries)?;
-    Ok(Some(Parts {
+    let criteria = table_of(alloc, criteria_in(alloc, criteria)?)?;
+    Ok(Parts {
         criteria,
-        entries,
+        entries: in_order(alloc, entries)?,
         peers,
-    }))
+    })
 }

@@ -1,32 +1,29 @@
 //! The rows of moves, read again.
-ghost use Rattle.std.specs.Prelude.{◌≡◌, IfOk, List, Option, Some, map, option_map};
+ghost use Rattle.std.specs.Prelude.{◌≡◌, IfOk, List, MatchResult, Ok, Option, map};
 ghost use Rattle.std.specs.List.{All, AllPairs};
 ghost use Rattle.vet_base.specs.Items.{SameItems};
+ghost use Rattle.vet_graph.specs.declared.class.Class.{Class as ClassValue};
 ghost use Rattle.vet_register.specs.Sound.{ComesBefore};
-ghost use Rattle.vet_rows.specs.MoveOrder.{recorded_cmp, recorded_total};
-ghost use Rattle.vet_demand.specs.declared.pair.Pair.{Pair};
-ghost use Rattle.vet_graph.specs.declared.class.Class.{Class};
-ghost use Rattle.vet_register.specs.declared.moves.RecordedMove.{RecordedMove};
+ghost use Rattle.vet_register.specs.declared.moves.RecordedMove.{RecordedMove as RecordedValue};
 ghost use Rattle.vet_rows.specs.Columns.{class_or_none};
 ghost use Rattle.vet_rows.specs.HeldValues.{IsRecordedMove};
-ghost use Rattle.vet_rows.specs.ReadBack.{IsReadBack, IsWritten};
-ghost use Rattle.vet_rows.specs.ReadValues.{TellsPair};
+ghost use Rattle.vet_rows.specs.MoveOrder.{recorded_cmp, recorded_total};
+ghost use Rattle.vet_rows.specs.ReadBack.{IsWritten, Reads};
 ghost use Rattle.vet_rows.specs.StandingRows.{move_row};
 
+use crate::read::cells::{int_at, text_at};
 use crate::read::columns::{day, name, number, package_name, version};
-use crate::read::rows::{ReadRow, read_rows};
-use crate::row::MoveRow;
+use crate::read::from_row::{FromRow, read_rows};
+use crate::read::unread::Unread;
 use std::alloc::{AllocError, Global};
 use std::cmp::Ordering;
 use std::marker::Model;
-use vet_base::day::Day;
-use vet_base::name::{Name, PackageName};
 use vet_base::ranked::{Ranked, rank};
-use vet_base::version::VetVersion;
 use vet_demand::pair::Pair;
 use vet_graph::class::Class;
 use vet_graph::moves::Move;
 use vet_register::moves::RecordedMove;
+use vet_tables::sequence::Row;
 
 /// A move, ordered by its step and then by its pair.
 pub(crate) struct OrderedMove {
@@ -73,18 +70,14 @@ impl Ranked for OrderedMove {
     }
 }
 
-/// The moves of these rows, in the order in which they were recorded. Fails only if memory runs out.
-pub(crate) fn moves(
-    alloc: Global,
-    rows: &[MoveRow],
-) -> Result<Option<Vec<RecordedMove>>, AllocError>
-    ensures { IfOk result (λ found. (list : List RecordedMove) → AllPairs ComesBefore list → All IsRecordedMove list
-        → SameItems rows.now (map move_row list) → option_map (λ v. v.items) found ≡ Some list) }
+/// The moves of these rows, in the order in which they were recorded.
+pub(crate) fn moves(alloc: Global, rows: &[Row]) -> Result<Vec<RecordedMove>, Unread>
+    ensures { (list : List RecordedValue) → AllPairs ComesBefore list → All IsRecordedMove list
+        → SameItems rows.now (map move_row list)
+        → MatchResult result (λ v. v.items ≡ list) (λ e. e ≡ Unread.NoMemory) }
 {
-    match read_rows(alloc, rows)? {
-        Some(moves) => Ok(Some(recorded_moves(alloc, rank(moves)?)?)),
-        None => Ok(None),
-    }
+    let moves = read_rows::<OrderedMove>(alloc, rows)?;
+    Ok(recorded_moves(alloc, rank(moves)?)?)
 }
 
 // The moves themselves.
@@ -98,78 +91,52 @@ fn recorded_moves(alloc: Global, ordered: Vec<OrderedMove>) -> Result<Vec<Record
     Ok(moves)
 }
 
-impl ReadRow for MoveRow {
-    type Value = OrderedMove;
-
+impl FromRow for OrderedMove {
     ghost stands_for = { IsWritten IsRecordedMove move_row };
 
-    fn read(&self, alloc: Global) -> Result<Option<OrderedMove>, AllocError> {
-        let pair = pair(alloc, self)?;
-        let (before, after) = (class_or_none(self.before), class_or_none(self.after));
-        Ok(ordered(number(self.step), day(self.day), pair, before, after))
+    fn from_row(alloc: Global, row: &Row) -> Result<OrderedMove, Unread> {
+        let recorded = RecordedMove {
+            step: number(int_at(row, 0)?)?,
+            day: day(int_at(row, 4)?)?,
+            change: change(alloc, row)?,
+        };
+        Ok(OrderedMove { recorded })
     }
 }
 
-// The pair of a row.
-fn pair(alloc: Global, row: &MoveRow) -> Result<Option<Pair>, AllocError>
-    ensures { IfOk result (λ found. IsReadBack TellsPair row.now found) }
+// The move of a row.
+fn change(alloc: Global, row: &Row) -> Result<Move, Unread>
+    ensures { (m : RecordedValue) → IsWritten IsRecordedMove move_row row.now m → Reads result m.change }
 {
-    let package = package_name(alloc, row.package.as_str())?;
-    let version = version(alloc, row.version.as_str())?;
-    let criterion = name(alloc, row.criterion.as_str())?;
-    Ok(pair_of(package, version, criterion))
+    Ok(Move {
+        pair: pair(alloc, row)?,
+        before: class_or_none(int_at(row, 5)?)?,
+        after: class_or_none(int_at(row, 6)?)?,
+    })
 }
 
-// The pair of these parts, if all are there.
-fn pair_of(
-    package: Option<PackageName>,
-    version: Option<VetVersion>,
-    criterion: Option<Name>,
-) -> Option<Pair>
-    ensures { (p : Pair) → «package» ≡ Some p.«package» → version ≡ Some p.version → criterion ≡ Some p.criterion
-        → result ≡ Some p }
+// The pair of a row.
+fn pair(alloc: Global, row: &Row) -> Result<Pair, Unread>
+    ensures { (m : RecordedValue) → IsWritten IsRecordedMove move_row row.now m → Reads result m.change.pair }
 {
-    Some(Pair {
-        package: package?,
-        version: version?,
-        criterion: criterion?,
+    Ok(Pair {
+        package: package_name(alloc, text_at(row, 1)?)?,
+        version: version(alloc, text_at(row, 2)?)?,
+        criterion: name(alloc, text_at(row, 3)?)?,
     })
 }
 
 // A class, or none. Takes no memory.
-fn class_or_none(column: i64) -> Option<Option<Class>>
-    ensures { (class : Option Class) → column ≡ class_or_none class → result ≡ Some class }
+fn class_or_none(column: i64) -> Result<Option<Class>, Unread>
+    ensures { (class : Option ClassValue) → column ≡ class_or_none class → result ≡ Ok class }
 {
     match column {
-        0 => Some(Some(Class::Conflicting)),
-        1 => Some(Some(Class::Full)),
-        2 => Some(Some(Class::Partial)),
-        3 => Some(Some(Class::Exempted)),
-        4 => Some(Some(Class::Unvetted)),
-        5 => Some(None),
-        _ => None,
+        0 => Ok(Some(Class::Conflicting)),
+        1 => Ok(Some(Class::Full)),
+        2 => Ok(Some(Class::Partial)),
+        3 => Ok(Some(Class::Exempted)),
+        4 => Ok(Some(Class::Unvetted)),
+        5 => Ok(None),
+        _ => Err(Unread::NotARegister),
     }
-}
-
-// The move of these parts, if all are there.
-fn ordered(
-    step: Option<u64>,
-    day: Option<Day>,
-    pair: Option<Pair>,
-    before: Option<Option<Class>>,
-    after: Option<Option<Class>>,
-) -> Option<OrderedMove>
-    ensures { (m : RecordedMove) → step ≡ Some m.step → day ≡ Some m.day → pair ≡ Some m.change.pair
-        → before ≡ Some m.change.before → after ≡ Some m.change.after → result ≡ Some m }
-{
-    let recorded = RecordedMove {
-        step: step?,
-        day: day?,
-        change: Move {
-            pair: pair?,
-            before: before?,
-            after: after?,
-        },
-    };
-    Some(OrderedMove { recorded })
 }

@@ -1,83 +1,55 @@
 //! The rows of policies, read again.
-ghost use Rattle.std.specs.Prelude.{◌≡◌, ◌∷◌, ◌++◌, Bool, IfOk, Option, Some, map};
-ghost use Rattle.vet_base.specs.Names.{NameSet};
-ghost use Rattle.vet_base.specs.Words.{Text};
-ghost use Rattle.vet_demand.specs.declared.policy.Policy.{Policy};
+ghost use Rattle.std.specs.Prelude.{◌≡◌, IfOk, map};
+ghost use Rattle.vet_demand.specs.declared.policies.KeyedPolicy.{KeyedPolicy as PolicyValue};
 ghost use Rattle.vet_rows.specs.HeldValues.{AreDependencies, IsKeyedPolicy};
-ghost use Rattle.vet_rows.specs.ReadBack.{IsReadBack, IsWritten};
-ghost use Rattle.vet_rows.specs.ReadValues.{TellsPolicy, dependency_column, dependency_of};
+ghost use Rattle.vet_rows.specs.ReadBack.{IsReadBack, IsWritten, Reads};
+ghost use Rattle.vet_rows.specs.ReadValues.{dependency_column, dependency_of};
 ghost use Rattle.vet_rows.specs.SettingRows.{policy_row};
 
-use crate::read::columns::{flag, optional_names, optional_text};
+use crate::read::cells::{blob_at, int_at, text_at};
+use crate::read::columns::{flag, optional_names, optional_text, policy_key};
+use crate::read::from_row::FromRow;
 use crate::read::gathered::Filed;
 use crate::read::maps::map_items;
-use crate::read::rows::ReadRow;
-use crate::row::PolicyRow;
+use crate::read::unread::Unread;
 use std::alloc::{AllocError, Global};
 use vet_base::name::PackageName;
 use vet_base::names::Names;
-use vet_base::text::Text;
 use vet_demand::dependency_criteria::{DependencyCriteria, DependencyItem};
 use vet_demand::policies::KeyedPolicy;
 use vet_demand::policy::Policy;
-use vet_demand::policy_key::PolicyKey;
+use vet_tables::sequence::Row;
 
-impl ReadRow for PolicyRow {
-    type Value = KeyedPolicy;
-
+impl FromRow for KeyedPolicy {
     ghost stands_for = { IsWritten IsKeyedPolicy policy_row };
 
-    fn read(&self, alloc: Global) -> Result<Option<KeyedPolicy>, AllocError> {
-        let Some(key) = PolicyKey::read(alloc, self.policy.as_str())? else {
-            return Ok(None);
-        };
-        match policy(alloc, self)? {
-            Some(policy) => Ok(Some(KeyedPolicy { key, policy })),
-            None => Ok(None),
-        }
+    fn from_row(alloc: Global, row: &Row) -> Result<KeyedPolicy, Unread> {
+        Ok(KeyedPolicy {
+            key: policy_key(alloc, text_at(row, 0)?)?,
+            policy: policy(alloc, row)?,
+        })
     }
 }
 
 // What a row says but for its key.
-fn policy(alloc: Global, row: &PolicyRow) -> Result<Option<Policy>, AllocError>
-    ensures { IfOk result (λ found. IsReadBack TellsPolicy row.now found) }
+fn policy(alloc: Global, row: &Row) -> Result<Policy, Unread>
+    ensures { (p : PolicyValue) → IsWritten IsKeyedPolicy policy_row row.now p → Reads result p.policy }
 {
-    let criteria = optional_names(alloc, row.criteria.as_slice())?;
-    let dev = optional_names(alloc, row.dev.as_slice())?;
-    let dependency = dependencies(alloc, row.dependency.as_slice())?;
-    let notes = optional_text(alloc, row.notes.as_slice())?;
-    Ok(policy_of(flag(row.as_crates), criteria, dev, dependency, notes))
-}
-
-// The policy of these parts, if all are there.
-fn policy_of(
-    as_crates: Option<Option<bool>>,
-    criteria: Option<Option<Names>>,
-    dev: Option<Option<Names>>,
-    dependency: Option<DependencyCriteria>,
-    notes: Option<Option<Text>>,
-) -> Option<Policy>
-    ensures { (p : Policy) → as_crates ≡ Some p.audit_as_crates_io → criteria ≡ Some p.criteria
-        → dev ≡ Some p.dev_criteria → dependency ≡ Some p.dependency_criteria → notes ≡ Some p.notes
-        → result ≡ Some p }
-{
-    Some(Policy {
-        audit_as_crates_io: as_crates?,
-        criteria: criteria?,
-        dev_criteria: dev?,
-        dependency_criteria: dependency?,
-        notes: notes?,
+    Ok(Policy {
+        audit_as_crates_io: flag(int_at(row, 1)?)?,
+        criteria: optional_names(alloc, blob_at(row, 2)?)?,
+        dev_criteria: optional_names(alloc, blob_at(row, 3)?)?,
+        dependency_criteria: dependencies(alloc, blob_at(row, 4)?)?,
+        notes: optional_text(alloc, blob_at(row, 5)?)?,
     })
 }
 
 // The criteria for dependencies in a column.
-fn dependencies(alloc: Global, bytes: &[u8]) -> Result<Option<DependencyCriteria>, AllocError>
-    ensures { IfOk result (λ found. IsReadBack (IsWritten AreDependencies dependency_column) bytes.now found) }
+fn dependencies(alloc: Global, bytes: &[u8]) -> Result<DependencyCriteria, Unread>
+    ensures { IsReadBack (IsWritten AreDependencies dependency_column) bytes.now result }
 {
-    match map_items::<PackageName>(alloc, bytes)? {
-        Some(filed) => Ok(Some(DependencyCriteria::of(alloc, dependency_items(alloc, filed)?)?)),
-        None => Ok(None),
-    }
+    let filed = map_items::<PackageName>(alloc, bytes)?;
+    Ok(DependencyCriteria::of(alloc, dependency_items(alloc, filed)?)?)
 }
 
 // Criteria that are filed under a dependency's name, as items.

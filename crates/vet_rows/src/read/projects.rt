@@ -2,43 +2,44 @@
 //!
 //! Nodes and edges are filed under the names of their projects. Within a project the nodes are put in their order, so
 //! that the place of each end of an edge is found by halving.
-ghost use Rattle.std.specs.Prelude.{◌≡◌, ◌<◌, ℕ, List, IfOk, IfSome, Option, Some, length, map, option_map};
-ghost use Rattle.std.specs.Prelude.{[], pos};
-ghost use Rattle.std.specs.List.{All, flat_map};
-ghost use Rattle.std.specs.Ordering.{nat_cmp};
 ghost use Rattle.std.specs.Cmp.Lexicographic.{slice_cmp};
+ghost use Rattle.std.specs.List.{All, flat_map, slice_get};
+ghost use Rattle.std.specs.Ordering.{nat_cmp};
+ghost use Rattle.std.specs.Prelude.{◌≡◌, ◌<◌, ◌+◌, ℕ, List, [], IfOk, MatchResult, Ok, Some, length, map, pos};
 ghost use Rattle.vet_base.specs.Items.{SameItems};
 ghost use Rattle.vet_base.specs.Keyed.{IsByKey, all_set};
 ghost use Rattle.vet_base.specs.Version.{version_text};
 ghost use Rattle.vet_base.specs.Words.{Name};
 ghost use Rattle.vet_demand.specs.NamedProject.{project_name};
 ghost use Rattle.vet_demand.specs.Needs.{node_at};
-ghost use Rattle.vet_demand.specs.Project.{AreInNodeOrder, IsProject};
-ghost use Rattle.vet_demand.specs.declared.project.Edge.{Edge};
-ghost use Rattle.vet_demand.specs.declared.project.EdgeKind.{EdgeKind};
-ghost use Rattle.vet_demand.specs.declared.project.NamedProject.{NamedProject};
-ghost use Rattle.vet_demand.specs.declared.project.Node.{Node};
-ghost use Rattle.vet_demand.specs.declared.project.Party.{Party};
-ghost use Rattle.vet_demand.specs.Project.{kind_place, party_place};
-ghost use Rattle.vet_rows.specs.ReadBack.{EachStandsFor, IsReadBack, IsWritten};
+ghost use Rattle.vet_demand.specs.Project.{AreInNodeOrder, IsProject, kind_place, party_place};
+ghost use Rattle.vet_demand.specs.declared.project.Edge.{Edge as EdgeValue};
+ghost use Rattle.vet_demand.specs.declared.project.EdgeKind.{EdgeKind as KindValue};
+ghost use Rattle.vet_demand.specs.declared.project.NamedProject.{NamedProject as ProjectValue};
+ghost use Rattle.vet_demand.specs.declared.project.Node.{Node as NodeValue};
+ghost use Rattle.vet_demand.specs.declared.project.Party.{Party as PartyValue};
 ghost use Rattle.vet_rows.specs.HeldValues.{IsNamedProject};
 ghost use Rattle.vet_rows.specs.ProjectRows.{edge_rows, node_rows};
+ghost use Rattle.vet_rows.specs.ReadBack.{EachStandsFor, IsReadBack, IsWritten, Reads};
 ghost use Rattle.vet_rows.specs.ReadProjects.{AreNodesAndEdgesOf, IsEdgeOf, IsEnd, IsFiledEnds, IsFiledNode};
 ghost use Rattle.vet_rows.specs.ReadProjects.{TellsGathered, TellsProject, end_of, filed_ends_row, filed_node_row};
-ghost use Rattle.vet_rows.specs.declared.read.gathered.Filed.{Filed};
-ghost use Rattle.vet_rows.specs.declared.read.projects.End.{End};
-ghost use Rattle.vet_rows.specs.declared.read.projects.Ends.{Ends};
+ghost use Rattle.vet_rows.specs.declared.read.gathered.Filed.{Filed as FiledValue};
+ghost use Rattle.vet_rows.specs.declared.read.projects.End.{End as EndValue};
+ghost use Rattle.vet_rows.specs.declared.read.projects.Ends.{Ends as EndsValue};
+ghost use Rattle.vet_tables.specs.declared.cell.Cell.TheVariants.{Text};
 
+use crate::read::cells::{int_at, text_at};
 use crate::read::columns::{package_name, version};
+use crate::read::from_row::{FromRow, read_rows};
 use crate::read::gathered::{Filed, Group, gather};
-use crate::read::rows::{ReadRow, one_more, read_rows};
-use crate::row::{EdgeRow, NodeRow};
+use crate::read::unread::{Unread, found};
 use std::alloc::{AllocError, Global};
 use vet_base::keyed::Keyed;
 use vet_base::name::PackageName;
 use vet_base::ranked::rank;
 use vet_base::version::VetVersion;
 use vet_demand::project::{Edge, EdgeKind, NamedProject, Node, Party, Project};
+use vet_tables::sequence::Row;
 
 /// A version of a package, as an end of an edge.
 pub(crate) struct End {
@@ -52,20 +53,6 @@ impl Drop for End {
             package: _,
             version: _,
         } = self;
-    }
-}
-
-impl End {
-    // The node of this version, and whose it is. Takes no memory.
-    fn into_node(self, party: Party) -> Node
-        ensures { result ≡ record { «package» = self.«package»; version = self.version; party = party } }
-    {
-        let End { package, version } = self;
-        Node {
-            package,
-            version,
-            party,
-        }
     }
 }
 
@@ -86,125 +73,99 @@ impl Drop for Ends {
     }
 }
 
-impl ReadRow for NodeRow {
-    type Value = Filed<PackageName, Node>;
-
+impl FromRow for Filed<PackageName, Node> {
     ghost stands_for = { IsWritten IsFiledNode filed_node_row };
 
-    fn read(&self, alloc: Global) -> Result<Option<Filed<PackageName, Node>>, AllocError> {
-        let project = package_name(alloc, self.project.as_str())?;
-        let end = read_end(alloc, self.name.as_str(), self.version.as_str())?;
-        Ok(filed_node(project, end, party(self)))
+    fn from_row(alloc: Global, row: &Row) -> Result<Filed<PackageName, Node>, Unread> {
+        Ok(Filed {
+            key: package_name(alloc, text_at(row, 0)?)?,
+            item: node(alloc, row)?,
+        })
     }
 }
 
-impl ReadRow for EdgeRow {
-    type Value = Filed<PackageName, Ends>;
+// The node of a row.
+fn node(alloc: Global, row: &Row) -> Result<Node, Unread>
+    ensures { (f : FiledValue Name NodeValue) → IsWritten IsFiledNode filed_node_row row.now f → Reads result f.item }
+{
+    Ok(Node {
+        package: package_name(alloc, text_at(row, 1)?)?,
+        version: version(alloc, text_at(row, 2)?)?,
+        party: party(int_at(row, 3)?)?,
+    })
+}
 
+impl FromRow for Filed<PackageName, Ends> {
     ghost stands_for = { IsWritten IsFiledEnds filed_ends_row };
 
-    fn read(&self, alloc: Global) -> Result<Option<Filed<PackageName, Ends>>, AllocError> {
-        let project = package_name(alloc, self.project.as_str())?;
-        let from = read_end(alloc, self.from_name.as_str(), self.from_version.as_str())?;
-        let to = read_end(alloc, self.to_name.as_str(), self.to_version.as_str())?;
-        Ok(filed_ends(project, from, to, kind(self.kind)))
+    fn from_row(alloc: Global, row: &Row) -> Result<Filed<PackageName, Ends>, Unread> {
+        Ok(Filed {
+            key: package_name(alloc, text_at(row, 0)?)?,
+            item: edge_ends(alloc, row)?,
+        })
     }
 }
 
-// A version of a package.
-fn read_end(alloc: Global, package: &str, text: &str) -> Result<Option<End>, AllocError>
-    ensures { IfOk result (λ found. (e : End) → IsEnd e → «package».now ≡ e.«package»
-        → text.now ≡ version_text e.version → found ≡ Some e) }
+// The ends of the edge of a row.
+fn edge_ends(alloc: Global, row: &Row) -> Result<Ends, Unread>
+    ensures { (f : FiledValue Name EndsValue) → IsWritten IsFiledEnds filed_ends_row row.now f → Reads result f.item }
 {
-    let Some(package) = package_name(alloc, package)? else {
-        return Ok(None);
-    };
-    match version(alloc, text)? {
-        Some(version) => Ok(Some(End { package, version })),
-        None => Ok(None),
-    }
+    Ok(Ends {
+        from: end_at(alloc, row, 1)?,
+        to: end_at(alloc, row, 3)?,
+        kind: kind(int_at(row, 5)?)?,
+    })
+}
+
+// A version of a package, whose name stands at a place and its version behind it.
+fn end_at(alloc: Global, row: &Row, at: usize) -> Result<End, Unread>
+    requires { at < 5 }
+    ensures { (e : EndValue) → IsEnd e → slice_get row.now at ≡ Some (Text e.«package»)
+        → slice_get row.now (at + 1) ≡ Some (Text (version_text e.version)) → Reads result e }
+{
+    Ok(End {
+        package: package_name(alloc, text_at(row, at)?)?,
+        version: version(alloc, text_at(row, at + 1)?)?,
+    })
 }
 
 // Whose a package is. Takes no memory.
-fn party(row: &NodeRow) -> Option<Party>
-    ensures { (p : Party) → row.now.party ≡ pos (party_place p) → result ≡ Some p }
+fn party(column: i64) -> Result<Party, Unread>
+    ensures { (p : PartyValue) → column ≡ pos (party_place p) → result ≡ Ok p }
 {
-    match row.party {
-        0 => Some(Party::Root),
-        1 => Some(Party::First),
-        2 => Some(Party::Third),
-        _ => None,
+    match column {
+        0 => Ok(Party::Root),
+        1 => Ok(Party::First),
+        2 => Ok(Party::Third),
+        _ => Err(Unread::NotARegister),
     }
 }
 
 // For what a package depends on another. Takes no memory.
-fn kind(column: i64) -> Option<EdgeKind>
-    ensures { (k : EdgeKind) → column ≡ pos (kind_place k) → result ≡ Some k }
+fn kind(column: i64) -> Result<EdgeKind, Unread>
+    ensures { (k : KindValue) → column ≡ pos (kind_place k) → result ≡ Ok k }
 {
     match column {
-        0 => Some(EdgeKind::Normal),
-        1 => Some(EdgeKind::Build),
-        2 => Some(EdgeKind::Dev),
-        _ => None,
+        0 => Ok(EdgeKind::Normal),
+        1 => Ok(EdgeKind::Build),
+        2 => Ok(EdgeKind::Dev),
+        _ => Err(Unread::NotARegister),
     }
 }
 
-// The node of these parts, if all are there.
-fn filed_node(
-    project: Option<PackageName>,
-    end: Option<End>,
-    party: Option<Party>,
-) -> Option<Filed<PackageName, Node>>
-    ensures { (f : Filed Name Node) → project ≡ Some f.key → end ≡ Some (end_of f.item) → party ≡ Some f.item.party
-        → result ≡ Some f }
-{
-    let party = party?;
-    let key = project?;
-    let end = end?;
-    Some(Filed {
-        key,
-        item: end.into_node(party),
-    })
-}
-
-// The edge of these parts, if all are there.
-fn filed_ends(
-    project: Option<PackageName>,
-    from: Option<End>,
-    to: Option<End>,
-    kind: Option<EdgeKind>,
-) -> Option<Filed<PackageName, Ends>>
-    ensures { (f : Filed Name Ends) → project ≡ Some f.key → from ≡ Some f.item.from → to ≡ Some f.item.to
-        → kind ≡ Some f.item.kind → result ≡ Some f }
-{
-    let kind = kind?;
-    let key = project?;
-    let from = from?;
-    let to = to?;
-    Some(Filed {
-        key,
-        item: Ends { from, to, kind },
-    })
-}
-
-/// The projects of these rows, in whatever order these stand. Fails only if memory runs out. Takes a time of n log n.
+/// The projects of these rows, in whatever order these stand. Takes a time of n log n.
 pub(crate) fn projects(
     alloc: Global,
-    nodes: &[NodeRow],
-    edges: &[EdgeRow],
-) -> Result<Option<Keyed<NamedProject>>, AllocError>
-    ensures { IfOk result (λ found. (projects : List NamedProject)
+    nodes: &[Row],
+    edges: &[Row],
+) -> Result<Keyed<NamedProject>, Unread>
+    ensures { (projects : List ProjectValue)
         → IsByKey (slice_cmp nat_cmp) project_name projects → All IsNamedProject projects
         → SameItems nodes.now (flat_map node_rows projects) → SameItems edges.now (flat_map edge_rows projects)
-        → option_map (λ k. k.items) found ≡ Some projects) }
+        → MatchResult result (λ k. k.items ≡ projects) (λ e. e ≡ Unread.NoMemory) }
 {
-    let Some(nodes) = read_rows(alloc, nodes)? else {
-        return Ok(None);
-    };
-    match read_rows(alloc, edges)? {
-        Some(edges) => projects_of(alloc, nodes, edges),
-        None => Ok(None),
-    }
+    let nodes = read_rows(alloc, nodes)?;
+    projects_of(alloc, nodes, read_rows(alloc, edges)?)
 }
 
 // The projects of these nodes and edges.
@@ -212,17 +173,15 @@ fn projects_of(
     alloc: Global,
     nodes: Vec<Filed<PackageName, Node>>,
     edges: Vec<Filed<PackageName, Ends>>,
-) -> Result<Option<Keyed<NamedProject>>, AllocError>
-    ensures { IfOk result (λ found.
-        IsReadBack (AreNodesAndEdgesOf nodes.items) edges.items (option_map (λ k. k.items) found)) }
+) -> Result<Keyed<NamedProject>, Unread>
+    ensures { (projects : List ProjectValue) → AreNodesAndEdgesOf nodes.items edges.items projects
+        → MatchResult result (λ k. k.items ≡ projects) (λ e. e ≡ Unread.NoMemory) }
 {
     let names = names_of(alloc, nodes.as_slice())?;
     let with_nodes = gather(alloc, names.into_items(), nodes)?;
     let groups = gather(alloc, with_nodes, edges)?;
-    match projects_in(alloc, groups)? {
-        Some(projects) => Ok(Some(Keyed::of(alloc, projects)?)),
-        None => Ok(None),
-    }
+    let projects = projects_in(alloc, groups)?;
+    Ok(Keyed::of(alloc, projects)?)
 }
 
 // The names of the projects of which there are nodes.
@@ -243,23 +202,23 @@ fn names_of(
 fn projects_in(
     alloc: Global,
     groups: Vec<Group<Group<PackageName, Node>, Ends>>,
-) -> Result<Option<Vec<NamedProject>>, AllocError>
-    ensures { IfOk result (λ found.
-        IsReadBack (EachStandsFor TellsGathered) groups.items (option_map (λ v. v.items) found)) }
+) -> Result<Vec<NamedProject>, Unread>
+    ensures { (projects : List ProjectValue) → EachStandsFor TellsGathered groups.items projects
+        → MatchResult result (λ v. v.items ≡ projects) (λ e. e ≡ Unread.NoMemory) }
 {
-    let mut found = Some(Vec::new(alloc));
+    let mut projects = Vec::new(alloc);
     'groups: for group in groups {
-        found = one_more(found, project_in(alloc, group)?)?;
+        projects.push(project_in(alloc, group)?)?;
     }
-    Ok(found)
+    Ok(projects)
 }
 
 // The project of which these are the name, nodes and edges.
 fn project_in(
     alloc: Global,
     group: Group<Group<PackageName, Node>, Ends>,
-) -> Result<Option<NamedProject>, AllocError>
-    ensures { IfOk result (λ found. IsReadBack TellsGathered group found) }
+) -> Result<NamedProject, Unread>
+    ensures { IsReadBack TellsGathered group result }
 {
     let (with_nodes, edges) = group.into_parts();
     let (name, nodes) = with_nodes.into_parts();
@@ -272,65 +231,46 @@ fn project(
     name: PackageName,
     nodes: Vec<Node>,
     ends: &[Ends],
-) -> Result<Option<NamedProject>, AllocError>
-    ensures { IfOk result (λ found. IsReadBack (TellsProject name nodes.items) ends.now found) }
+) -> Result<NamedProject, Unread>
+    ensures { IsReadBack (TellsProject name nodes.items) ends.now result }
 {
     let nodes = rank(nodes)?;
-    match edges_between(alloc, nodes.as_slice(), ends)? {
-        Some(edges) => restore(name, nodes, edges),
-        None => Ok(None),
-    }
+    let edges = edges_between(alloc, nodes.as_slice(), ends)?;
+    restore(name, nodes, edges)
 }
 
 // The project of this name, these nodes and these edges, which may stand in whatever order.
-fn restore(
-    name: PackageName,
-    nodes: Vec<Node>,
-    edges: Vec<Edge>,
-) -> Result<Option<NamedProject>, AllocError>
-    ensures { IfOk result (λ found. (p : NamedProject) → IsProject p.project → name ≡ p.name
-        → nodes.items ≡ p.project.nodes → SameItems edges.items p.project.edges → found ≡ Some p) }
+fn restore(name: PackageName, nodes: Vec<Node>, edges: Vec<Edge>) -> Result<NamedProject, Unread>
+    ensures { (p : ProjectValue) → IsProject p.project → name ≡ p.name → nodes.items ≡ p.project.nodes
+        → SameItems edges.items p.project.edges → Reads result p }
 {
     let edges = rank(edges)?;
-    match Project::restore(nodes, edges) {
-        Some(project) => Ok(Some(NamedProject { name, project })),
-        None => Ok(None),
-    }
+    Ok(NamedProject {
+        name,
+        project: found(Project::restore(nodes, edges))?,
+    })
 }
 
 // The edges of these ends, each end by its place among the nodes.
-fn edges_between(
-    alloc: Global,
-    nodes: &[Node],
-    ends: &[Ends],
-) -> Result<Option<Vec<Edge>>, AllocError>
-    ensures { IfOk result (λ found. AreInNodeOrder nodes.now
-        → IsReadBack (EachStandsFor (IsEdgeOf nodes.now)) ends.now (option_map (λ v. v.items) found)) }
+fn edges_between(alloc: Global, nodes: &[Node], ends: &[Ends]) -> Result<Vec<Edge>, Unread>
+    ensures { (edges : List EdgeValue) → AreInNodeOrder nodes.now → EachStandsFor (IsEdgeOf nodes.now) ends.now edges
+        → MatchResult result (λ v. v.items ≡ edges) (λ e. e ≡ Unread.NoMemory) }
 {
-    let mut found = Some(Vec::new(alloc));
+    let mut edges = Vec::new(alloc);
     'ends: for pair in ends {
-        found = one_more(found, edge_between(nodes, pair))?;
+        edges.push(edge_between(nodes, pair)?)?;
     }
-    Ok(found)
+    Ok(edges)
 }
 
 // The edge of these ends. Takes no memory.
-fn edge_between(nodes: &[Node], ends: &Ends) -> Option<Edge>
-    ensures { AreInNodeOrder nodes.now → IsReadBack (IsEdgeOf nodes.now) ends.now result }
+fn edge_between(nodes: &[Node], ends: &Ends) -> Result<Edge, Unread>
+    ensures { (e : EdgeValue) → AreInNodeOrder nodes.now → IsEdgeOf nodes.now ends.now e → result ≡ Ok e }
 {
-    let from = place_of(nodes, &ends.from);
-    let to = place_of(nodes, &ends.to);
-    edge_of(from, to, ends.kind)
-}
-
-// The edge of these places, if both are there. Takes no memory.
-fn edge_of(from: Option<usize>, to: Option<usize>, kind: EdgeKind) -> Option<Edge>
-    ensures { (e : Edge) → from ≡ Some e.from → to ≡ Some e.to → kind ≡ e.kind → result ≡ Some e }
-{
-    Some(Edge {
-        from: from?,
-        to: to?,
-        kind,
+    Ok(Edge {
+        from: found(place_of(nodes, &ends.from))?,
+        to: found(place_of(nodes, &ends.to))?,
+        kind: ends.kind,
     })
 }
 

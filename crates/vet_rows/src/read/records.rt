@@ -1,42 +1,40 @@
 //! Publisher records by their packages, made of what was read of them.
-ghost use Rattle.std.specs.Prelude.{◌≡◌, ◌↔◌, ◌≤◌, IfErr, IfOk, IfSome, IsTrue, List, Some, map, option_map};
+ghost use Rattle.std.specs.Prelude.{◌≡◌, ◌↔◌, ◌≤◌, IfOk, IsTrue, List, MatchResult, map};
 ghost use Rattle.std.specs.List.{All};
 ghost use Rattle.vet_base.specs.declared.limits.TheConstants.{MOST_PUBLISHERS};
 ghost use Rattle.vet_entries.specs.PublisherRecords.{HasAny, IsByName, records_total};
-ghost use Rattle.vet_entries.specs.declared.publisher_records.PackagePublishers.{PackagePublishers};
-ghost use Rattle.vet_rows.specs.ReadBack.{EachStandsFor};
+ghost use Rattle.vet_entries.specs.declared.publisher_records.PackagePublishers.{PackagePublishers as PackageValue};
+ghost use Rattle.vet_rows.specs.ReadBack.{EachStandsFor, IsReadBack};
 ghost use Rattle.vet_rows.specs.ReadRecords.{AreRecordsOf, IsGroupOfPackage};
 
 use crate::read::gathered::{Filed, Group, gather};
+use crate::read::unread::Unread;
 use std::alloc::{AllocError, Global};
 use vet_base::keyed::Keyed;
 use vet_base::limits::MOST_PUBLISHERS;
 use vet_base::name::PackageName;
-use vet_base::refusal::Refusal;
 use vet_entries::publisher::Publisher;
 use vet_entries::publisher_records::PackagePublishers;
 use vet_entries::publishers::Publishers;
 
-/// These records by their packages; they stand in whatever order and may repeat. None if there are too many. Refused:
-/// `NoMemory`.
+/// These records by their packages; they stand in whatever order and may repeat.
 pub(crate) fn records_of(
     alloc: Global,
     records: Vec<Filed<PackageName, Publisher>>,
-) -> Result<Option<Vec<PackagePublishers>>, Refusal>
-    ensures by_name { IfOk result (λ found. IfSome found (λ packages. IsByName packages.items)) }
-    ensures few { IfOk result (λ found. IfSome found (λ packages. records_total packages.items ≤ MOST_PUBLISHERS)) }
-    ensures back { IfOk result (λ found. (packages : List PackagePublishers) → AreRecordsOf records.items packages
-        → option_map (λ held. held.items) found ≡ Some packages) }
-    ensures memory { IfErr result (λ e. e ≡ Refusal.NoMemory) }
+) -> Result<Vec<PackagePublishers>, Unread>
+    ensures by_name { IfOk result (λ packages. IsByName packages.items) }
+    ensures few { IfOk result (λ packages. records_total packages.items ≤ MOST_PUBLISHERS) }
+    ensures back { (packages : List PackageValue) → AreRecordsOf records.items packages
+        → MatchResult result (λ held. held.items ≡ packages) (λ e. e ≡ Unread.NoMemory) }
 {
     let names = names_of(alloc, records.as_slice())?;
     let names = Keyed::of(alloc, names)?.into_items();
     let groups = gather(alloc, names, records)?;
     let packages = Keyed::of(alloc, packages_of(alloc, groups)?)?.into_items();
-    if are_held(packages.as_slice()) {
-        return Ok(Some(packages));
+    if !are_held(packages.as_slice()) {
+        return Err(Unread::NotARegister);
     }
-    Ok(None)
+    Ok(packages)
 }
 
 // The packages of some records.
@@ -57,10 +55,9 @@ fn names_of(
 fn packages_of(
     alloc: Global,
     groups: Vec<Group<PackageName, Publisher>>,
-) -> Result<Vec<PackagePublishers>, Refusal>
-    ensures back { IfOk result (λ held. (packages : List PackagePublishers)
-        → EachStandsFor IsGroupOfPackage groups.items packages → held.items ≡ packages) }
-    ensures memory { IfErr result (λ e. e ≡ Refusal.NoMemory) }
+) -> Result<Vec<PackagePublishers>, Unread>
+    ensures { (packages : List PackageValue) → EachStandsFor IsGroupOfPackage groups.items packages
+        → MatchResult result (λ held. held.items ≡ packages) (λ e. e ≡ Unread.NoMemory) }
 {
     let mut packages = Vec::new(alloc);
     'groups: for group in groups {
@@ -73,15 +70,13 @@ fn packages_of(
 fn package_of(
     alloc: Global,
     group: Group<PackageName, Publisher>,
-) -> Result<PackagePublishers, Refusal>
-    ensures back { IfOk result (λ held. (p : PackagePublishers) → IsGroupOfPackage group p → held ≡ p) }
-    ensures memory { IfErr result (λ e. e ≡ Refusal.NoMemory) }
+) -> Result<PackagePublishers, Unread>
+    ensures { IsReadBack IsGroupOfPackage group result }
 {
     let (package, records) = group.into_parts();
-    let publishers = Publishers::of(alloc, records)?;
     Ok(PackagePublishers {
         package,
-        publishers,
+        publishers: Publishers::of(alloc, records)?,
     })
 }
 

@@ -4,7 +4,6 @@
 ghost use Rattle.std.specs.Option.{option_copied};
 ghost use Rattle.std.specs.Prelude.{◌≡◌, IfOk};
 ghost use Rattle.vet_rows.specs.ComingNumbers.{HeldEntriesFit};
-ghost use Rattle.vet_rows.specs.DemandRows.{the_policy};
 ghost use Rattle.vet_rows.specs.HeldChanges.{criteria_coming, criteria_going, edges_coming, edges_going};
 ghost use Rattle.vet_rows.specs.HeldChanges.{entries_coming, entries_going, nodes_coming, nodes_going};
 ghost use Rattle.vet_rows.specs.HeldChanges.{peers_coming, peers_going};
@@ -12,19 +11,19 @@ ghost use Rattle.vet_rows.specs.HeldChanges.{policies_coming, policies_going, pu
 ghost use Rattle.vet_rows.specs.KeyedItems.{rows_if};
 ghost use Rattle.vet_rows.specs.ProjectRows.{edge_rows, node_rows};
 
-use crate::row::{CriterionRow, EdgeRow, EntryRow, NodeRow, PeerRow, PolicyRow, PublisherRow};
 use crate::row_changes::fact_changes;
 use crate::row_changes::keyed_items::{comes, goes};
 use crate::rows_of::entry_rows::{all_entries, all_publishers};
 use crate::rows_of::meta_rows::numbers_fit;
 use crate::rows_of::project_rows::{push_edges, push_nodes};
-use crate::rows_of::setting_rows::{all_criteria, all_peers, all_policies, policy_row};
+use crate::rows_of::setting_rows::all_criteria;
+use crate::rows_of::to_row::{row_if, rows_each};
 use std::alloc::{AllocError, Global};
-use vet_demand::policies::KeyedPolicy;
 use vet_demand::project::NamedProject;
 use vet_graph::keeper::Keeper;
 use vet_register::held::HeldEdit;
 use vet_register::register::Register;
+use vet_tables::sequence::Row;
 
 // ---- criteria
 
@@ -33,7 +32,7 @@ pub fn criteria_going<K: Keeper>(
     alloc: Global,
     edit: &HeldEdit,
     register: &Register<K>,
-) -> Result<Vec<CriterionRow>, AllocError>
+) -> Result<Vec<Row>, AllocError>
     ensures { IfOk result (λ rows. rows.items ≡ criteria_going edit.now register.now.state.held) }
 {
     match edit {
@@ -44,7 +43,7 @@ pub fn criteria_going<K: Keeper>(
 }
 
 /// The rows of criteria that come. Fails only if memory runs out.
-pub fn criteria_coming(alloc: Global, edit: &HeldEdit) -> Result<Vec<CriterionRow>, AllocError>
+pub fn criteria_coming(alloc: Global, edit: &HeldEdit) -> Result<Vec<Row>, AllocError>
     ensures { IfOk result (λ rows. rows.items ≡ criteria_coming edit.now) }
 {
     match edit {
@@ -61,7 +60,7 @@ pub fn entries_going<K: Keeper>(
     alloc: Global,
     edit: &HeldEdit,
     register: &Register<K>,
-) -> Result<Vec<EntryRow>, AllocError>
+) -> Result<Vec<Row>, AllocError>
     ensures { IfOk result (λ rows. rows.items ≡ entries_going edit.now register.now.state.held) }
 {
     numbers_fit(register);
@@ -73,7 +72,7 @@ pub fn entries_going<K: Keeper>(
 }
 
 /// The rows of entries that come. Asks that their numbers have columns. Fails only if memory runs out.
-pub fn entries_coming(alloc: Global, edit: &HeldEdit) -> Result<Vec<EntryRow>, AllocError>
+pub fn entries_coming(alloc: Global, edit: &HeldEdit) -> Result<Vec<Row>, AllocError>
     requires { HeldEntriesFit edit.now }
     ensures { IfOk result (λ rows. rows.items ≡ entries_coming edit.now) }
 {
@@ -91,7 +90,7 @@ pub fn publishers_going<K: Keeper>(
     alloc: Global,
     edit: &HeldEdit,
     register: &Register<K>,
-) -> Result<Vec<PublisherRow>, AllocError>
+) -> Result<Vec<Row>, AllocError>
     ensures { IfOk result (λ rows. rows.items ≡ publishers_going edit.now register.now.state.held) }
 {
     match edit {
@@ -102,7 +101,7 @@ pub fn publishers_going<K: Keeper>(
 }
 
 /// The rows of publishers that come. Fails only if memory runs out.
-pub fn publishers_coming(alloc: Global, edit: &HeldEdit) -> Result<Vec<PublisherRow>, AllocError>
+pub fn publishers_coming(alloc: Global, edit: &HeldEdit) -> Result<Vec<Row>, AllocError>
     ensures { IfOk result (λ rows. rows.items ≡ publishers_coming edit.now) }
 {
     match edit {
@@ -119,23 +118,23 @@ pub fn peers_going<K: Keeper>(
     alloc: Global,
     edit: &HeldEdit,
     register: &Register<K>,
-) -> Result<Vec<PeerRow>, AllocError>
+) -> Result<Vec<Row>, AllocError>
     ensures { IfOk result (λ rows. rows.items ≡ peers_going edit.now register.now.state.held) }
 {
     match edit {
         HeldEdit::Facts(edit) => fact_changes::peers_going(alloc, edit, register.facts()),
-        HeldEdit::Files(_) => all_peers(alloc, register.peers()),
+        HeldEdit::Files(_) => rows_each(alloc, register.peers()),
         _ => Ok(Vec::new(alloc)),
     }
 }
 
 /// The rows of peers that come. Fails only if memory runs out.
-pub fn peers_coming(alloc: Global, edit: &HeldEdit) -> Result<Vec<PeerRow>, AllocError>
+pub fn peers_coming(alloc: Global, edit: &HeldEdit) -> Result<Vec<Row>, AllocError>
     ensures { IfOk result (λ rows. rows.items ≡ peers_coming edit.now) }
 {
     match edit {
         HeldEdit::Facts(edit) => fact_changes::peers_coming(alloc, edit),
-        HeldEdit::Files(files) => all_peers(alloc, files.facts.peers()),
+        HeldEdit::Files(files) => rows_each(alloc, files.facts.peers()),
         _ => Ok(Vec::new(alloc)),
     }
 }
@@ -147,36 +146,25 @@ pub fn policies_going<K: Keeper>(
     alloc: Global,
     edit: &HeldEdit,
     register: &Register<K>,
-) -> Result<Vec<PolicyRow>, AllocError>
+) -> Result<Vec<Row>, AllocError>
     ensures { IfOk result (λ rows. rows.items ≡ policies_going edit.now register.now.state.held) }
 {
     match edit {
-        HeldEdit::Policies(change) => the_policy(alloc, goes(change, register.policies())),
-        HeldEdit::Files(_) => all_policies(alloc, register.policies()),
+        HeldEdit::Policies(change) => row_if(alloc, goes(change, register.policies())),
+        HeldEdit::Files(_) => rows_each(alloc, register.policies()),
         _ => Ok(Vec::new(alloc)),
     }
 }
 
 /// The rows of policies that come. Fails only if memory runs out.
-pub fn policies_coming(alloc: Global, edit: &HeldEdit) -> Result<Vec<PolicyRow>, AllocError>
+pub fn policies_coming(alloc: Global, edit: &HeldEdit) -> Result<Vec<Row>, AllocError>
     ensures { IfOk result (λ rows. rows.items ≡ policies_coming edit.now) }
 {
     match edit {
-        HeldEdit::Policies(change) => the_policy(alloc, comes(change)),
-        HeldEdit::Files(files) => all_policies(alloc, files.policies.items()),
+        HeldEdit::Policies(change) => row_if(alloc, comes(change)),
+        HeldEdit::Files(files) => rows_each(alloc, files.policies.items()),
         _ => Ok(Vec::new(alloc)),
     }
-}
-
-// The row of a policy, if there is one.
-fn the_policy(alloc: Global, policy: Option<&KeyedPolicy>) -> Result<Vec<PolicyRow>, AllocError>
-    ensures { IfOk result (λ rows. rows.items ≡ rows_if the_policy (option_copied policy.entry)) }
-{
-    let mut rows = Vec::new(alloc);
-    if let Some(policy) = policy {
-        rows.push(policy_row(alloc, policy)?)?;
-    }
-    Ok(rows)
 }
 
 // ---- projects
@@ -186,7 +174,7 @@ pub fn nodes_going<K: Keeper>(
     alloc: Global,
     edit: &HeldEdit,
     register: &Register<K>,
-) -> Result<Vec<NodeRow>, AllocError>
+) -> Result<Vec<Row>, AllocError>
     ensures { IfOk result (λ rows. rows.items ≡ nodes_going edit.now register.now.state.held) }
 {
     match edit {
@@ -196,7 +184,7 @@ pub fn nodes_going<K: Keeper>(
 }
 
 /// The rows of nodes that come. Fails only if memory runs out.
-pub fn nodes_coming(alloc: Global, edit: &HeldEdit) -> Result<Vec<NodeRow>, AllocError>
+pub fn nodes_coming(alloc: Global, edit: &HeldEdit) -> Result<Vec<Row>, AllocError>
     ensures { IfOk result (λ rows. rows.items ≡ nodes_coming edit.now) }
 {
     match edit {
@@ -210,7 +198,7 @@ pub fn edges_going<K: Keeper>(
     alloc: Global,
     edit: &HeldEdit,
     register: &Register<K>,
-) -> Result<Vec<EdgeRow>, AllocError>
+) -> Result<Vec<Row>, AllocError>
     ensures { IfOk result (λ rows. rows.items ≡ edges_going edit.now register.now.state.held) }
 {
     match edit {
@@ -220,7 +208,7 @@ pub fn edges_going<K: Keeper>(
 }
 
 /// The rows of edges that come. Fails only if memory runs out.
-pub fn edges_coming(alloc: Global, edit: &HeldEdit) -> Result<Vec<EdgeRow>, AllocError>
+pub fn edges_coming(alloc: Global, edit: &HeldEdit) -> Result<Vec<Row>, AllocError>
     ensures { IfOk result (λ rows. rows.items ≡ edges_coming edit.now) }
 {
     match edit {
@@ -230,7 +218,7 @@ pub fn edges_coming(alloc: Global, edit: &HeldEdit) -> Result<Vec<EdgeRow>, Allo
 }
 
 // The rows of the nodes of a project, if there is one.
-fn nodes_of(alloc: Global, named: Option<&NamedProject>) -> Result<Vec<NodeRow>, AllocError>
+fn nodes_of(alloc: Global, named: Option<&NamedProject>) -> Result<Vec<Row>, AllocError>
     ensures { IfOk result (λ rows. rows.items ≡ rows_if node_rows (option_copied named.entry)) }
 {
     let mut rows = Vec::new(alloc);
@@ -241,7 +229,7 @@ fn nodes_of(alloc: Global, named: Option<&NamedProject>) -> Result<Vec<NodeRow>,
 }
 
 // The rows of the edges of a project, if there is one.
-fn edges_of(alloc: Global, named: Option<&NamedProject>) -> Result<Vec<EdgeRow>, AllocError>
+fn edges_of(alloc: Global, named: Option<&NamedProject>) -> Result<Vec<Row>, AllocError>
     ensures { IfOk result (λ rows. rows.items ≡ rows_if edge_rows (option_copied named.entry)) }
 {
     let mut rows = Vec::new(alloc);

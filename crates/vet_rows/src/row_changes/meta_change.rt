@@ -6,8 +6,8 @@ ghost use Rattle.vet_register.specs.Held.{edited};
 ghost use Rattle.vet_rows.specs.Numbers.{CountsFit, NumbersFit};
 ghost use Rattle.vet_rows.specs.RowsOf.{meta_row};
 
-use crate::row::MetaRow;
-use crate::rows_of::columns::{names_or_none, text_or_none};
+use crate::meta::MetaNumbers;
+use crate::rows_of::meta_rows::row_of_meta;
 use std::alloc::{AllocError, Global};
 use vet_desk::change::DeskChange;
 use vet_desk::desk::Desk;
@@ -18,34 +18,31 @@ use vet_register::held::HeldEdit;
 use vet_register::moves::Recording;
 use vet_register::register::Register;
 use vet_register::tool_settings::ToolSettings;
+use vet_tables::sequence::Row;
 
 /// The row of `meta` after a change. Asks that its numbers have columns. Fails only if memory runs out.
 pub fn meta_row_after<K: Keeper>(
     alloc: Global,
     register: &Register<K>,
     change: &Change<K>,
-) -> Result<MetaRow, AllocError>
+) -> Result<Row, AllocError>
     requires numbers { NumbersFit (changed change.now register.now.state) }
     requires counts { CountsFit (changed change.now register.now.state).first }
     ensures { IfOk result (λ row. row ≡ meta_row (changed change.now register.now.state)) }
 {
+    let numbers = MetaNumbers {
+        step: change.step(),
+        next_entry: change.next_entry(),
+        next_review: next_review_after(register.desk(), change.desk()),
+        moves_limit: register.moves_limit(),
+    };
     let first = first_after(register, change.recording());
-    let settings = settings_after(register, change.edit());
-    Ok(MetaRow {
-        one: 1,
-        version: 1,
-        step: change.step() as i64,
-        next_entry: change.next_entry() as i64,
-        next_review: next_review_after(register.desk(), change.desk()) as i64,
-        moves_limit: register.moves_limit() as i64,
-        first0: first.conflicting as i64,
-        first1: first.full as i64,
-        first2: first.partial as i64,
-        first3: first.exempted as i64,
-        first4: first.unvetted as i64,
-        vet_version: text_or_none(alloc, &settings.vet_version)?,
-        default_criteria: names_or_none(alloc, &settings.default_criteria)?,
-    })
+    row_of_meta(
+        alloc,
+        numbers,
+        first,
+        settings_after(register, change.edit()),
+    )
 }
 
 // The counts at first after what is recorded.

@@ -1,37 +1,63 @@
 //! The row of all of which there is just one.
 ghost use Rattle.std.specs.Prelude.{◌≡◌, IfOk};
+ghost use Rattle.vet_rows.specs.MetaRow.{MetaFits, row_of_meta};
 ghost use Rattle.vet_rows.specs.Numbers.{CountsFit, NumbersFit};
 ghost use Rattle.vet_rows.specs.RowsOf.{meta_row};
 
-use crate::row::MetaRow;
+use crate::meta::MetaNumbers;
 use crate::rows_of::columns::{names_or_none, text_or_none};
 use std::alloc::{AllocError, Global};
 use vet_graph::keeper::Keeper;
+use vet_graph::standing::Counts;
 use vet_register::register::Register;
+use vet_register::tool_settings::ToolSettings;
+use vet_tables::cell::Cell;
+use vet_tables::sequence::{Row, Sequence};
 
 /// The row of `meta`. Fails only if memory runs out.
-pub fn meta_row<K: Keeper>(alloc: Global, register: &Register<K>) -> Result<MetaRow, AllocError>
+pub fn meta_row<K: Keeper>(alloc: Global, register: &Register<K>) -> Result<Row, AllocError>
     ensures { IfOk result (λ row. row ≡ meta_row register.now.state) }
 {
     numbers_fit(register);
     counts_fit(register);
-    let first = register.first_counts();
-    let settings = register.settings();
-    Ok(MetaRow {
-        one: 1,
-        version: 1,
-        step: register.step() as i64,
-        next_entry: register.next_entry() as i64,
-        next_review: register.desk().next_review() as i64,
-        moves_limit: register.moves_limit() as i64,
-        first0: first.conflicting as i64,
-        first1: first.full as i64,
-        first2: first.partial as i64,
-        first3: first.exempted as i64,
-        first4: first.unvetted as i64,
-        vet_version: text_or_none(alloc, &settings.vet_version)?,
-        default_criteria: names_or_none(alloc, &settings.default_criteria)?,
-    })
+    let numbers = MetaNumbers {
+        step: register.step(),
+        next_entry: register.next_entry(),
+        next_review: register.desk().next_review(),
+        moves_limit: register.moves_limit(),
+    };
+    row_of_meta(alloc, numbers, register.first_counts(), register.settings())
+}
+
+/// The row of these numbers, counts at first and settings. Asks that the numbers are below 2^63. Fails only if memory
+/// runs out.
+pub(crate) fn row_of_meta(
+    alloc: Global,
+    numbers: MetaNumbers,
+    first: Counts,
+    settings: &ToolSettings,
+) -> Result<Row, AllocError>
+    requires numbers { MetaFits numbers }
+    requires counts { CountsFit first }
+    ensures { IfOk result (λ row.
+        row ≡ row_of_meta (record { numbers = numbers; first = first; settings = settings.now })) }
+{
+    let cells = vec![in alloc;
+        Cell::Int(1),
+        Cell::Int(1),
+        Cell::Int(numbers.step as i64),
+        Cell::Int(numbers.next_entry as i64),
+        Cell::Int(numbers.next_review as i64),
+        Cell::Int(numbers.moves_limit as i64),
+        Cell::Int(first.conflicting as i64),
+        Cell::Int(first.full as i64),
+        Cell::Int(first.partial as i64),
+        Cell::Int(first.exempted as i64),
+        Cell::Int(first.unvetted as i64),
+        Cell::Blob(text_or_none(alloc, &settings.vet_version)?),
+        Cell::Blob(names_or_none(alloc, &settings.default_criteria)?),
+    ]?;
+    Ok(Sequence::of(cells))
 }
 
 /// The numbers of a register's state have columns. Does nothing.

@@ -4,23 +4,24 @@ ghost use Rattle.std.specs.List.{flat_map};
 ghost use Rattle.vet_demand.specs.Project.{IsWithin, kind_place, party_place};
 ghost use Rattle.vet_rows.specs.ProjectRows.{edge_row, edge_rows, node_row, node_rows};
 
-use crate::row::{EdgeRow, NodeRow};
 use crate::rows_of::columns::version_column;
 use std::alloc::{AllocError, Global};
 use vet_base::name::PackageName;
 use vet_demand::project::{Edge, EdgeKind, NamedProject, Node, Party};
-use vet_tables::column::TextColumn;
+use vet_tables::cell::Cell;
+use vet_tables::sequence::{Row, Sequence};
 
 /// The row of a node of a project. Fails only if memory runs out.
-pub fn node_row(alloc: Global, project: &PackageName, node: &Node) -> Result<NodeRow, AllocError>
+pub fn node_row(alloc: Global, project: &PackageName, node: &Node) -> Result<Row, AllocError>
     ensures { IfOk result (λ row. row ≡ node_row project.now node.now) }
 {
-    Ok(NodeRow {
-        project: TextColumn::of(alloc, project.as_str())?,
-        name: TextColumn::of(alloc, node.package.as_str())?,
-        version: version_column(alloc, &node.version)?,
-        party: party_number(node.party),
-    })
+    let cells = vec![in alloc;
+        Cell::text(alloc, project.as_str())?,
+        Cell::text(alloc, node.package.as_str())?,
+        Cell::Text(version_column(alloc, &node.version)?),
+        Cell::Int(party_number(node.party)),
+    ]?;
+    Ok(Sequence::of(cells))
 }
 
 /// The row of an edge of a project with these nodes. Asks that the edge is between two of them. Fails only if memory
@@ -30,20 +31,21 @@ pub fn edge_row(
     project: &PackageName,
     nodes: &[Node],
     edge: Edge,
-) -> Result<EdgeRow, AllocError>
+) -> Result<Row, AllocError>
     requires { IsWithin (length nodes.now) edge }
     ensures { IfOk result (λ row. row ≡ edge_row project.now nodes.now edge) }
 {
     let from = &nodes[edge.from];
     let to = &nodes[edge.to];
-    Ok(EdgeRow {
-        project: TextColumn::of(alloc, project.as_str())?,
-        from_name: TextColumn::of(alloc, from.package.as_str())?,
-        from_version: version_column(alloc, &from.version)?,
-        to_name: TextColumn::of(alloc, to.package.as_str())?,
-        to_version: version_column(alloc, &to.version)?,
-        kind: kind_number(edge.kind),
-    })
+    let cells = vec![in alloc;
+        Cell::text(alloc, project.as_str())?,
+        Cell::text(alloc, from.package.as_str())?,
+        Cell::Text(version_column(alloc, &from.version)?),
+        Cell::text(alloc, to.package.as_str())?,
+        Cell::Text(version_column(alloc, &to.version)?),
+        Cell::Int(kind_number(edge.kind)),
+    ]?;
+    Ok(Sequence::of(cells))
 }
 
 // The number of a party, 0 to 2.
@@ -69,7 +71,7 @@ fn kind_number(kind: EdgeKind) -> i64
 }
 
 /// The rows of the nodes of some projects. Fails only if memory runs out.
-pub fn all_nodes(alloc: Global, projects: &[NamedProject]) -> Result<Vec<NodeRow>, AllocError>
+pub fn all_nodes(alloc: Global, projects: &[NamedProject]) -> Result<Vec<Row>, AllocError>
     ensures { IfOk result (λ rows. rows.items ≡ flat_map node_rows projects.now) }
 {
     let mut rows = Vec::new(alloc);
@@ -82,7 +84,7 @@ pub fn all_nodes(alloc: Global, projects: &[NamedProject]) -> Result<Vec<NodeRow
 // Adds the rows of a project's nodes behind those of others.
 pub(crate) fn push_nodes(
     alloc: Global,
-    rows: &mut Vec<NodeRow>,
+    rows: &mut Vec<Row>,
     named: &NamedProject,
 ) -> Result<(), AllocError>
     ensures { OnOk result (rows.new.items ≡ rows.old.items ++ node_rows named.now) }
@@ -94,7 +96,7 @@ pub(crate) fn push_nodes(
 }
 
 /// The rows of the edges of some projects. Fails only if memory runs out.
-pub fn all_edges(alloc: Global, projects: &[NamedProject]) -> Result<Vec<EdgeRow>, AllocError>
+pub fn all_edges(alloc: Global, projects: &[NamedProject]) -> Result<Vec<Row>, AllocError>
     ensures { IfOk result (λ rows. rows.items ≡ flat_map edge_rows projects.now) }
 {
     let mut rows = Vec::new(alloc);
@@ -107,7 +109,7 @@ pub fn all_edges(alloc: Global, projects: &[NamedProject]) -> Result<Vec<EdgeRow
 // Adds the rows of a project's edges behind those of others.
 pub(crate) fn push_edges(
     alloc: Global,
-    rows: &mut Vec<EdgeRow>,
+    rows: &mut Vec<Row>,
     named: &NamedProject,
 ) -> Result<(), AllocError>
     ensures { OnOk result (rows.new.items ≡ rows.old.items ++ edge_rows named.now) }

@@ -1,16 +1,16 @@
 //! The rows of criteria, peers and policies.
-ghost use Rattle.std.specs.Prelude.{◌≡◌, ◌++◌, IfOk, OnOk, filter, map};
+ghost use Rattle.std.specs.Prelude.{◌≡◌, ◌++◌, IfOk, OnOk, filter, map, ⊤};
 ghost use Rattle.std.specs.List.{filter_map};
 ghost use Rattle.vet_base.specs.FurtherCriteria.{is_further};
 ghost use Rattle.vet_register.specs.HeldFiles.{further_at};
 ghost use Rattle.vet_rows.specs.Columns.{own_peer};
 ghost use Rattle.vet_rows.specs.SettingRows.{all_criteria, criteria_rows, criterion_row, peer_row, policy_row};
 
-use crate::row::{CriterionRow, PeerRow, PolicyRow};
 use crate::rows_of::columns::{
     flag, key_column, names_column, names_or_none, packages_column, text_or_none, texts_column,
 };
 use crate::rows_of::maps::map_column;
+use crate::rows_of::to_row::ToRow;
 use std::alloc::{AllocError, Global};
 use vet_base::criteria_table::{CriteriaTable, is_built_in};
 use vet_base::criterion::Criterion;
@@ -20,23 +20,21 @@ use vet_entries::facts::EntryFacts;
 use vet_entries::held_peer::HeldPeer;
 use vet_entries::peer_settings::PeerSettings;
 use vet_register::held_files::further_at;
-use vet_tables::column::TextColumn;
+use vet_tables::cell::Cell;
+use vet_tables::sequence::{Row, Sequence};
 
 /// The row of a criterion of a peer; the name of the peer is empty for one's own. Fails only if memory runs out.
-pub fn criterion_row(
-    alloc: Global,
-    peer: &str,
-    criterion: &Criterion,
-) -> Result<CriterionRow, AllocError>
+pub fn criterion_row(alloc: Global, peer: &str, criterion: &Criterion) -> Result<Row, AllocError>
     ensures { IfOk result (λ row. row ≡ criterion_row peer.now criterion.now) }
 {
-    Ok(CriterionRow {
-        peer: TextColumn::of(alloc, peer)?,
-        name: TextColumn::of(alloc, criterion.name.as_str())?,
-        about: text_or_none(alloc, &criterion.description)?,
-        url: text_or_none(alloc, &criterion.url)?,
-        implies: names_column(alloc, &criterion.implies)?,
-    })
+    let cells = vec![in alloc;
+        Cell::text(alloc, peer)?,
+        Cell::text(alloc, criterion.name.as_str())?,
+        Cell::Blob(text_or_none(alloc, &criterion.description)?),
+        Cell::Blob(text_or_none(alloc, &criterion.url)?),
+        Cell::Blob(names_column(alloc, &criterion.implies)?),
+    ]?;
+    Ok(Sequence::of(cells))
 }
 
 /// Whether a criterion has a row: it isn't built in. Takes no memory.
@@ -47,7 +45,7 @@ pub fn is_further(criterion: &Criterion) -> bool
 }
 
 /// The rows of all criteria that aren't built in: one's own, then those of each peer. Fails only if memory runs out.
-pub fn all_criteria(alloc: Global, facts: &EntryFacts) -> Result<Vec<CriterionRow>, AllocError>
+pub fn all_criteria(alloc: Global, facts: &EntryFacts) -> Result<Vec<Row>, AllocError>
     ensures { IfOk result (λ rows. rows.items ≡ all_criteria facts.now.content) }
 {
     let mut rows = own_criteria(alloc, facts.criteria())?;
@@ -64,10 +62,7 @@ pub fn all_criteria(alloc: Global, facts: &EntryFacts) -> Result<Vec<CriterionRo
 }
 
 /// The rows of one's own criteria that aren't built in. Fails only if memory runs out.
-pub(crate) fn own_criteria(
-    alloc: Global,
-    table: &CriteriaTable,
-) -> Result<Vec<CriterionRow>, AllocError>
+pub(crate) fn own_criteria(alloc: Global, table: &CriteriaTable) -> Result<Vec<Row>, AllocError>
     ensures { IfOk result (λ rows. rows.items ≡ criteria_rows own_peer table.now) }
 {
     let mut rows = Vec::new(alloc);
@@ -78,7 +73,7 @@ pub(crate) fn own_criteria(
 // Adds the rows of those of one's own criteria of these names that aren't built in, behind those of others.
 fn push_own_criteria(
     alloc: Global,
-    rows: &mut Vec<CriterionRow>,
+    rows: &mut Vec<Row>,
     table: &CriteriaTable,
     names: &[Name],
 ) -> Result<(), AllocError>
@@ -96,7 +91,7 @@ fn push_own_criteria(
 // Adds the rows of those of a peer's criteria that aren't built in, behind those of others.
 pub(crate) fn push_criteria(
     alloc: Global,
-    rows: &mut Vec<CriterionRow>,
+    rows: &mut Vec<Row>,
     peer: &str,
     criteria: &[Criterion],
 ) -> Result<(), AllocError>
@@ -111,51 +106,47 @@ pub(crate) fn push_criteria(
     Ok(())
 }
 
-/// The row of a peer. Fails only if memory runs out.
-pub fn peer_row(alloc: Global, settings: &PeerSettings) -> Result<PeerRow, AllocError>
-    ensures { IfOk result (λ row. row ≡ peer_row settings.now) }
-{
-    Ok(PeerRow {
-        name: TextColumn::of(alloc, settings.name.as_str())?,
-        url: texts_column(alloc, &settings.url)?,
-        exclude: packages_column(alloc, &settings.exclude)?,
-        map: map_column(alloc, settings.map.items())?,
-    })
-}
+impl ToRow for PeerSettings {
+    ghost row_of = { peer_row };
 
-/// The row of a policy. Fails only if memory runs out.
-pub fn policy_row(alloc: Global, held: &KeyedPolicy) -> Result<PolicyRow, AllocError>
-    ensures { IfOk result (λ row. row ≡ policy_row held.now) }
-{
-    let policy = &held.policy;
-    Ok(PolicyRow {
-        policy: key_column(alloc, &held.key)?,
-        as_crates: flag(policy.audit_as_crates_io),
-        criteria: names_or_none(alloc, &policy.criteria)?,
-        dev: names_or_none(alloc, &policy.dev_criteria)?,
-        dependency: map_column(alloc, policy.dependency_criteria.items())?,
-        notes: text_or_none(alloc, &policy.notes)?,
-    })
-}
+    ghost fits = { λ _. ⊤ };
 
-/// The rows of some peers. Fails only if memory runs out.
-pub fn all_peers(alloc: Global, peers: &[HeldPeer]) -> Result<Vec<PeerRow>, AllocError>
-    ensures { IfOk result (λ rows. rows.items ≡ map (λ peer. peer_row peer.settings) peers.now) }
-{
-    let mut rows = Vec::new(alloc);
-    'peers: for peer in peers {
-        rows.push(peer_row(alloc, &peer.settings)?)?;
+    fn to_row(&self, alloc: Global) -> Result<Row, AllocError> {
+        let cells = vec![in alloc;
+            Cell::text(alloc, self.name.as_str())?,
+            Cell::Blob(texts_column(alloc, &self.url)?),
+            Cell::Blob(packages_column(alloc, &self.exclude)?),
+            Cell::Blob(map_column(alloc, self.map.items())?),
+        ]?;
+        Ok(Sequence::of(cells))
     }
-    Ok(rows)
 }
 
-/// The rows of some policies. Fails only if memory runs out.
-pub fn all_policies(alloc: Global, policies: &[KeyedPolicy]) -> Result<Vec<PolicyRow>, AllocError>
-    ensures { IfOk result (λ rows. rows.items ≡ map policy_row policies.now) }
-{
-    let mut rows = Vec::new(alloc);
-    'policies: for held in policies {
-        rows.push(policy_row(alloc, held)?)?;
+impl ToRow for HeldPeer {
+    ghost row_of = { λ peer. peer_row peer.settings };
+
+    ghost fits = { λ _. ⊤ };
+
+    fn to_row(&self, alloc: Global) -> Result<Row, AllocError> {
+        self.settings.to_row(alloc)
     }
-    Ok(rows)
+}
+
+impl ToRow for KeyedPolicy {
+    ghost row_of = { policy_row };
+
+    ghost fits = { λ _. ⊤ };
+
+    fn to_row(&self, alloc: Global) -> Result<Row, AllocError> {
+        let policy = &self.policy;
+        let cells = vec![in alloc;
+            Cell::Text(key_column(alloc, &self.key)?),
+            Cell::Int(flag(policy.audit_as_crates_io)),
+            Cell::Blob(names_or_none(alloc, &policy.criteria)?),
+            Cell::Blob(names_or_none(alloc, &policy.dev_criteria)?),
+            Cell::Blob(map_column(alloc, policy.dependency_criteria.items())?),
+            Cell::Blob(text_or_none(alloc, &policy.notes)?),
+        ]?;
+        Ok(Sequence::of(cells))
+    }
 }

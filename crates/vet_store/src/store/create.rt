@@ -1,14 +1,16 @@
 //! A store is made in a database that has no register yet.
-ghost use Rattle.std.specs.Prelude.{◌≡◌, ◌<◌, ◌≤◌, ◌⊎◌, false, IfErr, IfOk, IsErrAnd, IsOkAnd, IsTrue};
-ghost use Rattle.std.specs.Prelude.{MatchResult, OnErr, OnOk, ℕ, ◌∷◌, []};
+ghost use Rattle.std.specs.Prelude.{◌≡◌, ◌<◌, ◌≤◌, false, IfErr, IfOk, IsErrAnd, IsTrue};
+ghost use Rattle.std.specs.Prelude.{MatchResult, OnErr, OnOk, ℕ};
 ghost use Rattle.sqlite.specs.Held.{state};
 ghost use Rattle.sqlite.specs.State.{HasCleanDisk, Survives};
 ghost use Rattle.vet_register.specs.State.{start};
+ghost use Rattle.vet_base.specs.Items.{IsIn};
+ghost use Rattle.vet_rows.specs.FitChanges.{Fits};
 ghost use Rattle.vet_rows.specs.RowChanges.{all_changed};
 ghost use Rattle.vet_rows.specs.RowsOf.{rows_of};
-ghost use Rattle.vet_rows.specs.declared.row.MetaRow.{MetaRow as MetaValue};
-ghost use Rattle.vet_store.specs.Committed.{no_rows};
+ghost use Rattle.vet_rows.specs.declared.row_change.RowChange.{RowChange as Change};
 ghost use Rattle.vet_store.specs.Made.{IsAsBefore, IsMade};
+ghost use Rattle.vet_tables.specs.Cells.{no_rows};
 ghost use Rattle.vet_tables.specs.Extends.{SparesOthers};
 ghost use Rattle.vet_tables.specs.Free.{AreFree};
 ghost use Rattle.vet_store.specs.Runs.{IsOfStore};
@@ -26,11 +28,10 @@ use vet_base::refusal::Refusal;
 use vet_demand::laws::nothing_is_demanded;
 use vet_graph::keeper::Keeper;
 use vet_register::register::Register;
-use vet_rows::row::MetaRow;
-use vet_rows::row_change::{Row, RowChange};
-use vet_rows::rows::Rows;
-use vet_rows::rows_of::rows_of;
+use vet_rows::row_change::RowChange;
+use vet_rows::rows_of::meta_rows::meta_row;
 use vet_tables::find::has_name_taken;
+use vet_tables::table_name::TableName;
 
 impl<S: Alter + Drop, K: Keeper> Store<S, K> {
     /// Makes the tables of a register that holds nothing, in a database where none of their names is taken, whatever
@@ -105,7 +106,7 @@ fn write_start<S: Alter, K: Keeper>(
 {
     let _rests = conn.is_autocommit();
     let changes = start_changes(alloc, register)?;
-    match make_tables(conn, changes.as_slice()) {
+    match make_tables(alloc, conn, changes.as_slice()) {
         Ok(()) => Ok(()),
         Err(Stop::Before(error)) => Err(refusal_of(error)),
         Err(Stop::Commit(error)) => Err(refusal_of(error)),
@@ -119,24 +120,12 @@ fn start_changes<K: Keeper>(
 ) -> Result<Vec<RowChange>, Refusal>
     requires { (limit : ℕ) × (register.now.state ≡ start limit) }
     ensures ok { IfOk result (λ changes. all_changed changes.items no_rows ≡ rows_of register.now.state) }
+    ensures fit { IfOk result (λ changes. (c : Change) → IsIn c changes.items → Fits c) }
     ensures memory { IfErr result (λ e. e ≡ Refusal.NoMemory) }
 {
     nothing_is_demanded();
-    let rows = rows_of(alloc, register)?;
-    let meta = only_row(rows)?;
+    let row = meta_row(alloc, register)?;
     let mut changes = Vec::new(alloc);
-    changes.push(RowChange::Put(Row::Meta(meta)))?;
+    changes.push(RowChange::Put(TableName::Meta, row))?;
     Ok(changes)
-}
-
-// The one row of `meta`.
-fn only_row(rows: Rows) -> Result<MetaRow, Refusal>
-    requires { (row : MetaValue) × (rows.meta ≡ row ∷ []) }
-    ensures { IsOkAnd result (λ row. rows.meta ≡ row ∷ []) }
-{
-    let mut rows = rows;
-    match rows.meta.pop() {
-        Some(row) => Ok(row),
-        None => Err(Refusal::NoMemory),
-    }
 }

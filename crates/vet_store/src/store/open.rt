@@ -11,7 +11,7 @@ ghost use Rattle.vet_register.specs.Sound.{IsSound};
 ghost use Rattle.vet_register.specs.State as machine;
 ghost use Rattle.vet_rows.specs.HeldState.{IsHeldState};
 ghost use Rattle.vet_rows.specs.RowsOf.{rows_of};
-ghost use Rattle.vet_rows.specs.SameRows.{SameRows};
+ghost use Rattle.vet_tables.specs.Cells.{SameRows, rows_in};
 ghost use Rattle.vet_tables.specs.Has.{HasTables};
 ghost use Rattle.vet_store.specs.Made.{IsAsBefore};
 ghost use Rattle.vet_store.specs.Opened.{IsStored, IsToldBy};
@@ -23,17 +23,17 @@ ghost use Rattle.vet_store.specs.Tied.{IsTied};
 use super::Store;
 use crate::read::read_rows;
 use crate::refused::{Refused, refusal_of};
-use crate::same_rows::have_same_rows;
 use sqlite::{Alter, Connection};
 use std::alloc::Global;
 use vet_base::refusal::Refusal;
 use vet_graph::keeper::Keeper;
 use vet_register::register::Register;
 use vet_rows::held_register::register_is_held;
-use vet_rows::rows::Rows;
 use vet_rows::rows_of::rows_of;
 use vet_rows::state_of::{found_register, state_of};
 use vet_tables::find::has_tables;
+use vet_tables::rows::Rows;
+use vet_tables::same_rows::have_same_rows;
 
 impl<S: Alter + Drop, K: Keeper> Store<S, K> {
     /// Opens the register whose rows stand in the tables, whatever else the database has. Nothing is written. Asks for
@@ -118,9 +118,9 @@ fn read_register<S: Alter, K: Keeper>(
 fn register_of<K: Keeper>(alloc: Global, rows: &Rows) -> Result<Register<K>, Refusal>
     ensures sound { IfOk result (λ r. IsSound r.state) }
     ensures held { IfOk result (λ r. IsHeldState r.state) }
-    ensures found { IfOk result (λ r. SameRows rows.now (rows_of r.state)) }
-    ensures only { IfOk result (λ r. (t : machine.State) → IsToldBy rows.now t → r.state ≡ t) }
-    ensures none { result ≡ Err Refusal.NotARegister → (t : machine.State) → IsToldBy rows.now t → ⊥ }
+    ensures found { IfOk result (λ r. SameRows (rows_in rows.now) (rows_of r.state)) }
+    ensures only { IfOk result (λ r. (t : machine.State) → IsToldBy (rows_in rows.now) t → r.state ≡ t) }
+    ensures none { result ≡ Err Refusal.NotARegister → (t : machine.State) → IsToldBy (rows_in rows.now) t → ⊥ }
     ensures refused { IfErr result (λ e. (e ≡ Refusal.NoMemory) ⊎ (e ≡ Refusal.NotARegister)) }
 {
     let state = state_of(alloc, rows)?;

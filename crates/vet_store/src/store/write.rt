@@ -56,7 +56,7 @@ pub(crate) fn write_change<S: Alter, K: Keeper>(
         (IsWritten (state S.Store conn.old) (rows_of register.now.state) (rows_of (next register.now.state command))) }
 {
     let changes = row_changes(alloc, register, change)?;
-    match commit_changes(conn, changes.as_slice()) {
+    match commit_changes(alloc, conn, changes.as_slice()) {
         Ok(()) => Ok(()),
         Err(Stop::Before(error)) => Err(refusal_of(error)),
         Err(Stop::Commit(error)) => {

@@ -5,9 +5,14 @@ use Rattle.sqlite.specs.State.{HasCleanDisk}
 use Rattle.vet_rows.specs.RowChanges.{changed}
 use Rattle.vet_rows.specs.declared.row_change.RowChange.{RowChange}
 use Rattle.vet_store.specs.Changes.{Changes}
-use Rattle.vet_store.proofs.Steps.{changes_more}
+use Rattle.vet_store.proofs.Steps.{changes_more, in_at}
 use Rattle.vet_tables.proofs.Steps.{keeps_then}
 use Rattle.vet_store.proofs.apply.apply_all.Goals as goal
+
+pub apply-requires : goal.apply-requires
+apply-requires g c =
+    c.requires c.change-item.result
+    (in_at c.args.changes.now c.loop-change.change-index c.change-item.result c.loop-change-test.true c.change-item.is)
 
 pub loop-change-preserved : goal.loop-change-preserved
 loop-change-preserved g c =

@@ -2,10 +2,10 @@ use Rattle.std.proofs.Common.{◌≡◌, ◌⊎◌, [], IsTrue, arith, inr, refl
 use Rattle.sqlite.specs.Held.{state}
 use Rattle.sqlite.specs.State.{HasCleanDisk, Survives}
 use Rattle.vet_rows.specs.RowChanges.{all_changed}
-use Rattle.vet_rows.specs.Rows.{RowsValue}
 use Rattle.vet_store.proofs.Steps.{committed, crash_after, others_committed, others_same}
 use Rattle.vet_store.proofs.Steps.{stands_still, uncommitted, undone}
 use Rattle.vet_store.proofs.change.commit_changes.Goals as goal
+use Rattle.vet_tables.specs.Cells.{RowsValue}
 use Rattle.vet_tables.specs.Contents.{KeepsOthers}
 use Rattle.vet_store.specs.Committed.{IsAfter}
 use Rattle.vet_store.specs.Stands.{Stands}

@@ -5,8 +5,8 @@ use Rattle.vet_rows.specs.RowChanges.{all_changed}
 use Rattle.vet_store.proofs.Making.{filled, made_after}
 use Rattle.vet_store.proofs.Steps.{uncommitted, undone}
 use Rattle.vet_store.proofs.change.make_tables.Goals as goal
-use Rattle.vet_store.specs.Committed.{no_rows}
 use Rattle.vet_store.specs.Made.{IsMade}
+use Rattle.vet_tables.specs.Cells.{no_rows}
 use Rattle.vet_tables.specs.Extends.{SparesOthers}
 use Rattle.vet_tables.specs.Free.{AreFree}
 use Rattle.vet_store.specs.Stands.{Stands}

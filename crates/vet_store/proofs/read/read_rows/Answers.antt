@@ -1,178 +1,128 @@
-use Rattle.std.proofs.Common.{Ok, ap, arith, subst, ◌⊎◌, ◌∙◌}
+use Rattle.std.proofs.Common.{◌≡◌, ◌+◌, ◌∙◌, Ok, ap, arith, length, map, refl, subst, sym}
+use Rattle.std.proofs.lemmas.List.{length_push}
+use Rattle.sqlite.proofs.StateLemmas.{survives_then}
 use Rattle.sqlite.specs.Held.{state}
 use Rattle.sqlite.specs.State.{HasCleanDisk}
-use Rattle.vet_store.proofs.ReadRows.{all_stand, none_stands}
-use Rattle.vet_tables.proofs.Resting.{keeps_then, keeps_three}
+use Rattle.vet_store.proofs.ReadRows.{IsReadAt, all_stand, keeps_self, none_stands, read_more, still_shows}
+use Rattle.vet_store.proofs.ReadRows.{still_unchanged}
 use Rattle.vet_store.proofs.read.read_rows.Goals as goal
-use Rattle.vet_rows.specs.Rows.{RowsValue}
-use Rattle.vet_store.specs.Cells.{cells_in}
 use Rattle.vet_store.specs.Read.{IsUnread}
+use Rattle.vet_tables.proofs.Resting.{keeps_then}
+use Rattle.vet_tables.proofs.Steps.{survives_same}
+use Rattle.vet_tables.proofs.TablePlaces.{few}
+use Rattle.vet_tables.specs.Cells.{rows_in, values_of}
+use Rattle.vet_tables.specs.Has.{HasTables}
 use Rattle.vet_tables.specs.Read.{AreRead}
-use Rattle.vet_tables.specs.declared.table_name.TableName.TheVariants.{Meta, Criteria, Entries, Publishers, Policies}
-use Rattle.vet_tables.specs.declared.table_name.TableName.TheVariants.{Peers}
-use Rattle.vet_tables.specs.declared.table_name.TableName.TheVariants.{Nodes, Edges, Standing, Moves, Members, Reviews}
+
+pub tables-init : goal.tables-init
+tables-init g c =
+    let old = state g.S.Store c.args.conn.now in
+    record {
+      start = λ _. refl;
+      same = λ clean some. absurd (omega (arith, some));
+      kept = λ clean. keeps_self old;
+      mode = λ before. before;
+      survives = survives_same old _;
+      read = λ clean n low. absurd (omega (arith, low));
+      long = ap length c.new-rows.ensures;
+    }
+
+pub read_table-requires : goal.read_table-requires
+read_table-requires g c clean =
+    let inv = c.tables.invariant in
+    let old = state g.S.Store c.args.conn.now in
+    let early : HasCleanDisk old = omega (arith, inv.survives.clean) in
+    let shows = still_shows g.S.Store c.args.conn.now c.tables.conn c.tables.at inv.start (inv.same clean) in
+    subst (λ db. HasTables db.schema) (sym shows) (c.requires early)
+
+pub tables-preserved : goal.tables-preserved
+tables-preserved g c =
+    let inv = c.tables.invariant in
+    let at = c.tables.at in
+    let first = c.args.conn.now in
+    let before = c.tables.conn in
+    let last = c.read_table.new.conn in
+    let a = state g.S.Store first in
+    let b = state g.S.Store before in
+    let d = state g.S.Store last in
+    let lists = c.tables.rows.tables.items in
+    let next = c.in-Some.found.items in
+    let pushed = c.in_ok-push.ensures in
+    let table = c.table_at.result in
+    record {
+      start = λ none. absurd (omega (arith, none));
+      same = λ clean _.
+          let early : HasCleanDisk b = omega (arith, c.read_table.ensures.survives.clean) in
+          still_unchanged g.S.Store first before last at inv.start (inv.same early) (c.in_ok-found.ensures.same clean);
+      kept = λ clean.
+          let early : HasCleanDisk b = omega (arith, c.read_table.ensures.survives.clean) in
+          keeps_then a b d (inv.kept early) (c.read_table.ensures.kept clean);
+      mode = λ outside. c.read_table.ensures.mode (inv.mode outside);
+      survives = survives_then a b d _ _ _ (λ _ db none. none)
+          (λ _ db none. none) inv.survives c.read_table.ensures.survives;
+      read = λ clean n low.
+          let early : HasCleanDisk b = omega (arith, c.read_table.ensures.survives.clean) in
+          let shows = still_shows g.S.Store first before at inv.start (inv.same early) in
+          let here = subst (λ db. AreRead db table (map values_of next)) shows
+          (rw c.in-Some.is at (c.in_ok-found.ensures.found clean)) in
+          subst (λ all. IsReadAt a.now all n) (sym pushed)
+          (read_more a.now lists next table (c.table_at.ensures ∙ sym inv.long)
+          (λ m less. inv.read early m (omega (arith, less, inv.long))) here n (omega (arith, low, inv.long)));
+      long = ap length pushed ∙ length_push lists next ∙ ap (λ n. n + 1) inv.long;
+    }
 
 pub returns-in_default-clause-none : goal.returns-in_default-clause-none
 returns-in_default-clause-none g c clean _ =
-    none_stands (state g.S.Store c.args.conn.now).now Meta Criteria Entries
-    (c.in_ok-meta.ensures.none clean (ap Ok c.in_default.is))
+    let inv = c.tables.invariant in
+    let b = state g.S.Store c.tables.conn in
+    let early : HasCleanDisk b = omega (arith, c.read_table.ensures.survives.clean, clean) in
+    let shows = still_shows g.S.Store c.args.conn.now c.tables.conn c.tables.at inv.start (inv.same early) in
+    none_stands (state g.S.Store c.args.conn.now).now c.table_at.result
+    (subst (λ db. IsUnread db c.table_at.result) shows (c.in_ok-found.ensures.none clean (ap Ok c.in_default.is)))
 
-pub returns-in_default-2-clause-none : goal.returns-in_default-2-clause-none
-returns-in_default-2-clause-none g c clean _ =
-    let clean-0 : HasCleanDisk (state g.S.Store c.read_three.new.conn) =
-    omega (arith, c.read_three-2.ensures.survives.clean, clean) in
-    let same-0 = (c.in_ok-meta.ensures.same clean-0).0.now_is in
-    none_stands (state g.S.Store c.args.conn.now).now Publishers Policies Peers
-    (subst (λ db. IsUnread db Publishers ⊎ (IsUnread db Policies ⊎ IsUnread db Peers)) (same-0)
-    (c.in_ok-publishers.ensures.none clean (ap Ok c.in_default-2.is)))
+pub returns-in_default-clause-same : goal.returns-in_default-clause-same
+returns-in_default-clause-same g c clean =
+    let inv = c.tables.invariant in
+    let b = state g.S.Store c.tables.conn in
+    let early : HasCleanDisk b = omega (arith, c.read_table.ensures.survives.clean, clean) in
+    still_unchanged g.S.Store c.args.conn.now c.tables.conn c.read_table.new.conn c.tables.at inv.start (inv.same early)
+    (c.in_ok-found.ensures.same clean)
 
-pub returns-in_default-3-clause-none : goal.returns-in_default-3-clause-none
-returns-in_default-3-clause-none g c clean _ =
-    let clean-1 : HasCleanDisk (state g.S.Store c.read_three-2.new.conn) =
-    omega (arith, c.read_three-3.ensures.survives.clean, clean) in
-    let clean-0 : HasCleanDisk (state g.S.Store c.read_three.new.conn) =
-    omega (arith, c.read_three-2.ensures.survives.clean, clean-1) in
-    let same-0 = (c.in_ok-meta.ensures.same clean-0).0.now_is in
-    let same-1 = (c.in_ok-publishers.ensures.same clean-1).0.now_is ∙ same-0 in
-    none_stands (state g.S.Store c.args.conn.now).now Nodes Edges Standing
-    (subst (λ db. IsUnread db Nodes ⊎ (IsUnread db Edges ⊎ IsUnread db Standing)) (same-1)
-    (c.in_ok-nodes.ensures.none clean (ap Ok c.in_default-3.is)))
+pub returns-in_default-clause-kept : goal.returns-in_default-clause-kept
+returns-in_default-clause-kept g c clean =
+    let inv = c.tables.invariant in
+    let b = state g.S.Store c.tables.conn in
+    let early : HasCleanDisk b = omega (arith, c.read_table.ensures.survives.clean, clean) in
+    keeps_then (state g.S.Store c.args.conn.now) b (state g.S.Store c.read_table.new.conn) (inv.kept early)
+    (c.read_table.ensures.kept clean)
 
-pub returns-in_default-4-clause-none : goal.returns-in_default-4-clause-none
-returns-in_default-4-clause-none g c clean _ =
-    let clean-2 : HasCleanDisk (state g.S.Store c.read_three-3.new.conn) =
-    omega (arith, c.read_three-4.ensures.survives.clean, clean) in
-    let clean-1 : HasCleanDisk (state g.S.Store c.read_three-2.new.conn) =
-    omega (arith, c.read_three-3.ensures.survives.clean, clean-2) in
-    let clean-0 : HasCleanDisk (state g.S.Store c.read_three.new.conn) =
-    omega (arith, c.read_three-2.ensures.survives.clean, clean-1) in
-    let same-0 = (c.in_ok-meta.ensures.same clean-0).0.now_is in
-    let same-1 = (c.in_ok-publishers.ensures.same clean-1).0.now_is ∙ same-0 in
-    let same-2 = (c.in_ok-nodes.ensures.same clean-2).0.now_is ∙ same-1 in
-    none_stands (state g.S.Store c.args.conn.now).now Moves Members Reviews
-    (subst (λ db. IsUnread db Moves ⊎ (IsUnread db Members ⊎ IsUnread db Reviews)) (same-2)
-    (c.in_ok-moves.ensures.none clean (ap Ok c.in_default-4.is)))
+pub returns-in_err-found-clause-kept : goal.returns-in_err-found-clause-kept
+returns-in_err-found-clause-kept g c clean =
+    let inv = c.tables.invariant in
+    let b = state g.S.Store c.tables.conn in
+    let early : HasCleanDisk b = omega (arith, c.read_table.ensures.survives.clean, clean) in
+    keeps_then (state g.S.Store c.args.conn.now) b (state g.S.Store c.read_table.new.conn) (inv.kept early)
+    (c.read_table.ensures.kept clean)
+
+pub returns-in_err-push-clause-kept : goal.returns-in_err-push-clause-kept
+returns-in_err-push-clause-kept g c clean =
+    let inv = c.tables.invariant in
+    let b = state g.S.Store c.tables.conn in
+    let early : HasCleanDisk b = omega (arith, c.read_table.ensures.survives.clean, clean) in
+    keeps_then (state g.S.Store c.args.conn.now) b (state g.S.Store c.read_table.new.conn) (inv.kept early)
+    (c.read_table.ensures.kept clean)
 
 pub returns-clause-found : goal.returns-clause-found
 returns-clause-found g c clean =
+    let inv = c.tables.invariant in
+    let all : c.tables.at ≡ 12 = omega (arith, c.tables.auto.at-end, c.tables-test.false) in
     let old = state g.S.Store c.args.conn.now in
-    let clean-2 : HasCleanDisk (state g.S.Store c.read_three-3.new.conn) =
-    omega (arith, c.read_three-4.ensures.survives.clean, clean) in
-    let clean-1 : HasCleanDisk (state g.S.Store c.read_three-2.new.conn) =
-    omega (arith, c.read_three-3.ensures.survives.clean, clean-2) in
-    let clean-0 : HasCleanDisk (state g.S.Store c.read_three.new.conn) =
-    omega (arith, c.read_three-2.ensures.survives.clean, clean-1) in
-    let same-0 = (c.in_ok-meta.ensures.same clean-0).0.now_is in
-    let same-1 = (c.in_ok-publishers.ensures.same clean-1).0.now_is ∙ same-0 in
-    let same-2 = (c.in_ok-nodes.ensures.same clean-2).0.now_is ∙ same-1 in
-    let start : HasCleanDisk old = omega (arith, c.read_three.ensures.survives.clean, clean-0) in
-    let rows : RowsValue = record {
-      meta = c.in-Some.meta.items;
-      criteria = c.in-Some.criteria.items;
-      entries =
-          c.in-Some.entries.items;
-      publishers = c.in-Some-2.publishers.items;
-      policies =
-          c.in-Some-2.policies.items;
-      peers = c.in-Some-2.peers.items;
-      nodes = c.in-Some-3.nodes.items;
-      edges =
-          c.in-Some-3.edges.items;
-      standing = c.in-Some-3.standing.items;
-      moves =
-          c.in-Some-4.moves.items;
-      members = c.in-Some-4.members.items;
-      reviews =
-          c.in-Some-4.reviews.items;
-    } in
-    all_stand old.now rows (c.schema-live.ensures.live (c.in_ok-meta.ensures.same clean-0).0.was_open).0
-    (c.requires start)
-    (rw c.in-Some.is at (c.in_ok-meta.ensures.found clean-0))
-    (subst (λ db. AreRead db Publishers (cells_in Publishers rows) × AreRead db Policies (cells_in Policies rows)
-    × AreRead db Peers (cells_in Peers rows)) (same-0)
-    (rw c.in-Some-2.is at (c.in_ok-publishers.ensures.found clean-1)))
-    (subst (λ db. AreRead db Nodes (cells_in Nodes rows) × AreRead db Edges (cells_in Edges rows)
-    × AreRead db Standing (cells_in Standing rows)) (same-1)
-    (rw c.in-Some-3.is at (c.in_ok-nodes.ensures.found clean-2)))
-    (subst (λ db. AreRead db Moves (cells_in Moves rows) × AreRead db Members (cells_in Members rows)
-    × AreRead db Reviews (cells_in Reviews rows)) (same-2)
-    (rw c.in-Some-4.is at (c.in_ok-moves.ensures.found clean)))
+    let start : HasCleanDisk old = omega (arith, inv.survives.clean, clean) in
+    let same = inv.same clean (omega (arith, all)) in
+    all_stand old.now (rows_in c.tables.rows) (c.schema-live.ensures.live same.0.was_open).0 (c.requires start)
+    (λ n. inv.read clean n (omega (arith, all, few n)))
 
-pub returns-in_err-publishers-clause-kept : goal.returns-in_err-publishers-clause-kept
-returns-in_err-publishers-clause-kept g c clean =
-    let clean-0 : HasCleanDisk (state g.S.Store c.read_three.new.conn) =
-    omega (arith, c.read_three-2.ensures.survives.clean, clean) in
-    keeps_then (state g.S.Store c.args.conn.now) (state g.S.Store c.read_three.new.conn)
-    (state g.S.Store c.read_three-2.new.conn) (c.read_three.ensures.kept clean-0) (c.read_three-2.ensures.kept clean)
-
-pub returns-in_default-2-clause-kept : goal.returns-in_default-2-clause-kept
-returns-in_default-2-clause-kept g c clean =
-    let clean-0 : HasCleanDisk (state g.S.Store c.read_three.new.conn) =
-    omega (arith, c.read_three-2.ensures.survives.clean, clean) in
-    keeps_then (state g.S.Store c.args.conn.now) (state g.S.Store c.read_three.new.conn)
-    (state g.S.Store c.read_three-2.new.conn) (c.read_three.ensures.kept clean-0) (c.read_three-2.ensures.kept clean)
-
-pub returns-in_err-nodes-clause-kept : goal.returns-in_err-nodes-clause-kept
-returns-in_err-nodes-clause-kept g c clean =
-    let clean-1 : HasCleanDisk (state g.S.Store c.read_three-2.new.conn) =
-    omega (arith, c.read_three-3.ensures.survives.clean, clean) in
-    let clean-0 : HasCleanDisk (state g.S.Store c.read_three.new.conn) =
-    omega (arith, c.read_three-2.ensures.survives.clean, clean-1) in
-    keeps_three (state g.S.Store c.args.conn.now) (state g.S.Store c.read_three.new.conn)
-    (state g.S.Store c.read_three-2.new.conn) (state g.S.Store c.read_three-3.new.conn)
-    (c.read_three.ensures.kept clean-0) (c.read_three-2.ensures.kept clean-1) (c.read_three-3.ensures.kept clean)
-
-pub returns-in_default-3-clause-kept : goal.returns-in_default-3-clause-kept
-returns-in_default-3-clause-kept g c clean =
-    let clean-1 : HasCleanDisk (state g.S.Store c.read_three-2.new.conn) =
-    omega (arith, c.read_three-3.ensures.survives.clean, clean) in
-    let clean-0 : HasCleanDisk (state g.S.Store c.read_three.new.conn) =
-    omega (arith, c.read_three-2.ensures.survives.clean, clean-1) in
-    keeps_three (state g.S.Store c.args.conn.now) (state g.S.Store c.read_three.new.conn)
-    (state g.S.Store c.read_three-2.new.conn) (state g.S.Store c.read_three-3.new.conn)
-    (c.read_three.ensures.kept clean-0) (c.read_three-2.ensures.kept clean-1) (c.read_three-3.ensures.kept clean)
-
-pub returns-in_err-moves-clause-kept : goal.returns-in_err-moves-clause-kept
-returns-in_err-moves-clause-kept g c clean =
-    let clean-2 : HasCleanDisk (state g.S.Store c.read_three-3.new.conn) =
-    omega (arith, c.read_three-4.ensures.survives.clean, clean) in
-    let clean-1 : HasCleanDisk (state g.S.Store c.read_three-2.new.conn) =
-    omega (arith, c.read_three-3.ensures.survives.clean, clean-2) in
-    let clean-0 : HasCleanDisk (state g.S.Store c.read_three.new.conn) =
-    omega (arith, c.read_three-2.ensures.survives.clean, clean-1) in
-    keeps_then (state g.S.Store c.args.conn.now) (state g.S.Store c.read_three-3.new.conn)
-    (state g.S.Store c.read_three-4.new.conn)
-    (keeps_three (state g.S.Store c.args.conn.now) (state g.S.Store c.read_three.new.conn)
-    (state g.S.Store c.read_three-2.new.conn) (state g.S.Store c.read_three-3.new.conn)
-    (c.read_three.ensures.kept clean-0) (c.read_three-2.ensures.kept clean-1) (c.read_three-3.ensures.kept clean-2))
-    (c.read_three-4.ensures.kept clean)
-
-pub returns-in_default-4-clause-kept : goal.returns-in_default-4-clause-kept
-returns-in_default-4-clause-kept g c clean =
-    let clean-2 : HasCleanDisk (state g.S.Store c.read_three-3.new.conn) =
-    omega (arith, c.read_three-4.ensures.survives.clean, clean) in
-    let clean-1 : HasCleanDisk (state g.S.Store c.read_three-2.new.conn) =
-    omega (arith, c.read_three-3.ensures.survives.clean, clean-2) in
-    let clean-0 : HasCleanDisk (state g.S.Store c.read_three.new.conn) =
-    omega (arith, c.read_three-2.ensures.survives.clean, clean-1) in
-    keeps_then (state g.S.Store c.args.conn.now) (state g.S.Store c.read_three-3.new.conn)
-    (state g.S.Store c.read_three-4.new.conn)
-    (keeps_three (state g.S.Store c.args.conn.now) (state g.S.Store c.read_three.new.conn)
-    (state g.S.Store c.read_three-2.new.conn) (state g.S.Store c.read_three-3.new.conn)
-    (c.read_three.ensures.kept clean-0) (c.read_three-2.ensures.kept clean-1) (c.read_three-3.ensures.kept clean-2))
-    (c.read_three-4.ensures.kept clean)
-
-pub returns-clause-kept : goal.returns-clause-kept
-returns-clause-kept g c clean =
-    let clean-2 : HasCleanDisk (state g.S.Store c.read_three-3.new.conn) =
-    omega (arith, c.read_three-4.ensures.survives.clean, clean) in
-    let clean-1 : HasCleanDisk (state g.S.Store c.read_three-2.new.conn) =
-    omega (arith, c.read_three-3.ensures.survives.clean, clean-2) in
-    let clean-0 : HasCleanDisk (state g.S.Store c.read_three.new.conn) =
-    omega (arith, c.read_three-2.ensures.survives.clean, clean-1) in
-    keeps_then (state g.S.Store c.args.conn.now) (state g.S.Store c.read_three-3.new.conn)
-    (state g.S.Store c.read_three-4.new.conn)
-    (keeps_three (state g.S.Store c.args.conn.now) (state g.S.Store c.read_three.new.conn)
-    (state g.S.Store c.read_three-2.new.conn) (state g.S.Store c.read_three-3.new.conn)
-    (c.read_three.ensures.kept clean-0) (c.read_three-2.ensures.kept clean-1) (c.read_three-3.ensures.kept clean-2))
-    (c.read_three-4.ensures.kept clean)
+pub returns-clause-same : goal.returns-clause-same
+returns-clause-same g c clean =
+    let all : c.tables.at ≡ 12 = omega (arith, c.tables.auto.at-end, c.tables-test.false) in
+    c.tables.invariant.same clean (omega (arith, all))

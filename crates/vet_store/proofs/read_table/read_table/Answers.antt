@@ -11,7 +11,7 @@ use Rattle.vet_tables.proofs.Rising.{fewer_above, ids_above}
 use Rattle.vet_tables.proofs.Resting.{keeps_failed, keeps_unchanged}
 use Rattle.vet_store.proofs.read_table.read_table.Goals as goal
 use Rattle.vet_store.proofs.ReadRows.{rows_typed}
-use Rattle.vet_store.specs.Cells.{cells_in, cells_of}
+use Rattle.vet_tables.specs.Cells.{contents_of, values_of}
 use Rattle.vet_tables.specs.Forms.{form_of}
 use Rattle.vet_tables.specs.Read.{KeepsRest}
 use Rattle.vet_tables.specs.Texts.{select_text}
@@ -23,25 +23,25 @@ returns-in_err-found-clause-survives g c =
     let new = state g.S.Store c.query.follows.lender-at-none in
     let held = c.query.follows.holds-at-none in
     let kept : Survives old new (CommitsShowing c.select.result.now [] old) = search rules in
-    survives_quiet g.R.ReadRow.name old new (rw (c.select.ensures, c.form-form.ensures, c.table.ensures.named) at kept)
+    survives_quiet c.args.table old new (rw (c.select.ensures, c.form-form.ensures) at kept)
 
 pub returns-in_err-found-clause-kept : goal.returns-in_err-found-clause-kept
 returns-in_err-found-clause-kept g c clean =
     let old = state g.S.Store c.args.conn.now in
     let new = state g.S.Store c.query.follows.lender-at-none in
     let held = rw c.in_err-found.was at c.query.follows.holds-at-none in
-    keeps_failed g.R.ReadRow.name old new _
-    (rw (c.select.ensures, c.form-form.ensures, c.table.ensures.named) at (held.err clean))
+    keeps_failed c.args.table old new _
+    (rw (c.select.ensures, c.form-form.ensures) at (held.err clean))
 
 pub rows-init : goal.rows-init
 rows-init g c =
     let made = c.in_ok-found.ensures in (
       refl,
-      survives_quiet g.R.ReadRow.name _ _ (rw
-          (c.select.ensures, c.form-form.ensures, c.table.ensures.named) at made.survives),
+      survives_quiet c.args.table _ _ (rw
+          (c.select.ensures, c.form-form.ensures) at made.survives),
       λ clean.
-          let it = begun_quiet g.S.Store g.R.ReadRow.name c.args.conn.now c.in_ok-found.found.conn.now
-          (rw (c.select.ensures, c.form-form.ensures, c.table.ensures.named) at (made.begun clean)) in
+          let it = begun_quiet g.S.Store c.args.table c.args.conn.now c.in_ok-found.found.conn.now
+          (rw (c.select.ensures, c.form-form.ensures) at (made.begun clean)) in
           ([], it.0, it.1, rw c.new-rows.ensures.items refl, rise_none),
       made.mode,
     )
@@ -55,10 +55,10 @@ returns-in_default-clause-found g c clean has =
     let late : HasCleanDisk (state g.S.Store now) = search rules in
     let was = c.rows.invariant.2 (omega (arith, moved.survives.clean)) in
     let shown = (rw (c.in_ok-row.was, c.in_default.is) at (moved.ok late))
-    (select_text (form_of g.R.ReadRow.name)) [] was.0 was.1 in
-    read_shows g.R.ReadRow.name old.now (c.schema-live.ensures.live was.2.0.was_open).0 has before was.2.0.now_is
+    (select_text (form_of c.args.table)) [] was.0 was.1 in
+    read_shows c.args.table old.now (c.schema-live.ensures.live was.2.0.was_open).0 has before was.2.0.now_is
     (state g.S.Store now) was.0
-    (map (λ r. cells_of (g.R.TableRow.any r)) c.rows.rows.items) c.rows.last shown was.4 was.3
+    (map values_of c.rows.rows.items) c.rows.last shown was.4 was.3
 
 pub returns-then-not-are_typed-clause-none : goal.returns-then-not-are_typed-clause-none
 returns-then-not-are_typed-clause-none g c clean _ has rows readable shows =
@@ -69,15 +69,15 @@ returns-then-not-are_typed-clause-none g c clean _ has rows readable shows =
     let late : HasCleanDisk (state g.S.Store now) = search rules in
     let was = c.rows.invariant.2 (omega (arith, moved.survives.clean)) in
     let more = (rw (c.in_ok-row.was, c.in-Some.is) at (moved.ok late))
-    (select_text (form_of g.R.ReadRow.name)) [] was.0 was.1 in
+    (select_text (form_of c.args.table)) [] was.0 was.1 in
     let whole = unchanged_then old before (state g.S.Store now) was.2 (rw c.in_ok-row.was at (moved.same late)) in
-    let begins = given_begin g.S.Store (select_text (form_of g.R.ReadRow.name)) [] now (was.0 ++ c.in-Some.row.now
+    let begins = given_begin g.S.Store (select_text (form_of c.args.table)) [] now (was.0 ++ c.in-Some.row.now
     ∷ []) more in
-    let typed = row_typed g.R.ReadRow.name old.now (c.schema-live.ensures.live was.2.0.was_open).0 has
+    let typed = row_typed c.args.table old.now (c.schema-live.ensures.live was.2.0.was_open).0 has
     (state g.S.Store now) whole.0.now_is was.0 c.in-Some.row.now begins
-    (unchanged_self (state g.S.Store now) whole.0.is_open) (cells_in g.R.ReadRow.name rows)
-    (rows_typed g.R.ReadRow.name rows readable) shows in
-    c.are_typed.ensures.other c.if-not-are_typed.true (rw (c.form-form.ensures, c.table.ensures.named) typed)
+    (unchanged_self (state g.S.Store now) whole.0.is_open) (contents_of rows c.args.table)
+    (rows_typed c.args.table rows readable) shows in
+    c.are_typed.ensures.other c.if-not-are_typed.true (rw c.form-form.ensures typed)
 
 pub returns-in_err-push-clause-survives : goal.returns-in_err-push-clause-survives
 returns-in_err-push-clause-survives g c =
@@ -118,8 +118,8 @@ returns-then-not-rises-clause-mode g c before =
     moved.mode (c.rows.invariant.3 before) in
     search rules
 
-pub returns-in_err-read-clause-mode : goal.returns-in_err-read-clause-mode
-returns-in_err-read-clause-mode g c before =
+pub returns-in_err-row_cells-clause-mode : goal.returns-in_err-row_cells-clause-mode
+returns-in_err-row_cells-clause-mode g c before =
     let moved = c.next.follows.holds-at-none in
     let late : c.next.follows.lender-at-none.conn.now.in_transaction ≡ false =
     moved.mode (c.rows.invariant.3 before) in
@@ -152,29 +152,27 @@ rows-preserved g c =
     let moved = c.next.follows.holds-at-none in
     let now = state g.S.Store c.next.follows.lender-at-none.conn.now in
     let row = c.in-Some.row.now in
-    let read = c.in_ok-read.field-0 in (
+    let read = c.in_ok-row_cells.field-0 in (
       moved.same_reference ∙ c.rows.invariant.0,
       survives_then old before now _ _ (λ _. ⊥) (λ _ db none. none)
           (λ _ db none. none) c.rows.invariant.1 moved.survives,
       λ clean.
           let was = c.rows.invariant.2 (omega (arith, moved.survives.clean)) in
           let more = (rw (c.in_ok-row.was, c.in-Some.is) at (moved.ok clean))
-          (select_text (form_of g.R.ReadRow.name)) [] was.0 was.1 in
+          (select_text (form_of c.args.table)) [] was.0 was.1 in
           let same = rw c.in_ok-row.was at (moved.same clean) in
-          let typed : AreTyped (kinds_of (form_of g.R.ReadRow.name)) row =
-          rw (c.form-form.ensures, c.table.ensures.named) at
-          (c.are_typed.ensures.typed c.if-not-are_typed.false) in
-          let is = c.in_ok-read.ensures (rw (c.table.ensures.own read) typed) in
+          let typed : AreTyped (kinds_of (form_of c.args.table)) row =
+          rw c.form-form.ensures at (c.are_typed.ensures.typed c.if-not-are_typed.false) in
+          let is = c.in_ok-row_cells.ensures (c.are_typed.ensures.typed c.if-not-are_typed.false) in
           let id : to_z w64 (of_z w64 c.int_at-id.result) ≡ c.int_at-id.result = search rules in (
             was.0 ++ row ∷ [],
             more,
             unchanged_then old before now was.2 same,
             map-append (drop 1) was.0 (row ∷ []) ∙ rw (
               c.in_ok-push.ensures.items,
-              map-append (λ r. cells_of (g.R.TableRow.any r)) c.rows.rows.items (read
-                  ∷ []),
+              map-append values_of c.rows.rows.items (read ∷ []),
               was.3,
-            ) (ap (λ x. map (λ r. cells_of (g.R.TableRow.any r)) c.rows.rows.items ++ drop 1 x
+            ) (ap (λ x. map values_of c.rows.rows.items ++ drop 1 x
                 ∷ []) is),
             rw id (rise_more c.rows.last c.int_at-id.result was.0 row (c.int_at-id.ensures typed.rowid)
                 (rw id at (c.rises.ensures c.if-not-rises.false)) was.4),

@@ -1,12 +1,13 @@
 use Rattle.std.proofs.Common.{◌<◌, ◌^◌, arith, length}
-use Rattle.std.proofs.lemmas.Result.{IfOk-weaker}
 use Rattle.vet_base.specs.Text.{read_text}
 use Rattle.vet_rows.specs.PackedItems.{as_text}
 use Rattle.vet_rows.proofs.ColumnsRead.{set_back}
+use Rattle.vet_rows.proofs.Reading.{reads_found}
 use Rattle.vet_rows.proofs.read.columns.texts.Goals as goal
 
 pub returns : goal.returns
-returns c =
+returns c s (can, is) =
     let fits : length c.args.bytes.now < 2 ^ 63 = omega arith in
-    IfOk-weaker c.unpack_texts.result _ _
-    (λ found h s w. set_back (as_text read_text) s c.args.bytes.now found w.0 fits w.1 h) c.unpack_texts.ensures
+    reads_found c.in_ok-unpack_texts.field-0 s c.found.result c.found.ensures
+    (set_back (as_text read_text) s c.args.bytes.now c.in_ok-unpack_texts.field-0 can fits is
+    c.in_ok-unpack_texts.ensures)

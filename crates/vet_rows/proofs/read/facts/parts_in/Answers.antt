@@ -1,66 +1,39 @@
-use Rattle.std.proofs.Common.{◌∙◌, Global, List, Vec, ap, map, option_map, sym}
-use Rattle.std.proofs.lemmas.Result.{IfOk-weaker}
-use Rattle.vet_entries.specs.declared.facts.HeldEntry.{HeldEntry}
-use Rattle.vet_entries.specs.declared.peer_settings.PeerSettings.{PeerSettings}
-use Rattle.vet_rows.specs.ReadHeld.{settings_of as settings_in, sourced_criteria, sourced_entries}
-use Rattle.vet_rows.specs.Rows.{RowsValue}
-use Rattle.vet_rows.specs.declared.read.criteria.SourcedCriterion.{SourcedCriterion}
-use Rattle.vet_rows.proofs.FactsMade.{criteria_read, entries_read, settings_read, those_found}
-use Rattle.vet_rows.proofs.PeersMade.{nothing_told}
+use Rattle.std.proofs.Common.{refl}
+use Rattle.vet_rows.proofs.FactsMade.{criteria_read, criteria_stand, entries_read, entries_stand, settings_read}
+use Rattle.vet_rows.proofs.FactsMade.{settings_stand}
+use Rattle.vet_rows.proofs.Reading.{passed_on}
 use Rattle.vet_rows.proofs.read.facts.parts_in.Goals as goal
+use Rattle.vet_tables.specs.Cells.{rows_in}
+use Rattle.vet_tables.specs.declared.table_name.TableName.TheVariants as table
 
-abbrev criteria_of : Vec SourcedCriterion Global → List SourcedCriterion
-criteria_of v = v.items
-
-abbrev entries_of : Vec HeldEntry Global → List HeldEntry
-entries_of v = v.items
-
-abbrev settings_of : Vec PeerSettings Global → List PeerSettings
-settings_of v = v.items
-
-pub returns-in_default-clause-back : goal.returns-in_default-clause-back
-returns-in_default-clause-back c facts form values rows =
-    let read = criteria_read facts values c.as_slice.result.now c.args.rows.now.criteria
-    (option_map criteria_of c.in_ok-criteria.field-0)
-    (c.as_slice.ensures.value ∙ ap (λ (r : RowsValue). r.criteria) c.rows.view_is) c.in_ok-criteria.ensures
+pub returns-in_err-criteria-clause-back : goal.returns-in_err-criteria-clause-back
+returns-in_err-criteria-clause-back c facts form values rows =
+    let stand = criteria_stand facts values c.of.result.now (rows_in c.args.rows.now table.Criteria) c.of.ensures
     rows.criteria in
-    nothing_told (ap (option_map criteria_of) (sym c.in_default.is) ∙ read.1.0)
+    rw (passed_on c.from_residual.result c.in_err-criteria.field-0.0 c.from_residual.ensures.1
+    (c.in_err-criteria.ensures stand.0 stand.1)) refl
 
-pub returns-in_default-2-clause-back : goal.returns-in_default-2-clause-back
-returns-in_default-2-clause-back c facts form values rows =
-    let read = entries_read facts values c.as_slice-2.result.now c.args.rows.now.entries
-    (option_map entries_of c.in_ok-entries.field-0)
-    (c.as_slice-2.ensures.value ∙ ap (λ (r : RowsValue). r.entries) c.rows.view_is) c.in_ok-entries.ensures
+pub returns-in_err-entries-clause-back : goal.returns-in_err-entries-clause-back
+returns-in_err-entries-clause-back c facts form values rows =
+    let stand = entries_stand facts values c.of-2.result.now (rows_in c.args.rows.now table.Entries) c.of-2.ensures
     rows.entries in
-    nothing_told (ap (option_map entries_of) (sym c.in_default-2.is) ∙ read.1.0)
+    rw (passed_on c.from_residual-in_err-entries.result c.in_err-entries.field-0.0
+    c.from_residual-in_err-entries.ensures.1 (c.in_err-entries.ensures stand.0 stand.1)) refl
 
-pub returns-in_default-3-clause-back : goal.returns-in_default-3-clause-back
-returns-in_default-3-clause-back c facts form values rows =
-    let read = settings_read facts values c.as_slice-3.result.now c.args.rows.now.peers
-    (option_map settings_of c.in_ok-settings.field-0)
-    (c.as_slice-3.ensures.value ∙ ap (λ (r : RowsValue). r.peers) c.rows.view_is) c.in_ok-settings.ensures rows.peers in
-    nothing_told (ap (option_map settings_of) (sym c.in_default-3.is) ∙ read.1.0)
+pub returns-in_err-settings-clause-back : goal.returns-in_err-settings-clause-back
+returns-in_err-settings-clause-back c facts form values rows =
+    let stand = settings_stand facts values c.of-3.result.now (rows_in c.args.rows.now table.Peers) c.of-3.ensures
+    rows.peers in
+    rw (passed_on c.from_residual-in_err-settings.result c.in_err-settings.field-0.0
+    c.from_residual-in_err-settings.ensures.1 (c.in_err-settings.ensures stand.0 stand.1)) refl
 
 pub returns-clause-back : goal.returns-clause-back
-returns-clause-back c =
-    IfOk-weaker c.parts_of.result _ _
-    (λ found back facts form values rows.
-    let criteria = criteria_read facts values c.as_slice.result.now c.args.rows.now.criteria
-    (option_map criteria_of c.in_ok-criteria.field-0)
-    (c.as_slice.ensures.value ∙ ap (λ (r : RowsValue). r.criteria) c.rows.view_is) c.in_ok-criteria.ensures
-    rows.criteria in
-    let entries = entries_read facts values c.as_slice-2.result.now c.args.rows.now.entries
-    (option_map entries_of c.in_ok-entries.field-0)
-    (c.as_slice-2.ensures.value ∙ ap (λ (r : RowsValue). r.entries) c.rows.view_is) c.in_ok-entries.ensures
-    rows.entries in
-    let settings = settings_read facts values c.as_slice-3.result.now c.args.rows.now.peers
-    (option_map settings_of c.in_ok-settings.field-0)
-    (c.as_slice-3.ensures.value ∙ ap (λ (r : RowsValue). r.peers) c.rows.view_is) c.in_ok-settings.ensures rows.peers in
-    back facts form (record {
-      same_criteria = those_found c.in-Some.criteria.items (sourced_criteria facts)
-          (option_map criteria_of c.in_ok-criteria.field-0) (ap (option_map criteria_of) c.in-Some.is) criteria;
-      same_entries = those_found c.in-Some-2.entries.items (sourced_entries facts)
-          (option_map entries_of c.in_ok-entries.field-0) (ap (option_map entries_of) c.in-Some-2.is) entries;
-      same_settings = those_found c.in-Some-3.settings.items (map settings_in facts.peers)
-          (option_map settings_of c.in_ok-settings.field-0) (ap (option_map settings_of) c.in-Some-3.is) settings;
-    })) c.parts_of.ensures.back
+returns-clause-back c facts form values rows =
+    c.parts_of.ensures.back facts form (record {
+      same_criteria = criteria_read facts values c.of.result.now (rows_in c.args.rows.now table.Criteria) c.of.ensures
+          rows.criteria c.in_ok-criteria.criteria.items c.in_ok-criteria.ensures;
+      same_entries = entries_read facts values c.of-2.result.now (rows_in c.args.rows.now table.Entries) c.of-2.ensures
+          rows.entries c.in_ok-entries.entries.items c.in_ok-entries.ensures;
+      same_settings = settings_read facts values c.of-3.result.now (rows_in c.args.rows.now table.Peers) c.of-3.ensures
+          rows.peers c.in_ok-settings.settings.items c.in_ok-settings.ensures;
+    })

@@ -1,23 +1,21 @@
-use Rattle.std.proofs.Common.{◌∙◌, Global, List, Vec, ap, map, option_map, subst, sym}
-use Rattle.std.proofs.lemmas.Option.{same_Some}
-use Rattle.std.proofs.lemmas.Result.{IfOk-weaker}
+use Rattle.std.proofs.Common.{List, map, refl, subst, sym}
 use Rattle.vet_base.specs.FurtherCriteria.{further}
 use Rattle.vet_base.specs.Items.{SameItems}
 use Rattle.vet_entries.specs.declared.facts.HeldEntry.{HeldEntry}
-use Rattle.vet_entries.specs.declared.held_peer.HeldPeer.{HeldPeer}
 use Rattle.vet_rows.specs.ReadPeers.{ArePartsOf, criterion_in}
 use Rattle.vet_rows.specs.declared.read.criteria.SourcedCriterion.{SourcedCriterion}
 use Rattle.vet_rows.proofs.FactsMade.{own_criteria_are, own_entries_are, peers_parts}
-use Rattle.vet_rows.proofs.PeersMade.{nothing_told}
+use Rattle.vet_rows.proofs.Reading.{passed_on}
 use Rattle.vet_rows.proofs.read.facts.parts_of.Goals as goal
 
-abbrev items_of : Vec HeldPeer Global → List HeldPeer
-items_of v = v.items
+pub returns-in_err-peers-clause-back : goal.returns-in_err-peers-clause-back
+returns-in_err-peers-clause-back c facts form items =
+    rw (passed_on c.from_residual-in_err-peers.result c.in_err-peers.field-0.0 c.from_residual-in_err-peers.ensures.1
+    (c.in_err-peers.ensures.back facts.peers (rw (c.in_ok-entries.ensures.peers, c.in_ok-criteria.ensures.peers)
+    (peers_parts facts form c.args.criteria.items c.args.entries.items c.args.settings.items items)))) refl
 
-pub returns-in-Some-clause-back : goal.returns-in-Some-clause-back
-returns-in-Some-clause-back c =
-    IfOk-weaker c.with_own.result _ _
-    (λ found back facts form items.
+pub returns-clause-back : goal.returns-clause-back
+returns-clause-back c facts form items =
     let criteria = c.args.criteria.items in
     let entries = c.args.entries.items in
     let settings = c.args.settings.items in
@@ -28,12 +26,4 @@ returns-in-Some-clause-back c =
     let parts : ArePartsOf settings c.in_ok-entries.entries.peers.items c.in_ok-criteria.criteria.peers.items
     facts.peers = rw (c.in_ok-entries.ensures.peers, c.in_ok-criteria.ensures.peers)
     (peers_parts facts form criteria entries settings items) in
-    back facts form own held
-    (same_Some _ _ (ap (option_map items_of) (sym c.in-Some.is) ∙ c.in_ok-peers.ensures.back facts.peers parts)))
-    c.with_own.ensures.back
-
-pub returns-in-None-clause-back : goal.returns-in-None-clause-back
-returns-in-None-clause-back c facts form items =
-    nothing_told (ap (option_map items_of) (sym c.in-None.is) ∙ c.in_ok-peers.ensures.back facts.peers
-    (rw (c.in_ok-entries.ensures.peers, c.in_ok-criteria.ensures.peers)
-    (peers_parts facts form c.args.criteria.items c.args.entries.items c.args.settings.items items)))
+    c.with_own.ensures.back facts form own held (c.in_ok-peers.ensures.back facts.peers parts)

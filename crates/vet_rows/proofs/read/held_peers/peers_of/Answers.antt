@@ -1,21 +1,17 @@
-use Rattle.std.proofs.Common.{◌∙◌, [], Global, List, Some, Vec, ap, map, option_map, subst, sym}
+use Rattle.std.proofs.Common.{◌∙◌, [], List, ap, map, refl, subst, sym}
 use Rattle.std.proofs.lemmas.Cmp.{nat_list_cmp_total}
-use Rattle.std.proofs.lemmas.Option.{same_Some}
 use Rattle.vet_base.specs.Keyed.{IsByKey, all_set}
 use Rattle.vet_base.proofs.Rising.{R, only_equal}
 use Rattle.vet_entries.specs.HeldPeer.{peer_name}
 use Rattle.vet_entries.specs.PeerSettings.{settings_name}
-use Rattle.vet_entries.specs.declared.held_peer.HeldPeer.{HeldPeer}
 use Rattle.vet_entries.proofs.SetInOrder.{set_in_order}
 use Rattle.vet_rows.specs.Gathered.{gathered, head_key}
 use Rattle.vet_rows.specs.ReadBack.{EachStandsFor}
 use Rattle.vet_rows.specs.ReadPeers.{IsGroupOf, PeerGroup}
 use Rattle.vet_rows.proofs.Gathering.{gathered_by_key}
-use Rattle.vet_rows.proofs.PeersMade.{groups_stand, nothing_told, settings_are}
+use Rattle.vet_rows.proofs.PeersMade.{groups_stand, settings_are}
+use Rattle.vet_rows.proofs.Reading.{passed_on}
 use Rattle.vet_rows.proofs.read.held_peers.peers_of.Goals as goal
-
-abbrev items_of : Vec HeldPeer Global → List HeldPeer
-items_of v = v.items
 
 pub gather-requires-2 : goal.gather-requires-2
 gather-requires-2 c =
@@ -24,8 +20,8 @@ gather-requires-2 c =
     c.into_items-settings.result.items
     (subst (IsByKey R settings_name) (sym c.into_items-settings.ensures.value) c.into_items-settings.ensures.by_key))
 
-pub returns-in_ok-of-in-Some-clause-back : goal.returns-in_ok-of-in-Some-clause-back
-returns-in_ok-of-in-Some-clause-back c peers parts =
+pub returns-in_err-peers-clause-back : goal.returns-in_err-peers-clause-back
+returns-in_err-peers-clause-back c peers parts =
     let settings = c.into_items-settings.ensures.value ∙ c.in_ok-of.ensures
     ∙ settings_are c.args.settings.items c.args.entries.items c.args.criteria.items peers parts in
     let groups = c.in_ok-groups-2.ensures
@@ -33,14 +29,11 @@ returns-in_ok-of-in-Some-clause-back c peers parts =
     (c.in_ok-groups.ensures ∙ ap (map (gathered R settings_name c.args.entries.items)) settings) in
     let stand = subst (λ (gs : List PeerGroup). EachStandsFor IsGroupOf gs peers) (sym groups)
     (groups_stand c.args.settings.items c.args.entries.items c.args.criteria.items peers parts) in
-    let back = c.in_ok-peers.ensures.back peers stand in
-    let items = same_Some _ _ (ap (option_map items_of) (sym c.in-Some.is) ∙ back) in
-    ap (λ (ps : List HeldPeer). Some ps)
-    (c.into_items.ensures.value ∙ c.in_ok-of-in-Some.ensures ∙ ap (all_set R peer_name []) items
-    ∙ set_in_order R peer_name peers parts.by_name)
+    rw (passed_on c.from_residual-in_err-peers.result c.in_err-peers.field-0.0 c.from_residual-in_err-peers.ensures.1
+    (c.in_err-peers.ensures peers stand)) refl
 
-pub returns-in-None-clause-back : goal.returns-in-None-clause-back
-returns-in-None-clause-back c peers parts =
+pub returns-clause-back : goal.returns-clause-back
+returns-clause-back c peers parts =
     let settings = c.into_items-settings.ensures.value ∙ c.in_ok-of.ensures
     ∙ settings_are c.args.settings.items c.args.entries.items c.args.criteria.items peers parts in
     let groups = c.in_ok-groups-2.ensures
@@ -48,5 +41,5 @@ returns-in-None-clause-back c peers parts =
     (c.in_ok-groups.ensures ∙ ap (map (gathered R settings_name c.args.entries.items)) settings) in
     let stand = subst (λ (gs : List PeerGroup). EachStandsFor IsGroupOf gs peers) (sym groups)
     (groups_stand c.args.settings.items c.args.entries.items c.args.criteria.items peers parts) in
-    let back = c.in_ok-peers.ensures.back peers stand in
-    absurd (nothing_told (ap (option_map items_of) (sym c.in-None.is) ∙ back))
+    c.into_items.ensures.value ∙ c.in_ok-of-2.ensures
+    ∙ ap (all_set R peer_name []) (c.in_ok-peers.ensures peers stand) ∙ set_in_order R peer_name peers parts.by_name

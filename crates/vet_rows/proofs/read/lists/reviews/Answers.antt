@@ -1,21 +1,18 @@
-use Rattle.std.proofs.Common.{Global, Option, Some, Vec, ap, option_map, subst}
-use Rattle.vet_desk.specs.declared.review.Review.{Review}
+use Rattle.std.proofs.Common.{refl}
 use Rattle.vet_rows.specs.DeskRows.{review_row}
 use Rattle.vet_rows.specs.HeldValues.{IsReview}
-use Rattle.vet_rows.proofs.SetsRead.{RowsBack, none_read, some_read}
+use Rattle.vet_rows.proofs.Reading.{passed_on}
+use Rattle.vet_rows.proofs.SetsRead.{items_read, they_stand}
 use Rattle.vet_rows.proofs.read.lists.reviews.Goals as goal
 
-pub returns-in_ok-rank-in-Some : goal.returns-in_ok-rank-in-Some
-returns-in_ok-rank-in-Some c list up held same =
-    let rows = c.args.rows.now in
-    let back = subst (λ (o : Option (Vec Review Global)). RowsBack IsReview review_row rows (option_map (λ v.
-    v.items) o))
-    c.in-Some.is c.in_ok-reviews.ensures in
-    ap (λ xs. Some xs) (c.in_ok-rank-in-Some.ensures list up
-    (some_read IsReview review_row rows list held same c.in-Some.reviews.items back))
+pub returns-in_err-reviews : goal.returns-in_err-reviews
+returns-in_err-reviews c list up held same =
+    let stand = they_stand IsReview review_row c.args.rows.now list held same in
+    rw (passed_on c.from_residual.result c.in_err-reviews.field-0.0 c.from_residual.ensures.1
+    (c.in_err-reviews.ensures stand.0 stand.1)) refl
 
-pub returns-in-None : goal.returns-in-None
-returns-in-None c list up held same =
-    let rows = c.args.rows.now in
-    none_read IsReview review_row rows list held same (subst (λ (o : Option (Vec Review Global)).
-    RowsBack IsReview review_row rows (option_map (λ v. v.items) o)) c.in-None.is c.in_ok-reviews.ensures)
+pub returns : goal.returns
+returns c list up held same =
+    c.in_ok-rank.ensures list up
+    (items_read IsReview review_row c.args.rows.now list held same c.in_ok-reviews.reviews.items
+    c.in_ok-reviews.ensures)

@@ -1,4 +1,4 @@
-use Rattle.std.proofs.Common.{◌≤◌, ◌∙◌, [], List, Some, ap, map, subst, sym}
+use Rattle.std.proofs.Common.{◌≤◌, ◌∙◌, [], List, ap, map, refl, subst, sym}
 use Rattle.std.specs.List.{All}
 use Rattle.std.proofs.lemmas.Bool.{false≢true}
 use Rattle.vet_base.specs.Keyed.{all_set}
@@ -12,14 +12,15 @@ use Rattle.vet_rows.specs.Gathered.{Gathered, gathered}
 use Rattle.vet_rows.specs.ReadBack.{EachStandsFor}
 use Rattle.vet_rows.specs.ReadRecords.{IsGroupOfPackage}
 use Rattle.vet_rows.specs.declared.read.gathered.Filed.{Filed}
+use Rattle.vet_rows.proofs.Reading.{passed_on}
 use Rattle.vet_rows.proofs.RecordsMade.{groups_stand, here, in_order, names_are}
 use Rattle.vet_rows.proofs.read.records.records_of.Goals as goal
 
 abbrev key_of : Filed Name Publisher → Name
 key_of f = f.key
 
-pub returns-then-are_held-clause-back : goal.returns-then-are_held-clause-back
-returns-then-are_held-clause-back c packages parts =
+pub returns-in_err-packages_of-clause-back : goal.returns-in_err-packages_of-clause-back
+returns-in_err-packages_of-clause-back c packages parts =
     let records = c.args.records.items in
     let names = c.into_items-names.ensures.value ∙ c.in_ok-of.ensures
     ∙ ap (all_set R here []) (c.in_ok-names.ensures ∙ ap (map key_of) c.as_slice.ensures.value)
@@ -27,10 +28,8 @@ returns-then-are_held-clause-back c packages parts =
     let groups = c.in_ok-groups.ensures ∙ ap (map (gathered R here records)) names in
     let stand = subst (λ (gs : List (Gathered Name Publisher)). EachStandsFor IsGroupOfPackage gs packages) (sym groups)
     (groups_stand records packages parts) in
-    let held = c.in_ok-packages_of.ensures.back packages stand in
-    let sorted = c.into_items-packages.ensures.value ∙ c.in_ok-of-2.ensures ∙ ap (all_set R package_of []) held
-    ∙ in_order records packages parts in
-    ap (λ (ps : List PackagePublishers). Some ps) sorted
+    rw (passed_on c.from_residual-in_err-packages_of.result c.in_err-packages_of.field-0.0
+    c.from_residual-in_err-packages_of.ensures.1 (c.in_err-packages_of.ensures packages stand)) refl
 
 pub returns-clause-back : goal.returns-clause-back
 returns-clause-back c packages parts =
@@ -41,9 +40,20 @@ returns-clause-back c packages parts =
     let groups = c.in_ok-groups.ensures ∙ ap (map (gathered R here records)) names in
     let stand = subst (λ (gs : List (Gathered Name Publisher)). EachStandsFor IsGroupOfPackage gs packages) (sym groups)
     (groups_stand records packages parts) in
-    let held = c.in_ok-packages_of.ensures.back packages stand in
-    let sorted = c.into_items-packages.ensures.value ∙ c.in_ok-of-2.ensures ∙ ap (all_set R package_of []) held
-    ∙ in_order records packages parts in
+    c.into_items-packages.ensures.value ∙ c.in_ok-of-2.ensures
+    ∙ ap (all_set R package_of []) (c.in_ok-packages_of.ensures packages stand) ∙ in_order records packages parts
+
+pub returns-then-not-are_held-clause-back : goal.returns-then-not-are_held-clause-back
+returns-then-not-are_held-clause-back c packages parts =
+    let records = c.args.records.items in
+    let names = c.into_items-names.ensures.value ∙ c.in_ok-of.ensures
+    ∙ ap (all_set R here []) (c.in_ok-names.ensures ∙ ap (map key_of) c.as_slice.ensures.value)
+    ∙ names_are records packages parts in
+    let groups = c.in_ok-groups.ensures ∙ ap (map (gathered R here records)) names in
+    let stand = subst (λ (gs : List (Gathered Name Publisher)). EachStandsFor IsGroupOfPackage gs packages) (sym groups)
+    (groups_stand records packages parts) in
+    let sorted = c.into_items-packages.ensures.value ∙ c.in_ok-of-2.ensures
+    ∙ ap (all_set R package_of []) (c.in_ok-packages_of.ensures packages stand) ∙ in_order records packages parts in
     let all = subst (λ (ps : List PackagePublishers). All HasAny ps × (records_total ps ≤ MOST_PUBLISHERS))
     (sym (c.as_slice-2.ensures.value ∙ sorted)) (parts.by_name.filled, parts.few) in
-    absurd (false≢true (sym c.if-are_held.false ∙ c.are_held.ensures.1 all))
+    absurd (false≢true (sym c.if-not-are_held.true ∙ c.are_held.ensures.1 all))

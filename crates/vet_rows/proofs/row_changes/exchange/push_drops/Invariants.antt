@@ -4,5 +4,4 @@ use Rattle.vet_rows.specs.declared.row_change.RowChange.TheVariants as change
 use Rattle.vet_rows.proofs.row_changes.exchange.push_drops.Given as goal
 
 abbrev pub invariant-rows : goal.invariant-rows
-invariant-rows g l =
-    l.changes.items ≡ l.initial.changes.items ++ map (λ r. change.Drop (g.R.TableRow.row_of r)) l.yielded
+invariant-rows l = l.changes.items ≡ l.initial.changes.items ++ map (λ r. change.Drop l.table r) l.yielded

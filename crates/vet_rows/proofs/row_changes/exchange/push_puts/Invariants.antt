@@ -4,5 +4,4 @@ use Rattle.vet_rows.specs.declared.row_change.RowChange.TheVariants as change
 use Rattle.vet_rows.proofs.row_changes.exchange.push_puts.Given as goal
 
 abbrev pub invariant-rows : goal.invariant-rows
-invariant-rows g l =
-    l.changes.items ≡ l.initial.changes.items ++ map (λ r. change.Put (g.R.TableRow.row_of r)) l.yielded
+invariant-rows l = l.changes.items ≡ l.initial.changes.items ++ map (λ r. change.Put l.table r) l.yielded

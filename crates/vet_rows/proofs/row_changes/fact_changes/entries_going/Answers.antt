@@ -20,16 +20,16 @@ entries_of_peer-requires-in-Content c = λ p e.
     (found_in (slice_cmp nat_cmp) nat_list_cmp_total only_equal peer_name c.args.facts.now.content.peers
     c.in-Content.name p (sym c.peer.ensures ∙ e)).0
 
-pub own_entry-requires : goal.own_entry-requires
-own_entry-requires c = λ h e.
+pub row_if-requires : goal.row_if-requires
+row_if-requires c = λ h e.
     in_all EntryFits c.args.facts.now.content.entries c.requires.own h
     (at_in c.args.facts.now.content.entries c.in-Remove.place h
     (ap (λ entries. slice_get entries c.in-Remove.place) (sym c.entries.ensures.value) ∙ sym c.entry_at.ensures ∙ e))
 
 pub returns-in-Remove : goal.returns-in-Remove
 returns-in-Remove c =
-    subst (λ e. IfOk c.own_entry.result (λ rows. rows.items ≡ entries_going e c.args.facts.now.content))
+    subst (λ e. IfOk c.row_if.result (λ rows. rows.items ≡ entries_going e c.args.facts.now.content))
     (sym c.in-Remove.is)
-    (subst (λ o. IfOk c.own_entry.result (λ rows. rows.items ≡ rows_if own_entry o))
+    (subst (λ o. IfOk c.row_if.result (λ rows. rows.items ≡ rows_if own_entry o))
     (c.entry_at.ensures ∙ ap (λ entries. slice_get entries c.in-Remove.place) c.entries.ensures.value)
-    c.own_entry.ensures)
+    c.row_if.ensures)

@@ -1,6 +1,9 @@
 use Rattle.std.proofs.Common.{◌∙◌, not, refl, ap, subst}
 use Rattle.sqlite.specs.Held.{state}
+use Rattle.sqlite.specs.State.{Survives}
+use Rattle.vet_register.specs.State.{State}
 use Rattle.vet_rows.specs.RowsOf.{rows_of}
+use Rattle.vet_store.specs.Made.{IsMade}
 use Rattle.vet_tables.specs.Free.{AreFree}
 use Rattle.vet_store.proofs.Tying.{leaves_standing}
 use Rattle.vet_store.proofs.store.Store.create.Goals as goal
@@ -49,3 +52,15 @@ returns-in-Ok-write_start-clause-taken g c taken =
 pub returns-in-Err-write_start-clause-taken : goal.returns-in-Err-write_start-clause-taken
 returns-in-Err-write_start-clause-taken g c taken =
     absurd (taken (subst AreFree c.schema.ensures.value (c.has_name_taken.ensures.free c.if-has_name_taken.false)))
+
+pub returns-in-Ok-write_start-clause-crash : goal.returns-in-Ok-write_start-clause-crash
+returns-in-Ok-write_start-clause-crash g c =
+    let old = state g.S.Store c.args.conn in
+    subst (λ (s : State). Survives old (state g.S.Store c.write_start.new.conn) (IsMade old (rows_of s)))
+    c.in-Ok.ensures.start c.write_start.ensures.crash
+
+pub returns-in-Err-write_start-clause-crash : goal.returns-in-Err-write_start-clause-crash
+returns-in-Err-write_start-clause-crash g c =
+    let old = state g.S.Store c.args.conn in
+    subst (λ (s : State). Survives old (state g.S.Store c.write_start.new.conn) (IsMade old (rows_of s)))
+    c.in-Ok.ensures.start c.write_start.ensures.crash

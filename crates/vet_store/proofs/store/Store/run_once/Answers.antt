@@ -45,6 +45,31 @@ returns-in-Ok-Already-clause-turn g c =
     subst (λ (v : StoreView _ _). IsTurn v.register.state command (Ok (Already number)) c.prepare.new.self.state)
     c.self.view_is turn
 
+pub returns-then-self-clause-tables : goal.returns-then-self-clause-tables
+returns-then-self-clause-tables g c =
+    subst (λ (v : StoreView _ _). IsTied (state g.S.Store v.conn) v.shut (rows_of v.register.state)) c.self.view_is
+    c.self.invariant
+
+pub invariant_of-self : goal.invariant_of-self
+invariant_of-self g c =
+    subst (λ (s : State). IsTied (state g.S.Store c.self.inside.conn) c.self.inside.shut (rows_of s))
+    (sym c.prepare.ensures.state) c.self.invariant
+
+pub invariant_of-self-in-Ok-Already : goal.invariant_of-self-in-Ok-Already
+invariant_of-self-in-Ok-Already g c =
+    subst (λ (s : State). IsTied (state g.S.Store c.self.inside.conn) c.self.inside.shut (rows_of s))
+    (sym c.prepare.ensures.state) c.self.invariant
+
+pub returns-in-Err-clause-tables : goal.returns-in-Err-clause-tables
+returns-in-Err-clause-tables g c =
+    subst (λ (s : State). IsTied (state g.S.Store c.self.inside.conn) c.self.inside.shut (rows_of s))
+    (sym c.prepare.ensures.state) c.self.invariant
+
+pub returns-in-Ok-Already-clause-tables : goal.returns-in-Ok-Already-clause-tables
+returns-in-Ok-Already-clause-tables g c =
+    subst (λ (s : State). IsTied (state g.S.Store c.self.inside.conn) c.self.inside.shut (rows_of s))
+    (sym c.prepare.ensures.state) c.self.invariant
+
 pub invariant_of-self-in-Err-write_change : goal.invariant_of-self-in-Err-write_change
 invariant_of-self-in-Err-write_change g c =
     let old = state g.S.Store c.self.inside.conn in
@@ -122,6 +147,27 @@ returns-in-Ok-clause-tables g c =
     (λ trees serves leaves. g.met.S.Store.settled c.write_change.new.conn.store trees serves leaves) in
     subst (λ (t : State). IsTied new c.write_change.new.shut (rows_of t)) (sym (c.install.ensures command prepared))
     after
+
+pub returns-in-Err-write_change-clause-crash : goal.returns-in-Err-write_change-clause-crash
+returns-in-Err-write_change-clause-crash g c =
+    let command = c.args.command.now in
+    let old = state g.S.Store c.self.inside.conn in
+    let new = state g.S.Store c.write_change.new.conn in
+    let s = c.prepare.new.self.state in
+    let tied = subst (λ (t : State). IsTied old c.self.inside.shut (rows_of t)) (sym c.prepare.ensures.state)
+    c.self.invariant in
+    let prepared : IsPrepared g.K.Keeper.keeping c.prepare.new.self command c.in-Ok-Change.change =
+    subst (λ (p : Prepared _ _). IsAnswer g.K.Keeper.keeping c.prepare.new.self command p) c.in-Ok-Change.field-0-is
+    c.in-Ok-Change.ensures.prepared in
+    let crash = λ (serves : IsTrue old.is_open). survives_written old new c.self.inside.shut (rows_of s)
+    (rows_of (next s command)) tied c.if-self.false serves (c.write_change.ensures.crash command prepared) in
+    let same : s ≡ c.args.self.now.register.state =
+    c.prepare.ensures.state ∙ ap (λ (v : StoreView _ _). v.register.state) c.self.view_is in
+    let conn : c.self.inside.conn ≡ c.args.self.now.conn = ap (λ (v : StoreView _ _). v.conn) c.self.view_is in
+    subst (λ h. IsTrue (state g.S.Store h).is_open → Survives (state g.S.Store h) new
+    (AreTreesBeside (state g.S.Store h).now (rows_of (next c.args.self.now.register.state command)))) conn
+    (subst (λ (t : State). IsTrue old.is_open → Survives old new (AreTreesBeside old.now (rows_of (next t command))))
+    same crash)
 
 pub returns-in-Ok-clause-crash : goal.returns-in-Ok-clause-crash
 returns-in-Ok-clause-crash g c =

@@ -1,11 +1,11 @@
 use Rattle.std.proofs.Common.{◌≡◌, ◌∙◌, None, Ok, Some, ap, sym}
 use Rattle.sqlite.specs.Held.{state}
 use Rattle.vet_rows.specs.RowsOf.{rows_of}
-use Rattle.vet_rows.specs.SameRows.{SameRows}
 use Rattle.vet_store.proofs.Opening.{if_answered, none_found, none_stored, some_found, told_stored}
 use Rattle.vet_store.proofs.Tying.{holds_also}
 use Rattle.vet_store.proofs.store.open.read_register.Goals as goal
 use Rattle.vet_store.specs.Stands.{Holds}
+use Rattle.vet_tables.specs.Cells.{SameRows, rows_in}
 
 pub returns-in_err-rows-clause-none : goal.returns-in_err-rows-clause-none
 returns-in_err-rows-clause-none g c clean _ =
@@ -19,9 +19,9 @@ returns-clause-found g c clean =
     let rows = c.in_ok-rows.rows in
     let some : c.in-Ok.found ≡ Some rows = some_found c.in-Ok.found rows (sym c.found_register.ensures
     ∙ c.in_ok-rows.was) in
-    let holds : Holds db rows = rw some at (c.in-Ok.ensures.found clean) in
-    if_answered c.register_of.result (λ r. SameRows rows (rows_of r.state)) (λ r. Holds db (rows_of r.state))
-    (λ r same. holds_also db rows (rows_of r.state) same holds) c.register_of.ensures.found
+    let holds : Holds db (rows_in rows) = rw some at (c.in-Ok.ensures.found clean) in
+    if_answered c.register_of.result (λ r. SameRows (rows_in rows) (rows_of r.state)) (λ r. Holds db (rows_of r.state))
+    (λ r same. holds_also db (rows_in rows) (rows_of r.state) same holds) c.register_of.ensures.found
 
 pub returns-clause-only : goal.returns-clause-only
 returns-clause-only g c clean =
@@ -29,8 +29,8 @@ returns-clause-only g c clean =
     let rows = c.in_ok-rows.rows in
     let some : c.in-Ok.found ≡ Some rows = some_found c.in-Ok.found rows (sym c.found_register.ensures
     ∙ c.in_ok-rows.was) in
-    let holds : Holds db rows = rw some at (c.in-Ok.ensures.found clean) in
-    if_answered c.register_of.result _ _ (λ r only t h. only t (told_stored db rows holds t h))
+    let holds : Holds db (rows_in rows) = rw some at (c.in-Ok.ensures.found clean) in
+    if_answered c.register_of.result _ _ (λ r only t h. only t (told_stored db (rows_in rows) holds t h))
     c.register_of.ensures.only
 
 pub returns-clause-none : goal.returns-clause-none
@@ -39,5 +39,5 @@ returns-clause-none g c clean is t h =
     let rows = c.in_ok-rows.rows in
     let some : c.in-Ok.found ≡ Some rows = some_found c.in-Ok.found rows (sym c.found_register.ensures
     ∙ c.in_ok-rows.was) in
-    let holds : Holds db rows = rw some at (c.in-Ok.ensures.found clean) in
-    c.register_of.ensures.none is t (told_stored db rows holds t h)
+    let holds : Holds db (rows_in rows) = rw some at (c.in-Ok.ensures.found clean) in
+    c.register_of.ensures.none is t (told_stored db (rows_in rows) holds t h)

@@ -2,13 +2,21 @@ use Rattle.std.proofs.Common.{IsTrue, sym, subst}
 use Rattle.sqlite.specs.Held.{state}
 use Rattle.sqlite.proofs.StateLemmas.{survives_weaker}
 use Rattle.vet_register.specs.Machine.{next}
+use Rattle.vet_base.specs.Items.{IsIn}
+use Rattle.vet_rows.specs.FitChanges.{Fits}
 use Rattle.vet_rows.specs.RowChanges.{all_changed}
 use Rattle.vet_rows.specs.RowsOf.{rows_of}
-use Rattle.vet_rows.specs.SameRows.{SameRows}
+use Rattle.vet_rows.specs.declared.row_change.RowChange.{RowChange}
 use Rattle.vet_store.specs.Committed.{IsAfter, IsBefore}
 use Rattle.vet_store.specs.Tied.{IsWritten}
 use Rattle.vet_store.proofs.Tying.{changes_next, reaches_commit, stands_also, written_next}
 use Rattle.vet_store.proofs.store.write.write_change.Goals as goal
+use Rattle.vet_tables.specs.Cells.{SameRows}
+
+pub commit_changes-requires-clause-fit : goal.commit_changes-requires-clause-fit
+commit_changes-requires-clause-fit g c =
+    subst (λ items. (change : RowChange) → IsIn change items → Fits change) (sym c.as_slice.ensures.value)
+    c.in_ok-changes.ensures.fit
 
 pub returns-in-Ok-clause-written : goal.returns-in-Ok-clause-written
 returns-in-Ok-clause-written g c command prepared clean was =

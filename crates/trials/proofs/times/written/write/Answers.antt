@@ -1,0 +1,8 @@
+-- The rows of a change have the columns of their tables.
+use Rattle.std.proofs.Common.{subst}
+use Rattle.trials.proofs.times.written.write.Goals as goal
+use Rattle.vet_base.specs.Items.{IsIn}
+
+pub commit_changes-requires-clause-fit : goal.commit_changes-requires-clause-fit
+commit_changes-requires-clause-fit g c change among =
+    c.in_ok-changes.ensures.fit change (subst (λ items. IsIn change items) c.as_slice.ensures.value among)

@@ -1,0 +1,89 @@
+//! The one row of all of which there is just one, read again.
+ghost use Rattle.std.specs.Prelude.{◌≡◌, ◌∷◌, [], Ok};
+ghost use Rattle.vet_base.specs.Items.{SameItems};
+ghost use Rattle.vet_rows.specs.HeldValues.{AreSettings};
+ghost use Rattle.vet_rows.specs.MetaRow.{row_of_meta};
+ghost use Rattle.vet_rows.specs.ReadBack.{IsWritten, Reads};
+ghost use Rattle.vet_rows.specs.ReadValues.{IsMeta};
+ghost use Rattle.vet_rows.specs.declared.meta.Meta.{Meta as MetaValue};
+
+use crate::meta::{Meta, MetaNumbers};
+use crate::read::cells::{blob_at, int_at};
+use crate::read::columns::{number, optional_names, optional_text};
+use crate::read::from_row::FromRow;
+use crate::read::unread::{Unread, found};
+use std::alloc::Global;
+use vet_graph::standing::Counts;
+use vet_register::tool_settings::ToolSettings;
+use vet_tables::sequence::Row;
+
+/// The version of the form of the tables.
+const FORM: u64 = 1;
+
+/// What the one row says.
+pub(crate) fn read_meta(alloc: Global, rows: &[Row]) -> Result<Meta, Unread>
+    ensures { (m : MetaValue) → IsMeta m → SameItems rows.now (row_of_meta m ∷ []) → Reads result m }
+{
+    Meta::from_row(alloc, found(rows.first())?)
+}
+
+impl FromRow for Meta {
+    ghost stands_for = { IsWritten IsMeta row_of_meta };
+
+    fn from_row(alloc: Global, row: &Row) -> Result<Meta, Unread> {
+        check_form(row)?;
+        Ok(Meta {
+            numbers: numbers(row)?,
+            first: first_counts(row)?,
+            settings: settings(alloc, row)?,
+        })
+    }
+}
+
+// Whether the key of a row and the version of the form are those that are written. Takes no memory.
+fn check_form(row: &Row) -> Result<(), Unread>
+    ensures { (m : MetaValue) → row.now ≡ row_of_meta m → result ≡ Ok tt }
+{
+    if number(int_at(row, 0)?)? != 1 {
+        return Err(Unread::NotARegister);
+    }
+    if number(int_at(row, 1)?)? != FORM {
+        return Err(Unread::NotARegister);
+    }
+    Ok(())
+}
+
+// The numbers of a row. Takes no memory.
+fn numbers(row: &Row) -> Result<MetaNumbers, Unread>
+    ensures { (m : MetaValue) → row.now ≡ row_of_meta m → result ≡ Ok m.numbers }
+{
+    Ok(MetaNumbers {
+        step: number(int_at(row, 2)?)?,
+        next_entry: number(int_at(row, 3)?)?,
+        next_review: number(int_at(row, 4)?)?,
+        moves_limit: number(int_at(row, 5)?)? as usize,
+    })
+}
+
+// How many pairs stood in each class at first. Takes no memory.
+fn first_counts(row: &Row) -> Result<Counts, Unread>
+    ensures { (m : MetaValue) → row.now ≡ row_of_meta m → result ≡ Ok m.first }
+{
+    Ok(Counts {
+        conflicting: number(int_at(row, 6)?)?,
+        full: number(int_at(row, 7)?)?,
+        partial: number(int_at(row, 8)?)?,
+        exempted: number(int_at(row, 9)?)?,
+        unvetted: number(int_at(row, 10)?)?,
+    })
+}
+
+// What a config file says to the tool alone.
+fn settings(alloc: Global, row: &Row) -> Result<ToolSettings, Unread>
+    ensures { (m : MetaValue) → AreSettings m.settings → row.now ≡ row_of_meta m → Reads result m.settings }
+{
+    Ok(ToolSettings {
+        vet_version: optional_text(alloc, blob_at(row, 11)?)?,
+        default_criteria: optional_names(alloc, blob_at(row, 12)?)?,
+    })
+}

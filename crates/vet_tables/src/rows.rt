@@ -1,0 +1,42 @@
+//! The rows of all tables.
+ghost use Rattle.std.specs.Prelude.{◌≡◌, ◌++◌, ◌∷◌, [], OnOk};
+ghost use Rattle.vet_tables.specs.Cells.{rows_in};
+
+use crate::sequence::{Row, Sequence};
+use crate::table_name::TableName;
+use std::alloc::{AllocError, Global};
+
+/// The rows of tables: a list a table, in the order of the tables. The rows of a table stand in whatever order.
+#[derive(Drop)]
+pub struct Rows {
+    tables: Vec<Sequence<Row>>,
+}
+
+impl Rows {
+    /// No lists. Takes no memory.
+    pub fn new(alloc: Global) -> Rows
+        ensures { result.tables.items ≡ [] }
+    {
+        Rows {
+            tables: Vec::new(alloc),
+        }
+    }
+
+    /// Adds the rows of the next table. Fails only if memory runs out.
+    pub fn push(&mut self, rows: Vec<Row>) -> Result<(), AllocError>
+        ensures { OnOk result (self.new.tables.items ≡ self.old.tables.items ++ rows.items ∷ []) }
+    {
+        self.tables.push(Sequence::of(rows))?;
+        Ok(())
+    }
+
+    /// The rows of a table, none where no list was added for it. Takes no memory.
+    pub fn of(&self, table: TableName) -> &[Row]
+        ensures { result.now ≡ rows_in self.now table }
+    {
+        match self.tables.get(table.place()) {
+            Some(rows) => rows.as_slice(),
+            None => &[],
+        }
+    }
+}
