@@ -146,16 +146,10 @@ class Server:
 
     def reply_or_end(self, given):
         """All that a client gets until its connection ends, if need be by a reset."""
-        chunks = []
         with self.connect() as client:
-            try:
-                client.sendall(given)
-                while chunk := client.recv(65_536):
-                    chunks.append(chunk)
-            except (BrokenPipeError, ConnectionResetError):
-                pass
-        self.faulted += not chunks
-        return b"".join(chunks)
+            reply = reply_or_end(client, given)
+        self.faulted += not reply
+        return reply
 
     def told(self, method, target, status, body, kind=TEXT, given=None, fields=(), allow=None):
         """Asks, and holds each byte of the reply."""
@@ -169,6 +163,18 @@ class Server:
     def posted(self, text, line, fields=()):
         """Posts a command document, and holds each byte of the reply."""
         self.answers(line, "POST", "/commands", text, fields)
+
+
+def reply_or_end(client, given):
+    """What a connection gets for these bytes until it ends, if need be by a reset."""
+    chunks = []
+    try:
+        client.sendall(given)
+        while chunk := client.recv(65_536):
+            chunks.append(chunk)
+    except (BrokenPipeError, ConnectionResetError):
+        pass
+    return b"".join(chunks)
 
 
 def read_to_end(client):
