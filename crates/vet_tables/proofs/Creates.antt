@@ -23,13 +23,11 @@ use Rattle.sqlite_syntax.specs.declared.statement.Parsed.{Parsed}
 use Rattle.sqlite_tied.specs.Compute.{everything}
 use Rattle.vet_tables.proofs.Meanings.{Means, compiled_of, means_never, means_now}
 use Rattle.vet_tables.proofs.Shapes.{parsed}
+use Rattle.vet_tables.proofs.TablePlaces.{each}
 use Rattle.vet_tables.specs.Form.{table_of}
 use Rattle.vet_tables.specs.Forms.{form_of}
 use Rattle.vet_tables.specs.Texts.{create_text}
 use Rattle.vet_tables.specs.declared.table_name.TableName.{TableName}
-use Rattle.vet_tables.specs.declared.table_name.TableName.TheVariants.{Meta, Criteria, Entries, Publishers, Policies}
-use Rattle.vet_tables.specs.declared.table_name.TableName.TheVariants.{Peers}
-use Rattle.vet_tables.specs.declared.table_name.TableName.TheVariants.{Nodes, Edges, Standing, Moves, Members, Reviews}
 
 abbrev pub created : TableName → Parsed
 created n = parsed (first (create_text (form_of n)))
@@ -46,50 +44,21 @@ IsCreation _ = ⊥
 create_parses : (n : TableName) → (first (create_text (form_of n)) ≡ Ok (created n))
     × IsCreation (created n).statement × ((created n).formats ≡ [])
 unfolding everything
-create_parses Meta = (refl, (refl, refl), refl)
-create_parses Criteria = (refl, (refl, refl), refl)
-create_parses Entries = (refl, (refl, refl), refl)
-create_parses Publishers = (refl, (refl, refl), refl)
-create_parses Policies = (refl, (refl, refl), refl)
-create_parses Peers = (refl, (refl, refl), refl)
-create_parses Nodes = (refl, (refl, refl), refl)
-create_parses Edges = (refl, (refl, refl), refl)
-create_parses Standing = (refl, (refl, refl), refl)
-create_parses Moves = (refl, (refl, refl), refl)
-create_parses Members = (refl, (refl, refl), refl)
-create_parses Reviews = (refl, (refl, refl), refl)
+create_parses n =
+    each (λ n. (first (create_text (form_of n)) ≡ Ok (created n)) × IsCreation (created n).statement
+    × ((created n).formats ≡ [])) (assumption refl) n
 
 pub defines : (n : TableName) → table_defined_by (create_text (form_of n)) ≡ Ok (table_of (form_of n) 0)
 unfolding everything
-defines Meta = refl
-defines Criteria = refl
-defines Entries = refl
-defines Publishers = refl
-defines Policies = refl
-defines Peers = refl
-defines Nodes = refl
-defines Edges = refl
-defines Standing = refl
-defines Moves = refl
-defines Members = refl
-defines Reviews = refl
+defines n = each (λ n. table_defined_by (create_text (form_of n)) ≡ Ok (table_of (form_of n) 0)) (assumption refl) n
 
 -- the whole text is the statement
 whole_text : (n : TableName) → text_of (create_text (form_of n))
     (compiled_of does.CreateTable (created n)) ≡ create_text (form_of n)
 unfolding everything
-whole_text Meta = refl
-whole_text Criteria = refl
-whole_text Entries = refl
-whole_text Publishers = refl
-whole_text Policies = refl
-whole_text Peers = refl
-whole_text Nodes = refl
-whole_text Edges = refl
-whole_text Standing = refl
-whole_text Moves = refl
-whole_text Members = refl
-whole_text Reviews = refl
+whole_text n =
+    each (λ n. text_of (create_text (form_of n)) (compiled_of does.CreateTable (created n)) ≡ create_text (form_of n))
+    (assumption refl) n
 
 -- it is made, or else refused by an error that is no missing table
 abbrev MakesOr : Checked Command → Type 0

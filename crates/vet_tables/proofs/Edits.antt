@@ -1,4 +1,4 @@
--- What INSERT and DELETE of a row do to a database that has its table.
+-- What INSERT of a row and DELETE of rows do to a database that has their table.
 use Rattle.std.proofs.Common.{◌≡◌, ◌+◌, ◌++◌, ◌/◌, ℕ, List, [], ◌∷◌, filter, Bool, true, false, not}
 use Rattle.std.proofs.Common.{◌&&◌, cond, nat_le, slice_get, None, Ok, Option, length, unwrap_or, ◌-◌, ◌^◌}
 use Rattle.std.proofs.Common.{refl, sym, ap, subst, ◌∙◌}
@@ -16,12 +16,12 @@ use Rattle.sqlite_rules.specs.Calls.{ids_of}
 use Rattle.sqlite_rules.specs.Edit.{Applies, Edit, are_fresh, is_taken, next_rowid, put_all, taken_by}
 use Rattle.sqlite_schema.specs.declared.schema.Keys.{Keys}
 use Rattle.sqlite_sql.specs.Program.{overlay}
-use Rattle.sqlite_sql.specs.Term.{col}
+use Rattle.sqlite_sql.specs.Term.{Term, col}
 use Rattle.sqlite_trees.specs.Tree.{Trees, put_row}
 use Rattle.sqlite_value.specs.Order.{Row as Cells}
 use Rattle.vet_tables.proofs.Answered.{answered, passes}
 use Rattle.vet_tables.proofs.Numbers.{removed}
-use Rattle.vet_tables.proofs.Shapes.{insert_terms, key_tests}
+use Rattle.vet_tables.proofs.Shapes.{insert_terms}
 use Rattle.vet_tables.proofs.StoredRows.{news_are, stored_row}
 use Rattle.vet_tables.proofs.Outcomes.{same_value, went}
 use Rattle.vet_tables.proofs.TableMeanings.{over}
@@ -97,21 +97,22 @@ overlays db t = go (nat_le (2 ^ 31) t)
     go true = refl
     go false = refl
 
--- the rows that pass go
-abbrev pub Removes : TableName → Database → ℕ → Cells → Database → Type 0
-Removes n db tree key after =
-    (AreNumbered (db.trees tree) → after.trees tree ≡ filter (λ r. not (passes (key_tests (form_of n)) key r))
-    (db.trees tree)) × KeepsElse db tree after
+-- the rows that pass tests go
+abbrev pub Removes : Database → ℕ → List Term → Cells → Database → Type 0
+Removes db tree tests params after =
+    (AreNumbered (db.trees tree) → after.trees tree ≡ filter (λ r. not (passes tests params r)) (db.trees tree))
+    × KeepsElse db tree after
 
 module _ (n : TableName) (db : Database) (has : HasTable db.schema (form_of n)) where
   abbrev deleting : List Cells → Edit
   deleting sources = edit_of db.trees (table_of (form_of n) has.tree) (ids_of sources) Given 0 []
 
-  pub deleted : (limit : Option ℕ) (mode : Mode) (text : List ℕ) (key : Cells) (tally : Tally) (after : Database)
-      → Does limit mode key db text None (Delete has.at
-      (record { lets = []; body = over has.tree (key_tests (form_of n)) (col 1 0 ∷ []) [] })) (Ok (tally, after))
-      → Removes n db has.tree key after
-  deleted limit mode text key tally after does =
+  pub deleted : (tests : List Term) (limit : Option ℕ) (mode : Mode) (text : List ℕ) (params : Cells) (tally : Tally)
+      (after : Database)
+      → Does limit mode params db text None (Delete has.at
+      (record { lets = []; body = over has.tree tests (col 1 0 ∷ []) [] })) (Ok (tally, after))
+      → Removes db has.tree tests params after
+  deleted tests limit mode text params tally after does =
       let done = went (rw has.there at does) in
       let now : after ≡ record { schema = db.schema; trees = done.0.trees } =
       ap (λ (p : Tally × Database). p.1) (same_value (went (went done.2).2).2) in
@@ -121,11 +122,11 @@ module _ (n : TableName) (db : Database) (has : HasTable db.schema (form_of n)) 
       let step = one_step db.schema mode.keys db.trees written.0 (deleting given.0)
       (no_works db.schema (form_of n) has mode.keys (taken_by db.trees (deleting given.0))
       (deleting given.0).news) written.1 in
-      let found = answered has.tree (key_tests (form_of n)) (col 1 0 ∷ []) [] db.trees key
+      let found = answered has.tree tests (col 1 0 ∷ []) [] db.trees params
       (overlays db.trees has.tree) given.0 given.1.answer in
       let whole : after ≡ record { schema = db.schema; trees = written.0 } = now
       ∙ ap (λ (t : Trees). record { schema = db.schema; trees = t }) trees in
-      subst (λ (d : Database). Removes n db has.tree key d) (sym whole) (
-        λ own. step.rows ∙ removed (passes (key_tests (form_of n)) key) (db.trees has.tree) given.0 own found,
+      subst (λ (d : Database). Removes db has.tree tests params d) (sym whole) (
+        λ own. step.rows ∙ removed (passes tests params) (db.trees has.tree) given.0 own found,
         (refl, step.tables),
       )

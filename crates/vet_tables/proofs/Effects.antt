@@ -1,6 +1,6 @@
--- The contents after a row is put in or taken out.
+-- The contents after a row is put in, or rows are taken out.
 use Rattle.std.proofs.Common.{◌≡◌, ◌⊎◌, inl, inr, ℕ, List, [], ◌∷◌, true, false, cond, filter, not, ◌==◌, Some, Option}
-use Rattle.std.proofs.Common.{slice_get, refl, sym, ap, subst, ◌∙◌}
+use Rattle.std.proofs.Common.{map, slice_get, refl, sym, ap, subst, ◌∙◌}
 use Rattle.std.proofs.lemmas.Bool.{cases_Bool, eq-eqb, eqb-true}
 use Rattle.std.proofs.lemmas.Slice.Eq.{bytes_eq-Decides}
 use Rattle.std.specs.List.{AllByRecursion, position}
@@ -19,42 +19,27 @@ use Rattle.vet_tables.proofs.Numbers.{filter_numbered, put_numbered}
 use Rattle.vet_tables.proofs.RowSets.{left_out, put_in}
 use Rattle.vet_tables.proofs.Shapes.{key_tests}
 use Rattle.vet_tables.proofs.StoredRows.{has_rowid, shows_cells, stored_row}
-use Rattle.vet_tables.proofs.TablePlaces.{same_or_other}
+use Rattle.vet_tables.proofs.TablePlaces.{each, same_or_other}
 use Rattle.vet_tables.proofs.Unreferred.{passes_at}
-use Rattle.vet_tables.specs.Contents.{Contents, HasContents, KeepsOthers, Shows, added, dropped}
+use Rattle.vet_tables.specs.Contents.{Contents, HasContents, KeepsOthers, Shows, added, cleared, dropped}
 use Rattle.vet_tables.specs.Form.{TableForm, table_of}
-use Rattle.vet_tables.specs.Forms.{code, form_of}
+use Rattle.vet_tables.specs.Forms.{code, form_of, tables}
 use Rattle.vet_tables.specs.Has.{HasTable, HasTables, is_apart}
 use Rattle.vet_tables.specs.Keyed.{is_keyed}
+use Rattle.vet_tables.specs.Numbered.{AreNumbered}
 use Rattle.vet_tables.specs.Typed.{AreSorts, kinds_of}
 use Rattle.vet_tables.specs.declared.table_name.TableName.{TableName}
-use Rattle.vet_tables.specs.declared.table_name.TableName.TheVariants.{Meta, Criteria, Entries, Publishers, Policies}
-use Rattle.vet_tables.specs.declared.table_name.TableName.TheVariants.{Peers}
-use Rattle.vet_tables.specs.declared.table_name.TableName.TheVariants.{Nodes, Edges, Standing, Moves, Members, Reviews}
 
 -- ---- each of our tables has a tree of its own
 
 abbrev names : List (List ℕ)
-names = (form_of Meta).name ∷ (form_of Criteria).name ∷ (form_of Entries).name ∷ (form_of Publishers).name
-    ∷ (form_of Policies).name ∷ (form_of Peers).name ∷ (form_of Nodes).name ∷ (form_of Edges).name
-    ∷ (form_of Standing).name ∷ (form_of Moves).name ∷ (form_of Members).name ∷ (form_of Reviews).name ∷ []
+names = map (λ n. (form_of n).name) tables
 
 abbrev name_code : List ℕ → Option ℕ
 name_code name = position (bytes_eq name) names
 
 name_code_is : (n : TableName) → name_code (form_of n).name ≡ Some (code n)
-name_code_is Meta = refl
-name_code_is Criteria = refl
-name_code_is Entries = refl
-name_code_is Publishers = refl
-name_code_is Policies = refl
-name_code_is Peers = refl
-name_code_is Nodes = refl
-name_code_is Edges = refl
-name_code_is Standing = refl
-name_code_is Moves = refl
-name_code_is Members = refl
-name_code_is Reviews = refl
+name_code_is n = each (λ n. name_code (form_of n).name ≡ Some (code n)) (assumption refl) n
 
 pub trees_apart : (schema : Schema) (has : HasTables schema) (m n : TableName) → (code m ≡ code n → ⊥)
     → (has m).tree ≡ (has n).tree → ⊥
@@ -118,6 +103,18 @@ dropped_elsewhere m n key contents apart =
     ap (λ b. cond b (filter (λ cells. not (is_keyed (form_of m) key cells)) (contents m)) (contents m))
     (apart_is m n apart)
 
+pub cleared_here : (n : TableName) (contents : Contents) → cleared n contents n ≡ []
+cleared_here n contents = ap (λ b. cond b [] (contents n)) (here_is n)
+
+pub cleared_elsewhere : (m n : TableName) (contents : Contents) → (code m ≡ code n → ⊥)
+    → cleared n contents m ≡ contents m
+cleared_elsewhere m n contents apart = ap (λ b. cond b [] (contents m)) (apart_is m n apart)
+
+-- no test leaves no row
+none_left : (rows : List Cells) → filter (λ r. not (passes [] [] r)) rows ≡ []
+none_left [] = refl
+none_left (r ∷ rows) = none_left rows
+
 -- ---- all tables
 
 abbrev over : Database → Trees → Database
@@ -173,11 +170,12 @@ module _ (n : TableName) (db after : Database) where
       (λ m apart. added_elsewhere m n cells contents apart))
 
   -- a DELETE by a key
-  pub removes_holds : (key : Cells) (has : HasTable db.schema (form_of n)) → Removes n db has.tree key after
+  pub removes_holds : (key : Cells) (has : HasTable db.schema (form_of n))
+      → Removes db has.tree (key_tests (form_of n)) key after
       → IsDatabase after → (contents : Contents) → HasContents db contents → HasContents after (dropped n key contents)
   removes_holds key has removes sound contents holds =
       let same : has.tree ≡ (holds.has n).tree = same_tree db.schema (form_of n) has (holds.has n) in
-      let mine = subst (λ tree. Removes n db tree key after) same removes in
+      let mine = subst (λ tree. Removes db tree (key_tests (form_of n)) key after) same removes in
       let whole : after ≡ over db after.trees = ap
       (λ (s : Schema). record { schema = s; trees = after.trees }) mine.1.0 in
       let tree = (holds.has n).tree in
@@ -191,6 +189,25 @@ module _ (n : TableName) (db after : Database) where
       subst (λ (d : Database). HasContents d (dropped n key contents)) (sym whole)
       (with_tree n db contents holds after.trees (subst IsDatabase whole sound) mine.1.1 (dropped n key contents) shows
       (λ m apart. dropped_elsewhere m n key contents apart))
+
+  -- a DELETE of all rows
+  pub clears_holds : (has : HasTable db.schema (form_of n)) → Removes db has.tree [] [] after → IsDatabase after
+      → (contents : Contents) → HasContents db contents → HasContents after (cleared n contents)
+  clears_holds has removes sound contents holds =
+      let same : has.tree ≡ (holds.has n).tree = same_tree db.schema (form_of n) has (holds.has n) in
+      let mine = subst (λ tree. Removes db tree [] [] after) same removes in
+      let whole : after ≡ over db after.trees = ap
+      (λ (s : Schema). record { schema = s; trees = after.trees }) mine.1.0 in
+      let tree = (holds.has n).tree in
+      let was = (holds.shows n).numbered in
+      let left = mine.0 was ∙ none_left (db.trees tree) in
+      let numbered = subst AreNumbered (none_left (db.trees tree))
+      (filter_numbered (λ r. not (passes [] [] r)) (db.trees tree) was) in
+      let shows : Shows (form_of n) (after.trees tree) (cleared n contents n) =
+      rw (left, cleared_here n contents) (record { numbered = numbered; same = (λ x i. i, λ x i. i) }) in
+      subst (λ (d : Database). HasContents d (cleared n contents)) (sym whole)
+      (with_tree n db contents holds after.trees (subst IsDatabase whole sound) mine.1.1 (cleared n contents) shows
+      (λ m apart. cleared_elsewhere m n contents apart))
 
 -- the schema stays, and so do the rows of other tables
 pub spares_others : (n : TableName) (db after : Database) (has : HasTable db.schema (form_of n))

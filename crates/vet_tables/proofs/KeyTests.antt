@@ -192,6 +192,12 @@ module _ (schema : Schema) (at : ℕ) (table : Table) (ks : List Key) (d : ℕ) 
       let lowered = rw whole at (read.2 nothing) in
       rw lowered
 
+-- without a test it reads those of all rows
+pub all_deleted : (schema : Schema) (at : ℕ) (table : Table)
+    → deleted schema at table None ≡ Ok (simple (Inner table.tree ∷ []) [] (col 1 0 ∷ []))
+unfolding deleted picked tests
+all_deleted schema at table = refl
+
 -- ---- the columns of a table
 
 abbrev pub affinity_in : Table → ℕ → Affinity

@@ -26,16 +26,16 @@ use Rattle.vet_tables.proofs.Creates.{defines}
 use Rattle.vet_tables.proofs.Outcomes.{same_value, went}
 use Rattle.vet_tables.proofs.Extends.{all_both, elsewhere, extends_made, extends_then, got_here, owner_of, placed_after}
 use Rattle.vet_tables.proofs.Extends.{still_free, still_has, still_rows, unused}
+use Rattle.vet_tables.proofs.RowSets.{had_in}
+use Rattle.vet_tables.proofs.TablePlaces.{among_tables, each}
 use Rattle.vet_tables.specs.Form.{TableForm, key_index, table_of}
-use Rattle.vet_tables.specs.Forms.{code, form_of}
+use Rattle.vet_tables.specs.Forms.{code, form_of, tables}
 use Rattle.vet_tables.specs.Has.{HasTable, is_apart, refers_not, spares}
 use Rattle.vet_tables.specs.Extends.{Extends, Gains}
 use Rattle.vet_tables.specs.Free.{IsFree}
 use Rattle.vet_tables.specs.Texts.{create_text}
 use Rattle.vet_tables.specs.declared.table_name.TableName.{TableName}
-use Rattle.vet_tables.specs.declared.table_name.TableName.TheVariants.{Meta, Criteria, Entries, Publishers, Policies}
-use Rattle.vet_tables.specs.declared.table_name.TableName.TheVariants.{Peers}
-use Rattle.vet_tables.specs.declared.table_name.TableName.TheVariants.{Nodes, Edges, Standing, Moves, Members, Reviews}
+use Rattle.vet_tables.specs.declared.table_name.TableName.TheVariants.{Meta}
 
 abbrev indexes_of : TableName → ℕ → List Index
 indexes_of n tree = automatics (table_of (form_of n) tree) 0 (tree + 1) (table_of (form_of n) tree).uniques
@@ -44,84 +44,28 @@ indexes_of n tree = automatics (table_of (form_of n) tree) 0 (tree + 1) (table_o
 key_indexes : (n : TableName) (tree : ℕ) → list_all (λ (i : Index). bytes_eq i.name (key_index (form_of n)))
     (indexes_of n tree) ≡ true
 unfolding everything
-key_indexes Meta tree = refl
-key_indexes Criteria tree = refl
-key_indexes Entries tree = refl
-key_indexes Publishers tree = refl
-key_indexes Policies tree = refl
-key_indexes Peers tree = refl
-key_indexes Nodes tree = refl
-key_indexes Edges tree = refl
-key_indexes Standing tree = refl
-key_indexes Moves tree = refl
-key_indexes Members tree = refl
-key_indexes Reviews tree = refl
+key_indexes n tree =
+    each (λ n. list_all (λ (i : Index). bytes_eq i.name (key_index (form_of n))) (indexes_of n tree) ≡ true)
+    (assumption refl) n
 
 pub named_itself : (n : TableName) → same_name (form_of n).name (form_of n).name ≡ true
 unfolding same_name
-named_itself Meta = refl
-named_itself Criteria = refl
-named_itself Entries = refl
-named_itself Publishers = refl
-named_itself Policies = refl
-named_itself Peers = refl
-named_itself Nodes = refl
-named_itself Edges = refl
-named_itself Standing = refl
-named_itself Moves = refl
-named_itself Members = refl
-named_itself Reviews = refl
-
-abbrev all_names : List TableName
-all_names = Meta ∷ Criteria ∷ Entries ∷ Publishers ∷ Policies ∷ Peers ∷ Nodes ∷ Edges ∷ Standing ∷ Moves ∷ Members
-    ∷ Reviews ∷ []
-
-listed : (n : TableName) → Has all_names n
-listed Meta = inl refl
-listed Criteria = inr (inl refl)
-listed Entries = inr (inr (inl refl))
-listed Publishers = inr (inr (inr (inl refl)))
-listed Policies = inr (inr (inr (inr (inl refl))))
-listed Peers = inr (inr (inr (inr (inr (inl refl)))))
-listed Nodes = inr (inr (inr (inr (inr (inr (inl refl))))))
-listed Edges = inr (inr (inr (inr (inr (inr (inr (inl refl)))))))
-listed Standing = inr (inr (inr (inr (inr (inr (inr (inr (inl refl))))))))
-listed Moves = inr (inr (inr (inr (inr (inr (inr (inr (inr (inl refl)))))))))
-listed Members = inr (inr (inr (inr (inr (inr (inr (inr (inr (inr (inl refl))))))))))
-listed Reviews = inr (inr (inr (inr (inr (inr (inr (inr (inr (inr (inr (inl refl)))))))))))
+named_itself n = each (λ n. same_name (form_of n).name (form_of n).name ≡ true) (assumption refl) n
 
 -- the name of no other table, and no index, is that of a table
 names_differ : (n : TableName) → list_all (λ m. (code n == code m)
-    || not (same_name (form_of n).name (form_of m).name)) all_names ≡ true
+    || not (same_name (form_of n).name (form_of m).name)) tables ≡ true
 unfolding same_name
-names_differ Meta = refl
-names_differ Criteria = refl
-names_differ Entries = refl
-names_differ Publishers = refl
-names_differ Policies = refl
-names_differ Peers = refl
-names_differ Nodes = refl
-names_differ Edges = refl
-names_differ Standing = refl
-names_differ Moves = refl
-names_differ Members = refl
-names_differ Reviews = refl
+names_differ n =
+    each (λ n. list_all (λ m. (code n == code m) || not (same_name (form_of n).name (form_of m).name)) tables ≡ true)
+    (assumption refl) n
 
 indexes_differ : (n : TableName) (tree : ℕ) → list_all
-    (λ m. list_all (λ (i : Index). not (same_name i.name (form_of m).name)) (indexes_of n tree)) all_names ≡ true
+    (λ m. list_all (λ (i : Index). not (same_name i.name (form_of m).name)) (indexes_of n tree)) tables ≡ true
 unfolding everything
-indexes_differ Meta tree = refl
-indexes_differ Criteria tree = refl
-indexes_differ Entries tree = refl
-indexes_differ Publishers tree = refl
-indexes_differ Policies tree = refl
-indexes_differ Peers tree = refl
-indexes_differ Nodes tree = refl
-indexes_differ Edges tree = refl
-indexes_differ Standing tree = refl
-indexes_differ Moves tree = refl
-indexes_differ Members tree = refl
-indexes_differ Reviews tree = refl
+indexes_differ n tree =
+    each (λ n. list_all (λ m. list_all (λ (i : Index). not (same_name i.name (form_of m).name)) (indexes_of n tree))
+    tables ≡ true) (assumption refl) n
 
 abbrev table_or : Table → Checked Table → Table
 table_or other (Ok t) = t
@@ -136,7 +80,7 @@ unfolding everything
 sequence_is = refl
 
 sequence_plain : (sequence.references ≡ []) × (sequence.uniques ≡ [])
-    × (list_all (λ m. not (same_name sequence.name (form_of m).name)) all_names ≡ true)
+    × (list_all (λ m. not (same_name sequence.name (form_of m).name)) tables ≡ true)
 unfolding everything
 sequence_plain = (refl, refl, refl)
 
@@ -200,8 +144,8 @@ module _ (n : TableName) (db : Database) (trees : Trees) (empty : trees (next_tr
 
   other_name : (m : TableName) → (code n ≡ code m → ⊥) → same_name form.name (form_of m).name ≡ false
   other_name m apart = not_true _ (go (code n == code m) refl
-      (test_has (λ m. (code n == code m) || not (same_name (form_of n).name (form_of m).name)) all_names m
-      (names_differ n) (listed m)))
+      (test_has (λ m. (code n == code m) || not (same_name (form_of n).name (form_of m).name)) tables m
+      (names_differ n) (had_in tables m (among_tables m))))
     where
       go : (b : Bool) → (code n == code m) ≡ b → (b || not (same_name form.name (form_of m).name)) ≡ true
           → not (same_name form.name (form_of m).name) ≡ true
@@ -214,7 +158,7 @@ module _ (n : TableName) (db : Database) (trees : Trees) (empty : trees (next_tr
       still_free db after (form_of m).name more (other_name m apart, tt)
       (never (λ (i : Index). same_name i.name (form_of m).name) (indexes_of n tree)
       (test_has (λ m. list_all (λ (i : Index). not (same_name i.name (form_of m).name))
-      (indexes_of n tree)) all_names m (indexes_differ n tree) (listed m)))
+      (indexes_of n tree)) tables m (indexes_differ n tree) (had_in tables m (among_tables m))))
 
   pub finds_made : Gains db after n
   unfolding made_has
@@ -235,8 +179,8 @@ module _ (n : TableName) (db mid : Database) (trees : Trees) (rows : KeepsRows m
         (still_has mid last (form_of n) counted it.0, still_rows mid last (form_of n) counted it.0 ∙ it.1);
     frees = λ m apart free.
         still_free mid last (form_of m).name counted (
-          not_true _ (test_has (λ m. not (same_name sequence.name (form_of m).name)) all_names m sequence_plain.2
-              (listed m)),
+          not_true _ (test_has (λ m. not (same_name sequence.name (form_of m).name)) tables m sequence_plain.2
+              (had_in tables m (among_tables m))),
           tt,
         )
         (subst (λ keys. AllByRecursion (λ (i : Index). same_name i.name (form_of m).name ≡ false)

@@ -51,6 +51,7 @@ use Rattle.sqlite_value.specs.declared.value.Value.{Value}
 use Rattle.vet_base.proofs.ItemLemmas.{in_back, in_front, in_map, map_in}
 use Rattle.vet_base.specs.Items.{IsIn, SameItems}
 use Rattle.vet_tables.proofs.RowSets.{items_map, items_permuted}
+use Rattle.vet_tables.proofs.TablePlaces.{each}
 use Rattle.vet_tables.specs.Contents.{Shows}
 use Rattle.vet_tables.specs.Typed.{AreTyped, IsKind, kinds_of}
 use Rattle.vet_tables.proofs.TableMeanings.{by_rowid, over, select_is, select_terms}
@@ -60,9 +61,6 @@ use Rattle.vet_tables.specs.Has.{HasTable}
 use Rattle.vet_tables.specs.Numbered.{AreApart, AreNumbered}
 use Rattle.vet_tables.specs.Texts.{select_text}
 use Rattle.vet_tables.specs.declared.table_name.TableName.{TableName}
-use Rattle.vet_tables.specs.declared.table_name.TableName.TheVariants.{Meta, Criteria, Entries, Publishers, Policies}
-use Rattle.vet_tables.specs.declared.table_name.TableName.TheVariants.{Peers}
-use Rattle.vet_tables.specs.declared.table_name.TableName.TheVariants.{Nodes, Edges, Standing, Moves, Members, Reviews}
 
 -- ---- a SELECT writes nothing
 
@@ -145,18 +143,8 @@ abbrev pub told : TableForm → Cells → Cells
 told form r = column r 0 ∷ shown form r
 
 told_is : (n : TableName) (r : Cells) → eval_all (select_terms (form_of n)) ([] ∷ r ∷ []) ≡ told (form_of n) r
-told_is Meta r = refl
-told_is Criteria r = refl
-told_is Entries r = refl
-told_is Publishers r = refl
-told_is Policies r = refl
-told_is Peers r = refl
-told_is Nodes r = refl
-told_is Edges r = refl
-told_is Standing r = refl
-told_is Moves r = refl
-told_is Members r = refl
-told_is Reviews r = refl
+told_is n r =
+    each (λ n. eval_all (select_terms (form_of n)) ([] ∷ r ∷ []) ≡ told (form_of n) r) (assumption refl) n
 
 module _ (n : TableName) (s : State) (has : HasTable s.now.schema (form_of n)) (sound : IsDatabase s.now) where
   abbrev text : List ℕ

@@ -18,7 +18,7 @@ in_had [] x h = h
 in_had (y ∷ xs) x (inl e) = inl e
 in_had (y ∷ xs) x (inr h) = inr (in_had xs x h)
 
-had_in : {X : Type 0} (xs : List X) (x : X) → IsIn x xs → Has xs x
+pub had_in : {X : Type 0} (xs : List X) (x : X) → IsIn x xs → Has xs x
 had_in [] x h = h
 had_in (y ∷ xs) x (inl e) = inl e
 had_in (y ∷ xs) x (inr h) = inr (had_in xs x h)

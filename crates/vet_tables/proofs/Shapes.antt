@@ -1,6 +1,6 @@
 -- How the texts parse, and what is told of the columns of their keys.
-use Rattle.std.proofs.Common.{◌≡◌, List, [], ◌∷◌, ◌+◌, ℕ, codes, true, false, Ok, Err, None, Some, Option, refl, length}
-use Rattle.std.proofs.Common.{unwrap_or, slice_get, if◌then◌else◌, option_map, ◌<◌, arith}
+use Rattle.std.proofs.Common.{◌≡◌, List, [], ◌∷◌, ◌+◌, ℕ, true, false, Ok, Err, None, Some, Option, refl, length}
+use Rattle.std.proofs.Common.{unwrap_or, slice_get, if◌then◌else◌, option_map, ◌<◌, ◌-◌, rules}
 use Rattle.sqlite_ast.specs.declared.Conflict.TheVariants as conflict
 use Rattle.sqlite_ast.specs.declared.Core.{Core, out-Core}
 use Rattle.sqlite_ast.specs.Layer.{ShownLayer}
@@ -24,8 +24,7 @@ use Rattle.sqlite_value.specs.declared.keys.Collation.TheVariants.{Binary}
 use Rattle.sqlite_schema.specs.Names.{column_named, is_key, place_of, same_name}
 use Rattle.sqlite_schema.specs.declared.command.Source.TheVariants.{Values}
 use Rattle.sqlite_schema.specs.declared.schema.Column.{Column}
-use Rattle.sqlite_schema.specs.declared.schema.Kind.{Kind}
-use Rattle.sqlite_schema.specs.declared.schema.Kind.TheVariants.{Blob, Integer, Text}
+use Rattle.sqlite_schema.specs.declared.schema.Kind.TheVariants.{Text}
 use Rattle.sqlite_schema.specs.declared.schema.Schema.{Schema}
 use Rattle.sqlite_schema.specs.declared.schema.Table.{Table}
 use Rattle.sqlite_sql.specs.Term.{Term, col, lit}
@@ -35,13 +34,11 @@ use Rattle.sqlite_value.specs.declared.value.Value.TheVariants as value
 use Rattle.std.specs.List.{AllByRecursion}
 use Rattle.vet_tables.proofs.KeyTests.{AreTests, IsColumn, Key, affinity_in, cost, depth, equal_term, is_settled}
 use Rattle.vet_tables.proofs.KeyTests.{test_term}
+use Rattle.vet_tables.proofs.TablePlaces.{each}
 use Rattle.vet_tables.specs.Form.{ColumnForm, TableForm, column_of, key_columns, place, rowid_of, table_of}
 use Rattle.vet_tables.specs.Forms.{form_of}
-use Rattle.vet_tables.specs.Texts.{delete_text, insert_text, select_text}
+use Rattle.vet_tables.specs.Texts.{clear_text, delete_text, insert_text, select_text}
 use Rattle.vet_tables.specs.declared.table_name.TableName.{TableName}
-use Rattle.vet_tables.specs.declared.table_name.TableName.TheVariants.{Meta, Criteria, Entries, Publishers, Policies}
-use Rattle.vet_tables.specs.declared.table_name.TableName.TheVariants.{Peers}
-use Rattle.vet_tables.specs.declared.table_name.TableName.TheVariants.{Nodes, Edges, Standing, Moves, Members, Reviews}
 
 abbrev pub parsed : Checked Parsed → Parsed
 parsed (Ok p) = p
@@ -68,18 +65,9 @@ pub insert_parses : (n : TableName) → (first (insert_text (form_of n)) ≡ Ok 
     × ((inserted n).statement ≡ written.Insert conflict.Abort (form_of n).name [] (given_rows n) [] [])
     × ((inserted n).formats ≡ [])
 unfolding everything
-insert_parses Meta = (refl, refl, refl)
-insert_parses Criteria = (refl, refl, refl)
-insert_parses Entries = (refl, refl, refl)
-insert_parses Publishers = (refl, refl, refl)
-insert_parses Policies = (refl, refl, refl)
-insert_parses Peers = (refl, refl, refl)
-insert_parses Nodes = (refl, refl, refl)
-insert_parses Edges = (refl, refl, refl)
-insert_parses Standing = (refl, refl, refl)
-insert_parses Moves = (refl, refl, refl)
-insert_parses Members = (refl, refl, refl)
-insert_parses Reviews = (refl, refl, refl)
+insert_parses n =
+    each (λ n. (first (insert_text (form_of n)) ≡ Ok (inserted n)) × ((inserted n).statement ≡ written.Insert conflict.Abort (form_of n).name [] (given_rows n) [] [])
+    × ((inserted n).formats ≡ [])) (assumption refl) n
 
 abbrev pub rowid_term : Option ℕ → Term
 rowid_term None = lit value.Null
@@ -100,18 +88,9 @@ pub insert_values : (n : TableName) (schema : Schema) (tree : ℕ)
     → new_rows schema (table_of (form_of n) tree) (small (inserted n).names + small []) [] (given_rows n) ≡ Ok
     (Values (insert_terms (form_of n)) (length (form_of n).columns + 1))
 unfolding everything
-insert_values Meta schema tree = refl
-insert_values Criteria schema tree = refl
-insert_values Entries schema tree = refl
-insert_values Publishers schema tree = refl
-insert_values Policies schema tree = refl
-insert_values Peers schema tree = refl
-insert_values Nodes schema tree = refl
-insert_values Edges schema tree = refl
-insert_values Standing schema tree = refl
-insert_values Moves schema tree = refl
-insert_values Members schema tree = refl
-insert_values Reviews schema tree = refl
+insert_values n schema tree =
+    each (λ n. new_rows schema (table_of (form_of n) tree) (small (inserted n).names + small []) [] (given_rows n)
+    ≡ Ok (Values (insert_terms (form_of n)) (length (form_of n).columns + 1))) (assumption refl) n
 
 -- ---- DELETE
 
@@ -124,18 +103,20 @@ given_test n = test_of (removed n).statement
 pub delete_parses : (n : TableName) → (first (delete_text (form_of n)) ≡ Ok (removed n))
     × ((removed n).statement ≡ written.Delete (form_of n).name (given_test n) []) × ((removed n).formats ≡ [])
 unfolding everything
-delete_parses Meta = (refl, refl, refl)
-delete_parses Criteria = (refl, refl, refl)
-delete_parses Entries = (refl, refl, refl)
-delete_parses Publishers = (refl, refl, refl)
-delete_parses Policies = (refl, refl, refl)
-delete_parses Peers = (refl, refl, refl)
-delete_parses Nodes = (refl, refl, refl)
-delete_parses Edges = (refl, refl, refl)
-delete_parses Standing = (refl, refl, refl)
-delete_parses Moves = (refl, refl, refl)
-delete_parses Members = (refl, refl, refl)
-delete_parses Reviews = (refl, refl, refl)
+delete_parses n =
+    each (λ n. (first (delete_text (form_of n)) ≡ Ok (removed n)) × ((removed n).statement ≡ written.Delete (form_of n).name (given_test n) [])
+    × ((removed n).formats ≡ [])) (assumption refl) n
+
+-- a DELETE without a test
+abbrev pub emptied : TableName → Parsed
+emptied n = parsed (first (clear_text (form_of n)))
+
+pub clear_parses : (n : TableName) → (first (clear_text (form_of n)) ≡ Ok (emptied n))
+    × ((emptied n).statement ≡ written.Delete (form_of n).name None []) × ((emptied n).formats ≡ [])
+unfolding everything
+clear_parses n =
+    each (λ n. (first (clear_text (form_of n)) ≡ Ok (emptied n)) × ((emptied n).statement ≡ written.Delete (form_of n).name None [])
+    × ((emptied n).formats ≡ [])) (assumption refl) n
 
 abbrev pub IsKnown : Table → Key → Type 0
 IsKnown table key = (k : ℕ) × (c : Column) × IsColumn table key.0 k c × (key.1 ≡ col 1 (place_of table k))
@@ -169,183 +150,49 @@ key_tests form = tests_from form 0 (key_columns form)
 
 pub delete_tests : (n : TableName) → is_test (given_test n) (delete_keys (form_of n))
 unfolding everything
-delete_tests Meta = (refl, refl, refl)
-delete_tests Criteria = (refl, (refl, refl, refl), (refl, refl, refl))
-delete_tests Entries = (refl, refl, refl)
-delete_tests Publishers = (
-  refl,
-  (
-    refl,
-    (
-      refl,
-      (refl, (refl, (refl, refl, refl), (refl, refl, refl)), (refl, refl, refl)),
-      (refl, refl, refl),
-    ),
-    (refl, refl, refl),
-  ),
-  (refl, refl, refl),
-)
-delete_tests Policies = (refl, refl, refl)
-delete_tests Peers = (refl, refl, refl)
-delete_tests Nodes = (refl, (refl, (refl, refl, refl), (refl, refl, refl)), (refl, refl, refl))
-delete_tests Edges = (
-  refl,
-  (
-    refl,
-    (
-      refl,
-      (refl, (refl, (refl, refl, refl), (refl, refl, refl)), (refl, refl, refl)),
-      (refl, refl, refl),
-    ),
-    (refl, refl, refl),
-  ),
-  (refl, refl, refl),
-)
-delete_tests Standing = (refl, (refl, (refl, refl, refl), (refl, refl, refl)), (refl, refl, refl))
-delete_tests Moves = (
-  refl,
-  (refl, (refl, (refl, refl, refl), (refl, refl, refl)), (refl, refl, refl)),
-  (refl, refl, refl),
-)
-delete_tests Members = (refl, refl, refl)
-delete_tests Reviews = (refl, refl, refl)
+delete_tests n = each (λ n. is_test (given_test n) (delete_keys (form_of n))) (assumption refl) n
 
 pub delete_terms : (n : TableName) → conjuncts (test_term (delete_keys (form_of n))) ≡ key_tests (form_of n)
-delete_terms Meta = refl
-delete_terms Criteria = refl
-delete_terms Entries = refl
-delete_terms Publishers = refl
-delete_terms Policies = refl
-delete_terms Peers = refl
-delete_terms Nodes = refl
-delete_terms Edges = refl
-delete_terms Standing = refl
-delete_terms Moves = refl
-delete_terms Members = refl
-delete_terms Reviews = refl
+delete_terms n = each (λ n. conjuncts (test_term (delete_keys (form_of n))) ≡ key_tests (form_of n)) (assumption refl) n
 
 -- how deep below the top the tests end
 abbrev pub delete_depth : TableName → ℕ
-delete_depth Meta = 698
-delete_depth Criteria = 697
-delete_depth Entries = 698
-delete_depth Publishers = 693
-delete_depth Policies = 698
-delete_depth Peers = 698
-delete_depth Nodes = 696
-delete_depth Edges = 693
-delete_depth Standing = 696
-delete_depth Moves = 695
-delete_depth Members = 698
-delete_depth Reviews = 698
+delete_depth n = 699 - length (delete_keys (form_of n))
 
 pub delete_deep : (n : TableName) → depth (delete_keys (form_of n)) (delete_depth n) ≡ 700
-delete_deep Meta = refl
-delete_deep Criteria = refl
-delete_deep Entries = refl
-delete_deep Publishers = refl
-delete_deep Policies = refl
-delete_deep Peers = refl
-delete_deep Nodes = refl
-delete_deep Edges = refl
-delete_deep Standing = refl
-delete_deep Moves = refl
-delete_deep Members = refl
-delete_deep Reviews = refl
+delete_deep n = each (λ n. depth (delete_keys (form_of n)) (delete_depth n) ≡ 700) (assumption refl) n
 
 pub delete_cheap : (n : TableName) → cost (delete_keys (form_of n)) < 100000
-delete_cheap Meta = omega arith
-delete_cheap Criteria = omega arith
-delete_cheap Entries = omega arith
-delete_cheap Publishers = omega arith
-delete_cheap Policies = omega arith
-delete_cheap Peers = omega arith
-delete_cheap Nodes = omega arith
-delete_cheap Edges = omega arith
-delete_cheap Standing = omega arith
-delete_cheap Moves = omega arith
-delete_cheap Members = omega arith
-delete_cheap Reviews = omega arith
+delete_cheap n = each (λ n. cost (delete_keys (form_of n)) < 100000) (search rules) n
 
-known : (n : TableName) (tree : ℕ) (name : List ℕ) (k : ℕ) (kind : Kind)
-    → IsSettled (table_of (form_of n) tree) name k (column_of (name, kind))
-    → IsKnown (table_of (form_of n) tree) (name, col 1 (place_of (table_of (form_of n) tree) k))
-known n tree name k kind it = (
-  k,
-  column_of (name, kind),
-  record { named = it.0; has = it.1; how = it.2; settled = it.3 },
-  refl,
-)
+abbrev column_at : TableForm → ℕ → Column
+column_at form at = unwrap_or (option_map column_of (slice_get form.columns at)) (column_of ([], Text))
+
+-- the columns of the key are known
+settled : (n : TableName) (tree : ℕ) → AllByRecursion
+    (λ at. IsSettled (table_of (form_of n) tree) (name_at (form_of n) at) at (column_at (form_of n) at))
+    (key_columns (form_of n))
+unfolding same_name chosen first_found alone
+settled n tree =
+    each (λ n. AllByRecursion
+    (λ at. IsSettled (table_of (form_of n) tree) (name_at (form_of n) at) at (column_at (form_of n) at))
+    (key_columns (form_of n))) (assumption refl) n
+
+known_after : (form : TableForm) (tree : ℕ) (done : List Key) (places : List ℕ)
+    → AllByRecursion (IsKnown (table_of form tree)) done
+    → AllByRecursion (λ at. IsSettled (table_of form tree) (name_at form at) at (column_at form at)) places
+    → AllByRecursion (IsKnown (table_of form tree)) (keys_after form done places)
+known_after form tree done [] known all = known
+known_after form tree done (at ∷ more) known all =
+    let it = all.0 in
+    known_after form tree ((name_at form at, col 1 (place form at)) ∷ done) more (
+      (at, column_at form at, record { named = it.0; has = it.1; how = it.2; settled = it.3 }, refl),
+      known,
+    ) all.1
 
 pub delete_columns : (n : TableName) (tree : ℕ) → AllByRecursion (IsKnown (table_of (form_of n) tree))
     (delete_keys (form_of n))
-unfolding same_name chosen first_found alone
-delete_columns Meta tree = (known Meta tree (codes "one") 0 Integer (refl, refl, refl, refl), tt)
-delete_columns Criteria tree = (
-  known Criteria tree (codes "name") 1 Text (refl, refl, refl, refl),
-  (known Criteria tree (codes "peer") 0 Text (refl, refl, refl, refl), tt),
-)
-delete_columns Entries tree = (known Entries tree (codes "number") 0 Integer (refl, refl, refl, refl), tt)
-delete_columns Publishers tree = (
-  known Publishers tree (codes "name") 5 Blob (refl, refl, refl, refl),
-  (
-    known Publishers tree (codes "login") 4 Blob (refl, refl, refl, refl),
-    (
-      known Publishers tree (codes "day") 3 Integer (refl, refl, refl, refl),
-      (
-        known Publishers tree (codes "user") 2 Integer (refl, refl, refl, refl),
-        (
-          known Publishers tree (codes "version") 1 Text (refl, refl, refl, refl),
-          (known Publishers tree (codes "package") 0 Text (refl, refl, refl, refl), tt),
-        ),
-      ),
-    ),
-  ),
-)
-delete_columns Policies tree = (known Policies tree (codes "policy") 0 Text (refl, refl, refl, refl), tt)
-delete_columns Peers tree = (known Peers tree (codes "name") 0 Text (refl, refl, refl, refl), tt)
-delete_columns Nodes tree = (
-  known Nodes tree (codes "version") 2 Text (refl, refl, refl, refl),
-  (
-    known Nodes tree (codes "name") 1 Text (refl, refl, refl, refl),
-    (known Nodes tree (codes "project") 0 Text (refl, refl, refl, refl), tt),
-  ),
-)
-delete_columns Edges tree = (
-  known Edges tree (codes "kind") 5 Integer (refl, refl, refl, refl),
-  (
-    known Edges tree (codes "to_version") 4 Text (refl, refl, refl, refl),
-    (
-      known Edges tree (codes "to_name") 3 Text (refl, refl, refl, refl),
-      (
-        known Edges tree (codes "from_version") 2 Text (refl, refl, refl, refl),
-        (
-          known Edges tree (codes "from_name") 1 Text (refl, refl, refl, refl),
-          (known Edges tree (codes "project") 0 Text (refl, refl, refl, refl), tt),
-        ),
-      ),
-    ),
-  ),
-)
-delete_columns Standing tree = (
-  known Standing tree (codes "criterion") 2 Text (refl, refl, refl, refl),
-  (
-    known Standing tree (codes "version") 1 Text (refl, refl, refl, refl),
-    (known Standing tree (codes "package") 0 Text (refl, refl, refl, refl), tt),
-  ),
-)
-delete_columns Moves tree = (
-  known Moves tree (codes "criterion") 3 Text (refl, refl, refl, refl),
-  (
-    known Moves tree (codes "version") 2 Text (refl, refl, refl, refl),
-    (
-      known Moves tree (codes "package") 1 Text (refl, refl, refl, refl),
-      (known Moves tree (codes "step") 0 Integer (refl, refl, refl, refl), tt),
-    ),
-  ),
-)
-delete_columns Members tree = (known Members tree (codes "name") 0 Text (refl, refl, refl, refl), tt)
-delete_columns Reviews tree = (known Reviews tree (codes "number") 0 Integer (refl, refl, refl, refl), tt)
+delete_columns n tree = known_after (form_of n) tree [] (key_columns (form_of n)) tt (settled n tree)
 
 -- ---- SELECT
 
@@ -393,27 +240,6 @@ IsSelection name _ = ⊥
 pub select_parses : (n : TableName) → (first (select_text (form_of n)) ≡ Ok (selected n))
     × IsSelection (form_of n).name (selected n).statement × ((selected n).formats ≡ [])
 unfolding everything
-select_parses Meta =
-    (refl, (refl, refl, refl, refl, (refl, refl, refl), (refl, (refl, refl), refl, refl, refl, refl)), refl)
-select_parses Criteria =
-    (refl, (refl, refl, refl, refl, (refl, refl, refl), (refl, (refl, refl), refl, refl, refl, refl)), refl)
-select_parses Entries =
-    (refl, (refl, refl, refl, refl, (refl, refl, refl), (refl, (refl, refl), refl, refl, refl, refl)), refl)
-select_parses Publishers =
-    (refl, (refl, refl, refl, refl, (refl, refl, refl), (refl, (refl, refl), refl, refl, refl, refl)), refl)
-select_parses Policies =
-    (refl, (refl, refl, refl, refl, (refl, refl, refl), (refl, (refl, refl), refl, refl, refl, refl)), refl)
-select_parses Peers =
-    (refl, (refl, refl, refl, refl, (refl, refl, refl), (refl, (refl, refl), refl, refl, refl, refl)), refl)
-select_parses Nodes =
-    (refl, (refl, refl, refl, refl, (refl, refl, refl), (refl, (refl, refl), refl, refl, refl, refl)), refl)
-select_parses Edges =
-    (refl, (refl, refl, refl, refl, (refl, refl, refl), (refl, (refl, refl), refl, refl, refl, refl)), refl)
-select_parses Standing =
-    (refl, (refl, refl, refl, refl, (refl, refl, refl), (refl, (refl, refl), refl, refl, refl, refl)), refl)
-select_parses Moves =
-    (refl, (refl, refl, refl, refl, (refl, refl, refl), (refl, (refl, refl), refl, refl, refl, refl)), refl)
-select_parses Members =
-    (refl, (refl, refl, refl, refl, (refl, refl, refl), (refl, (refl, refl), refl, refl, refl, refl)), refl)
-select_parses Reviews =
-    (refl, (refl, refl, refl, refl, (refl, refl, refl), (refl, (refl, refl), refl, refl, refl, refl)), refl)
+select_parses n =
+    each (λ n. (first (select_text (form_of n)) ≡ Ok (selected n)) × IsSelection (form_of n).name (selected n).statement
+    × ((selected n).formats ≡ [])) (assumption refl) n

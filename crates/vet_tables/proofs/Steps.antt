@@ -1,8 +1,10 @@
 -- What a statement inside a transaction does to the contents.
-use Rattle.std.proofs.Common.{◌≡◌, inl, inr, ℕ, List, append-nil, false, IsTrue}
+use Rattle.std.proofs.Common.{◌≡◌, inl, inr, ℕ, List, [], ◌∷◌, append-nil, false, IsTrue}
 use Rattle.std.proofs.Common.{None, Ok, Err, Result, OnOk, arith, inl, inr, refl, sym, ◌∙◌}
 use Rattle.std.proofs.lemmas.Bool.{cases_Bool}
 use Rattle.sqlite.specs.Clock.{timed}
+use Rattle.sqlite.specs.Command.TheVariants.{Delete}
+use Rattle.sqlite.specs.Effect.{IsDatabase}
 use Rattle.sqlite.specs.Held.{Held, state}
 use Rattle.sqlite.specs.State.{Executes, ExecutesIn, ExecutesInside, KeepsCommit, Runs, State, Survives, mode_of}
 use Rattle.sqlite.specs.State.{shows_rows}
@@ -14,16 +16,18 @@ use Rattle.sqlite.specs.declared.error.ErrorCode.TheVariants.{TransactionState}
 use Rattle.sqlite_resolve.specs.Compile.{compiled}
 use Rattle.sqlite_resolve.specs.declared.compiled.Compiled.{Compiled}
 use Rattle.sqlite_schema.specs.declared.command.Command.{Command}
+use Rattle.sqlite_sql.specs.Term.{Term, col}
 use Rattle.sqlite_trees.specs.Tree.{Trees}
 use Rattle.sqlite_value.specs.Order.{Row as Cells}
-use Rattle.vet_tables.proofs.Edits.{deleted, inserted}
-use Rattle.vet_tables.proofs.Effects.{adds_holds, removes_holds, spares_others}
+use Rattle.vet_tables.proofs.Edits.{Removes, deleted, inserted}
+use Rattle.vet_tables.proofs.Effects.{adds_holds, clears_holds, removes_holds, spares_others}
 use Rattle.vet_tables.proofs.Meanings.{Means}
-use Rattle.vet_tables.proofs.TableMeanings.{delete_is, insert_is}
-use Rattle.vet_tables.specs.Contents.{Changes, added, dropped}
+use Rattle.vet_tables.proofs.Shapes.{key_tests}
+use Rattle.vet_tables.proofs.TableMeanings.{clear_is, delete_is, insert_is, over}
+use Rattle.vet_tables.specs.Contents.{Changes, Contents, HasContents, added, cleared, dropped}
 use Rattle.vet_tables.specs.Forms.{form_of}
 use Rattle.vet_tables.specs.Has.{HasTable}
-use Rattle.vet_tables.specs.Texts.{delete_text, insert_text}
+use Rattle.vet_tables.specs.Texts.{clear_text, delete_text, insert_text}
 use Rattle.vet_tables.specs.Typed.{AreSorts, kinds_of}
 use Rattle.vet_tables.specs.declared.table_name.TableName.{TableName}
 
@@ -66,28 +70,40 @@ module _ (n : TableName) (old new : State) where
   adds cells sorts (Err e) h = tt
   adds cells sorts (Ok count) h = add_step cells sorts count h
 
-  take_step : (key : Cells) (count : ℕ) → ExecutesInside 0 (delete_text (form_of n)) key old new (Ok count)
-      → Changes old new (dropped n key)
-  take_step key count h =
-      let write = λ (has : HasTable old.now.schema (form_of n)). ran (delete_text (form_of n)) key old new _ count
-      (delete_is n old.now.schema has) h.0 in
-      let takes = λ (has : HasTable old.now.schema (form_of n)). deleted n old.now has old.step_limit
-      (mode_of old) (text_of (delete_text (form_of n)) (write has).0) key (write has).2.tally new.now
-      (write has).2.changed in
+  -- a text that takes out the rows that pass tests
+  take_step : (text : List ℕ) (tests : List Term) (params : Cells) (change : Contents → Contents)
+      → ((has : HasTable old.now.schema (form_of n)) → Means old.now.schema text (Delete has.at
+      (record { lets = []; body = over has.tree tests (col 1 0 ∷ []) [] })))
+      → ((has : HasTable old.now.schema (form_of n)) → Removes old.now has.tree tests params new.now
+      → IsDatabase new.now → (contents : Contents) → HasContents old.now contents
+      → HasContents new.now (change contents))
+      → (count : ℕ) → ExecutesInside 0 text params old new (Ok count) → Changes old new change
+  take_step text tests params change means holds count h =
+      let write = λ (has : HasTable old.now.schema (form_of n)). ran text params old new _ count (means has) h.0 in
+      let takes = λ (has : HasTable old.now.schema (form_of n)). deleted n old.now has tests old.step_limit
+      (mode_of old) (text_of text (write has).0) params (write has).2.tally new.now (write has).2.changed in
       record {
         was_open = h.1.was_open;
         is_open = h.1.is_open;
         committed = h.1.committed_is;
         inside = rw h.1.mode;
-        holds = λ contents was. let has = was.has n in
-            removes_holds n old.now new.now key has (takes has) (write has).2.sound contents was;
+        holds = λ contents was. let has = was.has n in holds has (takes has) (write has).2.sound contents was;
         spares = λ all. let has = all n in spares_others n old.now new.now has (takes has).1;
       }
 
   pub takes : (key : Cells) (result : Result ℕ Error) → ExecutesInside 0 (delete_text (form_of n)) key old new result
       → OnOk result (Changes old new (dropped n key))
   takes key (Err e) h = tt
-  takes key (Ok count) h = take_step key count h
+  takes key (Ok count) h =
+      take_step (delete_text (form_of n)) (key_tests (form_of n)) key (dropped n key) (delete_is n old.now.schema)
+      (removes_holds n old.now new.now key) count h
+
+  pub clears : (result : Result ℕ Error) → ExecutesInside 0 (clear_text (form_of n)) [] old new result
+      → OnOk result (Changes old new (cleared n))
+  clears (Err e) h = tt
+  clears (Ok count) h =
+      take_step (clear_text (form_of n)) [] [] (cleared n) (clear_is n old.now.schema) (clears_holds n old.now new.now)
+      count h
 
 -- ---- the last commit
 

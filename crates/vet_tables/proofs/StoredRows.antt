@@ -1,6 +1,6 @@
 -- A row as its tree keeps it.
 use Rattle.std.proofs.Common.{◌≡◌, ◌+◌, ◌++◌, ◌/◌, ℕ, ℤ, [], ◌∷◌, Bool, true, false, cond, None, Some, Option, length}
-use Rattle.std.proofs.Common.{refl, subst, sym, if◌then◌else◌}
+use Rattle.std.proofs.Common.{refl, rules, subst, sym, if◌then◌else◌}
 use Rattle.sqlite.specs.Cast.{cast}
 use Rattle.sqlite.specs.Edit.{edit_of}
 use Rattle.sqlite.specs.Effect.{value_rows}
@@ -15,6 +15,7 @@ use Rattle.sqlite_value.specs.Order.{Row as Cells, column}
 use Rattle.sqlite_value.specs.declared.value.Value.{Value}
 use Rattle.sqlite_value.specs.declared.value.Value.TheVariants.{Int, Null}
 use Rattle.vet_tables.proofs.Shapes.{insert_terms}
+use Rattle.vet_tables.proofs.TablePlaces.{each}
 use Rattle.vet_tables.specs.Form.{TableForm, rowid_of, shown, table_of}
 use Rattle.vet_tables.proofs.Payloads.{Payloads, cells_of, payloads}
 use Rattle.vet_tables.specs.Forms.{form_of}
@@ -44,33 +45,15 @@ made n all = cells_of (kinds_of (form_of n)) all
 
 made_shows : (n : TableName) (all : sorts_of n) (next : ℤ)
     → shown (form_of n) (stored_row (form_of n) next (made n all)) ≡ made n all
-made_shows Meta all next = refl
-made_shows Criteria all next = refl
-made_shows Entries all next = refl
-made_shows Publishers all next = refl
-made_shows Policies all next = refl
-made_shows Peers all next = refl
-made_shows Nodes all next = refl
-made_shows Edges all next = refl
-made_shows Standing all next = refl
-made_shows Moves all next = refl
-made_shows Members all next = refl
-made_shows Reviews all next = refl
+made_shows n all next =
+    each (λ n. (all : sorts_of n) → shown (form_of n) (stored_row (form_of n) next (made n all)) ≡ made n all)
+    (search rules) n all
 
 made_rowid : (n : TableName) (all : sorts_of n) (next : ℤ)
     → is_int (rowid (stored_row (form_of n) next (made n all))) ≡ true
-made_rowid Meta all next = refl
-made_rowid Criteria all next = refl
-made_rowid Entries all next = refl
-made_rowid Publishers all next = refl
-made_rowid Policies all next = refl
-made_rowid Peers all next = refl
-made_rowid Nodes all next = refl
-made_rowid Edges all next = refl
-made_rowid Standing all next = refl
-made_rowid Moves all next = refl
-made_rowid Members all next = refl
-made_rowid Reviews all next = refl
+made_rowid n all next =
+    each (λ n. (all : sorts_of n) → is_int (rowid (stored_row (form_of n) next (made n all))) ≡ true)
+    (search rules) n all
 
 either : (b : Bool) (x : Value) → cond b x x ≡ x
 either true x = refl
@@ -93,53 +76,18 @@ News n db tree cells =
     ≡ stored_row (form_of n) (next_rowid (db tree)) cells ∷ []
 
 made_news : (n : TableName) (all : sorts_of n) (db : Trees) (tree : ℕ) → News n db tree (made n all)
-made_news Meta all db tree = rw (
-  cast_null,
-  cast_int all.0,
-  cast_int all.1.0,
-  cast_int all.1.1.0,
-  cast_int all.1.1.1.0,
-  cast_int all.1.1.1.1.0,
-  cast_int all.1.1.1.1.1.0,
-  cast_int all.1.1.1.1.1.1.0,
-  cast_int all.1.1.1.1.1.1.1.0,
-  cast_int all.1.1.1.1.1.1.1.1.0,
-  cast_int all.1.1.1.1.1.1.1.1.1.0,
-  cast_int all.1.1.1.1.1.1.1.1.1.1.0,
-)
-made_news Criteria all db tree = rw cast_null
-made_news Entries all db tree = rw (
-  cast_null,
-  cast_int all.0,
-  cast_int all.1.1.1.0,
-  cast_int all.1.1.1.1.1.1.0,
-  cast_int all.1.1.1.1.1.1.1.0,
-  cast_int all.1.1.1.1.1.1.1.1.0,
-  cast_int all.1.1.1.1.1.1.1.1.1.1.1.1.0,
-  cast_int all.1.1.1.1.1.1.1.1.1.1.1.1.1.0,
-  cast_int all.1.1.1.1.1.1.1.1.1.1.1.1.1.1.0,
-)
-made_news Publishers all db tree = rw (cast_null, cast_int all.1.1.0, cast_int all.1.1.1.0)
-made_news Policies all db tree = rw (cast_null, cast_int all.1.0)
-made_news Peers all db tree = rw cast_null
-made_news Nodes all db tree = rw (cast_null, cast_int all.1.1.1.0)
-made_news Edges all db tree = rw (cast_null, cast_int all.1.1.1.1.1.0)
-made_news Standing all db tree = rw (cast_null, cast_int all.1.1.1.0)
-made_news Moves all db tree = rw (
-  cast_null,
-  cast_int all.0,
-  cast_int all.1.1.1.1.0,
-  cast_int all.1.1.1.1.1.0,
-  cast_int all.1.1.1.1.1.1.0,
-)
-made_news Members all db tree = rw cast_null
-made_news Reviews all db tree = rw (
-  cast_null,
-  cast_int all.0,
-  cast_int all.1.1.1.1.0,
-  cast_int all.1.1.1.1.1.0,
-  cast_int all.1.1.1.1.1.1.1.0,
-)
+made_news Meta all db tree = simp (cast_null, cast_int) refl
+made_news Criteria all db tree = simp cast_null refl
+made_news Entries all db tree = simp (cast_null, cast_int) refl
+made_news Publishers all db tree = simp (cast_null, cast_int) refl
+made_news Policies all db tree = simp (cast_null, cast_int) refl
+made_news Peers all db tree = simp cast_null refl
+made_news Nodes all db tree = simp (cast_null, cast_int) refl
+made_news Edges all db tree = simp (cast_null, cast_int) refl
+made_news Standing all db tree = simp (cast_null, cast_int) refl
+made_news Moves all db tree = simp (cast_null, cast_int) refl
+made_news Members all db tree = simp cast_null refl
+made_news Reviews all db tree = simp (cast_null, cast_int) refl
 
 module _ (n : TableName) (cells : Cells) (sorts : AreSorts (kinds_of (form_of n)) cells) where
   pub shows_cells : (next : ℤ) → shown (form_of n) (stored_row (form_of n) next cells) ≡ cells

@@ -26,23 +26,22 @@ use Rattle.sqlite_value.specs.declared.keys.Key.{Key}
 use Rattle.sqlite_value.specs.declared.value.Value.TheVariants.{Int}
 use Rattle.std.specs.List.{AllByRecursion}
 use Rattle.vet_tables.proofs.KeyTests as keys
-use Rattle.vet_tables.proofs.KeyTests.{IsKeyColumn, deleted_is, key_column, test_term}
+use Rattle.vet_tables.proofs.KeyTests.{IsKeyColumn, all_deleted, deleted_is, key_column, test_term}
 use Rattle.vet_tables.proofs.Meanings.{Means, delete_means, insert_means}
 use Rattle.vet_tables.proofs.Selects.{outputs_of, rowid_name, select_means}
 use Rattle.vet_tables.proofs.Shapes.{AreShown, IsFrom, IsKnown, IsOne, IsOrder, IsSelect, IsSelection}
+use Rattle.vet_tables.proofs.Shapes.{clear_parses, emptied}
 use Rattle.vet_tables.proofs.Shapes.{delete_cheap, delete_columns, delete_deep, delete_depth, delete_keys}
 use Rattle.vet_tables.proofs.Shapes.{delete_parses}
 use Rattle.vet_tables.proofs.Shapes.{delete_terms, delete_tests}
 use Rattle.vet_tables.proofs.Shapes.{given_rows, given_test, insert_parses, insert_terms, insert_values, inserted}
 use Rattle.vet_tables.proofs.Shapes.{is_test, key_tests, removed, select_parses, selected}
+use Rattle.vet_tables.proofs.TablePlaces.{each}
 use Rattle.vet_tables.specs.Form.{TableForm, places_from, table_of}
 use Rattle.vet_tables.specs.Forms.{form_of}
 use Rattle.vet_tables.specs.Has.{HasTable}
-use Rattle.vet_tables.specs.Texts.{delete_text, insert_text, select_text}
+use Rattle.vet_tables.specs.Texts.{clear_text, delete_text, insert_text, select_text}
 use Rattle.vet_tables.specs.declared.table_name.TableName.{TableName}
-use Rattle.vet_tables.specs.declared.table_name.TableName.TheVariants.{Meta, Criteria, Entries, Publishers, Policies}
-use Rattle.vet_tables.specs.declared.table_name.TableName.TheVariants.{Peers}
-use Rattle.vet_tables.specs.declared.table_name.TableName.TheVariants.{Nodes, Edges, Standing, Moves, Members, Reviews}
 
 -- a query over one table
 abbrev pub over : ℕ → List Term → List Term → List (Term × Key) → Query
@@ -104,6 +103,13 @@ module _ (n : TableName) (schema : Schema) (has : HasTable schema (form_of n)) w
           (Delete has.at (record { lets = []; body = over has.tree terms (col 1 0 ∷ []) [] })))
           (delete_terms n) meant
 
+  pub clear_is : Means schema (clear_text form) (Delete has.at
+      (record { lets = []; body = over has.tree [] (col 1 0 ∷ []) [] }))
+  clear_is =
+      let p = clear_parses n in
+      delete_means schema has.at (table_of form has.tree) form.name (clear_text form) has.named has.there (emptied n)
+      p.0 p.2 None _ p.1 (all_deleted schema has.at (table_of form has.tree))
+
 abbrev IsFit : TableForm → Schema → ℕ → ℕ → Expr → Name → Type 0
 IsFit form schema at tree e text =
     (column_named (table_of form tree) rowid_name ≡ None)
@@ -115,18 +121,7 @@ IsFit form schema at tree e text =
 select_fits : (n : TableName) (schema : Schema) (at tree : ℕ) (e : Expr) (text : Name)
     → IsFit (form_of n) schema at tree e text
 unfolding same_name is_among
-select_fits Meta schema at tree e text = (refl, refl, refl, refl, refl)
-select_fits Criteria schema at tree e text = (refl, refl, refl, refl, refl)
-select_fits Entries schema at tree e text = (refl, refl, refl, refl, refl)
-select_fits Publishers schema at tree e text = (refl, refl, refl, refl, refl)
-select_fits Policies schema at tree e text = (refl, refl, refl, refl, refl)
-select_fits Peers schema at tree e text = (refl, refl, refl, refl, refl)
-select_fits Nodes schema at tree e text = (refl, refl, refl, refl, refl)
-select_fits Edges schema at tree e text = (refl, refl, refl, refl, refl)
-select_fits Standing schema at tree e text = (refl, refl, refl, refl, refl)
-select_fits Moves schema at tree e text = (refl, refl, refl, refl, refl)
-select_fits Members schema at tree e text = (refl, refl, refl, refl, refl)
-select_fits Reviews schema at tree e text = (refl, refl, refl, refl, refl)
+select_fits n schema at tree e text = each (λ n. IsFit (form_of n) schema at tree e text) (assumption refl) n
 
 module _ (n : TableName) (schema : Schema) (has : HasTable schema (form_of n))
     (low : nat_lt has.tree (2 ^ 31) ≡ true) where

@@ -1,30 +1,46 @@
 -- The tables by their places among the twelve.
-use Rattle.std.proofs.Common.{◌≡◌, ◌⊎◌, inl, inr, ℕ, [], ◌∷◌, Bool, true, false, Some, Option}
+use Rattle.std.proofs.Common.{◌≡◌, ◌⊎◌, inl, inr, ℕ, List, [], ◌∷◌, Bool, true, false, Some, Option, rules}
 use Rattle.std.proofs.Common.{length, map, slice_get, slice_index_or, take, ◌==◌, ◌+◌, ◌++◌, ◌<◌, ◌≤◌, arith, ap, refl}
 use Rattle.std.proofs.Common.{eq-or-lt_of_le, subst, sym, ◌∙◌}
 use Rattle.std.proofs.lemmas.Bool.{eqb-true, eqb-false}
 use Rattle.std.proofs.lemmas.List.{get_or-map, take_more}
 use Rattle.std.proofs.lemmas.Option.{get_or_from_slice_get}
+use Rattle.std.specs.List.{AllByRecursion}
 use Rattle.vet_base.specs.Items.{IsIn}
 use Rattle.vet_tables.specs.Forms.{code, form_of, tables}
 use Rattle.vet_tables.specs.declared.table_name.TableName.{TableName}
 use Rattle.vet_tables.specs.declared.table_name.TableName.TheVariants.{Meta, Criteria, Entries, Publishers, Policies}
 use Rattle.vet_tables.specs.declared.table_name.TableName.TheVariants.{Peers}
 use Rattle.vet_tables.specs.declared.table_name.TableName.TheVariants.{Nodes, Edges, Standing, Moves, Members, Reviews}
+use Rattle.vet_tables.specs.declared.table_name.TheConstants.{TABLE_COUNT}
+
+-- each is one of the twelve
+pub among_tables : (n : TableName) → IsIn n tables
+among_tables Meta = inl refl
+among_tables Criteria = inr (inl refl)
+among_tables Entries = inr (inr (inl refl))
+among_tables Publishers = inr (inr (inr (inl refl)))
+among_tables Policies = inr (inr (inr (inr (inl refl))))
+among_tables Peers = inr (inr (inr (inr (inr (inl refl)))))
+among_tables Nodes = inr (inr (inr (inr (inr (inr (inl refl))))))
+among_tables Edges = inr (inr (inr (inr (inr (inr (inr (inl refl)))))))
+among_tables Standing = inr (inr (inr (inr (inr (inr (inr (inr (inl refl))))))))
+among_tables Moves = inr (inr (inr (inr (inr (inr (inr (inr (inr (inl refl)))))))))
+among_tables Members = inr (inr (inr (inr (inr (inr (inr (inr (inr (inr (inl refl))))))))))
+among_tables Reviews = inr (inr (inr (inr (inr (inr (inr (inr (inr (inr (inr (inl refl)))))))))))
+
+-- what holds of each of the twelve, one after the other, holds of every table
+pub each : (P : TableName → Type 0) → AllByRecursion P tables → (n : TableName) → P n
+each P all n = all_by P tables n all (among_tables n)
+  where
+    all_by : (P : TableName → Type 0) (names : List TableName) (n : TableName) → AllByRecursion P names → IsIn n names
+        → P n
+    all_by P [] n all none = absurd none
+    all_by P (name ∷ more) n all (inl is) = subst P (sym is) all.0
+    all_by P (name ∷ more) n all (inr i) = all_by P more n all.1 i
 
 pub decoded : (n : TableName) → slice_get tables (code n) ≡ Some n
-decoded Meta = refl
-decoded Criteria = refl
-decoded Entries = refl
-decoded Publishers = refl
-decoded Policies = refl
-decoded Peers = refl
-decoded Nodes = refl
-decoded Edges = refl
-decoded Standing = refl
-decoded Moves = refl
-decoded Members = refl
-decoded Reviews = refl
+decoded n = each (λ n. slice_get tables (code n) ≡ Some n) (assumption refl) n
 
 pub same_code : (m n : TableName) → code m ≡ code n → m ≡ n
 same_code m n e = let both : ◌≡◌ {A = Option TableName} (Some m) (Some n) = sym (decoded m)
@@ -46,49 +62,12 @@ up_to P k n place before here m low = elim (eq-or-lt_of_le {n = code m} {m = k} 
   | inr less ↦ before m less
 ]
 
-pub few : (n : TableName) → code n < 12
-few Meta = omega arith
-few Criteria = omega arith
-few Entries = omega arith
-few Publishers = omega arith
-few Policies = omega arith
-few Peers = omega arith
-few Nodes = omega arith
-few Edges = omega arith
-few Standing = omega arith
-few Moves = omega arith
-few Members = omega arith
-few Reviews = omega arith
+pub few : (n : TableName) → code n < TABLE_COUNT
+few n = each (λ n. code n < TABLE_COUNT) (search rules) n
 
 -- the key is among the columns
 pub key_within : (n : TableName) → (form_of n).key ≤ length (form_of n).columns
-key_within Meta = omega arith
-key_within Criteria = omega arith
-key_within Entries = omega arith
-key_within Publishers = omega arith
-key_within Policies = omega arith
-key_within Peers = omega arith
-key_within Nodes = omega arith
-key_within Edges = omega arith
-key_within Standing = omega arith
-key_within Moves = omega arith
-key_within Members = omega arith
-key_within Reviews = omega arith
-
--- each is one of the twelve
-pub among_tables : (n : TableName) → IsIn n tables
-among_tables Meta = inl refl
-among_tables Criteria = inr (inl refl)
-among_tables Entries = inr (inr (inl refl))
-among_tables Publishers = inr (inr (inr (inl refl)))
-among_tables Policies = inr (inr (inr (inr (inl refl))))
-among_tables Peers = inr (inr (inr (inr (inr (inl refl)))))
-among_tables Nodes = inr (inr (inr (inr (inr (inr (inl refl))))))
-among_tables Edges = inr (inr (inr (inr (inr (inr (inr (inl refl)))))))
-among_tables Standing = inr (inr (inr (inr (inr (inr (inr (inr (inl refl))))))))
-among_tables Moves = inr (inr (inr (inr (inr (inr (inr (inr (inr (inl refl)))))))))
-among_tables Members = inr (inr (inr (inr (inr (inr (inr (inr (inr (inr (inl refl))))))))))
-among_tables Reviews = inr (inr (inr (inr (inr (inr (inr (inr (inr (inr (inr (inl refl)))))))))))
+key_within n = each (λ n. (form_of n).key ≤ length (form_of n).columns) (search rules) n
 
 -- ---- what each table has, in a list in their order
 

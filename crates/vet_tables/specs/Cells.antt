@@ -72,7 +72,7 @@ contents_of rows table = map values_of (rows table)
 abbrev pub SameRows : RowsValue → RowsValue → Type 0
 SameRows a b = (table : TableName) → SameItems (a table) (b table)
 
--- ---- one row more, and one fewer
+-- ---- one row more, one fewer, and none
 
 -- one row more, whatever its key
 abbrev pub added : TableName → Row → RowsValue → RowsValue
@@ -83,6 +83,10 @@ abbrev pub dropped : TableName → Row → RowsValue → RowsValue
 dropped table row rows name =
     if code name == code table then filter (λ other. not (same_key (form_of table) row other)) (rows name)
     else rows name
+
+-- no row left in a table
+abbrev pub cleared : TableName → RowsValue → RowsValue
+cleared table rows name = if code name == code table then [] else rows name
 
 -- a row put into its table, in place of the one of its key
 abbrev pub put : TableName → Row → RowsValue → RowsValue

@@ -1,5 +1,5 @@
 -- What stands in the twelve tables, and what a statement changes of it (ours).
-use Rattle.std.specs.Prelude.{◌≡◌, ◌==◌, ◌∷◌, IsTrue, List, filter, if◌then◌else◌, map, not}
+use Rattle.std.specs.Prelude.{◌≡◌, ◌==◌, ◌∷◌, [], IsTrue, List, filter, if◌then◌else◌, map, not}
 use Rattle.sqlite.specs.Effect.{Database, IsDatabase}
 use Rattle.sqlite.specs.State.{State}
 use Rattle.sqlite_rules.specs.Lists.{Has}
@@ -38,6 +38,10 @@ abbrev pub dropped : TableName → Cells → Contents → Contents
 dropped table key contents name =
     if code name == code table then filter (λ cells. not (is_keyed (form_of name) key cells)) (contents name)
     else contents name
+
+-- without any row
+abbrev pub cleared : TableName → Contents → Contents
+cleared table contents name = if code name == code table then [] else contents name
 
 -- its rows stand in no tree of ours
 abbrev pub IsOther : Schema → Table → Type 0

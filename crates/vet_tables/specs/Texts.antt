@@ -39,14 +39,19 @@ delete_text form =
     codes "DELETE FROM " ++ (form.name ++ (codes " WHERE "
     ++ joined (codes " AND ") (map (λ name. name ++ codes " = ?") (key_names form))))
 
+-- without a test, so that all rows go
+abbrev pub clear_text : TableForm → Sql
+clear_text form = codes "DELETE FROM " ++ form.name
+
 -- the rowid and the columns of each row, by the rowid
 abbrev pub select_text : TableForm → Sql
 select_text form = codes "SELECT rowid, * FROM " ++ (form.name ++ codes " ORDER BY rowid")
 
 -- the name of the index of the key, and texts that are the statements of a form
-pub record HasTexts (form : TableForm) (index create insert delete select : Sql) : Type 0 where
+pub record HasTexts (form : TableForm) (index create insert delete clear select : Sql) : Type 0 where
   pub index_is : index ≡ key_index form
   pub create_is : create ≡ create_text form
   pub insert_is : insert ≡ insert_text form
   pub delete_is : delete ≡ delete_text form
+  pub clear_is : clear ≡ clear_text form
   pub select_is : select ≡ select_text form

@@ -7,7 +7,7 @@ ghost use Rattle.vet_tables.specs.Free.{AreFree, IsFree};
 
 use crate::form::Form;
 use crate::has_form::has_form;
-use crate::table_name::table_at;
+use crate::table_name::{TABLE_COUNT, table_at};
 use sqlite_catalog::layout::is_used;
 use sqlite_schema::names::same_name;
 use sqlite_schema::schema::{Index, Schema, Table};
@@ -18,7 +18,7 @@ pub fn has_name_taken(schema: &Schema) -> bool
     ensures free { result ≡ false → AreFree schema.now }
     ensures taken { IsTrue result → AreFree schema.now → ⊥ }
 {
-    'tables: for at in 0..12 {
+    'tables: for at in 0..TABLE_COUNT {
         if !is_free(schema, table_at(at).form().name()) {
             return true;
         }
@@ -31,7 +31,7 @@ pub fn has_name_taken(schema: &Schema) -> bool
 pub fn has_tables(schema: &Schema) -> bool
     ensures { Decides result (HasTables schema.now) }
 {
-    'tables: for at in 0..12 {
+    'tables: for at in 0..TABLE_COUNT {
         if !has_table(schema, &table_at(at).form()) {
             return false;
         }

@@ -14,6 +14,7 @@ pub struct Form {
     pub(crate) create: &'static str,
     pub(crate) insert: &'static str,
     pub(crate) delete: &'static str,
+    pub(crate) clear: &'static str,
     pub(crate) select: &'static str,
 }
 
@@ -32,14 +33,14 @@ impl Model for Form {
 
     ghost invariant = { λ f. HasTexts
         record { name = f.name.now; columns = map (λ c. (c.0.now, c.1)) f.columns.now; key = f.key }
-        f.key_index.now f.create.now f.insert.now f.delete.now f.select.now };
+        f.key_index.now f.create.now f.insert.now f.delete.now f.clear.now f.select.now };
 }
 
 impl Form {
     ghost use Rattle.std.specs.Prelude.{◌≡◌, map};
     ghost use Rattle.vet_tables.specs.Form.{rowid_of};
     ghost use Rattle.vet_tables.specs.Form.{key_index};
-    ghost use Rattle.vet_tables.specs.Texts.{create_text, delete_text, insert_text, select_text};
+    ghost use Rattle.vet_tables.specs.Texts.{clear_text, create_text, delete_text, insert_text, select_text};
 
     /// The name of the table.
     pub fn name(&self) -> &'static str
@@ -98,6 +99,13 @@ impl Form {
         ensures { result.now ≡ delete_text self.now }
     {
         self.delete
+    }
+
+    /// The statement that takes out all rows.
+    pub fn clear(&self) -> &'static str
+        ensures { result.now ≡ clear_text self.now }
+    {
+        self.clear
     }
 
     /// The statement that reads the rowid and the cells of each row, by the rowid.

@@ -3,12 +3,12 @@ ghost use Rattle.std.specs.Prelude.{◌≡◌, IsTrue, OnOk};
 ghost use Rattle.sqlite.specs.Held.{state};
 ghost use Rattle.sqlite.specs.State.{HasCleanDisk, KeepsCommit, Survives};
 ghost use Rattle.sqlite.specs.Values.{bound};
-ghost use Rattle.vet_tables.specs.Contents.{Changes, added, dropped};
+ghost use Rattle.vet_tables.specs.Contents.{Changes, added, cleared, dropped};
 ghost use Rattle.vet_tables.specs.Forms.{form_of};
 ghost use Rattle.vet_tables.specs.Makes.{MakesTable, MakesTables};
 ghost use Rattle.vet_tables.specs.Typed.{AreSorts, kinds_of};
 
-use crate::table_name::{TableName, table_at};
+use crate::table_name::{TABLE_COUNT, TableName, table_at};
 use sqlite::types::ValueRef;
 use sqlite::{Alter, Error, Transaction};
 
@@ -47,6 +47,18 @@ pub fn remove<S: Alter>(
     tx.execute(table.form().delete(), key)
 }
 
+/// Takes out all rows.
+pub fn clear<S: Alter>(tx: &mut Transaction<'_, S>, table: TableName) -> Result<usize, Error>
+    ensures same_reference { tx.new.conn.ghost_name ≡ tx.old.conn.ghost_name }
+    ensures changes { HasCleanDisk (state S.Store tx.new.conn.now) → IsTrue tx.old.conn.now.in_transaction
+        → OnOk result (Changes (state S.Store tx.old.conn.now) (state S.Store tx.new.conn.now) (cleared table)) }
+    ensures kept { HasCleanDisk (state S.Store tx.new.conn.now)
+        → KeepsCommit (state S.Store tx.old.conn.now) (state S.Store tx.new.conn.now) }
+    ensures survives { Survives (state S.Store tx.old.conn.now) (state S.Store tx.new.conn.now) (λ _. ⊥) }
+{
+    tx.execute(table.form().clear(), &[])
+}
+
 /// Makes a table, with no row.
 pub fn create<S: Alter>(tx: &mut Transaction<'_, S>, table: TableName) -> Result<usize, Error>
     ensures same_reference { tx.new.conn.ghost_name ≡ tx.old.conn.ghost_name }
@@ -64,14 +76,14 @@ pub fn create_all<S: Alter>(tx: &mut Transaction<'_, S>) -> Result<(), Error>
     ensures same_reference { tx.new.conn.ghost_name ≡ tx.old.conn.ghost_name }
     ensures makes { HasCleanDisk (state S.Store tx.new.conn.now) → IsTrue (state S.Store tx.old.conn.now).is_open
         → IsTrue tx.old.conn.now.in_transaction
-        → OnOk result (MakesTables (state S.Store tx.old.conn.now) (state S.Store tx.new.conn.now) 12) }
+        → OnOk result (MakesTables (state S.Store tx.old.conn.now) (state S.Store tx.new.conn.now) TABLE_COUNT) }
     ensures opens { HasCleanDisk (state S.Store tx.new.conn.now) → IsTrue tx.old.conn.now.in_transaction
         → OnOk result (IsTrue (state S.Store tx.old.conn.now).is_open) }
     ensures kept { HasCleanDisk (state S.Store tx.new.conn.now)
         → KeepsCommit (state S.Store tx.old.conn.now) (state S.Store tx.new.conn.now) }
     ensures survives { Survives (state S.Store tx.old.conn.now) (state S.Store tx.new.conn.now) (λ _. ⊥) }
 {
-    'tables: for at in 0..12 {
+    'tables: for at in 0..TABLE_COUNT {
         create(tx, table_at(at))?;
     }
     Ok(())

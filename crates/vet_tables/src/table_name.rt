@@ -12,6 +12,9 @@ ghost use Rattle.vet_tables.specs.declared.table_name.TableName.TheVariants as t
 use crate::form::Form;
 use sqlite_schema::schema::Kind;
 
+/// How many tables there are.
+pub const TABLE_COUNT: usize = 12;
+
 /// One of the twelve tables.
 #[derive(Clone, Copy)]
 pub enum TableName {
@@ -73,7 +76,7 @@ impl TableName {
 
 /// The table of a place among the twelve.
 pub fn table_at(at: usize) -> TableName
-    requires { at < 12 }
+    requires { at < TABLE_COUNT }
     ensures { code result ≡ at }
 {
     match at {
@@ -130,6 +133,7 @@ fn meta() -> Form
             NULL, default_criteria BLOB NOT NULL, PRIMARY KEY (one)) STRICT",
         insert: "INSERT INTO meta VALUES (?, ?, ?, ?, ?, ?, ?, ?, ?, ?, ?, ?, ?)",
         delete: "DELETE FROM meta WHERE one = ?",
+        clear: "DELETE FROM meta",
         select: "SELECT rowid, * FROM meta ORDER BY rowid",
     }
 }
@@ -155,6 +159,7 @@ fn criteria() -> Form
             NULL, url BLOB NOT NULL, implies BLOB NOT NULL, PRIMARY KEY (peer, name)) STRICT",
         insert: "INSERT INTO criteria VALUES (?, ?, ?, ?, ?)",
         delete: "DELETE FROM criteria WHERE peer = ? AND name = ?",
+        clear: "DELETE FROM criteria",
         select: "SELECT rowid, * FROM criteria ORDER BY rowid",
     }
 }
@@ -201,6 +206,7 @@ fn entries() -> Form
             NOT NULL, importable INTEGER NOT NULL, PRIMARY KEY (number)) STRICT",
         insert: "INSERT INTO entries VALUES (?, ?, ?, ?, ?, ?, ?, ?, ?, ?, ?, ?, ?, ?, ?)",
         delete: "DELETE FROM entries WHERE number = ?",
+        clear: "DELETE FROM entries",
         select: "SELECT rowid, * FROM entries ORDER BY rowid",
     }
 }
@@ -229,6 +235,7 @@ fn publishers() -> Form
         insert: "INSERT INTO publishers VALUES (?, ?, ?, ?, ?, ?)",
         delete: "DELETE FROM publishers WHERE package = ? AND version = ? AND user = ? AND day = ? \
             AND login = ? AND name = ?",
+        clear: "DELETE FROM publishers",
         select: "SELECT rowid, * FROM publishers ORDER BY rowid",
     }
 }
@@ -259,6 +266,7 @@ fn policies() -> Form
             PRIMARY KEY (policy)) STRICT",
         insert: "INSERT INTO policies VALUES (?, ?, ?, ?, ?, ?)",
         delete: "DELETE FROM policies WHERE policy = ?",
+        clear: "DELETE FROM policies",
         select: "SELECT rowid, * FROM policies ORDER BY rowid",
     }
 }
@@ -284,6 +292,7 @@ fn peers() -> Form
             map BLOB NOT NULL, PRIMARY KEY (name)) STRICT",
         insert: "INSERT INTO peers VALUES (?, ?, ?, ?)",
         delete: "DELETE FROM peers WHERE name = ?",
+        clear: "DELETE FROM peers",
         select: "SELECT rowid, * FROM peers ORDER BY rowid",
     }
 }
@@ -307,6 +316,7 @@ fn nodes() -> Form
             NULL, party INTEGER NOT NULL, PRIMARY KEY (project, name, version)) STRICT",
         insert: "INSERT INTO nodes VALUES (?, ?, ?, ?)",
         delete: "DELETE FROM nodes WHERE project = ? AND name = ? AND version = ?",
+        clear: "DELETE FROM nodes",
         select: "SELECT rowid, * FROM nodes ORDER BY rowid",
     }
 }
@@ -335,6 +345,7 @@ fn edges() -> Form
         insert: "INSERT INTO edges VALUES (?, ?, ?, ?, ?, ?)",
         delete: "DELETE FROM edges WHERE project = ? AND from_name = ? AND from_version = ? AND \
             to_name = ? AND to_version = ? AND kind = ?",
+        clear: "DELETE FROM edges",
         select: "SELECT rowid, * FROM edges ORDER BY rowid",
     }
 }
@@ -359,6 +370,7 @@ fn standing() -> Form
             STRICT",
         insert: "INSERT INTO standing VALUES (?, ?, ?, ?)",
         delete: "DELETE FROM standing WHERE package = ? AND version = ? AND criterion = ?",
+        clear: "DELETE FROM standing",
         select: "SELECT rowid, * FROM standing ORDER BY rowid",
     }
 }
@@ -388,6 +400,7 @@ fn moves() -> Form
             after INTEGER NOT NULL, PRIMARY KEY (step, package, version, criterion)) STRICT",
         insert: "INSERT INTO moves VALUES (?, ?, ?, ?, ?, ?, ?)",
         delete: "DELETE FROM moves WHERE step = ? AND package = ? AND version = ? AND criterion = ?",
+        clear: "DELETE FROM moves",
         select: "SELECT rowid, * FROM moves ORDER BY rowid",
     }
 }
@@ -404,6 +417,7 @@ fn members() -> Form
         create: "CREATE TABLE members (name TEXT NOT NULL, PRIMARY KEY (name)) STRICT",
         insert: "INSERT INTO members VALUES (?)",
         delete: "DELETE FROM members WHERE name = ?",
+        clear: "DELETE FROM members",
         select: "SELECT rowid, * FROM members ORDER BY rowid",
     }
 }
@@ -436,6 +450,7 @@ fn reviews() -> Form
             member TEXT NOT NULL, entry INTEGER NOT NULL, PRIMARY KEY (number)) STRICT",
         insert: "INSERT INTO reviews VALUES (?, ?, ?, ?, ?, ?, ?, ?)",
         delete: "DELETE FROM reviews WHERE number = ?",
+        clear: "DELETE FROM reviews",
         select: "SELECT rowid, * FROM reviews ORDER BY rowid",
     }
 }

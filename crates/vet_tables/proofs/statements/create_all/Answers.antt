@@ -7,6 +7,7 @@ use Rattle.vet_tables.proofs.Making.{makes_more, makes_none}
 use Rattle.vet_tables.proofs.Steps.{survives_same}
 use Rattle.vet_tables.proofs.Steps.{keeps_same, keeps_then}
 use Rattle.vet_tables.proofs.statements.create_all.Goals as goal
+use Rattle.vet_tables.specs.declared.table_name.TheConstants.{TABLE_COUNT}
 
 pub tables-preserved : goal.tables-preserved
 tables-preserved g c =
@@ -46,12 +47,12 @@ tables-init g c =
 
 pub returns-clause-makes : goal.returns-clause-makes
 returns-clause-makes g c =
-    let all : c.tables.at ≡ 12 = omega (arith, c.tables.auto.at-end, c.tables-test.false) in
+    let all : c.tables.at ≡ TABLE_COUNT = omega (arith, c.tables.auto.at-end, c.tables-test.false) in
     rw all at c.tables.invariant.makes
 
 pub returns-clause-opens : goal.returns-clause-opens
 returns-clause-opens g c clean inside =
-    let all : c.tables.at ≡ 12 = omega (arith, c.tables.auto.at-end, c.tables-test.false) in
+    let all : c.tables.at ≡ TABLE_COUNT = omega (arith, c.tables.auto.at-end, c.tables-test.false) in
     elim (c.tables.invariant.opens clean inside) [
       | inl first ↦ absurd (omega (arith, all, first.0))
       | inr serves ↦ serves
