@@ -25,7 +25,7 @@ use Rattle.vet_demand.specs.declared.policy_key.PolicyKey.{PolicyKey}
 use Rattle.vet_demand.specs.declared.project.NamedProject.{NamedProject}
 use Rattle.vet_demand.specs.declared.project.Node.{Node}
 use Rattle.vet_rows.specs.KeyTexts.{KeysAreRead, NodesAreRead}
-use Rattle.vet_rows.specs.KeyedItems.{comes, goes, rows_if}
+use Rattle.vet_rows.specs.KeyedItems.{added_item, removed_item, rows_if}
 use Rattle.vet_rows.specs.ProjectRows.{edge_row, edge_rows, node_row, node_rows}
 use Rattle.vet_rows.specs.SettingRows.{policy_row}
 use Rattle.vet_rows.specs.DemandRows.{the_policy}
@@ -81,11 +81,11 @@ policies_replaced old new up read =
 pub policies_become : (change : KeyedEdit KeyedPolicy) (old : KeyedRoom KeyedPolicy)
     → IsByKey policy_key_cmp key_of old.items → IsByKey policy_key_cmp key_of (keyed.edited change old.items)
     → Fits policy_key_cmp key_of change old → KeysAreRead old.items → KeysAreRead (keyed.edited change old.items)
-    → IsExchange same_policy (rows_if the_policy (goes change old.items)) (rows_if the_policy (comes change))
+    → IsExchange same_policy (rows_if the_policy (removed_item change old.items)) (rows_if the_policy (added_item change))
     (map policy_row old.items) (map policy_row (keyed.edited change old.items))
 policies_become change old up up_new fits read read_new =
     let new = keyed.edited change old.items in
-    of_items same_policy key_of the_policy (goes change old.items) (comes change) old.items new []
+    of_items same_policy key_of the_policy (removed_item change old.items) (added_item change) old.items new []
     (map policy_row old.items) (map policy_row new) (λ r i. own_key Policies r (policies_fit old.items r i))
     (only_mapped policy_row old.items) (only_mapped policy_row new)
     (edit_is policy_key_cmp policy_key_total policy_key_cmp-IsAntisymmetric key_of change old up fits)
@@ -104,7 +104,7 @@ policies_become change old up up_new fits read read_new =
 
 project_edit : (change : KeyedEdit NamedProject) (old : KeyedRoom NamedProject)
     → IsByKey (slice_cmp nat_cmp) project_name old.items → Fits (slice_cmp nat_cmp) project_name change old
-    → IsOneForOne project_name (goes change old.items) (comes change) old.items (keyed.edited change old.items)
+    → IsOneForOne project_name (removed_item change old.items) (added_item change) old.items (keyed.edited change old.items)
 project_edit change old up fits =
     edit_is (slice_cmp nat_cmp) nat_list_cmp_total only_equal project_name change old up fits
 
@@ -143,13 +143,13 @@ pub nodes_become : (change : KeyedEdit NamedProject) (old : KeyedRoom NamedProje
     → IsByKey (slice_cmp nat_cmp) project_name old.items
     → IsByKey (slice_cmp nat_cmp) project_name (keyed.edited change old.items)
     → Fits (slice_cmp nat_cmp) project_name change old
-    → ((p : NamedProject) → comes change ≡ Some p → NodesAreRead p)
-    → IsExchange same_node (rows_if node_rows (goes change old.items)) (rows_if node_rows (comes change))
+    → ((p : NamedProject) → added_item change ≡ Some p → NodesAreRead p)
+    → IsExchange same_node (rows_if node_rows (removed_item change old.items)) (rows_if node_rows (added_item change))
     (flat_map node_rows old.items) (flat_map node_rows (keyed.edited change old.items))
 nodes_become change old up up_new fits read =
     let new = keyed.edited change old.items in
     let is = project_edit change old up fits in
-    of_coming same_node project_name node_rows (goes change old.items) (comes change) old.items new []
+    of_coming same_node project_name node_rows (removed_item change old.items) (added_item change) old.items new []
     (flat_map node_rows old.items) (flat_map node_rows new) (λ r i. own_key Nodes r (nodes_fit old.items r i))
     (only_flat node_rows old.items) (only_flat node_rows new) is
     (λ g x r s i j a b e. sym (of_project g r a) ∙ same_text Nodes r s e 0 (omega arith) ∙ of_project x s b)
@@ -168,11 +168,11 @@ edges_keyed projects r s i j =
 
 pub edges_become : (change : KeyedEdit NamedProject) (old : KeyedRoom NamedProject)
     → IsByKey (slice_cmp nat_cmp) project_name old.items → Fits (slice_cmp nat_cmp) project_name change old
-    → IsExchange same_edge (rows_if edge_rows (goes change old.items)) (rows_if edge_rows (comes change))
+    → IsExchange same_edge (rows_if edge_rows (removed_item change old.items)) (rows_if edge_rows (added_item change))
     (flat_map edge_rows old.items) (flat_map edge_rows (keyed.edited change old.items))
 edges_become change old up fits =
     let new = keyed.edited change old.items in
-    of_items same_edge project_name edge_rows (goes change old.items) (comes change) old.items new []
+    of_items same_edge project_name edge_rows (removed_item change old.items) (added_item change) old.items new []
     (flat_map edge_rows old.items) (flat_map edge_rows new) (λ r i. own_key Edges r (edges_fit old.items r i))
     (only_flat edge_rows old.items) (only_flat edge_rows new)
     (project_edit change old up fits)
@@ -184,16 +184,16 @@ edges_become change old up fits =
 
 pub nodes_there : (change : KeyedEdit NamedProject) (old : KeyedRoom NamedProject)
     → IsByKey (slice_cmp nat_cmp) project_name old.items → Fits (slice_cmp nat_cmp) project_name change old
-    → (r : Row) → IsIn r (rows_if node_rows (goes change old.items)) → IsIn r (flat_map node_rows old.items)
+    → (r : Row) → IsIn r (rows_if node_rows (removed_item change old.items)) → IsIn r (flat_map node_rows old.items)
 nodes_there change old up fits r i =
-    gone_of node_rows (goes change old.items) old.items [] (flat_map node_rows old.items)
+    gone_of node_rows (removed_item change old.items) old.items [] (flat_map node_rows old.items)
     (only_flat node_rows old.items) (project_edit change old up fits).gone_from r i
 
 pub edges_there : (change : KeyedEdit NamedProject) (old : KeyedRoom NamedProject)
     → IsByKey (slice_cmp nat_cmp) project_name old.items → Fits (slice_cmp nat_cmp) project_name change old
-    → (r : Row) → IsIn r (rows_if edge_rows (goes change old.items)) → IsIn r (flat_map edge_rows old.items)
+    → (r : Row) → IsIn r (rows_if edge_rows (removed_item change old.items)) → IsIn r (flat_map edge_rows old.items)
 edges_there change old up fits r i =
-    gone_of edge_rows (goes change old.items) old.items [] (flat_map edge_rows old.items)
+    gone_of edge_rows (removed_item change old.items) old.items [] (flat_map edge_rows old.items)
     (only_flat edge_rows old.items) (project_edit change old up fits).gone_from r i
 
 -- no two nodes of projects whose texts are read have one key

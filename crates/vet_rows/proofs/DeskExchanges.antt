@@ -23,10 +23,10 @@ use Rattle.vet_desk.specs.declared.review.ReviewState.TheVariants.{Finished}
 use Rattle.vet_desk.specs.Desk.{DeskState, own_name}
 use Rattle.vet_desk.specs.DeskView.{DeskRoom, FitsDesk, desk_changed, with_state_there}
 use Rattle.vet_desk.specs.Review.{in_state, review_number}
-use Rattle.vet_rows.specs.DeskChanges.{members_coming, members_going, reviews_coming, reviews_going, the_member}
+use Rattle.vet_rows.specs.DeskChanges.{members_added, members_removed, reviews_added, reviews_removed, the_member}
 use Rattle.vet_rows.specs.DeskChanges.{the_review}
 use Rattle.vet_rows.specs.DeskRows.{member_row, review_row}
-use Rattle.vet_rows.specs.KeyedItems.{comes, goes, rows_if}
+use Rattle.vet_rows.specs.KeyedItems.{added_item, removed_item, rows_if}
 use Rattle.vet_rows.proofs.Exchanges.{IsExchange, of_items, stays}
 use Rattle.vet_rows.proofs.KeyedExchanges.{IsOneForOne, edit_is, swap_is}
 use Rattle.vet_rows.proofs.RowViews.{only_mapped}
@@ -56,11 +56,11 @@ one_member g x r s (inr none) b e = absurd none
 
 pub members_become : (change : DeskChange) (old : DeskState) (room : DeskRoom) (entry : Option ℕ)
     → FitsDesk change (record { content = old; room = room }) → IsByKey (slice_cmp nat_cmp) own_name old.members
-    → IsExchange same_member (members_going change old) (members_coming change) (map member_row old.members)
+    → IsExchange same_member (members_removed change old) (members_added change) (map member_row old.members)
     (map member_row (desk_changed change entry old).members)
 members_become (Join change) old room entry fits up =
     let new = keyed.edited change old.members in
-    of_items same_member own_name the_member (goes change old.members) (comes change) old.members new []
+    of_items same_member own_name the_member (removed_item change old.members) (added_item change) old.members new []
     (map member_row old.members) (map member_row new) (λ r i. own_key Members r (members_fit old.members r i))
     (only_mapped member_row old.members) (only_mapped member_row new)
     (edit_is (slice_cmp nat_cmp) nat_list_cmp_total only_equal own_name change
@@ -142,7 +142,7 @@ turn reviews place state (Some review) up up_new at =
 pub reviews_become : (change : DeskChange) (old : DeskState) (entry : Option ℕ)
     → IsByKey nat_cmp review_number old.reviews
     → IsByKey nat_cmp review_number (desk_changed change entry old).reviews
-    → IsExchange same_review (reviews_going change entry old) (reviews_coming change entry old)
+    → IsExchange same_review (reviews_removed change entry old) (reviews_added change entry old)
     (map review_row old.reviews) (map review_row (desk_changed change entry old).reviews)
 reviews_become (Join change) old entry up up_new = stays same_review (map review_row old.reviews)
 reviews_become (Open review) old entry up up_new =

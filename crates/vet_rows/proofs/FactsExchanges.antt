@@ -23,8 +23,8 @@ use Rattle.vet_entries.specs.HeldPeer.{holding_or_none, peer_name, peer_of, with
 use Rattle.vet_entries.specs.PublisherRecords.{package_of}
 use Rattle.vet_rows.specs.Columns.{own_peer}
 use Rattle.vet_rows.specs.EntryRows.{all_entries, entry_row, peer_entries}
-use Rattle.vet_rows.specs.FactsRows.{entries_coming, entries_going, own_entry}
-use Rattle.vet_rows.specs.KeyedItems.{comes, goes, rows_if}
+use Rattle.vet_rows.specs.FactsRows.{entries_added, entries_removed, own_entry}
+use Rattle.vet_rows.specs.KeyedItems.{added_item, removed_item, rows_if}
 use Rattle.vet_tables.specs.Cells.{Row, same_key}
 use Rattle.vet_tables.specs.Forms.{form_of}
 use Rattle.vet_tables.specs.declared.table_name.TableName.TheVariants.{Entries}
@@ -58,7 +58,7 @@ pub record HaveKeys (facts : Facts) : Type 0 where
 
 pub peer_edit : (change : KeyedEdit HeldPeer) (facts : Facts) (room : Room) → HaveKeys facts
     → Fits (edit.Peer change) (record { content = facts; room = room })
-    → IsOneForOne peer_name (goes change facts.peers) (comes change) facts.peers (keyed.edited change facts.peers)
+    → IsOneForOne peer_name (removed_item change facts.peers) (added_item change) facts.peers (keyed.edited change facts.peers)
 peer_edit change facts room k fits =
     edit_is (slice_cmp nat_cmp) nat_list_cmp_total only_equal peer_name change
     (record { items = facts.peers; room = room.peers }) k.peers fits
@@ -192,7 +192,7 @@ unchanged old new entries peers =
 
 module _ (old : Facts) (room : Room) (k : HaveKeys old) where
   pub entries_become : (e : Edit) → Fits e (record { content = old; room = room }) → HaveKeys (edited e old)
-      → IsExchange same_entry (entries_going e old) (entries_coming e) (all_entries old) (all_entries (edited e old))
+      → IsExchange same_entry (entries_removed e old) (entries_added e) (all_entries old) (all_entries (edited e old))
   entries_become (edit.Criteria table) fits l = unchanged old (edited (edit.Criteria table) old) refl refl
   entries_become (edit.Insert place held) fits l =
       own_exchange old (edited (edit.Insert place held) old) None (Some held) k l refl
@@ -201,7 +201,7 @@ module _ (old : Facts) (room : Room) (k : HaveKeys old) where
       own_exchange old (edited (edit.Remove place) old) (slice_get old.entries place) None k l refl
       (take_is (λ (h : HeldEntry). h.number) old.entries place k.numbers)
   entries_become (edit.Peer change) fits l =
-      peer_exchange old (edited (edit.Peer change) old) (goes change old.peers) (comes change) k l refl
+      peer_exchange old (edited (edit.Peer change) old) (removed_item change old.peers) (added_item change) k l refl
       (peer_edit change old room k fits)
   entries_become (edit.Settings settings) fits l = by (peer_of old.peers settings.name) refl fits l
     where
@@ -236,7 +236,7 @@ module _ (old : Facts) (room : Room) (k : HaveKeys old) where
 
   -- the rows that go are there
   pub entries_there : (e : Edit) → Fits e (record { content = old; room = room }) → (r : Row)
-      → IsIn r (entries_going e old) → IsIn r (all_entries old)
+      → IsIn r (entries_removed e old) → IsIn r (all_entries old)
   entries_there (edit.Criteria table) fits r i = absurd i
   entries_there (edit.Insert place held) fits r i = absurd i
   entries_there (edit.Remove place) fits r i =
@@ -244,7 +244,7 @@ module _ (old : Facts) (room : Room) (k : HaveKeys old) where
       (mapped_rows entry_row old.entries (flat_map peer_entries old.peers))
       (take_is (λ (h : HeldEntry). h.number) old.entries place k.numbers).gone_from r i
   entries_there (edit.Peer change) fits r i =
-      gone_of peer_entries (goes change old.peers) old.peers (map entry_row old.entries) (all_entries old)
+      gone_of peer_entries (removed_item change old.peers) old.peers (map entry_row old.entries) (all_entries old)
       (flat_rows peer_entries old.peers (map entry_row old.entries)) (peer_edit change old room k fits).gone_from r i
   entries_there (edit.Settings settings) fits r i = absurd i
   entries_there (edit.Content name content) fits r i =

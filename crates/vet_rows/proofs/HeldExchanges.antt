@@ -14,10 +14,10 @@ use Rattle.vet_register.specs.declared.held.HeldEdit.{HeldEdit}
 use Rattle.vet_register.specs.declared.held.HeldEdit.TheVariants as edit
 use Rattle.vet_register.specs.Held.{Fits, HeldRoom, HeldValue, edited, held_with}
 use Rattle.vet_rows.specs.EntryRows.{all_entries, package_rows}
-use Rattle.vet_rows.specs.HeldChanges.{criteria_coming, criteria_going, edges_coming, edges_going, entries_coming}
-use Rattle.vet_rows.specs.HeldChanges.{entries_going, nodes_coming, nodes_going, peers_coming, peers_going}
-use Rattle.vet_rows.specs.HeldChanges.{policies_coming, policies_going, publishers_coming, publishers_going}
-use Rattle.vet_rows.specs.KeyTexts.{KeysAreRead, ProjectsComingAreRead, ProjectsHeldAreRead}
+use Rattle.vet_rows.specs.HeldChanges.{criteria_added, criteria_removed, edges_added, edges_removed, entries_added}
+use Rattle.vet_rows.specs.HeldChanges.{entries_removed, nodes_added, nodes_removed, peers_added, peers_removed}
+use Rattle.vet_rows.specs.HeldChanges.{policies_added, policies_removed, publishers_added, publishers_removed}
+use Rattle.vet_rows.specs.KeyTexts.{KeysAreRead, AddedProjectsAreRead, ProjectsHeldAreRead}
 use Rattle.vet_rows.specs.ProjectRows.{edge_rows, node_rows}
 use Rattle.vet_rows.specs.RowExchanges.{less, same_row}
 use Rattle.vet_rows.specs.SettingRows.{all_criteria, peer_row, policy_row}
@@ -57,7 +57,7 @@ pub record HaveTexts (held : HeldValue) : Type 0 where
 
 module _ (old : HeldValue) (room : HeldRoom) (k : HaveTexts old) where
   pub held_criteria : (e : HeldEdit) → Fits e (held_with old room) → HaveTexts (edited e old)
-      → IsExchange (same_in Criteria) (criteria_going e old) (criteria_coming e) (all_criteria old.facts)
+      → IsExchange (same_in Criteria) (criteria_removed e old) (criteria_added e) (all_criteria old.facts)
       (all_criteria (edited e old).facts)
   held_criteria (edit.Facts e) fits l = criteria_become old.facts room.facts k.facts e fits l.facts
   held_criteria (edit.Policies e) fits l = stays (same_in Criteria) (all_criteria old.facts)
@@ -69,7 +69,7 @@ module _ (old : HeldValue) (room : HeldRoom) (k : HaveTexts old) where
       (criteria_keyed files.facts.content l.facts)
 
   pub held_entries : (e : HeldEdit) → Fits e (held_with old room) → HaveTexts (edited e old)
-      → IsExchange (same_in Entries) (entries_going e old) (entries_coming e) (all_entries old.facts)
+      → IsExchange (same_in Entries) (entries_removed e old) (entries_added e) (all_entries old.facts)
       (all_entries (edited e old).facts)
   held_entries (edit.Facts e) fits l = entries_become old.facts room.facts k.facts e fits l.facts
   held_entries (edit.Policies e) fits l = stays (same_in Entries) (all_entries old.facts)
@@ -81,7 +81,7 @@ module _ (old : HeldValue) (room : HeldRoom) (k : HaveTexts old) where
       (entries_keyed files.facts.content l.facts)
 
   pub held_publishers : (e : HeldEdit) → Fits e (held_with old room)
-      → IsExchange (same_in Publishers) (publishers_going e old) (publishers_coming e)
+      → IsExchange (same_in Publishers) (publishers_removed e old) (publishers_added e)
       (flat_map package_rows old.facts.publishers) (flat_map package_rows (edited e old).facts.publishers)
   held_publishers (edit.Facts e) fits = publishers_become old.facts room.facts k.facts e fits
   held_publishers (edit.Policies e) fits = stays (same_in Publishers) (flat_map package_rows old.facts.publishers)
@@ -94,7 +94,7 @@ module _ (old : HeldValue) (room : HeldRoom) (k : HaveTexts old) where
       (publishers_keyed files.facts.content.publishers)
 
   pub held_peers : (e : HeldEdit) → Fits e (held_with old room) → HaveTexts (edited e old)
-      → IsExchange (same_in Peers) (peers_going e old) (peers_coming e) (peer_rows old.facts.peers)
+      → IsExchange (same_in Peers) (peers_removed e old) (peers_added e) (peer_rows old.facts.peers)
       (peer_rows (edited e old).facts.peers)
   held_peers (edit.Facts e) fits l = peers_become old.facts room.facts k.facts e fits l.facts
   held_peers (edit.Policies e) fits l = stays (same_in Peers) (peer_rows old.facts.peers)
@@ -106,7 +106,7 @@ module _ (old : HeldValue) (room : HeldRoom) (k : HaveTexts old) where
       (peers_keyed files.facts.content l.facts)
 
   pub held_policies : (e : HeldEdit) → Fits e (held_with old room) → HaveTexts (edited e old)
-      → IsExchange (same_in Policies) (policies_going e old) (policies_coming e) (map policy_row old.policies)
+      → IsExchange (same_in Policies) (policies_removed e old) (policies_added e) (map policy_row old.policies)
       (map policy_row (edited e old).policies)
   held_policies (edit.Facts e) fits l = stays (same_in Policies) (map policy_row old.policies)
   held_policies (edit.Policies e) fits l =
@@ -115,8 +115,8 @@ module _ (old : HeldValue) (room : HeldRoom) (k : HaveTexts old) where
   held_policies edit.Nothing fits l = stays (same_in Policies) (map policy_row old.policies)
   held_policies (edit.Files files) fits l = policies_replaced old.policies files.policies.items l.policies l.read
 
-  pub held_nodes : (e : HeldEdit) → Fits e (held_with old room) → HaveTexts (edited e old) → ProjectsComingAreRead e
-      → IsExchange (same_in Nodes) (nodes_going e old) (nodes_coming e) (flat_map node_rows old.projects)
+  pub held_nodes : (e : HeldEdit) → Fits e (held_with old room) → HaveTexts (edited e old) → AddedProjectsAreRead e
+      → IsExchange (same_in Nodes) (nodes_removed e old) (nodes_added e) (flat_map node_rows old.projects)
       (flat_map node_rows (edited e old).projects)
   held_nodes (edit.Facts e) fits l read = stays (same_in Nodes) (flat_map node_rows old.projects)
   held_nodes (edit.Policies e) fits l read = stays (same_in Nodes) (flat_map node_rows old.projects)
@@ -126,7 +126,7 @@ module _ (old : HeldValue) (room : HeldRoom) (k : HaveTexts old) where
   held_nodes (edit.Files files) fits l read = stays (same_in Nodes) (flat_map node_rows old.projects)
 
   pub held_edges : (e : HeldEdit) → Fits e (held_with old room)
-      → IsExchange (same_in Edges) (edges_going e old) (edges_coming e) (flat_map edge_rows old.projects)
+      → IsExchange (same_in Edges) (edges_removed e old) (edges_added e) (flat_map edge_rows old.projects)
       (flat_map edge_rows (edited e old).projects)
   held_edges (edit.Facts e) fits = stays (same_in Edges) (flat_map edge_rows old.projects)
   held_edges (edit.Policies e) fits = stays (same_in Edges) (flat_map edge_rows old.projects)
@@ -138,7 +138,7 @@ module _ (old : HeldValue) (room : HeldRoom) (k : HaveTexts old) where
 -- ---- only the rows that differ go and come
 
 module _ (old : HeldValue) (room : HeldRoom) (k : HaveTexts old) where
-  entries_there_held : (e : HeldEdit) → Fits e (held_with old room) → (r : Row) → IsIn r (entries_going e old)
+  entries_there_held : (e : HeldEdit) → Fits e (held_with old room) → (r : Row) → IsIn r (entries_removed e old)
       → IsIn r (all_entries old.facts)
   entries_there_held (edit.Facts e) fits r i = entries_there old.facts room.facts k.facts e fits r i
   entries_there_held (edit.Policies e) fits r i = absurd i
@@ -147,14 +147,14 @@ module _ (old : HeldValue) (room : HeldRoom) (k : HaveTexts old) where
   entries_there_held (edit.Files files) fits r i = i
 
   publishers_there_held : (e : HeldEdit) → Fits e (held_with old room) → (r : Row)
-      → IsIn r (publishers_going e old) → IsIn r (flat_map package_rows old.facts.publishers)
+      → IsIn r (publishers_removed e old) → IsIn r (flat_map package_rows old.facts.publishers)
   publishers_there_held (edit.Facts e) fits r i = publishers_there old.facts room.facts k.facts e fits r i
   publishers_there_held (edit.Policies e) fits r i = absurd i
   publishers_there_held (edit.Projects e) fits r i = absurd i
   publishers_there_held edit.Nothing fits r i = absurd i
   publishers_there_held (edit.Files files) fits r i = i
 
-  edges_there_held : (e : HeldEdit) → Fits e (held_with old room) → (r : Row) → IsIn r (edges_going e old)
+  edges_there_held : (e : HeldEdit) → Fits e (held_with old room) → (r : Row) → IsIn r (edges_removed e old)
       → IsIn r (flat_map edge_rows old.projects)
   edges_there_held (edit.Facts e) fits r i = absurd i
   edges_there_held (edit.Policies e) fits r i = absurd i
@@ -164,33 +164,33 @@ module _ (old : HeldValue) (room : HeldRoom) (k : HaveTexts old) where
   edges_there_held (edit.Files files) fits r i = absurd i
 
   pub entries_differ : (e : HeldEdit) → Fits e (held_with old room) → HaveTexts (edited e old)
-      → IsExchange (same_in Entries) (less (entries_going e old) (entries_coming e))
-      (less (entries_coming e) (entries_going e old)) (all_entries old.facts)
+      → IsExchange (same_in Entries) (less (entries_removed e old) (entries_added e))
+      (less (entries_added e) (entries_removed e old)) (all_entries old.facts)
       (all_entries (edited e old).facts)
   entries_differ e fits l =
-      differ (same_in Entries) same_row rows_decide (entries_going e old) (entries_coming e)
+      differ (same_in Entries) same_row rows_decide (entries_removed e old) (entries_added e)
       (all_entries old.facts) (all_entries (edited e old).facts) (held_entries old room k e fits l)
       (entries_there_held e fits) (entries_keyed old.facts k.facts)
 
   pub publishers_differ : (e : HeldEdit) → Fits e (held_with old room)
-      → IsExchange (same_in Publishers) (less (publishers_going e old) (publishers_coming e))
-      (less (publishers_coming e) (publishers_going e old))
+      → IsExchange (same_in Publishers) (less (publishers_removed e old) (publishers_added e))
+      (less (publishers_added e) (publishers_removed e old))
       (flat_map package_rows old.facts.publishers) (flat_map package_rows (edited e old).facts.publishers)
   publishers_differ e fits =
-      differ (same_in Publishers) same_row rows_decide (publishers_going e old) (publishers_coming e)
+      differ (same_in Publishers) same_row rows_decide (publishers_removed e old) (publishers_added e)
       (flat_map package_rows old.facts.publishers) (flat_map package_rows (edited e old).facts.publishers)
       (held_publishers old room k e fits) (publishers_there_held e fits) (publishers_keyed old.facts.publishers)
 
-  pub nodes_differ : (e : HeldEdit) → Fits e (held_with old room) → HaveTexts (edited e old) → ProjectsComingAreRead e
+  pub nodes_differ : (e : HeldEdit) → Fits e (held_with old room) → HaveTexts (edited e old) → AddedProjectsAreRead e
       → ProjectsHeldAreRead e old.projects
-      → IsExchange (same_in Nodes) (less (nodes_going e old) (nodes_coming e))
-      (less (nodes_coming e) (nodes_going e old)) (flat_map node_rows old.projects)
+      → IsExchange (same_in Nodes) (less (nodes_removed e old) (nodes_added e))
+      (less (nodes_added e) (nodes_removed e old)) (flat_map node_rows old.projects)
       (flat_map node_rows (edited e old).projects)
   nodes_differ (edit.Facts e) fits l read there = held_nodes old room k (edit.Facts e) fits l read
   nodes_differ (edit.Policies e) fits l read there = held_nodes old room k (edit.Policies e) fits l read
   nodes_differ (edit.Projects e) fits l read there =
-      differ (same_in Nodes) same_row rows_decide (nodes_going (edit.Projects e) old)
-      (nodes_coming (edit.Projects e)) (flat_map node_rows old.projects)
+      differ (same_in Nodes) same_row rows_decide (nodes_removed (edit.Projects e) old)
+      (nodes_added (edit.Projects e)) (flat_map node_rows old.projects)
       (flat_map node_rows (edited (edit.Projects e) old).projects)
       (held_nodes old room k (edit.Projects e) fits l read)
       (nodes_there e (record { items = old.projects; room = room.projects }) k.projects fits)
@@ -199,10 +199,10 @@ module _ (old : HeldValue) (room : HeldRoom) (k : HaveTexts old) where
   nodes_differ (edit.Files files) fits l read there = held_nodes old room k (edit.Files files) fits l read
 
   pub edges_differ : (e : HeldEdit) → Fits e (held_with old room)
-      → IsExchange (same_in Edges) (less (edges_going e old) (edges_coming e))
-      (less (edges_coming e) (edges_going e old)) (flat_map edge_rows old.projects)
+      → IsExchange (same_in Edges) (less (edges_removed e old) (edges_added e))
+      (less (edges_added e) (edges_removed e old)) (flat_map edge_rows old.projects)
       (flat_map edge_rows (edited e old).projects)
   edges_differ e fits =
-      differ (same_in Edges) same_row rows_decide (edges_going e old) (edges_coming e)
+      differ (same_in Edges) same_row rows_decide (edges_removed e old) (edges_added e)
       (flat_map edge_rows old.projects) (flat_map edge_rows (edited e old).projects)
       (held_edges old room k e fits) (edges_there_held e fits) (edges_keyed old.projects)

@@ -18,7 +18,7 @@ use Rattle.vet_base.proofs.ItemLemmas.{filter_in, in_all, in_append, in_back, in
 use Rattle.vet_base.proofs.ItemLemmas.{pairs_tail}
 use Rattle.vet_base.proofs.KeyedItems.{of_one_key}
 use Rattle.vet_base.proofs.KeyedLemmas.{set_at}
-use Rattle.vet_rows.specs.KeyedItems.{comes, goes}
+use Rattle.vet_rows.specs.KeyedItems.{added_item, removed_item}
 use Rattle.vet_rows.proofs.ListEdits.{at_in, in_insert, in_remove, insert_in, new_in_set, remove_in, set_in}
 
 -- one item in place of another, where either may be missing: none that stays has the key of the one that goes
@@ -193,7 +193,7 @@ module _ {K E : Type 0} (cmp : K → K → Ordering) (total : IsTotalOrder cmp)
   -- an edit that fits is one item in place of another
   pub edit_is : (change : KeyedEdit E) (items : KeyedRoom E) → IsByKey cmp key items.items
       → Fits cmp key change items
-      → IsOneForOne key (goes change items.items) (comes change) items.items (edited change items.items)
+      → IsOneForOne key (removed_item change items.items) (added_item change) items.items (edited change items.items)
   edit_is (edit.Put i e) items up fits = put_is key items.items i e
   edit_is (edit.Take i) items up fits = take_is key items.items i (keys_differ items.items up)
   edit_is (edit.Swap i e) items up fits = swap_is items.items i e up fits

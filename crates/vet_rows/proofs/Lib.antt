@@ -1,6 +1,6 @@
+pub mod AddedNumbers
 pub mod CellsRead
 pub mod ColumnsRead
-pub mod ComingNumbers
 pub mod DemandExchanges
 pub mod DependenciesRead
 pub mod DeskExchanges
@@ -10,7 +10,8 @@ pub mod FactsExchanges
 pub mod FactsInForm
 pub mod FactsMade
 pub mod FirstRead
-pub mod FitGoing
+pub mod FitChanges
+pub mod FitRemoved
 pub mod FitRows
 pub mod Gathering
 pub mod HeldExchanges

@@ -7,6 +7,7 @@ use Rattle.vet_rows.specs.RowExchanges.{exchange, exchanges}
 use Rattle.vet_rows.specs.StandingChanges.{IsOfMove, IsOfMoves, RowIsOfMoves}
 use Rattle.vet_rows.specs.declared.row_change.RowChange.{RowChange}
 use Rattle.vet_rows.specs.declared.row_change.RowChange.TheVariants.{Put, Drop}
+use Rattle.vet_tables.proofs.TablePlaces.{each as each_table}
 use Rattle.vet_tables.specs.Cells.{Row, RowsValue}
 use Rattle.vet_tables.specs.declared.table_name.TableName.{TableName}
 use Rattle.vet_tables.specs.declared.table_name.TableName.TheVariants as name
@@ -16,18 +17,8 @@ module _ (moves : List Move) (g c : RowsValue) (going : (r : Row) → IsIn r (g 
   -- of a table, the rows that go or come
   of_table : (rows : RowsValue) → ((r : Row) → IsIn r (rows name.Standing) → IsOfMove moves r) → (table : TableName)
       → (r : Row) → IsIn r (rows table) → RowIsOfMoves moves table r
-  of_table rows each name.Standing r i = each r i
-  of_table rows each name.Meta r i = tt
-  of_table rows each name.Criteria r i = tt
-  of_table rows each name.Entries r i = tt
-  of_table rows each name.Publishers r i = tt
-  of_table rows each name.Policies r i = tt
-  of_table rows each name.Peers r i = tt
-  of_table rows each name.Nodes r i = tt
-  of_table rows each name.Edges r i = tt
-  of_table rows each name.Moves r i = tt
-  of_table rows each name.Members r i = tt
-  of_table rows each name.Reviews r i = tt
+  of_table rows standing table r i =
+      each_table (λ table. (r : Row) → IsIn r (rows table) → RowIsOfMoves moves table r) (search standing) table r i
 
   of_exchange : (table : TableName) (x : RowChange) → IsIn x (exchange table (g table) (c table)) → IsOfMoves moves x
   of_exchange table x i =

@@ -7,11 +7,11 @@ use Rattle.vet_base.specs.Day.{DayValue}
 use Rattle.vet_base.specs.Items.{IsIn}
 use Rattle.vet_base.specs.Version.{IsVersion}
 use Rattle.vet_base.specs.Keyed.{IsByKey}
-use Rattle.vet_base.proofs.ItemLemmas.{all_in, in_all, in_map, map_in, pairs_head, pairs_none, pairs_tail}
+use Rattle.vet_base.proofs.ItemLemmas.{all_in, in_all, in_append, in_map, map_in, pairs_head, pairs_none, pairs_tail}
 use Rattle.std.proofs.lemmas.List.Kept.{AllPairs-cons}
 use Rattle.vet_desk.specs.Review.{review_number}
 use Rattle.vet_register.specs.declared.command.Action.TheVariants as action
-use Rattle.vet_rows.specs.ComingNumbers.{NumbersComingFit, ReviewsFit}
+use Rattle.vet_rows.specs.AddedNumbers.{AddedNumbersFit, ReviewsFit}
 use Rattle.vet_rows.specs.Numbers.{CountsFit}
 use Rattle.vet_rows.specs.RowChanges.{all_changed}
 use Rattle.vet_rows.specs.RowExchanges.{exchanges}
@@ -43,31 +43,37 @@ use Rattle.vet_register.specs.RegisterView.{HoldsDesk, IsPrepared, RegisterView}
 use Rattle.vet_register.specs.Sound.{IsSound, IsSoundHeld}
 use Rattle.vet_register.specs.State.{State, changes_of, demanded, standing}
 use Rattle.vet_register.proofs.Soundness.{standing_in_order}
-use Rattle.vet_rows.specs.ChangedRows.{members_coming, members_going, reviews_coming, reviews_going, rows_come}
-use Rattle.vet_rows.specs.ChangedRows.{rows_left}
+use Rattle.vet_rows.specs.ChangedRows.{members_added, members_removed, reviews_added, reviews_removed, rows_to_add}
+use Rattle.vet_rows.specs.ChangedRows.{rows_to_remove}
 use Rattle.vet_rows.specs.Columns.{class_or_none}
 use Rattle.vet_rows.specs.DeskRows.{member_row, review_row}
+use Rattle.vet_rows.specs.FitChanges.{Fits}
 use Rattle.vet_rows.specs.KeyTexts.{AreRead, MovesAreRead}
 use Rattle.vet_rows.specs.RowsOf.{meta_row, rows_of}
-use Rattle.vet_rows.specs.StandingChanges.{moves_coming, moves_going, recorded_moves}
+use Rattle.vet_rows.specs.StandingChanges.{clear_moves, moves_added, recorded_moves}
 use Rattle.vet_rows.specs.StandingRows.{move_row}
 use Rattle.vet_rows.specs.Numbers.{ReviewFits}
 use Rattle.vet_rows.specs.StandingChanges.{IsOfMove, IsOfMoves, leaves, moved_row, stands}
 use Rattle.vet_rows.specs.declared.row_change.RowChange.{RowChange}
-use Rattle.vet_rows.proofs.ComingNumbers.{held_entries_come, moves_come, reviews_come}
+use Rattle.vet_rows.proofs.AddedNumbers.{held_entries_come, moves_come, reviews_come}
 use Rattle.vet_rows.proofs.NumbersFit.{numbers_fit}
 use Rattle.vet_rows.proofs.OnlyStanding.{only_standing}
 use Rattle.std.specs.List.{filter}
 use Rattle.vet_base.proofs.ItemLemmas.{in_filter}
 use Rattle.vet_rows.proofs.DeskExchanges.{members_become, reviews_become}
 use Rattle.vet_rows.proofs.Exchanges.{IsExchange, stays}
+use Rattle.vet_rows.proofs.FitChanges.{all_fit}
+use Rattle.vet_rows.proofs.FitRemoved.{to_remove_fit}
+use Rattle.vet_rows.proofs.FitRows.{rows_fit}
 use Rattle.vet_rows.proofs.HeldExchanges.{HaveTexts, edges_differ, entries_differ, held_criteria, held_peers}
 use Rattle.vet_rows.proofs.HeldExchanges.{held_policies, nodes_differ, publishers_differ}
 use Rattle.vet_rows.proofs.HeldKeys.{have_keys}
-use Rattle.vet_rows.proofs.StandingExchanges.{moves_anew, moves_behind, standing_becomes}
-use Rattle.vet_rows.proofs.TableChanges.{AreExchanges, exchanges_lead}
-use Rattle.vet_tables.specs.Cells.{Row, SameRows, same_key}
-use Rattle.vet_tables.specs.Forms.{form_of, tables}
+use Rattle.vet_rows.proofs.StandingExchanges.{moves_behind, standing_becomes}
+use Rattle.vet_rows.proofs.TableChanges.{AreExchanges, changed-append, exchanges_lead}
+use Rattle.vet_tables.proofs.TablePlaces.{same_or_other}
+use Rattle.vet_tables.proofs.TableRows.{cleared_elsewhere}
+use Rattle.vet_tables.specs.Cells.{Row, RowsValue, SameRows, same_key}
+use Rattle.vet_tables.specs.Forms.{code, form_of, tables}
 use Rattle.vet_tables.specs.declared.cell.Cell.TheVariants.{Int}
 use Rattle.vet_tables.specs.declared.table_name.TableName.{TableName}
 use Rattle.vet_tables.specs.declared.table_name.TableName.TheVariants as table
@@ -145,14 +151,14 @@ pairs_unmap f R (x ∷ xs) up =
 module _ (s : State) (room : DeskRoom) where
   members_are : (e : Option DeskEdit) → HoldsDesk e (record { content = s.desk; room = room })
       → IsSound s
-      → IsExchange (same_in table.Members) (members_going e s.desk) (members_coming e) (map member_row s.desk.members)
+      → IsExchange (same_in table.Members) (members_removed e s.desk) (members_added e) (map member_row s.desk.members)
       (map member_row (desk_edited e s.desk).members)
   members_are None holds sound = stays (same_in table.Members) (map member_row s.desk.members)
   members_are (Some e) holds sound =
       members_become e.change s.desk room e.entry holds.prepared.fits sound.desk.desk.members.by_name
 
   reviews_are : (e : Option DeskEdit) (after : State) → desk_edited e s.desk ≡ after.desk → IsSound s → IsSound after
-      → IsExchange (same_in table.Reviews) (reviews_going e s.desk) (reviews_coming e s.desk)
+      → IsExchange (same_in table.Reviews) (reviews_removed e s.desk) (reviews_added e s.desk)
       (map review_row s.desk.reviews) (map review_row (desk_edited e s.desk).reviews)
   reviews_are None after is sound sound_after = stays (same_in table.Reviews) (map review_row s.desk.reviews)
   reviews_are (Some e) after is sound sound_after =
@@ -285,43 +291,75 @@ module _ {K U : Type 0} (differences : MovesAreDifferences) (least : DemandIsLea
       ]
       by (Anew counts) e j = absurd j
 
-  moves_become : IsExchange (same_in table.Moves) (moves_going change.recording s.moves) (moves_coming change.recording)
-      (map move_row s.moves) (map move_row (moves_by change.recording s.moves))
+  -- the rows once the moves are taken out, where a period begins
+  abbrev cleared_rows : RowsValue
+  cleared_rows = all_changed (clear_moves change.recording) (rows_of s)
+
+  others_stay : (name : TableName) → (code name ≡ code table.Moves → ⊥) → cleared_rows name ≡ rows_of s name
+  others_stay name apart = by change.recording
+    where
+      by : (recording : Recording) → all_changed (clear_moves recording) (rows_of s) name ≡ rows_of s name
+      by (Behind more) = refl
+      by (Anew counts) = cleared_elsewhere name table.Moves (rows_of s) apart
+
+  moves_become : IsExchange (same_in table.Moves) [] (moves_added change.recording) (cleared_rows table.Moves)
+      (map move_row (moves_by change.recording s.moves))
   moves_become = by change.recording at_step differ read.moves
     where
       by : (recording : Recording) → ((m : RecordedMove) → IsIn m (recorded_moves recording) → m.step ≡ s.step + 1)
           → AllPairs (λ (m n : RecordedMove). m.change.pair ≡ n.change.pair → ⊥) (recorded_moves recording)
           → MovesAreRead (recorded_moves recording)
-          → IsExchange (same_in table.Moves) (moves_going recording s.moves) (moves_coming recording)
-          (map move_row s.moves) (map move_row (moves_by recording s.moves))
+          → IsExchange (same_in table.Moves) [] (moves_added recording)
+          (all_changed (clear_moves recording) (rows_of s) table.Moves) (map move_row (moves_by recording s.moves))
       by (Behind behind) at apart read_moves =
           moves_behind s.moves behind.items (s.step + 1)
           (λ k d l. (let early = sound.moves.steps k d l in omega (arith, early))) at apart read_moves
-      by (Anew counts) at apart read_moves = moves_anew s.moves
+      by (Anew counts) at apart read_moves = stays (same_in table.Moves) []
 
-  pub rows_become : AreExchanges (rows_left s change) (rows_come s change) (rows_of s) (rows_of after)
-  rows_become table.Meta = meta_becomes s after
-  rows_become table.Criteria = held_criteria s.held r.room.held texts change.edit is.fits texts_after
-  rows_become table.Entries = entries_differ s.held r.room.held texts change.edit is.fits texts_after
-  rows_become table.Publishers = publishers_differ s.held r.room.held texts change.edit is.fits
-  rows_become table.Policies = held_policies s.held r.room.held texts change.edit is.fits texts_after
-  rows_become table.Peers = held_peers s.held r.room.held texts change.edit is.fits texts_after
-  rows_become table.Nodes =
+  abbrev Becomes : TableName → List Row → Type 0
+  Becomes name old =
+      IsExchange (same_in name) (rows_to_remove s change name) (rows_to_add s change name) old (rows_of after name)
+
+  others_become : (name : TableName) → (code name ≡ code table.Moves → ⊥) → Becomes name (rows_of s name)
+  others_become table.Meta apart = meta_becomes s after
+  others_become table.Criteria apart = held_criteria s.held r.room.held texts change.edit is.fits texts_after
+  others_become table.Entries apart = entries_differ s.held r.room.held texts change.edit is.fits texts_after
+  others_become table.Publishers apart = publishers_differ s.held r.room.held texts change.edit is.fits
+  others_become table.Policies apart = held_policies s.held r.room.held texts change.edit is.fits texts_after
+  others_become table.Peers apart = held_peers s.held r.room.held texts change.edit is.fits texts_after
+  others_become table.Nodes apart =
       nodes_differ s.held r.room.held texts change.edit is.fits texts_after read.projects read.projects_held
-  rows_become table.Edges = edges_differ s.held r.room.held texts change.edit is.fits
-  rows_become table.Standing =
+  others_become table.Edges apart = edges_differ s.held r.room.held texts change.edit is.fits
+  others_become table.Standing apart =
       standing_becomes (standing s) (standing after) more standing_up after_up are_moves read_stands read.moves
-  rows_become table.Moves = moves_become
-  rows_become table.Members = members_are s r.room.desk change.desk is.desk sound
-  rows_become table.Reviews = reviews_are s r.room.desk change.desk after refl sound sound_after
+  others_become table.Moves apart = absurd (apart refl)
+  others_become table.Members apart = members_are s r.room.desk change.desk is.desk sound
+  others_become table.Reviews apart = reviews_are s r.room.desk change.desk after refl sound sound_after
+
+  rows_become : AreExchanges (rows_to_remove s change) (rows_to_add s change) cleared_rows (rows_of after)
+  rows_become name = elim (same_or_other name table.Moves) [
+    | inl same ↦ subst (λ n. Becomes n (cleared_rows n)) (sym same) moves_become
+    | inr apart ↦ subst (Becomes name) (sym (others_stay name apart)) (others_become name apart)
+  ]
+
+  abbrev the_changes : List RowChange
+  the_changes = clear_moves change.recording ++ exchanges tables (rows_to_remove s change) (rows_to_add s change)
+
+  -- what is added is of the state after, so that it has the columns of its table
+  pub changes_fit : (x : RowChange) → IsIn x the_changes → Fits x
+  changes_fit =
+      all_fit (rows_to_remove s change) (rows_to_add s change) (to_remove_fit s change)
+      (λ name row i. rows_fit after name row ((rows_become name).come_in row i)) change.recording
 
   -- made in order, they lead to the rows of the next state
-  pub changes_lead : SameRows (all_changed (exchanges tables (rows_left s change) (rows_come s change)) (rows_of s))
-      (rows_of (next s c))
+  pub changes_lead : SameRows (all_changed the_changes (rows_of s)) (rows_of (next s c))
   changes_lead =
-      subst (λ t. SameRows (all_changed (exchanges tables (rows_left s change) (rows_come s change)) (rows_of s))
+      let made = changed-append (clear_moves change.recording)
+      (exchanges tables (rows_to_remove s change) (rows_to_add s change)) (rows_of s) in
+      subst (λ rows. SameRows rows (rows_of (next s c))) (sym made)
+      (subst (λ t. SameRows (all_changed (exchanges tables (rows_to_remove s change) (rows_to_add s change)) cleared_rows)
       (rows_of t)) is.step.becomes
-      (exchanges_lead (rows_left s change) (rows_come s change) (rows_of s) (rows_of after) rows_become)
+      (exchanges_lead (rows_to_remove s change) (rows_to_add s change) cleared_rows (rows_of after) rows_become))
 
   -- ---- numbers of rows that come
 
@@ -329,7 +367,7 @@ module _ {K U : Type 0} (differences : MovesAreDifferences) (least : DemandIsLea
   reviews_come_fit None fit = tt
   reviews_come_fit (Some e) fit = reviews_come e.change e.entry s.desk fit
 
-  pub numbers_come : CountsFit after.first → NumbersComingFit s change
+  pub numbers_come : CountsFit after.first → AddedNumbersFit s change
   numbers_come counts =
       let numbers = numbers_fit after sound_after in
       record {
@@ -352,12 +390,25 @@ module _ {K U : Type 0} (differences : MovesAreDifferences) (least : DemandIsLea
     ),
   )
 
-  pub standing_named : (x : RowChange) → IsIn x (exchanges tables (rows_left s change) (rows_come s change))
+  clears_no_standing : (recording : Recording) (x : RowChange) → IsIn x (clear_moves recording)
       → IsOfMoves (moves_of s c.day c.action) x
-  standing_named =
-      only_standing (moves_of s c.day c.action) (rows_left s change) (rows_come s change)
+  clears_no_standing (Behind more) x none = absurd none
+  clears_no_standing (Anew counts) x (inl is) = subst (IsOfMoves (moves_of s c.day c.action)) (sym is) tt
+  clears_no_standing (Anew counts) x (inr none) = absurd none
+
+  exchanges_no_other : (x : RowChange) → IsIn x (exchanges tables (rows_to_remove s change) (rows_to_add s change))
+      → IsOfMoves (moves_of s c.day c.action) x
+  exchanges_no_other =
+      only_standing (moves_of s c.day c.action) (rows_to_remove s change) (rows_to_add s change)
       (λ x i. (let m = in_map moved_row (filter leaves more) x i in
       of_moves x m.0 (in_filter leaves more m.0 m.1.0).0 m.1.1))
       (λ x i. (let m = in_map moved_row (filter stands more) x i in
       of_moves x m.0 (in_filter stands more m.0 m.1.0).0 m.1.1))
       tables
+
+  pub standing_named : (x : RowChange) → IsIn x the_changes → IsOfMoves (moves_of s c.day c.action) x
+  standing_named x i =
+      elim (in_append (clear_moves change.recording) (exchanges tables (rows_to_remove s change) (rows_to_add s change)) x i) [
+        | inl clears ↦ clears_no_standing change.recording x clears
+        | inr exchanged ↦ exchanges_no_other x exchanged
+      ]

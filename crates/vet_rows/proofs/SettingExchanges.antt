@@ -23,9 +23,9 @@ use Rattle.vet_entries.specs.HeldPeer.{holding_or_none, peer_name, peer_of, with
 use Rattle.vet_entries.specs.PublisherRecords.{package_of}
 use Rattle.vet_rows.specs.Columns.{own_peer}
 use Rattle.vet_rows.specs.EntryRows.{package_rows, publisher_row}
-use Rattle.vet_rows.specs.FactsRows.{criteria_coming, criteria_going, peers_coming, peers_going, publishers_coming}
-use Rattle.vet_rows.specs.FactsRows.{publishers_going, the_peer}
-use Rattle.vet_rows.specs.KeyedItems.{comes, goes, rows_if}
+use Rattle.vet_rows.specs.FactsRows.{criteria_added, criteria_removed, peers_added, peers_removed, publishers_added}
+use Rattle.vet_rows.specs.FactsRows.{publishers_removed, the_peer}
+use Rattle.vet_rows.specs.KeyedItems.{added_item, removed_item, rows_if}
 use Rattle.vet_rows.specs.SettingRows.{all_criteria, criteria_rows, criterion_row, peer_criteria, peer_row}
 use Rattle.vet_rows.proofs.Exchanges.{AreRowsOf, IsExchange, alike, gone_of, of_items, stays}
 use Rattle.vet_rows.proofs.FactsExchanges.{HaveKeys, name_of, peer_edit, put_for}
@@ -233,13 +233,13 @@ publishers_keyed packages r s i j =
 
 module _ (old : Facts) (room : Room) (k : HaveKeys old) where
   pub criteria_become : (e : Edit) → Fits e (record { content = old; room = room }) → HaveKeys (edited e old)
-      → IsExchange same_criterion (criteria_going e old) (criteria_coming e) (all_criteria old)
+      → IsExchange same_criterion (criteria_removed e old) (criteria_added e) (all_criteria old)
       (all_criteria (edited e old))
   criteria_become (edit.Criteria table) fits l = table_exchange old (edited (edit.Criteria table) old) k l refl
   criteria_become (edit.Insert place held) fits l = same_tables old (edited (edit.Insert place held) old) refl refl
   criteria_become (edit.Remove place) fits l = same_tables old (edited (edit.Remove place) old) refl refl
   criteria_become (edit.Peer change) fits l =
-      peer_tables old (edited (edit.Peer change) old) (goes change old.peers) (comes change) k l refl
+      peer_tables old (edited (edit.Peer change) old) (removed_item change old.peers) (added_item change) k l refl
       (peer_edit change old room k fits)
   criteria_become (edit.Settings settings) fits l = by (peer_of old.peers settings.name) refl fits
     where
@@ -277,13 +277,13 @@ module _ (old : Facts) (room : Room) (k : HaveKeys old) where
   criteria_become (edit.Publishers change) fits l = same_tables old (edited (edit.Publishers change) old) refl refl
 
   pub peers_become : (e : Edit) → Fits e (record { content = old; room = room }) → HaveKeys (edited e old)
-      → IsExchange same_peer (peers_going e old) (peers_coming e) (peer_rows old.peers)
+      → IsExchange same_peer (peers_removed e old) (peers_added e) (peer_rows old.peers)
       (peer_rows (edited e old).peers)
   peers_become (edit.Criteria table) fits l = stays same_peer (peer_rows old.peers)
   peers_become (edit.Insert place held) fits l = stays same_peer (peer_rows old.peers)
   peers_become (edit.Remove place) fits l = stays same_peer (peer_rows old.peers)
   peers_become (edit.Peer change) fits l =
-      settings_exchange old (edited (edit.Peer change) old) (goes change old.peers) (comes change) l
+      settings_exchange old (edited (edit.Peer change) old) (removed_item change old.peers) (added_item change) l
       (peer_edit change old room k fits)
   peers_become (edit.Settings settings) fits l = by (peer_of old.peers settings.name) refl fits l
     where
@@ -318,7 +318,7 @@ module _ (old : Facts) (room : Room) (k : HaveKeys old) where
   peers_become (edit.Publishers change) fits l = stays same_peer (peer_rows old.peers)
 
   pub publishers_become : (e : Edit) → Fits e (record { content = old; room = room })
-      → IsExchange same_publisher (publishers_going e old) (publishers_coming e) (flat_map package_rows old.publishers)
+      → IsExchange same_publisher (publishers_removed e old) (publishers_added e) (flat_map package_rows old.publishers)
       (flat_map package_rows (edited e old).publishers)
   publishers_become (edit.Criteria table) fits = stays same_publisher (flat_map package_rows old.publishers)
   publishers_become (edit.Insert place held) fits = stays same_publisher (flat_map package_rows old.publishers)
@@ -328,7 +328,7 @@ module _ (old : Facts) (room : Room) (k : HaveKeys old) where
   publishers_become (edit.Content name content) fits = stays same_publisher (flat_map package_rows old.publishers)
   publishers_become (edit.Publishers change) fits =
       let new = keyed.edited change old.publishers in
-      of_items same_publisher package_of package_rows (goes change old.publishers) (comes change)
+      of_items same_publisher package_of package_rows (removed_item change old.publishers) (added_item change)
       old.publishers new [] (flat_map package_rows old.publishers) (flat_map package_rows new)
       (λ r i. own_key table.Publishers r (publishers_fit old.publishers r i))
       (only_flat package_rows old.publishers) (only_flat package_rows new)
@@ -341,7 +341,7 @@ module _ (old : Facts) (room : Room) (k : HaveKeys old) where
 
   -- the rows that go are there
   pub publishers_there : (e : Edit) → Fits e (record { content = old; room = room }) → (r : Row)
-      → IsIn r (publishers_going e old) → IsIn r (flat_map package_rows old.publishers)
+      → IsIn r (publishers_removed e old) → IsIn r (flat_map package_rows old.publishers)
   publishers_there (edit.Criteria table) fits r i = absurd i
   publishers_there (edit.Insert place held) fits r i = absurd i
   publishers_there (edit.Remove place) fits r i = absurd i
@@ -349,7 +349,7 @@ module _ (old : Facts) (room : Room) (k : HaveKeys old) where
   publishers_there (edit.Settings settings) fits r i = absurd i
   publishers_there (edit.Content name content) fits r i = absurd i
   publishers_there (edit.Publishers change) fits r i =
-      gone_of package_rows (goes change old.publishers) old.publishers [] (flat_map package_rows old.publishers)
+      gone_of package_rows (removed_item change old.publishers) old.publishers [] (flat_map package_rows old.publishers)
       (only_flat package_rows old.publishers)
       (edit_is (slice_cmp nat_cmp) nat_list_cmp_total only_equal package_of change
       (record { items = old.publishers; room = room.packages }) k.packages fits.place).gone_from r i

@@ -27,7 +27,7 @@ use Rattle.vet_rows.specs.StandingRows.{move_row, standing_row}
 use Rattle.vet_rows.proofs.DemandExchanges.{one_version}
 use Rattle.vet_rows.proofs.Exchanges.{HasKeyOf, IsExchange}
 use Rattle.vet_rows.proofs.RowViews.{told_once}
-use Rattle.vet_rows.proofs.FitRows.{moved_fits, moves_fit}
+use Rattle.vet_rows.proofs.FitRows.{moved_fits}
 use Rattle.vet_rows.proofs.SameKeys.{own_key, same_number, same_text}
 use Rattle.vet_tables.specs.Cells.{Row, same_key as same_keys}
 use Rattle.vet_tables.specs.Forms.{form_of}
@@ -322,13 +322,4 @@ moves_behind old more step earlier now differ read = record {
             (same 2 (omega arith)) (same 3 (omega arith))))
             ∙ sym n.1.1
       ]);
-}
-
--- no move is recorded any more
-pub moves_anew : (old : List RecordedMove) → IsExchange same_move (map move_row old) [] (map move_row old) []
-moves_anew old = record {
-  come_in = λ r i. absurd i;
-  new_from = λ r i. absurd i;
-  old_to = λ r i. inr (inl (r, (i, own_key Moves r (moves_fit old r i))));
-  keyed = λ r s i. absurd i;
 }

@@ -15,13 +15,13 @@ use Rattle.vet_entries.specs.Facts as facts
 use Rattle.vet_entries.specs.Facts.{Facts}
 use Rattle.vet_entries.specs.HeldPeer.{holding_or_none, peer_name, peer_of, with_content_of, with_peer}
 use Rattle.vet_rows.specs.Columns.{own_peer}
-use Rattle.vet_rows.specs.KeyTexts.{ArePeersNamed, PeerComingIsNamed}
-use Rattle.vet_rows.specs.KeyedItems.{comes}
+use Rattle.vet_rows.specs.KeyTexts.{ArePeersNamed, AddedPeerIsNamed}
+use Rattle.vet_rows.specs.KeyedItems.{added_item}
 use Rattle.vet_rows.proofs.KeyedExchanges.{found_in, in_with}
 use Rattle.vet_rows.proofs.ListEdits.{in_insert, in_remove, in_set}
 
 pub of_edited : {E : Type 0} (P : E → Type 0) (change : KeyedEdit E) (items : List E) → ((x : E) → IsIn x items → P x)
-    → ((x : E) → comes change ≡ Some x → P x) → (x : E) → IsIn x (edited change items) → P x
+    → ((x : E) → added_item change ≡ Some x → P x) → (x : E) → IsIn x (edited change items) → P x
 of_edited P (edit.Put i e) items old new x among = elim (in_insert items i e x among) [
   | inl same ↦ subst P (sym same) (new e refl)
   | inr there ↦ old x there
@@ -41,7 +41,7 @@ put_named peers p old new x among =
       | inr there ↦ old x there.0
     ]
 
-pub peers_after : (e : Edit) (old : Facts) → ArePeersNamed old.peers → PeerComingIsNamed e
+pub peers_after : (e : Edit) (old : Facts) → ArePeersNamed old.peers → AddedPeerIsNamed e
     → ArePeersNamed (facts.edited e old).peers
 peers_after (facts_edit.Criteria table) old named new = named
 peers_after (facts_edit.Insert place held) old named new = named

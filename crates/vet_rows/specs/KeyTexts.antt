@@ -19,7 +19,7 @@ use Rattle.vet_register.specs.declared.change.Change.{Change}
 use Rattle.vet_register.specs.Held.{edited}
 use Rattle.vet_register.specs.State.{State, demanded}
 use Rattle.vet_rows.specs.Columns.{own_peer}
-use Rattle.vet_rows.specs.KeyedItems.{comes}
+use Rattle.vet_rows.specs.KeyedItems.{added_item}
 use Rattle.vet_rows.specs.StandingChanges.{recorded_moves}
 
 -- the keys of policies
@@ -34,10 +34,10 @@ PairsAreRead pairs = (p : Pair) → IsIn p pairs → IsVersion p.version
 abbrev pub NodesAreRead : NamedProject → Type 0
 NodesAreRead named = IsProject named.project × ((n : Node) → IsIn n named.project.nodes → IsVersion n.version)
 
--- of the project that comes by an edit
-abbrev pub ProjectsComingAreRead : HeldEdit → Type 0
-ProjectsComingAreRead (edit.Projects change) = (p : NamedProject) → comes change ≡ Some p → NodesAreRead p
-ProjectsComingAreRead _ = Unit {0}
+-- of the project that an edit adds
+abbrev pub AddedProjectsAreRead : HeldEdit → Type 0
+AddedProjectsAreRead (edit.Projects change) = (p : NamedProject) → added_item change ≡ Some p → NodesAreRead p
+AddedProjectsAreRead _ = Unit {0}
 
 -- of some projects
 abbrev pub ProjectsAreRead : List NamedProject → Type 0
@@ -56,11 +56,11 @@ MovesAreRead moves = (m : RecordedMove) → IsIn m moves → IsVersion m.change.
 abbrev pub ArePeersNamed : List HeldPeer → Type 0
 ArePeersNamed peers = (p : HeldPeer) → IsIn p peers → peer_name p ≡ own_peer → ⊥
 
--- nor has the one that comes by an edit of facts
-abbrev pub PeerComingIsNamed : Edit → Type 0
-PeerComingIsNamed (facts_edit.Peer change) = (p : HeldPeer) → comes change ≡ Some p → peer_name p ≡ own_peer → ⊥
-PeerComingIsNamed (facts_edit.Settings settings) = settings.name ≡ own_peer → ⊥
-PeerComingIsNamed _ = Unit {0}
+-- nor has the one that an edit of facts adds
+abbrev pub AddedPeerIsNamed : Edit → Type 0
+AddedPeerIsNamed (facts_edit.Peer change) = (p : HeldPeer) → added_item change ≡ Some p → peer_name p ≡ own_peer → ⊥
+AddedPeerIsNamed (facts_edit.Settings settings) = settings.name ≡ own_peer → ⊥
+AddedPeerIsNamed _ = Unit {0}
 
 -- all of these, before and after a change
 pub record AreRead {K U : Type 0} (s : State) (change : Change K U) : Type 0 where
@@ -68,7 +68,7 @@ pub record AreRead {K U : Type 0} (s : State) (change : Change K U) : Type 0 whe
   pub peers_after : ArePeersNamed (edited change.edit s.held).facts.peers
   pub policies : KeysAreRead s.held.policies
   pub policies_after : KeysAreRead (edited change.edit s.held).policies
-  pub projects : ProjectsComingAreRead change.edit
+  pub projects : AddedProjectsAreRead change.edit
   pub projects_held : ProjectsHeldAreRead change.edit s.held.projects
   pub pairs : PairsAreRead (demanded s)
   pub moves : MovesAreRead (recorded_moves change.recording)

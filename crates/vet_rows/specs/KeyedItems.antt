@@ -4,17 +4,17 @@ use Rattle.std.specs.List.{slice_get}
 use Rattle.vet_base.specs.declared.keyed.KeyedEdit.{KeyedEdit}
 use Rattle.vet_base.specs.declared.keyed.KeyedEdit.TheVariants as edit
 
--- the item that goes, or in whose place another comes
-abbrev pub goes : {E : Type 0} → KeyedEdit E → List E → Option E
-goes (edit.Put place e) items = None
-goes (edit.Take place) items = slice_get items place
-goes (edit.Swap place e) items = slice_get items place
+-- the item that is removed, or exchanged for another
+abbrev pub removed_item : {E : Type 0} → KeyedEdit E → List E → Option E
+removed_item (edit.Put place e) items = None
+removed_item (edit.Take place) items = slice_get items place
+removed_item (edit.Swap place e) items = slice_get items place
 
--- the item that comes
-abbrev pub comes : {E : Type 0} → KeyedEdit E → Option E
-comes (edit.Put place e) = Some e
-comes (edit.Take place) = None
-comes (edit.Swap place e) = Some e
+-- the item that is added
+abbrev pub added_item : {E : Type 0} → KeyedEdit E → Option E
+added_item (edit.Put place e) = Some e
+added_item (edit.Take place) = None
+added_item (edit.Swap place e) = Some e
 
 -- the rows of an item, if there is one
 abbrev pub rows_if : {E R : Type 0} → (E → List R) → Option E → List R

@@ -1,6 +1,6 @@
 pub mod ChangedRows
 pub mod Columns
-pub mod ComingNumbers
+pub mod AddedNumbers
 pub mod DemandRows
 pub mod DeskChanges
 pub mod DeskRows

@@ -1,4 +1,4 @@
--- The changes by which some rows go and others come (ours).
+-- The changes by which some rows are removed and others added (ours).
 use Rattle.std.specs.Cmp.Lexicographic.{pointwise}
 use Rattle.std.specs.Prelude.{◌++◌, Bool, List, [], ◌∷◌, cond, filter, map, not, true, false}
 use Rattle.std.specs.List.{list_any}
@@ -22,7 +22,7 @@ unmarked [] marks = []
 unmarked (r ∷ rows) [] = r ∷ unmarked rows []
 unmarked (r ∷ rows) (mark ∷ marks) = cond mark (unmarked rows marks) (r ∷ unmarked rows marks)
 
--- Of entries, publishers, nodes and edges there may be thousands, and a row of these that would go and come again stays
+-- Of entries, publishers, nodes and edges there may be thousands, and a row of these that would be removed and added again stays
 abbrev pub is_compared : TableName → Bool
 is_compared table.Entries = true
 is_compared table.Publishers = true
@@ -30,15 +30,15 @@ is_compared table.Nodes = true
 is_compared table.Edges = true
 is_compared _ = false
 
--- So of what goes in place of others, or comes in place of them, these are the rows that differ.
+-- So of what is removed for others, or added for them, these are the rows that differ.
 abbrev pub differing : RowsValue → RowsValue → RowsValue
 differing rows others table = cond (is_compared table) (less (rows table) (others table)) (rows table)
 
--- of one table: each row that goes is taken out, and then each that comes is put
+-- of one table: each row that is removed is dropped, and then each that is added is put
 abbrev pub exchange : TableName → List Row → List Row → List RowChange
-exchange table going coming = map (λ r. Drop table r) going ++ map (λ r. Put table r) coming
+exchange table removed added = map (λ r. Drop table r) removed ++ map (λ r. Put table r) added
 
 -- of some tables, one after the other
 abbrev pub exchanges : List TableName → RowsValue → RowsValue → List RowChange
-exchanges [] going coming = []
-exchanges (table ∷ more) going coming = exchange table (going table) (coming table) ++ exchanges more going coming
+exchanges [] removed added = []
+exchanges (table ∷ more) removed added = exchange table (removed table) (added table) ++ exchanges more removed added

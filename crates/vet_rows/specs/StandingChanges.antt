@@ -1,4 +1,4 @@
--- The rows of the standing and of moves that go and that come by what is recorded (ours).
+-- The changes of the rows of the standing and of moves by what is recorded (ours).
 use Rattle.std.specs.Prelude.{◌≡◌, Bool, List, [], ◌∷◌, filter, is_none, is_some, map}
 use Rattle.vet_base.specs.Items.{IsIn}
 use Rattle.vet_base.specs.Version.{version_text}
@@ -9,7 +9,7 @@ use Rattle.vet_register.specs.declared.moves.Recording.TheVariants.{Behind, Anew
 use Rattle.vet_rows.specs.Columns.{class_or_none}
 use Rattle.vet_rows.specs.StandingRows.{move_row}
 use Rattle.vet_rows.specs.declared.row_change.RowChange.{RowChange}
-use Rattle.vet_rows.specs.declared.row_change.RowChange.TheVariants.{Put, Drop}
+use Rattle.vet_rows.specs.declared.row_change.RowChange.TheVariants.{Put, Drop, Clear}
 use Rattle.vet_tables.specs.Cells.{Row}
 use Rattle.vet_tables.specs.declared.cell.Cell.{Cell}
 use Rattle.vet_tables.specs.declared.cell.Cell.TheVariants.{Int, Text}
@@ -34,18 +34,19 @@ leaves m = is_none m.change.after
 abbrev pub stands : RecordedMove → Bool
 stands m = is_some m.change.after
 
-abbrev pub standing_going : Recording → List Row
-standing_going recording = map moved_row (filter leaves (recorded_moves recording))
+abbrev pub standing_removed : Recording → List Row
+standing_removed recording = map moved_row (filter leaves (recorded_moves recording))
 
-abbrev pub standing_coming : Recording → List Row
-standing_coming recording = map moved_row (filter stands (recorded_moves recording))
+abbrev pub standing_added : Recording → List Row
+standing_added recording = map moved_row (filter stands (recorded_moves recording))
 
-abbrev pub moves_going : Recording → List RecordedMove → List Row
-moves_going (Behind more) moves = []
-moves_going (Anew counts) moves = map move_row moves
+-- where a period begins, no move stays
+abbrev pub clear_moves : Recording → List RowChange
+clear_moves (Behind more) = []
+clear_moves (Anew counts) = Clear table.Moves ∷ []
 
-abbrev pub moves_coming : Recording → List Row
-moves_coming recording = map move_row (recorded_moves recording)
+abbrev pub moves_added : Recording → List Row
+moves_added recording = map move_row (recorded_moves recording)
 
 -- ---- whose rows these are
 
@@ -59,7 +60,13 @@ abbrev pub RowIsOfMoves : List Move → TableName → Row → Type 0
 RowIsOfMoves moves table.Standing r = IsOfMove moves r
 RowIsOfMoves moves _ r = Unit {0}
 
+-- the standing is never emptied
+abbrev pub IsOther : TableName → Type 0
+IsOther table.Standing = ⊥
+IsOther _ = Unit {0}
+
 -- so is the row that a change puts or takes out
 abbrev pub IsOfMoves : List Move → RowChange → Type 0
 IsOfMoves moves (Put table r) = RowIsOfMoves moves table r
 IsOfMoves moves (Drop table r) = RowIsOfMoves moves table r
+IsOfMoves moves (Clear table) = IsOther table

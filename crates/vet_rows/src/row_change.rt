@@ -1,14 +1,16 @@
-//! Changes of tables, a row each.
+//! Changes of tables.
 use vet_tables::sequence::Row;
 use vet_tables::table_name::TableName;
 
-/// A change of a table by one row.
+/// A change of a table: by one row, or of all its rows.
 pub enum RowChange {
     /// Puts a row into a table, in place of the row of its key, if there is one.
     Put(TableName, Row),
     /// Takes the row of this row's key out of a table, if there is one. What stands in the other columns doesn't
     /// matter.
     Drop(TableName, Row),
+    /// Takes all rows out of a table.
+    Clear(TableName),
 }
 
 impl Drop for RowChange {
@@ -16,6 +18,7 @@ impl Drop for RowChange {
         match self {
             RowChange::Put(_, _) => {}
             RowChange::Drop(_, _) => {}
+            RowChange::Clear(_) => {}
         }
     }
 }

@@ -30,7 +30,7 @@ use vet_graph::keeper::Keeper;
 use vet_register::register::Register;
 use vet_tables::rows::Rows;
 use vet_tables::sequence::Row;
-use vet_tables::table_name::{TableName, table_at};
+use vet_tables::table_name::{TABLE_COUNT, TableName, table_at};
 
 /// The rows of a register's state: a list a table, each row once. Costs a look at each thing that is held, and a binary
 /// search for each demanded pair. Refused: `NoMemory`.
@@ -39,7 +39,7 @@ pub fn rows_of<K: Keeper>(alloc: Global, register: &Register<K>) -> Result<Rows,
     ensures memory { IfErr result (λ e. e ≡ Refusal.NoMemory) }
 {
     let mut rows = Rows::new(alloc);
-    'tables: for at in 0..12 {
+    'tables: for at in 0..TABLE_COUNT {
         rows.push(rows_in(alloc, register, table_at(at))?)?;
     }
     Ok(rows)

@@ -20,10 +20,11 @@ use Rattle.vet_tables.specs.Makes.{MakesTables}
 use Rattle.vet_tables.specs.Extends.{SparesOthers}
 use Rattle.vet_tables.specs.Free.{AreFree}
 use Rattle.vet_tables.specs.declared.table_name.TableName.{TableName}
+use Rattle.vet_tables.specs.declared.table_name.TheConstants.{TABLE_COUNT}
 
 -- ---- the tables with their first rows
 
-pub fills : (a b c : State) (change : RowsValue → RowsValue) → MakesTables a b 12 → Changes b c change
+pub fills : (a b c : State) (change : RowsValue → RowsValue) → MakesTables a b TABLE_COUNT → Changes b c change
     → FillsTables a c (change no_rows)
 fills a b c change made changes = record {
   was_open = made.was_open;

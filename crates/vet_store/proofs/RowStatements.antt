@@ -17,8 +17,10 @@ use Rattle.vet_tables.proofs.Effects.{same_contents}
 use Rattle.vet_tables.proofs.KeyedRows.{same_key_is}
 use Rattle.vet_tables.proofs.RowForms.{is_wide}
 use Rattle.vet_tables.proofs.TablePlaces.{key_within, same_or_other}
-use Rattle.vet_tables.proofs.TableRows.{added_elsewhere, added_here, dropped_elsewhere, dropped_here}
-use Rattle.vet_tables.specs.Cells.{IsRowOf, Row, RowsValue, added, contents_of, dropped, same_key, value_of, values_of}
+use Rattle.vet_tables.proofs.TableRows.{added_elsewhere, added_here, cleared_elsewhere, cleared_here}
+use Rattle.vet_tables.proofs.TableRows.{dropped_elsewhere, dropped_here}
+use Rattle.vet_tables.specs.Cells.{IsRowOf, Row, RowsValue, added, cleared, contents_of, dropped, same_key}
+use Rattle.vet_tables.specs.Cells.{value_of, values_of}
 use Rattle.vet_tables.specs.Contents as tables
 use Rattle.vet_tables.specs.Contents.{Contents}
 use Rattle.vet_tables.specs.Form.{TableForm, key_of}
@@ -88,6 +90,21 @@ pub takes : (table : TableName) (row : Row) (key : Values) (old new : State)
 takes table row key old new is h =
     changes_of old new (tables.dropped table (key_of (form_of table) (values_of row))) (dropped table row)
     (dropped_is table row) (subst (λ k. tables.Changes old new (tables.dropped table k)) is h)
+
+-- ---- all rows go
+
+cleared_is : (table : TableName) (rows : RowsValue) (n : TableName)
+    → tables.cleared table (contents_of rows) n ≡ contents_of (cleared table rows) n
+cleared_is table rows n = elim (same_or_other n table) [
+  | inl same ↦ subst (λ m. tables.cleared table (contents_of rows) m ≡ contents_of (cleared table rows) m) (sym same)
+      (effects.cleared_here table (contents_of rows) ∙ ap (map values_of) (sym (cleared_here table rows)))
+  | inr apart ↦ effects.cleared_elsewhere n table (contents_of rows) apart
+      ∙ ap (map values_of) (sym (cleared_elsewhere n table rows apart))
+]
+
+pub clears : (table : TableName) (old new : State) → tables.Changes old new (tables.cleared table)
+    → Changes old new (cleared table)
+clears table old new h = changes_of old new (tables.cleared table) (cleared table) (cleared_is table) h
 
 -- ---- what a row lends
 

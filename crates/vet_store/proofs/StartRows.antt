@@ -14,35 +14,31 @@ use Rattle.vet_rows.specs.Columns.{own_peer}
 use Rattle.vet_rows.specs.RowsOf.{meta_row, rows_of}
 use Rattle.vet_rows.specs.SettingRows.{criterion_row}
 use Rattle.vet_rows.specs.StandingRows.{standing_row}
+use Rattle.vet_tables.proofs.TablePlaces.{each}
 use Rattle.vet_tables.specs.Cells.{no_rows, put}
 use Rattle.vet_tables.specs.declared.table_name.TableName.{TableName}
-use Rattle.vet_tables.specs.declared.table_name.TableName.TheVariants.{Meta, Criteria, Entries, Publishers, Policies}
-use Rattle.vet_tables.specs.declared.table_name.TableName.TheVariants.{Peers}
-use Rattle.vet_tables.specs.declared.table_name.TableName.TheVariants.{Nodes, Edges, Standing, Moves, Members, Reviews}
+use Rattle.vet_tables.specs.declared.table_name.TableName.TheVariants.{Criteria, Meta, Standing}
 
 nothing_among : {X : Type 0} (xs : List X) → SameItems xs [] → xs ≡ []
 nothing_among [] same = refl
 nothing_among (x ∷ xs) same = absurd (same.0 x (inl refl))
 
-none_further : further built_in_criteria ≡ []
+pub none_further : further built_in_criteria ≡ []
 none_further = nothing_among (further built_in_criteria) (further_are_defined [] (search rules) (search rules)).0
 
-at_table : NothingIsDemanded → (limit : ℕ) (n : TableName)
-    → rows_of (start limit) n ≡ put Meta (meta_row (start limit)) no_rows n
-at_table law limit Meta = refl
-at_table law limit Criteria =
-    ap (λ (criteria : List Criterion). map (criterion_row own_peer) criteria ++ []) none_further
-at_table law limit Entries = refl
-at_table law limit Publishers = refl
-at_table law limit Policies = refl
-at_table law limit Peers = refl
-at_table law limit Nodes = refl
-at_table law limit Edges = refl
-at_table law limit Standing =
+-- the tables that have a row for each thing of some
+abbrev IsAtStart : ℕ → TableName → Type 0
+IsAtStart limit n = rows_of (start limit) n ≡ put Meta (meta_row (start limit)) no_rows n
+
+no_criteria : (limit : ℕ) → IsAtStart limit Criteria
+no_criteria limit = ap (λ (criteria : List Criterion). map (criterion_row own_peer) criteria ++ []) none_further
+
+no_standing : NothingIsDemanded → (limit : ℕ) → IsAtStart limit Standing
+no_standing law limit =
     ap (λ (demand : List Pair). map standing_row (standing_of no_facts demand)) (law [] built_in_criteria)
-at_table law limit Moves = refl
-at_table law limit Members = refl
-at_table law limit Reviews = refl
+
+at_table : NothingIsDemanded → (limit : ℕ) (n : TableName) → IsAtStart limit n
+at_table law limit n = each (IsAtStart limit) (search (no_criteria limit, no_standing law limit)) n
 
 -- just the one row of `meta`
 pub start_rows : NothingIsDemanded → (limit : ℕ) → rows_of (start limit) ≡ put Meta (meta_row (start limit)) no_rows

@@ -11,7 +11,7 @@ ghost use Rattle.vet_store.specs.Made.{FillsTables};
 ghost use Rattle.vet_tables.specs.Cells.{no_rows};
 ghost use Rattle.vet_tables.specs.Makes.{MakesTables};
 
-use crate::statements::{drop_row, put};
+use crate::statements::{clear, drop_row, put};
 use sqlite::{Alter, Error, Transaction};
 use std::alloc::Global;
 use vet_rows::row_change::RowChange;
@@ -33,6 +33,7 @@ fn apply<S: Alter>(
     match change {
         RowChange::Put(table, row) => put(alloc, tx, *table, row),
         RowChange::Drop(table, row) => drop_row(alloc, tx, *table, row),
+        RowChange::Clear(table) => clear(tx, *table),
     }
 }
 

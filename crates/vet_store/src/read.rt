@@ -12,7 +12,7 @@ use crate::read_table::read_table;
 use sqlite::{Alter, Connection, Error};
 use std::alloc::Global;
 use vet_tables::rows::Rows;
-use vet_tables::table_name::table_at;
+use vet_tables::table_name::{TABLE_COUNT, table_at};
 
 /// The rows of the tables, each table's read one at a time. None where a cell isn't of the type of its column.
 pub fn read_rows<S: Alter>(alloc: Global, conn: &mut Connection<S>) -> Result<Option<Rows>, Error>
@@ -30,7 +30,7 @@ pub fn read_rows<S: Alter>(alloc: Global, conn: &mut Connection<S>) -> Result<Op
 {
     let _live = conn.schema();
     let mut rows = Rows::new(alloc);
-    'tables: for at in 0..12 {
+    'tables: for at in 0..TABLE_COUNT {
         let Some(found) = read_table(alloc, conn, table_at(at))? else {
             return Ok(None);
         };

@@ -1,10 +1,10 @@
-//! Rows that are put and dropped inside a transaction.
+//! Rows that are put into tables and taken out inside a transaction.
 ghost use Rattle.sqlite.specs.Held.{state};
 ghost use Rattle.sqlite.specs.State.{HasCleanDisk, KeepsCommit, Survives};
 ghost use Rattle.sqlite.specs.Values.{bound};
 ghost use Rattle.std.specs.Prelude.{◌≡◌, IsTrue, OnOk};
 ghost use Rattle.vet_store.specs.Changes.{Changes, TellsRow};
-ghost use Rattle.vet_tables.specs.Cells.{IsRowOf, Row as RowValue, added, dropped, put, values_of};
+ghost use Rattle.vet_tables.specs.Cells.{IsRowOf, Row as RowValue, added, cleared, dropped, put, values_of};
 ghost use Rattle.vet_tables.specs.Form.{key_of};
 ghost use Rattle.vet_tables.specs.Forms.{form_of};
 
@@ -53,6 +53,19 @@ pub fn drop_row<S: Alter>(
 {
     let cells = lend_all(alloc, row.as_slice())?;
     drop_cells(tx, table, cells.as_slice())
+}
+
+/// Takes all rows out of a table.
+pub fn clear<S: Alter>(tx: &mut Transaction<'_, S>, table: TableName) -> Result<(), Error>
+    ensures same_reference { tx.new.conn.ghost_name ≡ tx.old.conn.ghost_name }
+    ensures changes { HasCleanDisk (state S.Store tx.new.conn.now) → IsTrue tx.old.conn.now.in_transaction
+        → OnOk result (Changes (state S.Store tx.old.conn.now) (state S.Store tx.new.conn.now) (cleared table)) }
+    ensures kept { HasCleanDisk (state S.Store tx.new.conn.now)
+        → KeepsCommit (state S.Store tx.old.conn.now) (state S.Store tx.new.conn.now) }
+    ensures survives { Survives (state S.Store tx.old.conn.now) (state S.Store tx.new.conn.now) (λ _. ⊥) }
+{
+    statements::clear(tx, table)?;
+    Ok(())
 }
 
 // Puts the row of these cells.

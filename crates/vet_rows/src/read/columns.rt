@@ -153,14 +153,14 @@ pub(crate) fn number(column: i64) -> Result<u64, Unread>
 
 /// A user. Takes no memory.
 pub(crate) fn user(column: i64) -> Result<User, Unread>
-    ensures { (u : ℕ) → IsUser u → column ≡ pos u → result ≡ Ok u }
+    ensures { (u : ℕ) → column ≡ pos u → IsUser u → result ≡ Ok u }
 {
     found(User::new(number(column)?))
 }
 
 /// A day. Takes no memory.
 pub(crate) fn day(column: i64) -> Result<Day, Unread>
-    ensures { (d : DayValue) → IsDay d → column ≡ day_number d → result ≡ Ok d }
+    ensures { (d : DayValue) → column ≡ day_number d → IsDay d → result ≡ Ok d }
 {
     found(Day::of_number(column))
 }

@@ -4,7 +4,6 @@ ghost use Rattle.vet_rows.specs.ReadBack.{IsWritten, Reads};
 ghost use Rattle.vet_rows.specs.ReadFacts.{IsSourcedCriterion, sourced_criterion_row};
 ghost use Rattle.vet_rows.specs.declared.read.criteria.SourcedCriterion.{SourcedCriterion as SourcedValue};
 
-use crate::read::cells::{blob_at, text_at};
 use crate::read::columns::{name, names, optional_text, source};
 use crate::read::from_row::FromRow;
 use crate::read::sourced::Sourced;
@@ -12,6 +11,7 @@ use crate::read::unread::Unread;
 use std::alloc::Global;
 use vet_base::criterion::Criterion;
 use vet_entries::entry::Source;
+use vet_tables::cell::Cell;
 use vet_tables::sequence::Row;
 
 /// A criterion, and whose it is.
@@ -54,8 +54,11 @@ impl FromRow for SourcedCriterion {
     ghost stands_for = { IsWritten IsSourcedCriterion sourced_criterion_row };
 
     fn from_row(alloc: Global, row: &Row) -> Result<SourcedCriterion, Unread> {
+        let [Cell::Text(peer), ..] = row.as_slice() else {
+            return Err(Unread::NotARegister);
+        };
         Ok(SourcedCriterion {
-            source: source(alloc, text_at(row, 0)?)?,
+            source: source(alloc, peer.as_str())?,
             criterion: criterion(alloc, row)?,
         })
     }
@@ -66,10 +69,20 @@ fn criterion(alloc: Global, row: &Row) -> Result<Criterion, Unread>
     ensures { (c : SourcedValue) → IsWritten IsSourcedCriterion sourced_criterion_row row.now c
         → Reads result c.criterion }
 {
+    let [
+        _,
+        Cell::Text(of_name),
+        Cell::Blob(about),
+        Cell::Blob(url),
+        Cell::Blob(implied),
+    ] = row.as_slice()
+    else {
+        return Err(Unread::NotARegister);
+    };
     Ok(Criterion {
-        name: name(alloc, text_at(row, 1)?)?,
-        description: optional_text(alloc, blob_at(row, 2)?)?,
-        url: optional_text(alloc, blob_at(row, 3)?)?,
-        implies: names(alloc, blob_at(row, 4)?)?,
+        name: name(alloc, of_name.as_str())?,
+        description: optional_text(alloc, about.as_slice())?,
+        url: optional_text(alloc, url.as_slice())?,
+        implies: names(alloc, implied.as_slice())?,
     })
 }

@@ -6,20 +6,24 @@ ghost use Rattle.vet_rows.specs.HeldValues.{IsReview};
 ghost use Rattle.vet_rows.specs.ReadBack.{IsWritten, Reads};
 ghost use Rattle.vet_rows.specs.Values.{IsName};
 
-use crate::read::cells::{blob_at, int_at, text_at};
+use crate::read::cells::{int_at, text_at};
 use crate::read::columns::{day, name, names, number, package_name, version};
 use crate::read::from_row::FromRow;
 use crate::read::unread::Unread;
 use std::alloc::Global;
 use vet_base::name::Name;
 use vet_desk::review::{Review, ReviewState};
+use vet_tables::cell::Cell;
 use vet_tables::sequence::Row;
 
 impl FromRow for Name {
     ghost stands_for = { IsWritten IsName member_row };
 
     fn from_row(alloc: Global, row: &Row) -> Result<Name, Unread> {
-        name(alloc, text_at(row, 0)?)
+        let [Cell::Text(member)] = row.as_slice() else {
+            return Err(Unread::NotARegister);
+        };
+        name(alloc, member.as_str())
     }
 }
 
@@ -27,12 +31,25 @@ impl FromRow for Review {
     ghost stands_for = { IsWritten IsReview review_row };
 
     fn from_row(alloc: Global, row: &Row) -> Result<Review, Unread> {
+        let [
+            Cell::Int(of_number),
+            Cell::Text(package),
+            Cell::Text(of_version),
+            Cell::Blob(criteria),
+            Cell::Int(on_day),
+            ..
+        ] = row.as_slice()
+        else {
+            return Err(Unread::NotARegister);
+        };
+        let number = number(*of_number)?;
+        let day = day(*on_day)?;
         Ok(Review {
-            number: number(int_at(row, 0)?)?,
-            package: package_name(alloc, text_at(row, 1)?)?,
-            version: version(alloc, text_at(row, 2)?)?,
-            criteria: names(alloc, blob_at(row, 3)?)?,
-            day: day(int_at(row, 4)?)?,
+            number,
+            package: package_name(alloc, package.as_str())?,
+            version: version(alloc, of_version.as_str())?,
+            criteria: names(alloc, criteria.as_slice())?,
+            day,
             state: review_state(alloc, row)?,
         })
     }

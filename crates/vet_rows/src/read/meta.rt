@@ -8,13 +8,13 @@ ghost use Rattle.vet_rows.specs.ReadValues.{IsMeta};
 ghost use Rattle.vet_rows.specs.declared.meta.Meta.{Meta as MetaValue};
 
 use crate::meta::{Meta, MetaNumbers};
-use crate::read::cells::{blob_at, int_at};
 use crate::read::columns::{number, optional_names, optional_text};
 use crate::read::from_row::FromRow;
 use crate::read::unread::{Unread, found};
 use std::alloc::Global;
 use vet_graph::standing::Counts;
 use vet_register::tool_settings::ToolSettings;
+use vet_tables::cell::Cell;
 use vet_tables::sequence::Row;
 
 /// The version of the form of the tables.
@@ -44,10 +44,13 @@ impl FromRow for Meta {
 fn check_form(row: &Row) -> Result<(), Unread>
     ensures { (m : MetaValue) → row.now ≡ row_of_meta m → result ≡ Ok tt }
 {
-    if number(int_at(row, 0)?)? != 1 {
+    let [Cell::Int(one), Cell::Int(form), ..] = row.as_slice() else {
+        return Err(Unread::NotARegister);
+    };
+    if number(*one)? != 1 {
         return Err(Unread::NotARegister);
     }
-    if number(int_at(row, 1)?)? != FORM {
+    if number(*form)? != FORM {
         return Err(Unread::NotARegister);
     }
     Ok(())
@@ -57,11 +60,23 @@ fn check_form(row: &Row) -> Result<(), Unread>
 fn numbers(row: &Row) -> Result<MetaNumbers, Unread>
     ensures { (m : MetaValue) → row.now ≡ row_of_meta m → result ≡ Ok m.numbers }
 {
+    let [
+        _,
+        _,
+        Cell::Int(step),
+        Cell::Int(next_entry),
+        Cell::Int(next_review),
+        Cell::Int(moves_limit),
+        ..
+    ] = row.as_slice()
+    else {
+        return Err(Unread::NotARegister);
+    };
     Ok(MetaNumbers {
-        step: number(int_at(row, 2)?)?,
-        next_entry: number(int_at(row, 3)?)?,
-        next_review: number(int_at(row, 4)?)?,
-        moves_limit: number(int_at(row, 5)?)? as usize,
+        step: number(*step)?,
+        next_entry: number(*next_entry)?,
+        next_review: number(*next_review)?,
+        moves_limit: number(*moves_limit)? as usize,
     })
 }
 
@@ -69,12 +84,25 @@ fn numbers(row: &Row) -> Result<MetaNumbers, Unread>
 fn first_counts(row: &Row) -> Result<Counts, Unread>
     ensures { (m : MetaValue) → row.now ≡ row_of_meta m → result ≡ Ok m.first }
 {
+    let [
+        ..,
+        Cell::Int(conflicting),
+        Cell::Int(full),
+        Cell::Int(partial),
+        Cell::Int(exempted),
+        Cell::Int(unvetted),
+        _,
+        _,
+    ] = row.as_slice()
+    else {
+        return Err(Unread::NotARegister);
+    };
     Ok(Counts {
-        conflicting: number(int_at(row, 6)?)?,
-        full: number(int_at(row, 7)?)?,
-        partial: number(int_at(row, 8)?)?,
-        exempted: number(int_at(row, 9)?)?,
-        unvetted: number(int_at(row, 10)?)?,
+        conflicting: number(*conflicting)?,
+        full: number(*full)?,
+        partial: number(*partial)?,
+        exempted: number(*exempted)?,
+        unvetted: number(*unvetted)?,
     })
 }
 
@@ -82,8 +110,11 @@ fn first_counts(row: &Row) -> Result<Counts, Unread>
 fn settings(alloc: Global, row: &Row) -> Result<ToolSettings, Unread>
     ensures { (m : MetaValue) → AreSettings m.settings → row.now ≡ row_of_meta m → Reads result m.settings }
 {
+    let [.., Cell::Blob(of_version), Cell::Blob(criteria)] = row.as_slice() else {
+        return Err(Unread::NotARegister);
+    };
     Ok(ToolSettings {
-        vet_version: optional_text(alloc, blob_at(row, 11)?)?,
-        default_criteria: optional_names(alloc, blob_at(row, 12)?)?,
+        vet_version: optional_text(alloc, of_version.as_slice())?,
+        default_criteria: optional_names(alloc, criteria.as_slice())?,
     })
 }

@@ -11,7 +11,6 @@ ghost use Rattle.vet_rows.specs.MoveOrder.{recorded_cmp, recorded_total};
 ghost use Rattle.vet_rows.specs.ReadBack.{IsWritten, Reads};
 ghost use Rattle.vet_rows.specs.StandingRows.{move_row};
 
-use crate::read::cells::{int_at, text_at};
 use crate::read::columns::{day, name, number, package_name, version};
 use crate::read::from_row::{FromRow, read_rows};
 use crate::read::unread::Unread;
@@ -23,6 +22,7 @@ use vet_demand::pair::Pair;
 use vet_graph::class::Class;
 use vet_graph::moves::Move;
 use vet_register::moves::RecordedMove;
+use vet_tables::cell::Cell;
 use vet_tables::sequence::Row;
 
 /// A move, ordered by its step and then by its pair.
@@ -95,9 +95,12 @@ impl FromRow for OrderedMove {
     ghost stands_for = { IsWritten IsRecordedMove move_row };
 
     fn from_row(alloc: Global, row: &Row) -> Result<OrderedMove, Unread> {
+        let [Cell::Int(step), _, _, _, Cell::Int(on_day), ..] = row.as_slice() else {
+            return Err(Unread::NotARegister);
+        };
         let recorded = RecordedMove {
-            step: number(int_at(row, 0)?)?,
-            day: day(int_at(row, 4)?)?,
+            step: number(*step)?,
+            day: day(*on_day)?,
             change: change(alloc, row)?,
         };
         Ok(OrderedMove { recorded })
@@ -108,10 +111,15 @@ impl FromRow for OrderedMove {
 fn change(alloc: Global, row: &Row) -> Result<Move, Unread>
     ensures { (m : RecordedValue) → IsWritten IsRecordedMove move_row row.now m → Reads result m.change }
 {
+    let [_, _, _, _, _, Cell::Int(before), Cell::Int(after)] = row.as_slice() else {
+        return Err(Unread::NotARegister);
+    };
+    let before = class_or_none(*before)?;
+    let after = class_or_none(*after)?;
     Ok(Move {
         pair: pair(alloc, row)?,
-        before: class_or_none(int_at(row, 5)?)?,
-        after: class_or_none(int_at(row, 6)?)?,
+        before,
+        after,
     })
 }
 
@@ -119,10 +127,20 @@ fn change(alloc: Global, row: &Row) -> Result<Move, Unread>
 fn pair(alloc: Global, row: &Row) -> Result<Pair, Unread>
     ensures { (m : RecordedValue) → IsWritten IsRecordedMove move_row row.now m → Reads result m.change.pair }
 {
+    let [
+        _,
+        Cell::Text(package),
+        Cell::Text(of_version),
+        Cell::Text(criterion),
+        ..
+    ] = row.as_slice()
+    else {
+        return Err(Unread::NotARegister);
+    };
     Ok(Pair {
-        package: package_name(alloc, text_at(row, 1)?)?,
-        version: version(alloc, text_at(row, 2)?)?,
-        criterion: name(alloc, text_at(row, 3)?)?,
+        package: package_name(alloc, package.as_str())?,
+        version: version(alloc, of_version.as_str())?,
+        criterion: name(alloc, criterion.as_str())?,
     })
 }
 

@@ -4,7 +4,6 @@ ghost use Rattle.vet_rows.specs.ReadBack.{IsReadBack, IsWritten};
 ghost use Rattle.vet_rows.specs.ReadFacts.{IsCriteriaMap, IsPeerSettings, criteria_map_column, mapped_criterion};
 ghost use Rattle.vet_rows.specs.SettingRows.{peer_row};
 
-use crate::read::cells::{blob_at, text_at};
 use crate::read::columns::{name, packages, texts};
 use crate::read::from_row::FromRow;
 use crate::read::gathered::Filed;
@@ -15,17 +14,27 @@ use vet_base::name::Name;
 use vet_base::names::Names;
 use vet_entries::criteria_map::{CriteriaMap, MappedCriterion};
 use vet_entries::peer_settings::PeerSettings;
+use vet_tables::cell::Cell;
 use vet_tables::sequence::Row;
 
 impl FromRow for PeerSettings {
     ghost stands_for = { IsWritten IsPeerSettings peer_row };
 
     fn from_row(alloc: Global, row: &Row) -> Result<PeerSettings, Unread> {
+        let [
+            Cell::Text(of_name),
+            Cell::Blob(urls),
+            Cell::Blob(excluded),
+            Cell::Blob(mapped),
+        ] = row.as_slice()
+        else {
+            return Err(Unread::NotARegister);
+        };
         Ok(PeerSettings {
-            name: name(alloc, text_at(row, 0)?)?,
-            url: texts(alloc, blob_at(row, 1)?)?,
-            exclude: packages(alloc, blob_at(row, 2)?)?,
-            map: criteria_map(alloc, blob_at(row, 3)?)?,
+            name: name(alloc, of_name.as_str())?,
+            url: texts(alloc, urls.as_slice())?,
+            exclude: packages(alloc, excluded.as_slice())?,
+            map: criteria_map(alloc, mapped.as_slice())?,
         })
     }
 }

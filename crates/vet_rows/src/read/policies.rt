@@ -6,7 +6,6 @@ ghost use Rattle.vet_rows.specs.ReadBack.{IsReadBack, IsWritten, Reads};
 ghost use Rattle.vet_rows.specs.ReadValues.{dependency_column, dependency_of};
 ghost use Rattle.vet_rows.specs.SettingRows.{policy_row};
 
-use crate::read::cells::{blob_at, int_at, text_at};
 use crate::read::columns::{flag, optional_names, optional_text, policy_key};
 use crate::read::from_row::FromRow;
 use crate::read::gathered::Filed;
@@ -18,14 +17,18 @@ use vet_base::names::Names;
 use vet_demand::dependency_criteria::{DependencyCriteria, DependencyItem};
 use vet_demand::policies::KeyedPolicy;
 use vet_demand::policy::Policy;
+use vet_tables::cell::Cell;
 use vet_tables::sequence::Row;
 
 impl FromRow for KeyedPolicy {
     ghost stands_for = { IsWritten IsKeyedPolicy policy_row };
 
     fn from_row(alloc: Global, row: &Row) -> Result<KeyedPolicy, Unread> {
+        let [Cell::Text(key), ..] = row.as_slice() else {
+            return Err(Unread::NotARegister);
+        };
         Ok(KeyedPolicy {
-            key: policy_key(alloc, text_at(row, 0)?)?,
+            key: policy_key(alloc, key.as_str())?,
             policy: policy(alloc, row)?,
         })
     }
@@ -35,12 +38,23 @@ impl FromRow for KeyedPolicy {
 fn policy(alloc: Global, row: &Row) -> Result<Policy, Unread>
     ensures { (p : PolicyValue) → IsWritten IsKeyedPolicy policy_row row.now p → Reads result p.policy }
 {
+    let [
+        _,
+        Cell::Int(as_crates),
+        Cell::Blob(criteria),
+        Cell::Blob(dev),
+        Cell::Blob(dependency),
+        Cell::Blob(notes),
+    ] = row.as_slice()
+    else {
+        return Err(Unread::NotARegister);
+    };
     Ok(Policy {
-        audit_as_crates_io: flag(int_at(row, 1)?)?,
-        criteria: optional_names(alloc, blob_at(row, 2)?)?,
-        dev_criteria: optional_names(alloc, blob_at(row, 3)?)?,
-        dependency_criteria: dependencies(alloc, blob_at(row, 4)?)?,
-        notes: optional_text(alloc, blob_at(row, 5)?)?,
+        audit_as_crates_io: flag(*as_crates)?,
+        criteria: optional_names(alloc, criteria.as_slice())?,
+        dev_criteria: optional_names(alloc, dev.as_slice())?,
+        dependency_criteria: dependencies(alloc, dependency.as_slice())?,
+        notes: optional_text(alloc, notes.as_slice())?,
     })
 }
 

@@ -28,7 +28,6 @@ ghost use Rattle.vet_rows.specs.declared.read.projects.End.{End as EndValue};
 ghost use Rattle.vet_rows.specs.declared.read.projects.Ends.{Ends as EndsValue};
 ghost use Rattle.vet_tables.specs.declared.cell.Cell.TheVariants.{Text};
 
-use crate::read::cells::{int_at, text_at};
 use crate::read::columns::{package_name, version};
 use crate::read::from_row::{FromRow, read_rows};
 use crate::read::gathered::{Filed, Group, gather};
@@ -39,6 +38,7 @@ use vet_base::name::PackageName;
 use vet_base::ranked::rank;
 use vet_base::version::VetVersion;
 use vet_demand::project::{Edge, EdgeKind, NamedProject, Node, Party, Project};
+use vet_tables::cell::Cell;
 use vet_tables::sequence::Row;
 
 /// A version of a package, as an end of an edge.
@@ -77,8 +77,11 @@ impl FromRow for Filed<PackageName, Node> {
     ghost stands_for = { IsWritten IsFiledNode filed_node_row };
 
     fn from_row(alloc: Global, row: &Row) -> Result<Filed<PackageName, Node>, Unread> {
+        let [Cell::Text(project), ..] = row.as_slice() else {
+            return Err(Unread::NotARegister);
+        };
         Ok(Filed {
-            key: package_name(alloc, text_at(row, 0)?)?,
+            key: package_name(alloc, project.as_str())?,
             item: node(alloc, row)?,
         })
     }
@@ -88,10 +91,19 @@ impl FromRow for Filed<PackageName, Node> {
 fn node(alloc: Global, row: &Row) -> Result<Node, Unread>
     ensures { (f : FiledValue Name NodeValue) → IsWritten IsFiledNode filed_node_row row.now f → Reads result f.item }
 {
+    let [
+        _,
+        Cell::Text(package),
+        Cell::Text(of_version),
+        Cell::Int(of_party),
+    ] = row.as_slice()
+    else {
+        return Err(Unread::NotARegister);
+    };
     Ok(Node {
-        package: package_name(alloc, text_at(row, 1)?)?,
-        version: version(alloc, text_at(row, 2)?)?,
-        party: party(int_at(row, 3)?)?,
+        package: package_name(alloc, package.as_str())?,
+        version: version(alloc, of_version.as_str())?,
+        party: party(*of_party)?,
     })
 }
 
@@ -99,8 +111,11 @@ impl FromRow for Filed<PackageName, Ends> {
     ghost stands_for = { IsWritten IsFiledEnds filed_ends_row };
 
     fn from_row(alloc: Global, row: &Row) -> Result<Filed<PackageName, Ends>, Unread> {
+        let [Cell::Text(project), ..] = row.as_slice() else {
+            return Err(Unread::NotARegister);
+        };
         Ok(Filed {
-            key: package_name(alloc, text_at(row, 0)?)?,
+            key: package_name(alloc, project.as_str())?,
             item: edge_ends(alloc, row)?,
         })
     }
@@ -110,22 +125,33 @@ impl FromRow for Filed<PackageName, Ends> {
 fn edge_ends(alloc: Global, row: &Row) -> Result<Ends, Unread>
     ensures { (f : FiledValue Name EndsValue) → IsWritten IsFiledEnds filed_ends_row row.now f → Reads result f.item }
 {
+    let [
+        _,
+        Cell::Text(from),
+        Cell::Text(from_version),
+        Cell::Text(to),
+        Cell::Text(to_version),
+        Cell::Int(of_kind),
+    ] = row.as_slice()
+    else {
+        return Err(Unread::NotARegister);
+    };
+    let kind = kind(*of_kind)?;
     Ok(Ends {
-        from: end_at(alloc, row, 1)?,
-        to: end_at(alloc, row, 3)?,
-        kind: kind(int_at(row, 5)?)?,
+        from: read_end(alloc, from.as_str(), from_version.as_str())?,
+        to: read_end(alloc, to.as_str(), to_version.as_str())?,
+        kind,
     })
 }
 
-// A version of a package, whose name stands at a place and its version behind it.
-fn end_at(alloc: Global, row: &Row, at: usize) -> Result<End, Unread>
-    requires { at < 5 }
-    ensures { (e : EndValue) → IsEnd e → slice_get row.now at ≡ Some (Text e.«package»)
-        → slice_get row.now (at + 1) ≡ Some (Text (version_text e.version)) → Reads result e }
+// A version of a package.
+fn read_end(alloc: Global, of_package: &str, of_version: &str) -> Result<End, Unread>
+    ensures { (e : EndValue) → IsEnd e → of_package.now ≡ e.«package» → of_version.now ≡ version_text e.version
+        → Reads result e }
 {
     Ok(End {
-        package: package_name(alloc, text_at(row, at)?)?,
-        version: version(alloc, text_at(row, at + 1)?)?,
+        package: package_name(alloc, of_package)?,
+        version: version(alloc, of_version)?,
     })
 }
 

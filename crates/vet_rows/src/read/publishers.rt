@@ -5,7 +5,6 @@ ghost use Rattle.vet_rows.specs.ReadBack.{IsWritten, Reads};
 ghost use Rattle.vet_rows.specs.ReadFacts.{IsFiledPublisher, filed_publisher_row};
 ghost use Rattle.vet_rows.specs.declared.read.gathered.Filed.{Filed as FiledValue};
 
-use crate::read::cells::{blob_at, int_at, text_at};
 use crate::read::columns::{day, optional_text, package_name, user, version};
 use crate::read::from_row::FromRow;
 use crate::read::gathered::Filed;
@@ -13,14 +12,18 @@ use crate::read::unread::Unread;
 use std::alloc::Global;
 use vet_base::name::PackageName;
 use vet_entries::publisher::Publisher;
+use vet_tables::cell::Cell;
 use vet_tables::sequence::Row;
 
 impl FromRow for Filed<PackageName, Publisher> {
     ghost stands_for = { IsWritten IsFiledPublisher filed_publisher_row };
 
     fn from_row(alloc: Global, row: &Row) -> Result<Filed<PackageName, Publisher>, Unread> {
+        let [Cell::Text(package), ..] = row.as_slice() else {
+            return Err(Unread::NotARegister);
+        };
         Ok(Filed {
-            key: package_name(alloc, text_at(row, 0)?)?,
+            key: package_name(alloc, package.as_str())?,
             item: publisher(alloc, row)?,
         })
     }
@@ -31,11 +34,24 @@ fn publisher(alloc: Global, row: &Row) -> Result<Publisher, Unread>
     ensures { (f : FiledValue Name PublisherValue) → IsWritten IsFiledPublisher filed_publisher_row row.now f
         → Reads result f.item }
 {
+    let [
+        _,
+        Cell::Text(of_version),
+        Cell::Int(of_user),
+        Cell::Int(on_day),
+        Cell::Blob(login),
+        Cell::Blob(name),
+    ] = row.as_slice()
+    else {
+        return Err(Unread::NotARegister);
+    };
+    let user = user(*of_user)?;
+    let day = day(*on_day)?;
     Ok(Publisher {
-        version: version(alloc, text_at(row, 1)?)?,
-        user: user(int_at(row, 2)?)?,
-        day: day(int_at(row, 3)?)?,
-        login: optional_text(alloc, blob_at(row, 4)?)?,
-        name: optional_text(alloc, blob_at(row, 5)?)?,
+        version: version(alloc, of_version.as_str())?,
+        user,
+        day,
+        login: optional_text(alloc, login.as_slice())?,
+        name: optional_text(alloc, name.as_slice())?,
     })
 }

@@ -1,15 +1,15 @@
-//! The rows of the review desk that go and that come by a change of the desk.
+//! The rows of the review desk that are removed and added by a change of the desk.
 ghost use Rattle.std.specs.Option.{option_copied};
 ghost use Rattle.std.specs.Prelude.{◌≡◌, IfOk, Some, option_map};
 ghost use Rattle.std.specs.List.{All};
 ghost use Rattle.vet_desk.specs.Review.{in_state};
-ghost use Rattle.vet_rows.specs.ComingNumbers.{ReviewsComingFit};
-ghost use Rattle.vet_rows.specs.DeskChanges.{members_coming, members_going, reviews_coming, reviews_going, the_review};
+ghost use Rattle.vet_rows.specs.AddedNumbers.{AddedReviewsFit};
+ghost use Rattle.vet_rows.specs.DeskChanges.{members_added, members_removed, reviews_added, reviews_removed, the_review};
 ghost use Rattle.vet_rows.specs.KeyedItems.{rows_if};
 ghost use Rattle.vet_rows.specs.Numbers.{ReviewFits};
 ghost use Rattle.vet_desk.specs.declared.review.Review.{Review};
 
-use crate::row_changes::keyed_items::{comes, goes};
+use crate::row_changes::keyed_items::{added_item, removed_item};
 use crate::rows_of::desk_rows::turned_row;
 use crate::rows_of::to_row::row_if;
 use std::alloc::{AllocError, Global};
@@ -18,40 +18,40 @@ use vet_desk::desk::Desk;
 use vet_desk::review::{Review, ReviewState};
 use vet_tables::sequence::Row;
 
-/// The rows of members that go. Fails only if memory runs out.
-pub fn members_going(
+/// The rows of members that are removed. Fails only if memory runs out.
+pub fn members_removed(
     alloc: Global,
     change: &DeskChange,
     desk: &Desk,
 ) -> Result<Vec<Row>, AllocError>
-    ensures { IfOk result (λ rows. rows.items ≡ members_going change.now desk.now.content) }
+    ensures { IfOk result (λ rows. rows.items ≡ members_removed change.now desk.now.content) }
 {
     match change {
-        DeskChange::Join(edit) => row_if(alloc, goes(edit, desk.members())),
+        DeskChange::Join(edit) => row_if(alloc, removed_item(edit, desk.members())),
         _ => Ok(Vec::new(alloc)),
     }
 }
 
-/// The rows of members that come. Fails only if memory runs out.
-pub fn members_coming(alloc: Global, change: &DeskChange) -> Result<Vec<Row>, AllocError>
-    ensures { IfOk result (λ rows. rows.items ≡ members_coming change.now) }
+/// The rows of members that are added. Fails only if memory runs out.
+pub fn members_added(alloc: Global, change: &DeskChange) -> Result<Vec<Row>, AllocError>
+    ensures { IfOk result (λ rows. rows.items ≡ members_added change.now) }
 {
     match change {
-        DeskChange::Join(edit) => row_if(alloc, comes(edit)),
+        DeskChange::Join(edit) => row_if(alloc, added_item(edit)),
         _ => Ok(Vec::new(alloc)),
     }
 }
 
-/// The rows of reviews that go, where a finished review has the entry of this number. Asks that their numbers have
+/// The rows of reviews that are removed, where a finished review has the entry of this number. Asks that their numbers have
 /// columns. Fails only if memory runs out.
-pub fn reviews_going(
+pub fn reviews_removed(
     alloc: Global,
     change: &DeskChange,
     entry: Option<u64>,
     desk: &Desk,
 ) -> Result<Vec<Row>, AllocError>
     requires { All ReviewFits desk.now.content.reviews }
-    ensures { IfOk result (λ rows. rows.items ≡ reviews_going change.now entry desk.now.content) }
+    ensures { IfOk result (λ rows. rows.items ≡ reviews_removed change.now entry desk.now.content) }
 {
     match change {
         DeskChange::Turn(place, _) => row_if(alloc, desk.reviews().get(*place)),
@@ -63,17 +63,17 @@ pub fn reviews_going(
     }
 }
 
-/// The rows of reviews that come, where a finished review has the entry of this number. Asks that their numbers have
+/// The rows of reviews that are added, where a finished review has the entry of this number. Asks that their numbers have
 /// columns. Fails only if memory runs out.
-pub fn reviews_coming(
+pub fn reviews_added(
     alloc: Global,
     change: &DeskChange,
     entry: Option<u64>,
     desk: &Desk,
 ) -> Result<Vec<Row>, AllocError>
     requires held { All ReviewFits desk.now.content.reviews }
-    requires coming { ReviewsComingFit change.now entry desk.now.content }
-    ensures { IfOk result (λ rows. rows.items ≡ reviews_coming change.now entry desk.now.content) }
+    requires coming { AddedReviewsFit change.now entry desk.now.content }
+    ensures { IfOk result (λ rows. rows.items ≡ reviews_added change.now entry desk.now.content) }
 {
     match change {
         DeskChange::Open(review) => row_if(alloc, Some(review)),

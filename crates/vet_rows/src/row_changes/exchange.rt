@@ -1,4 +1,4 @@
-//! Rows of a table that go, and rows that come.
+//! Rows that are removed from a table, and rows that are added.
 ghost use Rattle.std.specs.Prelude.{◌≡◌, ◌++◌, ◌∷◌, [], IfOk, OnOk, cond, length, map};
 ghost use Rattle.vet_rows.specs.RowExchanges.{exchange, is_compared, less, unmarked};
 ghost use Rattle.vet_rows.specs.declared.row_change.RowChange.TheVariants as change;
@@ -9,36 +9,36 @@ use vet_tables::same_items::marks_among;
 use vet_tables::sequence::Row;
 use vet_tables::table_name::TableName;
 
-/// Adds the changes by which some rows of a table go, and then others come. Fails only if memory runs out.
+/// Pushes the changes by which some rows of a table are removed, and then others added. Fails only if memory runs out.
 pub fn push_exchange(
     changes: &mut Vec<RowChange>,
     table: TableName,
-    going: Vec<Row>,
-    coming: Vec<Row>,
+    removed: Vec<Row>,
+    added: Vec<Row>,
 ) -> Result<(), AllocError>
-    ensures { OnOk result (changes.new.items ≡ changes.old.items ++ exchange table going.items coming.items) }
+    ensures { OnOk result (changes.new.items ≡ changes.old.items ++ exchange table removed.items added.items) }
 {
-    push_drops(changes, table, going)?;
-    push_puts(changes, table, coming)
+    push_drops(changes, table, removed)?;
+    push_puts(changes, table, added)
 }
 
-/// The same, but for the rows that would go and come again, which stay. Costs a search for each row among the others.
+/// The same, but rows that would be removed and added again stay. Costs a search for each row among the others.
 /// Fails only if memory runs out.
 pub fn push_difference(
     alloc: Global,
     changes: &mut Vec<RowChange>,
     table: TableName,
-    going: Vec<Row>,
-    coming: Vec<Row>,
+    removed: Vec<Row>,
+    added: Vec<Row>,
 ) -> Result<(), AllocError>
     ensures { OnOk result (changes.new.items ≡ changes.old.items
-        ++ exchange table (less going.items coming.items) (less coming.items going.items)) }
+        ++ exchange table (less removed.items added.items) (less added.items removed.items)) }
 {
-    let stay = marks_among(alloc, going.as_slice(), coming.as_slice())?;
-    let stand = marks_among(alloc, coming.as_slice(), going.as_slice())?;
-    let going = unmarked(alloc, going, stay.as_slice())?;
-    let coming = unmarked(alloc, coming, stand.as_slice())?;
-    push_exchange(changes, table, going, coming)
+    let stay = marks_among(alloc, removed.as_slice(), added.as_slice())?;
+    let stand = marks_among(alloc, added.as_slice(), removed.as_slice())?;
+    let removed = unmarked(alloc, removed, stay.as_slice())?;
+    let added = unmarked(alloc, added, stand.as_slice())?;
+    push_exchange(changes, table, removed, added)
 }
 
 // The rows that have no mark.
@@ -92,7 +92,7 @@ fn push_puts(
     Ok(())
 }
 
-/// Whether of a table the rows stay that would go and come again: those of which there may be thousands.
+/// Whether rows of a table stay that would be removed and added again: for tables that may have thousands of rows.
 pub fn is_compared(table: TableName) -> bool
     ensures { result ≡ is_compared table }
 {

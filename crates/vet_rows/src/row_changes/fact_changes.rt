@@ -1,19 +1,19 @@
-//! The rows that go and that come by an edit of the facts of packages.
+//! The rows that are removed and added by an edit of the facts of packages.
 //!
-//! Of a peer whose content is exchanged all criteria and entries go, and those that it has then come.
+//! Of a peer whose content is exchanged, all criteria and entries are removed, and then those of the new content added.
 ghost use Rattle.std.specs.List.{All, slice_get};
 ghost use Rattle.std.specs.Option.{option_copied};
 ghost use Rattle.std.specs.Prelude.{◌≡◌, IfOk, Some};
 ghost use Rattle.vet_entries.specs.declared.held_peer.HeldPeer.{HeldPeer};
-ghost use Rattle.vet_rows.specs.ComingNumbers.{EntriesComingFit};
+ghost use Rattle.vet_rows.specs.AddedNumbers.{AddedEntriesFit};
 ghost use Rattle.vet_rows.specs.EntryRows.{package_rows, peer_entries};
-ghost use Rattle.vet_rows.specs.FactsRows.{criteria_coming, criteria_going, entries_coming, entries_going};
-ghost use Rattle.vet_rows.specs.FactsRows.{peers_coming, peers_going, publishers_coming, publishers_going};
+ghost use Rattle.vet_rows.specs.FactsRows.{criteria_added, criteria_removed, entries_added, entries_removed};
+ghost use Rattle.vet_rows.specs.FactsRows.{peers_added, peers_removed, publishers_added, publishers_removed};
 ghost use Rattle.vet_rows.specs.KeyedItems.{rows_if};
 ghost use Rattle.vet_rows.specs.Numbers.{EntryFits, PeerFits};
 ghost use Rattle.vet_rows.specs.SettingRows.{criteria_rows, peer_criteria};
 
-use crate::row_changes::keyed_items::{comes, goes};
+use crate::row_changes::keyed_items::{added_item, removed_item};
 use crate::rows_of::entry_rows::push_publishers;
 use crate::rows_of::setting_rows::{own_criteria, push_criteria};
 use crate::rows_of::to_row::{row_if, rows_each};
@@ -27,29 +27,29 @@ use vet_tables::sequence::Row;
 
 // ---- criteria
 
-/// The rows of criteria that go. Fails only if memory runs out.
-pub fn criteria_going(
+/// The rows of criteria that are removed. Fails only if memory runs out.
+pub fn criteria_removed(
     alloc: Global,
     edit: &Edit,
     facts: &EntryFacts,
 ) -> Result<Vec<Row>, AllocError>
-    ensures { IfOk result (λ rows. rows.items ≡ criteria_going edit.now facts.now.content) }
+    ensures { IfOk result (λ rows. rows.items ≡ criteria_removed edit.now facts.now.content) }
 {
     match edit {
         Edit::Criteria(_) => own_criteria(alloc, facts.criteria()),
-        Edit::Peer(change) => criteria_of_peer(alloc, goes(change, facts.peers())),
+        Edit::Peer(change) => criteria_of_peer(alloc, removed_item(change, facts.peers())),
         Edit::Content(name, _) => criteria_of_peer(alloc, facts.peer(name)),
         _ => Ok(Vec::new(alloc)),
     }
 }
 
-/// The rows of criteria that come. Fails only if memory runs out.
-pub fn criteria_coming(alloc: Global, edit: &Edit) -> Result<Vec<Row>, AllocError>
-    ensures { IfOk result (λ rows. rows.items ≡ criteria_coming edit.now) }
+/// The rows of criteria that are added. Fails only if memory runs out.
+pub fn criteria_added(alloc: Global, edit: &Edit) -> Result<Vec<Row>, AllocError>
+    ensures { IfOk result (λ rows. rows.items ≡ criteria_added edit.now) }
 {
     match edit {
         Edit::Criteria(table) => own_criteria(alloc, table),
-        Edit::Peer(change) => criteria_of_peer(alloc, comes(change)),
+        Edit::Peer(change) => criteria_of_peer(alloc, added_item(change)),
         Edit::Content(name, content) => criteria_of(alloc, name, content.definitions()),
         _ => Ok(Vec::new(alloc)),
     }
@@ -80,28 +80,32 @@ fn criteria_of(
 
 // ---- entries
 
-/// The rows of entries that go. Asks that their numbers have columns. Fails only if memory runs out.
-pub fn entries_going(alloc: Global, edit: &Edit, facts: &EntryFacts) -> Result<Vec<Row>, AllocError>
+/// The rows of entries that are removed. Asks that their numbers have columns. Fails only if memory runs out.
+pub fn entries_removed(
+    alloc: Global,
+    edit: &Edit,
+    facts: &EntryFacts,
+) -> Result<Vec<Row>, AllocError>
     requires own { All EntryFits facts.now.content.entries }
     requires peers { All PeerFits facts.now.content.peers }
-    ensures { IfOk result (λ rows. rows.items ≡ entries_going edit.now facts.now.content) }
+    ensures { IfOk result (λ rows. rows.items ≡ entries_removed edit.now facts.now.content) }
 {
     match edit {
         Edit::Remove(place) => row_if(alloc, entry_at(facts.entries(), *place)),
-        Edit::Peer(change) => entries_of_peer(alloc, goes(change, facts.peers())),
+        Edit::Peer(change) => entries_of_peer(alloc, removed_item(change, facts.peers())),
         Edit::Content(name, _) => entries_of_peer(alloc, facts.peer(name)),
         _ => Ok(Vec::new(alloc)),
     }
 }
 
-/// The rows of entries that come. Asks that their numbers have columns. Fails only if memory runs out.
-pub fn entries_coming(alloc: Global, edit: &Edit) -> Result<Vec<Row>, AllocError>
-    requires { EntriesComingFit edit.now }
-    ensures { IfOk result (λ rows. rows.items ≡ entries_coming edit.now) }
+/// The rows of entries that are added. Asks that their numbers have columns. Fails only if memory runs out.
+pub fn entries_added(alloc: Global, edit: &Edit) -> Result<Vec<Row>, AllocError>
+    requires { AddedEntriesFit edit.now }
+    ensures { IfOk result (λ rows. rows.items ≡ entries_added edit.now) }
 {
     match edit {
         Edit::Insert(_, held) => row_if(alloc, Some(held)),
-        Edit::Peer(change) => entries_of_peer(alloc, comes(change)),
+        Edit::Peer(change) => entries_of_peer(alloc, added_item(change)),
         Edit::Content(_, content) => rows_each(alloc, content.entries()),
         _ => Ok(Vec::new(alloc)),
     }
@@ -127,23 +131,23 @@ fn entries_of_peer(alloc: Global, peer: Option<&HeldPeer>) -> Result<Vec<Row>, A
 
 // ---- peers
 
-/// The rows of peers that go. Fails only if memory runs out.
-pub fn peers_going(alloc: Global, edit: &Edit, facts: &EntryFacts) -> Result<Vec<Row>, AllocError>
-    ensures { IfOk result (λ rows. rows.items ≡ peers_going edit.now facts.now.content) }
+/// The rows of peers that are removed. Fails only if memory runs out.
+pub fn peers_removed(alloc: Global, edit: &Edit, facts: &EntryFacts) -> Result<Vec<Row>, AllocError>
+    ensures { IfOk result (λ rows. rows.items ≡ peers_removed edit.now facts.now.content) }
 {
     match edit {
-        Edit::Peer(change) => row_if(alloc, goes(change, facts.peers())),
+        Edit::Peer(change) => row_if(alloc, removed_item(change, facts.peers())),
         Edit::Settings(settings) => row_if(alloc, facts.peer(&settings.name)),
         _ => Ok(Vec::new(alloc)),
     }
 }
 
-/// The rows of peers that come. Fails only if memory runs out.
-pub fn peers_coming(alloc: Global, edit: &Edit) -> Result<Vec<Row>, AllocError>
-    ensures { IfOk result (λ rows. rows.items ≡ peers_coming edit.now) }
+/// The rows of peers that are added. Fails only if memory runs out.
+pub fn peers_added(alloc: Global, edit: &Edit) -> Result<Vec<Row>, AllocError>
+    ensures { IfOk result (λ rows. rows.items ≡ peers_added edit.now) }
 {
     match edit {
-        Edit::Peer(change) => row_if(alloc, comes(change)),
+        Edit::Peer(change) => row_if(alloc, added_item(change)),
         Edit::Settings(settings) => row_if(alloc, Some(settings)),
         _ => Ok(Vec::new(alloc)),
     }
@@ -151,26 +155,26 @@ pub fn peers_coming(alloc: Global, edit: &Edit) -> Result<Vec<Row>, AllocError>
 
 // ---- publishers
 
-/// The rows of publishers that go. Fails only if memory runs out.
-pub fn publishers_going(
+/// The rows of publishers that are removed. Fails only if memory runs out.
+pub fn publishers_removed(
     alloc: Global,
     edit: &Edit,
     facts: &EntryFacts,
 ) -> Result<Vec<Row>, AllocError>
-    ensures { IfOk result (λ rows. rows.items ≡ publishers_going edit.now facts.now.content) }
+    ensures { IfOk result (λ rows. rows.items ≡ publishers_removed edit.now facts.now.content) }
 {
     match edit {
-        Edit::Publishers(change) => publishers_of(alloc, goes(change, facts.publishers())),
+        Edit::Publishers(change) => publishers_of(alloc, removed_item(change, facts.publishers())),
         _ => Ok(Vec::new(alloc)),
     }
 }
 
-/// The rows of publishers that come. Fails only if memory runs out.
-pub fn publishers_coming(alloc: Global, edit: &Edit) -> Result<Vec<Row>, AllocError>
-    ensures { IfOk result (λ rows. rows.items ≡ publishers_coming edit.now) }
+/// The rows of publishers that are added. Fails only if memory runs out.
+pub fn publishers_added(alloc: Global, edit: &Edit) -> Result<Vec<Row>, AllocError>
+    ensures { IfOk result (λ rows. rows.items ≡ publishers_added edit.now) }
 {
     match edit {
-        Edit::Publishers(change) => publishers_of(alloc, comes(change)),
+        Edit::Publishers(change) => publishers_of(alloc, added_item(change)),
         _ => Ok(Vec::new(alloc)),
     }
 }

@@ -1,18 +1,18 @@
-//! The rows that go and that come by an edit of all that is held.
+//! The rows that are removed and added by an edit of all that is held.
 //!
-//! Where all that files hold is exchanged, all rows of it go, and those that it has then come.
+//! Where all that files hold is exchanged, all rows of it are removed, and then those of the new files added.
 ghost use Rattle.std.specs.Option.{option_copied};
 ghost use Rattle.std.specs.Prelude.{◌≡◌, IfOk};
-ghost use Rattle.vet_rows.specs.ComingNumbers.{HeldEntriesFit};
-ghost use Rattle.vet_rows.specs.HeldChanges.{criteria_coming, criteria_going, edges_coming, edges_going};
-ghost use Rattle.vet_rows.specs.HeldChanges.{entries_coming, entries_going, nodes_coming, nodes_going};
-ghost use Rattle.vet_rows.specs.HeldChanges.{peers_coming, peers_going};
-ghost use Rattle.vet_rows.specs.HeldChanges.{policies_coming, policies_going, publishers_coming, publishers_going};
+ghost use Rattle.vet_rows.specs.AddedNumbers.{HeldEntriesFit};
+ghost use Rattle.vet_rows.specs.HeldChanges.{criteria_added, criteria_removed, edges_added, edges_removed};
+ghost use Rattle.vet_rows.specs.HeldChanges.{entries_added, entries_removed, nodes_added, nodes_removed};
+ghost use Rattle.vet_rows.specs.HeldChanges.{peers_added, peers_removed};
+ghost use Rattle.vet_rows.specs.HeldChanges.{policies_added, policies_removed, publishers_added, publishers_removed};
 ghost use Rattle.vet_rows.specs.KeyedItems.{rows_if};
 ghost use Rattle.vet_rows.specs.ProjectRows.{edge_rows, node_rows};
 
 use crate::row_changes::fact_changes;
-use crate::row_changes::keyed_items::{comes, goes};
+use crate::row_changes::keyed_items::{added_item, removed_item};
 use crate::rows_of::entry_rows::{all_entries, all_publishers};
 use crate::rows_of::meta_rows::numbers_fit;
 use crate::rows_of::project_rows::{push_edges, push_nodes};
@@ -27,27 +27,27 @@ use vet_tables::sequence::Row;
 
 // ---- criteria
 
-/// The rows of criteria that go. Fails only if memory runs out.
-pub fn criteria_going<K: Keeper>(
+/// The rows of criteria that are removed. Fails only if memory runs out.
+pub fn criteria_removed<K: Keeper>(
     alloc: Global,
     edit: &HeldEdit,
     register: &Register<K>,
 ) -> Result<Vec<Row>, AllocError>
-    ensures { IfOk result (λ rows. rows.items ≡ criteria_going edit.now register.now.state.held) }
+    ensures { IfOk result (λ rows. rows.items ≡ criteria_removed edit.now register.now.state.held) }
 {
     match edit {
-        HeldEdit::Facts(edit) => fact_changes::criteria_going(alloc, edit, register.facts()),
+        HeldEdit::Facts(edit) => fact_changes::criteria_removed(alloc, edit, register.facts()),
         HeldEdit::Files(_) => all_criteria(alloc, register.facts()),
         _ => Ok(Vec::new(alloc)),
     }
 }
 
-/// The rows of criteria that come. Fails only if memory runs out.
-pub fn criteria_coming(alloc: Global, edit: &HeldEdit) -> Result<Vec<Row>, AllocError>
-    ensures { IfOk result (λ rows. rows.items ≡ criteria_coming edit.now) }
+/// The rows of criteria that are added. Fails only if memory runs out.
+pub fn criteria_added(alloc: Global, edit: &HeldEdit) -> Result<Vec<Row>, AllocError>
+    ensures { IfOk result (λ rows. rows.items ≡ criteria_added edit.now) }
 {
     match edit {
-        HeldEdit::Facts(edit) => fact_changes::criteria_coming(alloc, edit),
+        HeldEdit::Facts(edit) => fact_changes::criteria_added(alloc, edit),
         HeldEdit::Files(files) => all_criteria(alloc, &files.facts),
         _ => Ok(Vec::new(alloc)),
     }
@@ -55,29 +55,29 @@ pub fn criteria_coming(alloc: Global, edit: &HeldEdit) -> Result<Vec<Row>, Alloc
 
 // ---- entries
 
-/// The rows of entries that go. Fails only if memory runs out.
-pub fn entries_going<K: Keeper>(
+/// The rows of entries that are removed. Fails only if memory runs out.
+pub fn entries_removed<K: Keeper>(
     alloc: Global,
     edit: &HeldEdit,
     register: &Register<K>,
 ) -> Result<Vec<Row>, AllocError>
-    ensures { IfOk result (λ rows. rows.items ≡ entries_going edit.now register.now.state.held) }
+    ensures { IfOk result (λ rows. rows.items ≡ entries_removed edit.now register.now.state.held) }
 {
     numbers_fit(register);
     match edit {
-        HeldEdit::Facts(edit) => fact_changes::entries_going(alloc, edit, register.facts()),
+        HeldEdit::Facts(edit) => fact_changes::entries_removed(alloc, edit, register.facts()),
         HeldEdit::Files(_) => all_entries(alloc, register.facts()),
         _ => Ok(Vec::new(alloc)),
     }
 }
 
-/// The rows of entries that come. Asks that their numbers have columns. Fails only if memory runs out.
-pub fn entries_coming(alloc: Global, edit: &HeldEdit) -> Result<Vec<Row>, AllocError>
+/// The rows of entries that are added. Asks that their numbers have columns. Fails only if memory runs out.
+pub fn entries_added(alloc: Global, edit: &HeldEdit) -> Result<Vec<Row>, AllocError>
     requires { HeldEntriesFit edit.now }
-    ensures { IfOk result (λ rows. rows.items ≡ entries_coming edit.now) }
+    ensures { IfOk result (λ rows. rows.items ≡ entries_added edit.now) }
 {
     match edit {
-        HeldEdit::Facts(edit) => fact_changes::entries_coming(alloc, edit),
+        HeldEdit::Facts(edit) => fact_changes::entries_added(alloc, edit),
         HeldEdit::Files(files) => all_entries(alloc, &files.facts),
         _ => Ok(Vec::new(alloc)),
     }
@@ -85,27 +85,27 @@ pub fn entries_coming(alloc: Global, edit: &HeldEdit) -> Result<Vec<Row>, AllocE
 
 // ---- publishers
 
-/// The rows of publishers that go. Fails only if memory runs out.
-pub fn publishers_going<K: Keeper>(
+/// The rows of publishers that are removed. Fails only if memory runs out.
+pub fn publishers_removed<K: Keeper>(
     alloc: Global,
     edit: &HeldEdit,
     register: &Register<K>,
 ) -> Result<Vec<Row>, AllocError>
-    ensures { IfOk result (λ rows. rows.items ≡ publishers_going edit.now register.now.state.held) }
+    ensures { IfOk result (λ rows. rows.items ≡ publishers_removed edit.now register.now.state.held) }
 {
     match edit {
-        HeldEdit::Facts(edit) => fact_changes::publishers_going(alloc, edit, register.facts()),
+        HeldEdit::Facts(edit) => fact_changes::publishers_removed(alloc, edit, register.facts()),
         HeldEdit::Files(_) => all_publishers(alloc, register.publishers()),
         _ => Ok(Vec::new(alloc)),
     }
 }
 
-/// The rows of publishers that come. Fails only if memory runs out.
-pub fn publishers_coming(alloc: Global, edit: &HeldEdit) -> Result<Vec<Row>, AllocError>
-    ensures { IfOk result (λ rows. rows.items ≡ publishers_coming edit.now) }
+/// The rows of publishers that are added. Fails only if memory runs out.
+pub fn publishers_added(alloc: Global, edit: &HeldEdit) -> Result<Vec<Row>, AllocError>
+    ensures { IfOk result (λ rows. rows.items ≡ publishers_added edit.now) }
 {
     match edit {
-        HeldEdit::Facts(edit) => fact_changes::publishers_coming(alloc, edit),
+        HeldEdit::Facts(edit) => fact_changes::publishers_added(alloc, edit),
         HeldEdit::Files(files) => all_publishers(alloc, files.facts.publishers()),
         _ => Ok(Vec::new(alloc)),
     }
@@ -113,27 +113,27 @@ pub fn publishers_coming(alloc: Global, edit: &HeldEdit) -> Result<Vec<Row>, All
 
 // ---- peers
 
-/// The rows of peers that go. Fails only if memory runs out.
-pub fn peers_going<K: Keeper>(
+/// The rows of peers that are removed. Fails only if memory runs out.
+pub fn peers_removed<K: Keeper>(
     alloc: Global,
     edit: &HeldEdit,
     register: &Register<K>,
 ) -> Result<Vec<Row>, AllocError>
-    ensures { IfOk result (λ rows. rows.items ≡ peers_going edit.now register.now.state.held) }
+    ensures { IfOk result (λ rows. rows.items ≡ peers_removed edit.now register.now.state.held) }
 {
     match edit {
-        HeldEdit::Facts(edit) => fact_changes::peers_going(alloc, edit, register.facts()),
+        HeldEdit::Facts(edit) => fact_changes::peers_removed(alloc, edit, register.facts()),
         HeldEdit::Files(_) => rows_each(alloc, register.peers()),
         _ => Ok(Vec::new(alloc)),
     }
 }
 
-/// The rows of peers that come. Fails only if memory runs out.
-pub fn peers_coming(alloc: Global, edit: &HeldEdit) -> Result<Vec<Row>, AllocError>
-    ensures { IfOk result (λ rows. rows.items ≡ peers_coming edit.now) }
+/// The rows of peers that are added. Fails only if memory runs out.
+pub fn peers_added(alloc: Global, edit: &HeldEdit) -> Result<Vec<Row>, AllocError>
+    ensures { IfOk result (λ rows. rows.items ≡ peers_added edit.now) }
 {
     match edit {
-        HeldEdit::Facts(edit) => fact_changes::peers_coming(alloc, edit),
+        HeldEdit::Facts(edit) => fact_changes::peers_added(alloc, edit),
         HeldEdit::Files(files) => rows_each(alloc, files.facts.peers()),
         _ => Ok(Vec::new(alloc)),
     }
@@ -141,27 +141,27 @@ pub fn peers_coming(alloc: Global, edit: &HeldEdit) -> Result<Vec<Row>, AllocErr
 
 // ---- policies
 
-/// The rows of policies that go. Fails only if memory runs out.
-pub fn policies_going<K: Keeper>(
+/// The rows of policies that are removed. Fails only if memory runs out.
+pub fn policies_removed<K: Keeper>(
     alloc: Global,
     edit: &HeldEdit,
     register: &Register<K>,
 ) -> Result<Vec<Row>, AllocError>
-    ensures { IfOk result (λ rows. rows.items ≡ policies_going edit.now register.now.state.held) }
+    ensures { IfOk result (λ rows. rows.items ≡ policies_removed edit.now register.now.state.held) }
 {
     match edit {
-        HeldEdit::Policies(change) => row_if(alloc, goes(change, register.policies())),
+        HeldEdit::Policies(change) => row_if(alloc, removed_item(change, register.policies())),
         HeldEdit::Files(_) => rows_each(alloc, register.policies()),
         _ => Ok(Vec::new(alloc)),
     }
 }
 
-/// The rows of policies that come. Fails only if memory runs out.
-pub fn policies_coming(alloc: Global, edit: &HeldEdit) -> Result<Vec<Row>, AllocError>
-    ensures { IfOk result (λ rows. rows.items ≡ policies_coming edit.now) }
+/// The rows of policies that are added. Fails only if memory runs out.
+pub fn policies_added(alloc: Global, edit: &HeldEdit) -> Result<Vec<Row>, AllocError>
+    ensures { IfOk result (λ rows. rows.items ≡ policies_added edit.now) }
 {
     match edit {
-        HeldEdit::Policies(change) => row_if(alloc, comes(change)),
+        HeldEdit::Policies(change) => row_if(alloc, added_item(change)),
         HeldEdit::Files(files) => rows_each(alloc, files.policies.items()),
         _ => Ok(Vec::new(alloc)),
     }
@@ -169,50 +169,50 @@ pub fn policies_coming(alloc: Global, edit: &HeldEdit) -> Result<Vec<Row>, Alloc
 
 // ---- projects
 
-/// The rows of nodes that go. Fails only if memory runs out.
-pub fn nodes_going<K: Keeper>(
+/// The rows of nodes that are removed. Fails only if memory runs out.
+pub fn nodes_removed<K: Keeper>(
     alloc: Global,
     edit: &HeldEdit,
     register: &Register<K>,
 ) -> Result<Vec<Row>, AllocError>
-    ensures { IfOk result (λ rows. rows.items ≡ nodes_going edit.now register.now.state.held) }
+    ensures { IfOk result (λ rows. rows.items ≡ nodes_removed edit.now register.now.state.held) }
 {
     match edit {
-        HeldEdit::Projects(change) => nodes_of(alloc, goes(change, register.projects())),
+        HeldEdit::Projects(change) => nodes_of(alloc, removed_item(change, register.projects())),
         _ => Ok(Vec::new(alloc)),
     }
 }
 
-/// The rows of nodes that come. Fails only if memory runs out.
-pub fn nodes_coming(alloc: Global, edit: &HeldEdit) -> Result<Vec<Row>, AllocError>
-    ensures { IfOk result (λ rows. rows.items ≡ nodes_coming edit.now) }
+/// The rows of nodes that are added. Fails only if memory runs out.
+pub fn nodes_added(alloc: Global, edit: &HeldEdit) -> Result<Vec<Row>, AllocError>
+    ensures { IfOk result (λ rows. rows.items ≡ nodes_added edit.now) }
 {
     match edit {
-        HeldEdit::Projects(change) => nodes_of(alloc, comes(change)),
+        HeldEdit::Projects(change) => nodes_of(alloc, added_item(change)),
         _ => Ok(Vec::new(alloc)),
     }
 }
 
-/// The rows of edges that go. Fails only if memory runs out.
-pub fn edges_going<K: Keeper>(
+/// The rows of edges that are removed. Fails only if memory runs out.
+pub fn edges_removed<K: Keeper>(
     alloc: Global,
     edit: &HeldEdit,
     register: &Register<K>,
 ) -> Result<Vec<Row>, AllocError>
-    ensures { IfOk result (λ rows. rows.items ≡ edges_going edit.now register.now.state.held) }
+    ensures { IfOk result (λ rows. rows.items ≡ edges_removed edit.now register.now.state.held) }
 {
     match edit {
-        HeldEdit::Projects(change) => edges_of(alloc, goes(change, register.projects())),
+        HeldEdit::Projects(change) => edges_of(alloc, removed_item(change, register.projects())),
         _ => Ok(Vec::new(alloc)),
     }
 }
 
-/// The rows of edges that come. Fails only if memory runs out.
-pub fn edges_coming(alloc: Global, edit: &HeldEdit) -> Result<Vec<Row>, AllocError>
-    ensures { IfOk result (λ rows. rows.items ≡ edges_coming edit.now) }
+/// The rows of edges that are added. Fails only if memory runs out.
+pub fn edges_added(alloc: Global, edit: &HeldEdit) -> Result<Vec<Row>, AllocError>
+    ensures { IfOk result (λ rows. rows.items ≡ edges_added edit.now) }
 {
     match edit {
-        HeldEdit::Projects(change) => edges_of(alloc, comes(change)),
+        HeldEdit::Projects(change) => edges_of(alloc, added_item(change)),
         _ => Ok(Vec::new(alloc)),
     }
 }

@@ -8,11 +8,11 @@ ghost use Rattle.vet_entries.specs.declared.held_peer.HeldPeer.{HeldPeer};
 ghost use Rattle.vet_register.specs.Held.{edited};
 ghost use Rattle.vet_rows.specs.Columns.{own_peer};
 ghost use Rattle.vet_rows.specs.KeyTexts.{ArePeersNamed, KeysAreRead, MovesAreRead, NodesAreRead, PairsAreRead};
-ghost use Rattle.vet_rows.specs.KeyTexts.{PeerComingIsNamed, ProjectsAreRead, ProjectsComingAreRead};
+ghost use Rattle.vet_rows.specs.KeyTexts.{AddedPeerIsNamed, ProjectsAreRead, AddedProjectsAreRead};
 ghost use Rattle.vet_rows.specs.KeyTexts.{ProjectsHeldAreRead};
-ghost use Rattle.vet_rows.specs.KeyedItems.{comes};
+ghost use Rattle.vet_rows.specs.KeyedItems.{added_item};
 
-use crate::row_changes::keyed_items::comes;
+use crate::row_changes::keyed_items::added_item;
 use vet_base::keyed::KeyedEdit;
 use vet_base::version::version_text_reads_back;
 use vet_demand::pair::Pair;
@@ -90,19 +90,19 @@ pub fn projects_held_are_read(projects: &[NamedProject], edit: &HeldEdit)
     }
 }
 
-/// Those of the project that comes by an edit. Does nothing.
-pub fn projects_coming_are_read(edit: &HeldEdit)
-    ensures { ProjectsComingAreRead edit.now }
+/// Those of the project that an edit adds. Does nothing.
+pub fn projects_added_are_read(edit: &HeldEdit)
+    ensures { AddedProjectsAreRead edit.now }
 {
     if let HeldEdit::Projects(change) = edit {
-        project_coming_is_read(change);
+        project_added_is_read(change);
     }
 }
 
-fn project_coming_is_read(change: &KeyedEdit<NamedProject>)
-    ensures { (p : NamedProject) → comes change.now ≡ Some p → NodesAreRead p }
+fn project_added_is_read(change: &KeyedEdit<NamedProject>)
+    ensures { (p : NamedProject) → added_item change.now ≡ Some p → NodesAreRead p }
 {
-    if let Some(named) = comes(change) {
+    if let Some(named) = added_item(change) {
         nodes_are_read(named);
     }
 }
@@ -113,16 +113,16 @@ pub fn keys_after_are_read<K: Keeper>(register: &Register<K>, edit: &HeldEdit)
 {
     keys_are_read(register.policies());
     match edit {
-        HeldEdit::Policies(change) => key_coming_is_read(change),
+        HeldEdit::Policies(change) => key_added_is_read(change),
         HeldEdit::Files(files) => keys_are_read(files.policies.items()),
         _ => {}
     }
 }
 
-fn key_coming_is_read(change: &KeyedEdit<KeyedPolicy>)
-    ensures { (p : KeyedPolicy) → comes change.now ≡ Some p → read_key (key_text p.key) ≡ Some p.key }
+fn key_added_is_read(change: &KeyedEdit<KeyedPolicy>)
+    ensures { (p : KeyedPolicy) → added_item change.now ≡ Some p → read_key (key_text p.key) ≡ Some p.key }
 {
-    if let Some(policy) = comes(change) {
+    if let Some(policy) = added_item(change) {
         key_text_reads_back(&policy.key);
     }
 }
@@ -133,7 +133,7 @@ pub fn peers_after_are_named<K: Keeper>(register: &Register<K>, edit: &HeldEdit)
 {
     peers_are_named(register.peers());
     match edit {
-        HeldEdit::Facts(edit) => peer_coming_is_named(edit),
+        HeldEdit::Facts(edit) => peer_added_is_named(edit),
         HeldEdit::Files(files) => peers_are_named(files.facts.peers()),
         HeldEdit::Policies(_) => {}
         HeldEdit::Projects(_) => {}
@@ -141,8 +141,8 @@ pub fn peers_after_are_named<K: Keeper>(register: &Register<K>, edit: &HeldEdit)
     }
 }
 
-fn peer_coming_is_named(edit: &Edit)
-    ensures { PeerComingIsNamed edit.now }
+fn peer_added_is_named(edit: &Edit)
+    ensures { AddedPeerIsNamed edit.now }
 {
     match edit {
         Edit::Peer(change) => peer_put_is_named(change),
@@ -154,9 +154,9 @@ fn peer_coming_is_named(edit: &Edit)
 }
 
 fn peer_put_is_named(change: &KeyedEdit<HeldPeer>)
-    ensures { (p : HeldPeer) → comes change.now ≡ Some p → peer_name p ≡ own_peer → ⊥ }
+    ensures { (p : HeldPeer) → added_item change.now ≡ Some p → peer_name p ≡ own_peer → ⊥ }
 {
-    if let Some(peer) = comes(change) {
+    if let Some(peer) = added_item(change) {
         let _ = peer.settings.name.as_str();
     }
 }

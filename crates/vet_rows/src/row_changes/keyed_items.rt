@@ -1,13 +1,13 @@
 //! The items of a list by key that an edit takes out of it and puts into it.
 ghost use Rattle.std.specs.Option.{option_copied};
 ghost use Rattle.std.specs.Prelude.{◌≡◌};
-ghost use Rattle.vet_rows.specs.KeyedItems.{comes, goes};
+ghost use Rattle.vet_rows.specs.KeyedItems.{added_item, removed_item};
 
 use vet_base::keyed::KeyedEdit;
 
-/// The item that goes, or in whose place another comes. Takes no memory.
-pub fn goes<'a, T: Drop>(edit: &KeyedEdit<T>, items: &'a [T]) -> Option<&'a T>
-    ensures { option_copied result ≡ goes edit.now items.now }
+/// The item that is removed, or exchanged for another. Takes no memory.
+pub fn removed_item<'a, T: Drop>(edit: &KeyedEdit<T>, items: &'a [T]) -> Option<&'a T>
+    ensures { option_copied result ≡ removed_item edit.now items.now }
 {
     match edit {
         KeyedEdit::Put(_, _) => None,
@@ -16,9 +16,9 @@ pub fn goes<'a, T: Drop>(edit: &KeyedEdit<T>, items: &'a [T]) -> Option<&'a T>
     }
 }
 
-/// The item that comes. Takes no memory.
-pub fn comes<T: Drop>(edit: &KeyedEdit<T>) -> Option<&T>
-    ensures { option_copied result ≡ comes edit.now }
+/// The item that is added. Takes no memory.
+pub fn added_item<T: Drop>(edit: &KeyedEdit<T>) -> Option<&T>
+    ensures { option_copied result ≡ added_item edit.now }
 {
     match edit {
         KeyedEdit::Put(_, item) => Some(item),

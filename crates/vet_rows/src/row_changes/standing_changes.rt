@@ -1,18 +1,16 @@
-//! The rows of the standing and of moves that go and that come by what is recorded.
+//! The changes of the rows of the standing and of moves by what is recorded.
 //!
 //! **Rows of the standing are those of the pairs that move, and of no others.**
-ghost use Rattle.std.specs.List.{All};
 ghost use Rattle.std.specs.Prelude.{◌≡◌, IfOk, filter, map};
-ghost use Rattle.vet_rows.specs.Numbers.{MoveFits};
-ghost use Rattle.vet_rows.specs.StandingChanges.{leaves, moved_row, moves_going, recorded_moves};
-ghost use Rattle.vet_rows.specs.StandingChanges.{stands};
+ghost use Rattle.vet_rows.specs.StandingChanges.{clear_moves, leaves, moved_row, recorded_moves, stands};
 
+use crate::row_change::RowChange;
 use crate::rows_of::columns::{class_or_none, version_column};
-use crate::rows_of::to_row::rows_each;
 use std::alloc::{AllocError, Global};
 use vet_register::moves::{RecordedMove, Recording};
 use vet_tables::cell::Cell;
 use vet_tables::sequence::{Row, Sequence};
+use vet_tables::table_name::TableName;
 
 /// The moves that are recorded. Takes no memory.
 pub fn recorded_moves(recording: &Recording) -> &[RecordedMove]
@@ -25,7 +23,7 @@ pub fn recorded_moves(recording: &Recording) -> &[RecordedMove]
 }
 
 /// The rows of the pairs that aren't demanded any more. Fails only if memory runs out.
-pub fn standing_going(alloc: Global, moves: &[RecordedMove]) -> Result<Vec<Row>, AllocError>
+pub fn standing_removed(alloc: Global, moves: &[RecordedMove]) -> Result<Vec<Row>, AllocError>
     ensures { IfOk result (λ rows. rows.items ≡ map moved_row (filter leaves moves.now)) }
 {
     let mut rows = Vec::new(alloc);
@@ -38,7 +36,7 @@ pub fn standing_going(alloc: Global, moves: &[RecordedMove]) -> Result<Vec<Row>,
 }
 
 /// The rows of the pairs that come to a class. Fails only if memory runs out.
-pub fn standing_coming(alloc: Global, moves: &[RecordedMove]) -> Result<Vec<Row>, AllocError>
+pub fn standing_added(alloc: Global, moves: &[RecordedMove]) -> Result<Vec<Row>, AllocError>
     ensures { IfOk result (λ rows. rows.items ≡ map moved_row (filter stands moves.now)) }
 {
     let mut rows = Vec::new(alloc);
@@ -64,18 +62,12 @@ fn moved_row(alloc: Global, recorded: &RecordedMove) -> Result<Row, AllocError>
     Ok(Sequence::of(cells))
 }
 
-/// The rows of moves that go: all, where a period begins. Asks that their steps are below 2^63. Fails only if memory
-/// runs out.
-pub fn moves_going(
-    alloc: Global,
-    recording: &Recording,
-    moves: &[RecordedMove],
-) -> Result<Vec<Row>, AllocError>
-    requires { All MoveFits moves.now }
-    ensures { IfOk result (λ rows. rows.items ≡ moves_going recording.now moves.now) }
+/// Where a period begins, the change that takes out all moves. Fails only if memory runs out.
+pub fn clear_moves(alloc: Global, recording: &Recording) -> Result<Vec<RowChange>, AllocError>
+    ensures { IfOk result (λ changes. changes.items ≡ clear_moves recording.now) }
 {
     match recording {
         Recording::Behind(_) => Ok(Vec::new(alloc)),
-        Recording::Anew(_) => rows_each(alloc, moves),
+        Recording::Anew(_) => Ok(vec![in alloc; RowChange::Clear(TableName::Moves)]?),
     }
 }

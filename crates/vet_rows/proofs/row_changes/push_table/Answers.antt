@@ -1,5 +1,5 @@
 use Rattle.std.proofs.Common.{◌∙◌, ◌++◌, ap, sym}
-use Rattle.vet_rows.specs.ChangedRows.{rows_coming, rows_going}
+use Rattle.vet_rows.specs.ChangedRows.{rows_added, rows_removed}
 use Rattle.vet_rows.proofs.Pushed.{as_compared, as_whole, where_ok}
 use Rattle.vet_rows.proofs.row_changes.push_table.Goals as goal
 
@@ -9,8 +9,8 @@ returns-then-is_compared g c =
     let change = c.args.change.now in
     where_ok c.push_difference.result
     (λ is. is ∙ ap (λ more. c.args.changes.now.items ++ more)
-    (as_compared c.args.table (rows_going s change) (rows_coming s change) c.in_ok-going.going.items
-    c.in_ok-coming.coming.items c.in_ok-going.ensures c.in_ok-coming.ensures
+    (as_compared c.args.table (rows_removed s change) (rows_added s change) c.in_ok-removed.removed.items
+    c.in_ok-added.added.items c.in_ok-removed.ensures c.in_ok-added.ensures
     (sym c.is_compared.ensures ∙ c.if-is_compared.true))) c.push_difference.ensures
 
 pub returns : goal.returns
@@ -19,6 +19,6 @@ returns g c =
     let change = c.args.change.now in
     where_ok c.push_exchange.result
     (λ is. is ∙ ap (λ more. c.args.changes.now.items ++ more)
-    (as_whole c.args.table (rows_going s change) (rows_coming s change) c.in_ok-going.going.items
-    c.in_ok-coming.coming.items c.in_ok-going.ensures c.in_ok-coming.ensures
+    (as_whole c.args.table (rows_removed s change) (rows_added s change) c.in_ok-removed.removed.items
+    c.in_ok-added.added.items c.in_ok-removed.ensures c.in_ok-added.ensures
     (sym c.is_compared.ensures ∙ c.if-is_compared.false))) c.push_exchange.ensures

@@ -4,6 +4,7 @@ use Rattle.vet_rows.specs.RowsOf.{rows_of}
 use Rattle.vet_rows.proofs.rows_of.rows_of.Goals as goal
 use Rattle.vet_tables.proofs.TablePlaces.{found_of, one_more_table}
 use Rattle.vet_tables.specs.Forms.{code, tables}
+use Rattle.vet_tables.specs.declared.table_name.TheConstants.{TABLE_COUNT}
 
 pub tables-preserved : goal.tables-preserved
 tables-preserved g c =
@@ -18,6 +19,6 @@ tables-preserved g c =
 pub returns-clause-ok : goal.returns-clause-ok
 returns-clause-ok g c = λ i table.
     (let rows = rows_of c.args.register.now.state in
-    let end : c.tables.at ≡ 12 = omega (arith, c.tables.auto.at-end, c.tables-test.false) in
+    let end : c.tables.at ≡ TABLE_COUNT = omega (arith, c.tables.auto.at-end, c.tables-test.false) in
     ap (λ lists. slice_index_or lists (code table) [])
     (c.tables.invariant ∙ ap (λ n. map rows (take n tables)) end) ∙ found_of rows [] table) i

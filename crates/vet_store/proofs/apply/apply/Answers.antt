@@ -11,3 +11,6 @@ returns-in-Put-clause-changes g c = rw c.in-Put.is c.put.ensures.changes
 
 pub returns-in-Drop-clause-changes : goal.returns-in-Drop-clause-changes
 returns-in-Drop-clause-changes g c = rw c.in-Drop.is c.drop_row.ensures.changes
+
+pub returns-in-Clear-clause-changes : goal.returns-in-Clear-clause-changes
+returns-in-Clear-clause-changes g c = rw c.in-Clear.is c.clear.ensures.changes

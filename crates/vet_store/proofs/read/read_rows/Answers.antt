@@ -13,6 +13,7 @@ use Rattle.vet_tables.proofs.TablePlaces.{few}
 use Rattle.vet_tables.specs.Cells.{rows_in, values_of}
 use Rattle.vet_tables.specs.Has.{HasTables}
 use Rattle.vet_tables.specs.Read.{AreRead}
+use Rattle.vet_tables.specs.declared.table_name.TheConstants.{TABLE_COUNT}
 
 pub tables-init : goal.tables-init
 tables-init g c =
@@ -115,7 +116,7 @@ returns-in_err-push-clause-kept g c clean =
 pub returns-clause-found : goal.returns-clause-found
 returns-clause-found g c clean =
     let inv = c.tables.invariant in
-    let all : c.tables.at ≡ 12 = omega (arith, c.tables.auto.at-end, c.tables-test.false) in
+    let all : c.tables.at ≡ TABLE_COUNT = omega (arith, c.tables.auto.at-end, c.tables-test.false) in
     let old = state g.S.Store c.args.conn.now in
     let start : HasCleanDisk old = omega (arith, inv.survives.clean, clean) in
     let same = inv.same clean (omega (arith, all)) in
@@ -124,5 +125,5 @@ returns-clause-found g c clean =
 
 pub returns-clause-same : goal.returns-clause-same
 returns-clause-same g c clean =
-    let all : c.tables.at ≡ 12 = omega (arith, c.tables.auto.at-end, c.tables-test.false) in
+    let all : c.tables.at ≡ TABLE_COUNT = omega (arith, c.tables.auto.at-end, c.tables-test.false) in
     c.tables.invariant.same clean (omega (arith, all))

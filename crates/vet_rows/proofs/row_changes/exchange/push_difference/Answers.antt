@@ -6,16 +6,16 @@ use Rattle.vet_rows.proofs.row_changes.exchange.push_difference.Goals as goal
 
 pub returns : goal.returns
 returns c =
-    let gone = c.args.going.items in
-    let come = c.args.coming.items in
+    let gone = c.args.removed.items in
+    let come = c.args.added.items in
     let stay : c.as_slice-5.result.now ≡ map (λ x. list_any (same_row x) come) gone =
     c.as_slice-5.ensures.value ∙ c.in_ok-stay.ensures
     ∙ rw (c.as_slice.ensures.value, c.as_slice-2.ensures.value) refl in
     let stand : c.as_slice-6.result.now ≡ map (λ x. list_any (same_row x) gone) come =
     c.as_slice-6.ensures.value ∙ c.in_ok-stand.ensures
     ∙ rw (c.as_slice-3.ensures.value, c.as_slice-4.ensures.value) refl in
-    let left : c.in_ok-going.going.items ≡ less gone come =
-    c.in_ok-going.ensures ∙ ap (unmarked gone) stay ∙ unmarked_by (λ x. list_any (same_row x) come) gone in
-    let right : c.in_ok-coming.coming.items ≡ less come gone =
-    c.in_ok-coming.ensures ∙ ap (unmarked come) stand ∙ unmarked_by (λ x. list_any (same_row x) gone) come in
+    let left : c.in_ok-removed.removed.items ≡ less gone come =
+    c.in_ok-removed.ensures ∙ ap (unmarked gone) stay ∙ unmarked_by (λ x. list_any (same_row x) come) gone in
+    let right : c.in_ok-added.added.items ≡ less come gone =
+    c.in_ok-added.ensures ∙ ap (unmarked come) stand ∙ unmarked_by (λ x. list_any (same_row x) gone) come in
     rw (left, right) at c.push_exchange.ensures

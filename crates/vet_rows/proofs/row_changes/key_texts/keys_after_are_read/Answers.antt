@@ -11,4 +11,4 @@ returns-in-Policies g c =
     let held = c.args.register.now.state.held in
     subst (λ e. KeysAreRead (edited e held).policies) (sym c.in-Policies.is)
     (of_edited (λ (p : KeyedPolicy). read_key (key_text p.key) ≡ Some p.key) c.in-Policies.change held.policies
-    (subst KeysAreRead c.policies.ensures c.keys_are_read.ensures) c.key_coming_is_read.ensures)
+    (subst KeysAreRead c.policies.ensures c.keys_are_read.ensures) c.key_added_is_read.ensures)

@@ -9,7 +9,7 @@ returns-in-Facts g c =
     let held = c.args.register.now.state.held in
     subst (λ e. ArePeersNamed (edited e held).facts.peers) (sym c.in-Facts.is)
     (peers_after c.in-Facts.edit held.facts (subst ArePeersNamed c.peers.ensures c.peers_are_named.ensures)
-    c.peer_coming_is_named.ensures)
+    c.peer_added_is_named.ensures)
 
 pub returns-in-Files : goal.returns-in-Files
 returns-in-Files g c =

@@ -26,7 +26,7 @@ use Rattle.vet_register.specs.declared.moves.Recording.TheVariants.{Behind, Anew
 use Rattle.vet_register.specs.Changes.{moves_by}
 use Rattle.vet_register.specs.Held as holds
 use Rattle.vet_register.specs.Held.{HeldRoom, HeldValue, held_with}
-use Rattle.vet_rows.specs.ComingNumbers.{EntriesComingFit, HeldEntriesFit, ReviewsComingFit}
+use Rattle.vet_rows.specs.AddedNumbers.{AddedEntriesFit, HeldEntriesFit, AddedReviewsFit}
 use Rattle.vet_rows.specs.Numbers.{EntryFits, MoveFits, PeerFits, ReviewFits}
 use Rattle.vet_rows.specs.StandingChanges.{recorded_moves}
 use Rattle.vet_rows.proofs.FactsExchanges.{HaveKeys, name_of, peer_edit, put_for}
@@ -36,7 +36,7 @@ use Rattle.vet_rows.proofs.ListEdits.{insert_in, new_in_set}
 
 module _ (old : Facts) (room : Room) (k : HaveKeys old) where
   entries_come : (e : Edit) → Fits e (record { content = old; room = room })
-      → All EntryFits (edited e old).entries → All PeerFits (edited e old).peers → EntriesComingFit e
+      → All EntryFits (edited e old).entries → All PeerFits (edited e old).peers → AddedEntriesFit e
   entries_come (edit.Criteria table) fits entries peers = tt
   entries_come (edit.Insert place h) fits entries peers =
       in_all EntryFits (edited (edit.Insert place h) old).entries entries h (insert_in old.entries place h h (inl refl))
@@ -79,7 +79,7 @@ turned_fits place state reviews r (Some q) is at fit =
     (new_in_set reviews place (in_state state q) (slice_get_within reviews place r at)))
 
 pub reviews_come : (change : DeskChange) (entry : Option ℕ) (d : DeskState)
-    → All ReviewFits (desk_changed change entry d).reviews → ReviewsComingFit change entry d
+    → All ReviewFits (desk_changed change entry d).reviews → AddedReviewsFit change entry d
 reviews_come (desk.Join change) entry d fit = tt
 reviews_come (desk.Open review) entry d fit =
     in_all ReviewFits (d.reviews ++ review ∷ []) fit review (in_back d.reviews (review ∷ []) review (inl refl))

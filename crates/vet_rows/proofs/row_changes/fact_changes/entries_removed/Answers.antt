@@ -7,12 +7,12 @@ use Rattle.std.proofs.lemmas.Cmp.{nat_list_cmp_total}
 use Rattle.vet_base.proofs.ItemLemmas.{in_all}
 use Rattle.vet_base.proofs.Rising.{only_equal}
 use Rattle.vet_entries.specs.HeldPeer.{peer_name}
-use Rattle.vet_rows.specs.FactsRows.{entries_going, own_entry}
+use Rattle.vet_rows.specs.FactsRows.{entries_removed, own_entry}
 use Rattle.vet_rows.specs.KeyedItems.{rows_if}
 use Rattle.vet_rows.specs.Numbers.{EntryFits, PeerFits}
 use Rattle.vet_rows.proofs.KeyedExchanges.{found_in}
 use Rattle.vet_rows.proofs.ListEdits.{at_in}
-use Rattle.vet_rows.proofs.row_changes.fact_changes.entries_going.Goals as goal
+use Rattle.vet_rows.proofs.row_changes.fact_changes.entries_removed.Goals as goal
 
 pub entries_of_peer-requires-in-Content : goal.entries_of_peer-requires-in-Content
 entries_of_peer-requires-in-Content c = λ p e.
@@ -28,7 +28,7 @@ row_if-requires c = λ h e.
 
 pub returns-in-Remove : goal.returns-in-Remove
 returns-in-Remove c =
-    subst (λ e. IfOk c.row_if.result (λ rows. rows.items ≡ entries_going e c.args.facts.now.content))
+    subst (λ e. IfOk c.row_if.result (λ rows. rows.items ≡ entries_removed e c.args.facts.now.content))
     (sym c.in-Remove.is)
     (subst (λ o. IfOk c.row_if.result (λ rows. rows.items ≡ rows_if own_entry o))
     (c.entry_at.ensures ∙ ap (λ entries. slice_get entries c.in-Remove.place) c.entries.ensures.value)
