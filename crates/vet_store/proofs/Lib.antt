@@ -1,5 +1,6 @@
 pub mod Crashes
 pub mod Exactness
+pub mod Found
 pub mod HeldRows
 pub mod HeldTexts
 pub mod Making

@@ -3,6 +3,7 @@ pub mod Changes
 pub mod Classes
 pub mod Committed
 pub mod Crash
+pub mod CrashLaws
 pub mod Exact
 pub mod Headline
 pub mod Made
@@ -11,6 +12,7 @@ pub mod Opened
 pub mod Read
 pub mod Readable
 pub mod Refusals
+pub mod Reopened
 pub mod Repeats
 pub mod RunLaws
 pub mod Runs

@@ -2,12 +2,14 @@
 //!
 //! **Whatever a register holds, each demanded pair stands in the class that chains give it. Two runs one after the
 //! other are one run of the commands of both. Each leaves what the machine makes alone of the commands that were
-//! done.**
+//! done. After a crash the next open finds the state before the command or after it.**
 ghost use Rattle.vet_register.specs.Sound.{IsBalanced};
 ghost use Rattle.vet_store.specs.Classes.{AddsUp, HasClassesOfChains};
+ghost use Rattle.vet_store.specs.CrashLaws.{CreateLeaves, OpenLeaves, RunLeaves};
 ghost use Rattle.vet_store.specs.RunLaws.{RunsKeepDone, TwoRunsAreOne};
 
-use vet_demand::laws::demand_is_least;
+use sqlite::Alter;
+use vet_demand::laws::{demand_is_least, nothing_is_demanded};
 use vet_graph::keeper::Keeper;
 use vet_graph::laws::each_pair_has_its_class;
 use vet_register::register::Register;
@@ -32,4 +34,25 @@ pub fn two_runs_are_one()
 /// A run leaves the state of the machine over the commands alone that were done, with the same outcomes.
 pub fn runs_keep_done()
     ensures { RunsKeepDone }
+{}
+
+/// After `Store::create`, where all names were free, a crash leaves a database without a register, in which `create` may
+/// be called again, or one that has the first state. Asks that a crash left what the connection showed as `create`
+/// began. Does nothing.
+pub fn create_leaves_nothing_or_the_first_state<S: Alter>()
+    ensures { CreateLeaves S.Store }
+{
+    nothing_is_demanded();
+}
+
+/// After `Store::open` a crash leaves a database that has the same state as before, or none as before. Asks that a crash
+/// left what the connection showed as `open` began. Does nothing.
+pub fn open_leaves_the_same_state<S: Alter>()
+    ensures { OpenLeaves S.Store }
+{}
+
+/// After `Store::run` a crash leaves a database that has the state before the command or the state after it. Does
+/// nothing.
+pub fn run_leaves_the_state_before_or_after<S: Alter>()
+    ensures { RunLeaves S.Store }
 {}

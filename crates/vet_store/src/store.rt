@@ -14,6 +14,7 @@ mod create;
 pub mod first_run;
 mod open;
 pub mod reopen;
+pub mod reopen_files;
 mod run;
 mod run_all;
 mod write;

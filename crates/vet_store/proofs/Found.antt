@@ -1,0 +1,129 @@
+-- What the next open finds: the same trees are the same database.
+use Rattle.std.proofs.Common.{◌≡◌, ◌⊎◌, ◌↔◌, ◌<◌, ◌≤◌, ℕ, inl, inr, None, Option, Some, sym, ap, ap₂, subst, ◌∙◌}
+use Rattle.std.specs.List.{All}
+use Rattle.std.proofs.lemmas.List.Elements.{All-nil}
+use Rattle.sqlite.proofs.Callers.{finds_again}
+use Rattle.sqlite.specs.Closing.{IsCopied}
+use Rattle.sqlite.specs.Effect.{Database, IsDatabase}
+use Rattle.sqlite.specs.Files.{Finds, IsOpened, file_state}
+use Rattle.sqlite.specs.Held.{Held, state}
+use Rattle.sqlite.specs.State.{HasCleanDisk, Survives}
+use Rattle.sqlite_catalog.proofs.ReadLemmas.{lists_once}
+use Rattle.sqlite_catalog.specs.Listing.{Lists}
+use Rattle.sqlite_disk.specs.declared.Disk.{Ghosts as DiskGhosts}
+use Rattle.sqlite_disk.specs.declared.Files.{Files}
+use Rattle.sqlite_schema.specs.declared.schema.Schema.{Schema}
+use Rattle.sqlite_store.specs.declared.store.FileStore.{FileStore}
+use Rattle.sqlite_trees.specs.Objects.{catalog_tree}
+use Rattle.sqlite_trees.specs.Tree.{Trees}
+use Rattle.sqlite_trees.specs.declared.store.Store.{Ghosts}
+use Rattle.vet_base.proofs.BuiltIn.{first_table}
+use Rattle.vet_base.specs.declared.limits.TheConstants.{MOST_MOVES}
+use Rattle.vet_demand.specs.DemandOf.{NothingIsDemanded}
+use Rattle.vet_register.proofs.Beginnings.{start_is_sound}
+use Rattle.vet_register.specs.Sound.{IsSound}
+use Rattle.vet_register.specs.State.{State, start}
+use Rattle.vet_rows.specs.HeldState.{IsHeldState}
+use Rattle.vet_rows.specs.RowsOf.{rows_of}
+use Rattle.vet_rows.specs.Values.{IsCriterion}
+use Rattle.vet_store.proofs.StartRows.{none_further}
+use Rattle.vet_store.specs.Committed.{AreTreesOf}
+use Rattle.vet_store.specs.CrashLaws.{CreateLeaves, HasNone, IsLeft, IsState, LeavesShown, OpenLeaves, RunLeaves}
+use Rattle.vet_store.specs.Opened.{IsStored}
+use Rattle.vet_store.specs.Stands.{Holds}
+use Rattle.vet_store.specs.Tied.{IsTied}
+use Rattle.vet_tables.proofs.Extends.{unused}
+use Rattle.vet_tables.specs.Free.{AreFree}
+use Rattle.vet_tables.specs.Has.{HasTables}
+use Rattle.vet_tables.specs.declared.table_name.TableName.TheVariants.{Meta}
+
+-- ---- one database for the same trees
+
+-- since they list its schema
+pub same_database : (a b : Database) → a.trees ≡ b.trees → IsDatabase a → IsDatabase b → a ≡ b
+same_database a b trees p q =
+    let schema : a.schema ≡ b.schema = lists_once (b.trees catalog_tree) a.schema b.schema
+    (subst (λ (t : Trees). Lists (t catalog_tree) a.schema) trees p.lists) q.lists in
+    ap₂ (λ (s : Schema) (t : Trees). record { schema = s; trees = t }) schema trees
+
+-- ---- what is stored
+
+stored : (db : Database) (s : State) → IsState s → Holds db (rows_of s) → IsStored db s
+stored db s is holds = record { sound = is.sound; held = is.held; holds = holds }
+
+-- a database with these trees
+left_of : (db : Database) (s : State) → IsDatabase db → IsState s → AreTreesOf (rows_of s) db.trees → IsStored db s
+left_of db s sound is h =
+    let same = same_database db h.0 h.1 sound h.2.sound in
+    stored db s is (subst (λ d. Holds d (rows_of s)) (sym same) h.2)
+
+-- where the names are free there are no tables
+free_has_none : (db : Database) → AreFree db.schema → (s : State) → IsStored db s → ⊥
+free_has_none db free s is =
+    let has = is.holds.has Meta in
+    let none = (unused db.schema _ (free Meta).unused).0 in
+    absurd (let e : ◌≡◌ {A = Option ℕ} None (Some has.at) = sym none ∙ has.named in cc)
+
+start_is_held : (limit : ℕ) → IsHeldState (start limit)
+start_is_held limit = record {
+  facts = record {
+    criteria = subst (λ criteria. All IsCriterion criteria) (sym none_further) (All-nil _);
+    entries = All-nil _;
+    peers = All-nil _;
+    publishers = All-nil _;
+  };
+  policies = All-nil _;
+  projects = All-nil _;
+  settings = record { vet_version = tt; default_criteria = tt };
+  members = All-nil _;
+  reviews = All-nil _;
+  moves = All-nil _;
+}
+
+-- ---- after a crash
+
+module _ {S : Type 0} (g : Ghosts S) where
+  pub create_leaves : NothingIsDemanded → CreateLeaves g
+  create_leaves law old new limit db limits live rests free shown survives clean is =
+      elim (survives.crash clean db.trees is.left) [
+        | inl before ↦
+            (let same = same_database db (state g old).now (shown db.trees before) is.sound live in
+            let frees : AreFree db.schema = subst (λ (d : Database). AreFree d.schema) (sym same) free in
+            inl (record { none = free_has_none db frees; free = frees }))
+        | inr made ↦
+            inr (left_of db (start limit) is.sound
+            (record { sound = start_is_sound law limit first_table limits; held = start_is_held limit })
+            (made.0, made.1, (made.2 rests free).0))
+      ]
+
+  pub open_leaves : OpenLeaves g
+  open_leaves old new db live shown survives clean is s = elim (survives.crash clean db.trees is.left) [
+    | inl before ↦
+        (let same = same_database db (state g old).now (shown db.trees before) is.sound live in
+        (subst (λ d. IsStored d s) same, subst (λ d. IsStored d s) (sym same)))
+    | inr none ↦ absurd none
+  ]
+
+  pub run_leaves : RunLeaves g
+  run_leaves new s command db before after leaves is = elim (leaves db.trees is.left) [
+    | inl h ↦ inl (left_of db s is.sound before h)
+    | inr h ↦ inr (left_of db _ is.sound after h)
+  ]
+
+-- ---- files that are closed and opened again
+
+pub stored_again : {D : Type 0} {g : DiskGhosts D} (old again : Held (FileStore D g)) (files : Files D) (shut : _)
+    (s : State) → IsTied (file_state old) shut (rows_of s) → IsSound s → IsHeldState s
+    → IsCopied old files → Finds files again → IsOpened again
+    → IsStored (file_state again).now s
+stored_again old again files shut s tied sound held closed found opened =
+    let stands = tied.stands closed.was_clean closed.was_open in
+    let live = opened.1 opened.0.is_open in
+    let same = same_database (file_state again).now (file_state old).now
+    (ap (λ (d : Database). d.trees) opened.0.clean ∙ finds_again old again files (λ _. closed) found
+    ∙ ap (λ (d : Database). d.trees) (sym stands.rests.settled)) live.0 stands.holds.sound in
+    record {
+      sound = sound;
+      held = held;
+      holds = subst (λ d. Holds d (rows_of s)) (sym same) stands.holds;
+    }

@@ -1,0 +1,62 @@
+-- What the next open finds after a crash (ours). SQLite's model tells which trees a crash leaves; here a database has them.
+use Rattle.std.specs.Prelude.{◌≡◌, ◌⊎◌, ◌↔◌, ◌<◌, ◌≤◌, ℕ}
+use Rattle.sqlite.specs.Effect.{Database, IsDatabase}
+use Rattle.sqlite.specs.Held.{Held, state}
+use Rattle.sqlite.specs.State.{HasCleanDisk, State as Connected, Survives}
+use Rattle.sqlite_trees.specs.Tree.{Trees}
+use Rattle.sqlite_trees.specs.declared.store.Store.{Ghosts}
+use Rattle.vet_base.specs.declared.limits.TheConstants.{MOST_MOVES}
+use Rattle.vet_register.specs.Runs.{after}
+use Rattle.vet_register.specs.Sound.{IsSound}
+use Rattle.vet_register.specs.State.{State, start}
+use Rattle.vet_register.specs.declared.command.Command.{Command}
+use Rattle.vet_rows.specs.HeldState.{IsHeldState}
+use Rattle.vet_rows.specs.RowsOf.{rows_of}
+use Rattle.vet_store.specs.Crash.{LeavesEither}
+use Rattle.vet_store.specs.Made.{IsMade}
+use Rattle.vet_store.specs.Opened.{IsStored}
+use Rattle.vet_tables.specs.Free.{AreFree}
+use Rattle.vet_tables.specs.Read.{Rests}
+
+-- a crash leaves what the connection shows
+abbrev pub LeavesShown : Connected → Type 0
+LeavesShown c = (trees : Trees) → c.may_leave trees → trees ≡ c.now.trees
+
+-- a database that a crash leaves
+pub record IsLeft (c : Connected) (db : Database) : Type 0 where
+  pub sound : IsDatabase db
+  pub left : c.may_leave db.trees
+
+-- no state is stored, and the names of a register's tables are free
+pub record HasNone (db : Database) : Type 0 where
+  pub none : (s : State) → IsStored db s → ⊥
+  pub free : AreFree db.schema
+
+-- a state that a register can have
+pub record IsState (s : State) : Type 0 where
+  pub sound : IsSound s
+  pub held : IsHeldState s
+
+module _ {S : Type 0} (g : Ghosts S) where
+  -- after `create`, where all names were free: no state, and `create` may be called again; or the first state
+  abbrev pub CreateLeaves : Type 0
+  CreateLeaves =
+      (old new : Held S) (limit : ℕ) (db : Database) → (0 < limit) × (limit ≤ MOST_MOVES)
+      → IsDatabase (state g old).now → Rests (state g old) → AreFree (state g old).now.schema
+      → LeavesShown (state g old)
+      → Survives (state g old) (state g new) (IsMade (state g old) (rows_of (start limit)))
+      → HasCleanDisk (state g new) → IsLeft (state g new) db → HasNone db ⊎ IsStored db (start limit)
+
+  -- after `open`: the same states as before
+  abbrev pub OpenLeaves : Type 0
+  OpenLeaves =
+      (old new : Held S) (db : Database) → IsDatabase (state g old).now → LeavesShown (state g old)
+      → Survives (state g old) (state g new) (λ _. ⊥) → HasCleanDisk (state g new) → IsLeft (state g new) db
+      → (s : State) → IsStored db s ↔ IsStored (state g old).now s
+
+  -- after `run`: the state before the command, or the state after it
+  abbrev pub RunLeaves : Type 0
+  RunLeaves =
+      (new : Held S) (s : State) (command : Command) (db : Database) → IsState s → IsState (after s command)
+      → LeavesEither (state g new) s command → IsLeft (state g new) db
+      → IsStored db s ⊎ IsStored db (after s command)

@@ -1,0 +1,102 @@
+//! The files of a store are closed, and opened again.
+//!
+//! **What is opened has the state that was closed.** A close copies the log into the database file, so the next open
+//! finds the last commit, whose rows are those of the register.
+ghost use Rattle.std.specs.Prelude.{◌≡◌, IfErr, IfOk};
+ghost use Rattle.sqlite.specs.Files.{file_state};
+ghost use Rattle.sqlite.specs.State.{HasCleanDisk};
+ghost use Rattle.vet_store.specs.Reopened.{RefusesAgain};
+
+use super::Store;
+use crate::refused::refusal_of;
+use sqlite::{Connection, FileStore, Leftover, Options};
+use sqlite_disk::Disk;
+use std::alloc::Global;
+use vet_base::refusal::Refusal;
+use vet_graph::keeper::Keeper;
+use vet_rows::held_register::register_is_held;
+
+/// What remains of a store whose files were not opened again.
+pub enum Remains<D: Disk> {
+    /// The files could not be closed.
+    Store(FileStore<D>),
+    /// The files were closed, and could not be opened.
+    Files(Leftover<D>),
+    /// The files were opened, and the register could not be read.
+    Conn(Connection<FileStore<D>>),
+}
+
+impl<D: Disk + Drop> Drop for Remains<D> {
+    fn drop(self) {
+        match self {
+            Remains::Store(_) => {}
+            Remains::Files(_) => {}
+            Remains::Conn(_) => {}
+        }
+    }
+}
+
+/// Why the files of a store were not opened again, and what remains of it.
+pub struct NotReopened<D: Disk> {
+    pub refusal: Refusal,
+    pub remains: Remains<D>,
+}
+
+impl<D: Disk + Drop> Drop for NotReopened<D> {
+    fn drop(self) {
+        let NotReopened {
+            refusal: _,
+            remains: _,
+        } = self;
+    }
+}
+
+impl<D: Disk + Drop> NotReopened<D> {
+    /// Why the files were not opened again, and what remains of the store. Takes no memory.
+    pub fn into_parts(self) -> (Refusal, Remains<D>)
+        ensures refusal { result.0 ≡ self.refusal }
+        ensures remains { result.1 ≡ self.remains }
+    {
+        let NotReopened { refusal, remains } = self;
+        (refusal, remains)
+    }
+}
+
+impl<D: Disk + Drop, K: Keeper> Store<FileStore<D>, K> {
+    /// Closes the files of the store, opens them again with these options, and reads the register. A store that is shut
+    /// cannot be closed. Refused, as long as the connection serves on a clean disk: `NoMemory` or `StoreRefused`.
+    pub fn reopen_files(
+        self,
+        alloc: Global,
+        options: Options,
+    ) -> Result<Store<FileStore<D>, K>, NotReopened<D>>
+        ensures same { IfOk result (λ s. HasCleanDisk (file_state s.conn)
+            → s.register.state ≡ self.register.state) }
+        ensures refused { IfErr result (λ e. RefusesAgain e.remains e.refusal) }
+    {
+        register_is_held(self.register());
+        let _sound = self.register().facts();
+        let files = match self.close().close_files() {
+            Ok(files) => files,
+            Err((error, store)) => return Err(refused(refusal_of(error), Remains::Store(store))),
+        };
+        let conn = match Connection::open_files(alloc, files, options) {
+            Ok(conn) => conn,
+            Err((error, left)) => return Err(refused(refusal_of(error), Remains::Files(left))),
+        };
+        match Store::open(alloc, conn) {
+            Ok(store) => Ok(store),
+            Err(not_opened) => {
+                let (refusal, conn) = not_opened.into_parts();
+                Err(refused(refusal, Remains::Conn(conn)))
+            }
+        }
+    }
+}
+
+fn refused<D: Disk>(refusal: Refusal, remains: Remains<D>) -> NotReopened<D>
+    ensures refusal { result.refusal ≡ refusal }
+    ensures remains { result.remains ≡ remains }
+{
+    NotReopened { refusal, remains }
+}
