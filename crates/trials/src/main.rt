@@ -7,9 +7,11 @@
 //! (`values` and the modules that it names), for reports (`reports`) and for files of what is held (`held_texts`).
 //! Behind the keeper may stand `--contents`, which prints also before each document what is held, or `--together`,
 //! which gives the commands as lists. Last may stand `--db PATH`, for a register that it makes in a database file, or
-//! `--db-open PATH`, for the one that is in such a file. A register in memory takes two flags more. `--touched` prints
-//! before each answer to a command that is done a line of the packages that it touches, or a star for all of them.
-//! `--ahead` gives the commands as lists, and has each prepared before the change of the one before it is installed.
+//! `--db-open PATH`, for the one that is in such a file. In their place may stand `--stop-log N` or `--stop-db N`, for
+//! one in files in memory of which one stops at its N-th call (`stops`). A register in memory takes two flags more.
+//! `--touched` prints before each answer to a command that is done a line of the packages that it touches, or a star
+//! for all of them. `--ahead` gives the commands as lists, and has each prepared before the change of the one before it
+//! is installed.
 //!
 //! `looks PACKAGE` has a register in memory, and prints how many looks at steps its keeper makes (`looks`). `demand`
 //! has no register, asks what projects demand, and has the lines of `workspace`, with the words of `policies` and
@@ -24,6 +26,7 @@
 
 mod exchanges;
 mod looks;
+mod stops;
 mod stored;
 mod times;
 mod toml_only;
@@ -34,7 +37,8 @@ use looks::run_looks;
 use std::io;
 use std::io::ErrorKind;
 use std::process::ExitCode;
-use stored::{Way, run_stored};
+use stops::run_stopped;
+use stored::run_stored;
 use times::run_times;
 use toml_only::read_toml;
 use trial_registers::input::{Input, read_input};
@@ -48,15 +52,16 @@ use vet_base::refusal::Refusal;
 use vet_graph::keeper::Keeper;
 use vet_graph::plain::PlainKeeper;
 use vet_masks::keeper::MaskKeeper;
-use words::{Asked, KeeperWord, Words, meaning, read_words};
+use words::{Asked, KeeperWord, Place, Words, meaning, read_words};
 
 /// The status of a run of something that isn't understood.
 const NOT_UNDERSTOOD: u8 = 2;
 
 /// What is told where the words are not understood.
 const TAKEN_WORDS: &str = "trials takes the words (plain | masks | relay) \
-    [--contents | --together | --touched | --ahead] [(--db | --db-open) PATH], looks PACKAGE, demand, times .., \
-    exchanges .., or toml";
+    [--contents | --together | --touched | --ahead] \
+    [(--db | --db-open) PATH | (--stop-log | --stop-db) N [--stop-open] [--checkpoint]], looks PACKAGE, demand, \
+    times .., exchanges .., or toml";
 
 fn main(rt: HostRuntime) -> io::Result<ExitCode> {
     match read_words(&rt) {
@@ -112,7 +117,7 @@ fn run_text(rt: &HostRuntime, text: &str, asked: Asked<'_>) -> io::Result<Ending
     match asked {
         Asked::Demand => run_workspace(rt, rt.alloc(), text),
         Asked::Looks(package) => run_looks(rt, rt.alloc(), text, package),
-        Asked::Register(keeper, how, file) => run_register(rt, text, keeper, how, file),
+        Asked::Register(keeper, how, place) => run_register(rt, text, keeper, how, place),
     }
 }
 
@@ -122,12 +127,12 @@ fn run_register(
     text: &str,
     keeper: KeeperWord,
     how: How,
-    file: Option<(Way, &str)>,
+    place: Place<'_>,
 ) -> io::Result<Ending> {
     match keeper {
-        KeeperWord::Plain => run_kept::<PlainKeeper>(rt, text, how, file),
-        KeeperWord::Masks => run_kept::<MaskKeeper>(rt, text, how, file),
-        KeeperWord::Relay => run_kept::<RelayKeeper>(rt, text, how, file),
+        KeeperWord::Plain => run_kept::<PlainKeeper>(rt, text, how, place),
+        KeeperWord::Masks => run_kept::<MaskKeeper>(rt, text, how, place),
+        KeeperWord::Relay => run_kept::<RelayKeeper>(rt, text, how, place),
     }
 }
 
@@ -135,10 +140,10 @@ fn run_kept<K: Keeper>(
     rt: &HostRuntime,
     text: &str,
     how: How,
-    file: Option<(Way, &str)>,
+    place: Place<'_>,
 ) -> io::Result<Ending> {
     match items_of(rt.alloc(), text) {
-        Ok(items) => run_items::<K>(rt, items.as_slice(), how, file),
+        Ok(items) => run_items::<K>(rt, items.as_slice(), how, place),
         Err(fault) => refused(rt, &fault),
     }
 }
@@ -147,11 +152,12 @@ fn run_items<K: Keeper>(
     rt: &HostRuntime,
     items: &[Numbered<'_>],
     how: How,
-    file: Option<(Way, &str)>,
+    place: Place<'_>,
 ) -> io::Result<Ending> {
-    match file {
-        Some((way, path)) => run_stored::<K>(rt, path, items, how, way),
-        None => run_in_memory::<K>(rt, rt.alloc(), items, how),
+    match place {
+        Place::Memory => run_in_memory::<K>(rt, rt.alloc(), items, how),
+        Place::File(way, path) => run_stored::<K>(rt, path, items, how, way),
+        Place::Stopping(stop) => run_stopped::<K>(rt, rt.alloc(), items, how, stop),
     }
 }
 

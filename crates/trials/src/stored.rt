@@ -27,10 +27,10 @@ pub enum Way {
     Opened,
 }
 
-// A store whose commands a run gives.
+/// A store whose commands a run gives.
 #[derive(Drop)]
-struct Stored<S: Alter + Drop, K: Keeper> {
-    store: Store<S, K>,
+pub struct Stored<S: Alter + Drop, K: Keeper> {
+    pub store: Store<S, K>,
 }
 
 impl<S: Alter + Drop, K: Keeper> Runs<K> for Stored<S, K> {
@@ -84,7 +84,8 @@ fn closed(rt: &impl Print, closed: Result<(), Error>, ending: Ending) -> io::Res
     }
 }
 
-fn refused_by_database(rt: &impl Print, error: Error) -> io::Result<Ending> {
+/// Prints the refusal of an error of the database, with which a run ends.
+pub fn refused_by_database(rt: &impl Print, error: Error) -> io::Result<Ending> {
     refused(rt, &Fault::Refused(refusal_of(error)))
 }
 

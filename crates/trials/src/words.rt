@@ -1,5 +1,6 @@
 //! The words of the command line.
 
+use crate::stops::{Stop, StoppedFile};
 use crate::stored::Way;
 use std::env::Env;
 use std::{env, io};
@@ -27,8 +28,19 @@ pub enum Asked<'w> {
     Demand,
     /// Looks at the steps of this package.
     Looks(&'w str),
-    /// A register, in memory or come by in a database file in this way, with this keeper of the classes.
-    Register(KeeperWord, How, Option<(Way, &'w str)>),
+    /// A register there, with this keeper of the classes.
+    Register(KeeperWord, How, Place<'w>),
+}
+
+/// Where a register is.
+#[derive(Clone, Copy)]
+pub enum Place<'w> {
+    /// In memory.
+    Memory,
+    /// In the database file of this path, come by in this way.
+    File(Way, &'w str),
+    /// In files in memory of which one stops.
+    Stopping(Stop),
 }
 
 /// The keeper of the classes.
@@ -99,8 +111,10 @@ fn of_register<'w>(word: &str, others: &'w [String]) -> Words<'w> {
 fn of_keeper(keeper: KeeperWord, words: &[String]) -> Words<'_> {
     let (how, words) = way_of(words);
     match words {
-        [] => Words::Input(Asked::Register(keeper, how, None)),
-        [flag, path] => of_file(keeper, how, flag.as_str(), path.as_str()),
+        [] => Words::Input(Asked::Register(keeper, how, Place::Memory)),
+        [flag, value, others @ ..] => {
+            of_place(keeper, how, place_of(flag.as_str(), value.as_str(), others))
+        }
         _ => Words::Other,
     }
 }
@@ -119,13 +133,61 @@ fn way_of(words: &[String]) -> (How, &[String]) {
     }
 }
 
-fn of_file<'w>(keeper: KeeperWord, how: How, flag: &str, path: &'w str) -> Words<'w> {
+fn of_place<'w>(keeper: KeeperWord, how: How, place: Option<Place<'w>>) -> Words<'w> {
     if how.asks_for_memory() {
         return Words::Other;
     }
+    match place {
+        Some(place) => Words::Input(Asked::Register(keeper, how, place)),
+        None => Words::Other,
+    }
+}
+
+// The place that a flag names with its value and the words behind it.
+fn place_of<'w>(flag: &str, value: &'w str, others: &[String]) -> Option<Place<'w>> {
     match flag {
-        "--db" => Words::Input(Asked::Register(keeper, how, Some((Way::Made, path)))),
-        "--db-open" => Words::Input(Asked::Register(keeper, how, Some((Way::Opened, path)))),
-        _ => Words::Other,
+        "--db" => file_at(Way::Made, value, others),
+        "--db-open" => file_at(Way::Opened, value, others),
+        "--stop-log" => stop_at(StoppedFile::Log, value, others),
+        "--stop-db" => stop_at(StoppedFile::Database, value, others),
+        _ => None,
+    }
+}
+
+fn file_at<'w>(way: Way, path: &'w str, others: &[String]) -> Option<Place<'w>> {
+    match others {
+        [] => Some(Place::File(way, path)),
+        _ => None,
+    }
+}
+
+fn stop_at<'w>(file: StoppedFile, number: &str, others: &[String]) -> Option<Place<'w>> {
+    let Ok(call) = number.parse::<usize>() else {
+        return None;
+    };
+    let (in_open, others) = behind_flag(others, "--stop-open");
+    let (checkpoint, others) = behind_flag(others, "--checkpoint");
+    if call == 0 || !others.is_empty() {
+        return None;
+    }
+    Some(Place::Stopping(Stop {
+        file,
+        call: call as u64,
+        in_open,
+        checkpoint,
+    }))
+}
+
+// Whether a flag stands first, and the words behind it.
+fn behind_flag<'w>(words: &'w [String], flag: &str) -> (bool, &'w [String]) {
+    match words {
+        [first, others @ ..] => {
+            if first.as_str() == flag {
+                (true, others)
+            } else {
+                (false, words)
+            }
+        }
+        [] => (false, words),
     }
 }
