@@ -1,8 +1,9 @@
-//! How long a connection may last, and the day of the clock.
-ghost use Rattle.std.specs.Prelude.{◌≡◌, ◌==◌, ◌+◌, ◌<◌, ◌≤◌, ◌/◌, IfOk, IfSome, None, Some, if◌then◌else◌, pos, true};
+//! How long a connection may last, how long its client may be silent, and the day of the clock.
+ghost use Rattle.std.specs.Prelude.{◌≡◌, ◌==◌, ◌+◌, ◌<◌, ◌≤◌, ◌/◌, IfOk, IfSome, None, Some, if◌then◌else◌, min, pos};
+ghost use Rattle.std.specs.Prelude.{true};
 ghost use Rattle.std.specs.Duration.{as_nanos};
 ghost use Rattle.std.specs.Time.{FitsClock, instant_nanos};
-ghost use Rattle.vetd.specs.Deadline.{end_of_connection};
+ghost use Rattle.vetd.specs.Deadline.{end_of_connection, longest_silence};
 ghost use Rattle.vet_base.specs.Day.{DayValue, day_number, is_day};
 
 use std::io;
@@ -11,6 +12,9 @@ use vet_base::day::Day;
 
 /// How many seconds a connection may last, from when it is accepted.
 pub const CONNECTION_SECONDS: u64 = 30;
+
+/// How many seconds a client may be silent while a read waits for it.
+pub const SILENT_SECONDS: u64 = 5;
 
 /// How many seconds a day has.
 const SECONDS_OF_A_DAY: u64 = 86_400;
@@ -52,6 +56,15 @@ impl Deadline {
         }
     }
 
+    /// How long a read may wait: for the time that is left, and no longer than a client may be silent. Never none. An
+    /// error where no time is left, or the clock can't be read.
+    pub fn read_wait<C: Clock>(self, clock: &C) -> io::Result<Duration>
+        ensures { IfOk result (λ wait. (0 < as_nanos wait) × (as_nanos wait ≤ longest_silence)) }
+    {
+        let left = self.time_left(clock)?;
+        Ok(wait_within(left))
+    }
+
     /// The time that is left at a time, unless it is none.
     fn left_at(self, now: Instant) -> Option<Duration>
         ensures left { IfSome result (λ left. (0 < as_nanos left)
@@ -67,6 +80,18 @@ fn some_time(left: Duration) -> Option<Duration>
     ensures { result ≡ (if as_nanos left == 0 then None else Some left) }
 {
     if left.is_zero() { None } else { Some(left) }
+}
+
+/// How long a read may wait if so much time is left.
+fn wait_within(left: Duration) -> Duration
+    ensures { as_nanos result ≡ min (as_nanos left) longest_silence }
+{
+    let longest = Duration::from_secs(SILENT_SECONDS);
+    if longest.as_nanos() < left.as_nanos() {
+        longest
+    } else {
+        left
+    }
 }
 
 /// The clock's day in UTC. An error where the clock can't be read, or is past 9999-12-31.

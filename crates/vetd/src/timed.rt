@@ -1,7 +1,8 @@
 //! A stream that is read and written by a deadline.
 //!
 //! **Each call waits no longer than the time that is left, and with none left it fails.** So a client that gives or
-//! takes a byte at a time holds the program no longer than its connection may last.
+//! takes a byte at a time holds the program no longer than its connection may last. **A read waits no longer than a
+//! client may be silent**, which is less, so one that sends nothing is let go sooner.
 ghost use Rattle.std.specs.Io.{ReadsAtMost};
 ghost use Rattle.std.specs.Io.KnownBytes.{ReadConsumes};
 
@@ -42,7 +43,7 @@ impl<C: Clock, T: Read + OpenStream> Read for TimedReader<'_, C, T> {
     }
 }
 
-/// One read, which waits no longer than the time that is left.
+/// One read, which waits no longer than the time that is left, nor than a client may be silent.
 fn read_by<C: Clock, T: Read + OpenStream>(
     clock: &C,
     stream: &mut T,
@@ -52,8 +53,8 @@ fn read_by<C: Clock, T: Read + OpenStream>(
     ensures bound { ReadsAtMost result buf.new }
     ensures bytes { ReadConsumes (T.Read.remaining stream.old) (T.Read.remaining stream.new) result buf.new }
 {
-    let left = deadline.time_left(clock)?;
-    stream.set_read_timeout(Some(left))?;
+    let wait = deadline.read_wait(clock)?;
+    stream.set_read_timeout(Some(wait))?;
     stream.read(buf)
 }
 
@@ -111,7 +112,8 @@ fn has_unread<T: OpenStream>(stream: &T) -> bool {
     stream.set_nonblocking(false).is_ok() && unread
 }
 
-/// Reads to the stream's end, and no longer than to the deadline or 32 MiB. A read that fails ends it.
+/// Reads to the stream's end, and no further than 32 MiB or the deadline. A read that fails ends it, also one that
+/// waited in vain.
 fn read_away<C: Clock, T: Read + OpenStream>(clock: &C, stream: &mut T, deadline: Deadline) {
     let mut chunk = [0u8; 4096];
     let mut taken = 0;
