@@ -33,6 +33,8 @@ LISTS = 8
 NOT_OF_KEEPERS = ("each_two_are_joined", "walks_find_what_chains_do")
 # these meet no function that others don't meet, and wait
 UNSERVED = ("always_out_of_memory", "a_wait_that_fails_is_one_of_them", "a_listener_that_is_lost")
+# of run_exchanges what makes ten million reads, and what starts a program for each byte of a reply
+NOT_OF_EXCHANGES = ("reads are interrupted without end", "each write ")
 
 
 def load(name, programs):
@@ -157,7 +159,7 @@ def of_stores(programs):
 def of_requests(programs):
     """Requests to `vetd serve`, and to the program of trials, which serves slices and itself."""
     yield from (it for it in load("served/run_serve", programs).named() if it[0] not in UNSERVED)
-    yield from load("served/run_exchanges", programs).named()
+    yield from (it for it in load("served/run_exchanges", programs).named() if not it[0].startswith(NOT_OF_EXCHANGES))
 
 
 def tests(programs):

@@ -3,10 +3,19 @@
 //! The word `exchanges` stands first. The word behind it says how the requests are served that the other words are,
 //! each whole. With `slices` one call of `serve_slices` serves all of them. With `loopback` each is sent over a
 //! connection to this machine, which the same thread accepts and has `serve_one` serve. The replies go to standard
-//! output one behind the other, and nothing else. The status is 2 where the second word is none of these, and 1 where
-//! something failed.
+//! output one behind the other, and nothing else.
+//!
+//! With `streams` each is served by `serve_one` over a reader that gives a byte a read and a writer that takes a byte
+//! a write, and has four words before it. The first says when reads are interrupted: `never`, `before-each` byte or
+//! `always`. Then come the number of the read that fails, 0 if none does, and how many bytes the writer takes. The
+//! fourth says what a write does after these: `fails`, `is-interrupted` or `takes-nothing`. Before what was written of
+//! the reply stands a line `CAME reads R interrupted I writes W`: its status or the fault, and how many calls there
+//! were.
+//!
+//! The status is 2 where a word is none of these, and 1 where something failed.
 use crate::exchanges::loopback::serve_over_loopback;
 use crate::exchanges::slices::serve_together;
+use crate::exchanges::streams::serve_over_streams;
 use std::process::ExitCode;
 use std::{env, io};
 use trial_values::fault::Fault;
@@ -16,8 +25,10 @@ use vet_http::io_fault::IoFault;
 use vet_masks::keeper::MaskKeeper;
 use vet_store::memory::run_in_memory_files;
 
+mod faulty_streams;
 mod loopback;
 mod slices;
+mod streams;
 
 /// The status of a run of words that aren't understood.
 const NOT_UNDERSTOOD: u8 = 2;
@@ -45,7 +56,7 @@ fn run_whole(rt: &HostRuntime) -> Result<(), Fault> {
     serve_requests(rt, how.as_str(), requests.as_slice())
 }
 
-// Serves the requests by a new register, in one of the two ways.
+// Serves the requests by a new register, in one of the three ways.
 fn serve_requests(rt: &HostRuntime, how: &str, requests: &[String]) -> Result<(), Fault> {
     let day = Day::parse(DAY)?;
     let mut first = run_in_memory_files::<MaskKeeper>(rt.alloc(), MOST_MOVES, &[])?;
@@ -55,6 +66,9 @@ fn serve_requests(rt: &HostRuntime, how: &str, requests: &[String]) -> Result<()
     }
     if how == "loopback" {
         return serve_over_loopback(rt, &mut first.store, day, requests, &mut writer);
+    }
+    if how == "streams" {
+        return serve_over_streams(rt, &mut first.store, day, requests, &mut writer);
     }
     Err(Fault::NotUnderstood)
 }
