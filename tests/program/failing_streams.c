@@ -1,11 +1,13 @@
-/* Streams that give and take little, and fail. Reads of standard input:
+/* Streams that give and take little, and fail. Reads of standard input, or of the socket of the first client that a
+   server accepts:
 
-     INTERRUPTED_READS  how many are interrupted before the first that is not
+     INTERRUPTED_READS  how many are interrupted before the first that is not; until then the clock stands still, so
+                        that no deadline passes
      READS_IN_PIECES    1: each gives one byte, and 2: besides, there is an interrupted one before each
      FAILED_READ        the number of the one that fails
      ENDLESS_INPUT      line feeds come without end
 
-   Writes to the descriptor that FAILING_STREAM names, each of which takes one byte:
+   Writes to the descriptor that FAILING_STREAM names, or with 0 to that socket, each of which takes one byte:
 
      FAILED_WRITE       the number of the one that fails, which is interrupted; with FAILURES_STAY, all from it on
                         fail, and by another error
@@ -20,7 +22,12 @@
 #include <stdlib.h>
 #include <string.h>
 #include <sys/mman.h>
+#include <sys/socket.h>
+#include <time.h>
 #include <unistd.h>
+
+/* nobody writes to standard input */
+enum { SOCKET = STDIN_FILENO };
 
 struct met {
     uint64_t loaded;
@@ -36,6 +43,7 @@ struct met {
 static struct met unseen;
 static struct met *met = &unseen;
 static long interrupted, pieces, failed_read, endless, failing_stream, failed_write, stay, room;
+static long clients;
 
 static long number(const char *name)
 {
@@ -71,6 +79,24 @@ static ssize_t fails(int why)
     return -1;
 }
 
+/* ---- the calls behind these */
+
+static ssize_t next_recv(int from, void *to, size_t most, int flags)
+{
+    static ssize_t (*next)(int, void *, size_t, int);
+    if (next == NULL)
+        next = (ssize_t(*)(int, void *, size_t, int))dlsym(RTLD_NEXT, "recv");
+    return next(from, to, most, flags);
+}
+
+static ssize_t next_send(int to, const void *from, size_t most, int flags)
+{
+    static ssize_t (*next)(int, const void *, size_t, int);
+    if (next == NULL)
+        next = (ssize_t(*)(int, const void *, size_t, int))dlsym(RTLD_NEXT, "send");
+    return next(to, from, most, flags);
+}
+
 static ssize_t next_read(int from, void *to, size_t most)
 {
     static ssize_t (*next)(int, void *, size_t);
@@ -87,15 +113,25 @@ static ssize_t next_write(int to, const void *from, size_t most)
     return next(to, from, most);
 }
 
+static ssize_t read_socket(int from, void *to, size_t most)
+{
+    return next_recv(from, to, most, 0);
+}
+
+static ssize_t write_socket(int to, const void *from, size_t most)
+{
+    return next_send(to, from, most, MSG_NOSIGNAL);
+}
+
+/* ---- reads */
+
 static int interrupts(void)
 {
     return (long)met->reads <= interrupted || (pieces == 2 && met->reads % 2 == 1);
 }
 
-ssize_t read(int from, void *to, size_t most)
+static ssize_t read_by(ssize_t (*next)(int, void *, size_t), int from, void *to, size_t most)
 {
-    if (from != STDIN_FILENO)
-        return next_read(from, to, most);
     met->reads++;
     if ((long)met->reads == failed_read) {
         met->failed_reads++;
@@ -109,16 +145,29 @@ ssize_t read(int from, void *to, size_t most)
         memset(to, '\n', most);
     else if (pieces >= 1 && most > 1)
         most = 1;
-    ssize_t given = endless == 1 ? (ssize_t)most : next_read(from, to, most);
+    ssize_t given = endless == 1 ? (ssize_t)most : next(from, to, most);
     if (given > 0)
         met->bytes_given += given;
     return given;
 }
 
-ssize_t write(int to, const void *from, size_t most)
+ssize_t read(int from, void *to, size_t most)
 {
-    if (to != failing_stream || most == 0)
-        return next_write(to, from, most);
+    return from == STDIN_FILENO ? read_by(next_read, from, to, most) : next_read(from, to, most);
+}
+
+/* One that only looks at what has come is no read. */
+ssize_t recv(int from, void *to, size_t most, int flags)
+{
+    if (clients != 1 || (flags & MSG_PEEK))
+        return next_recv(from, to, most, flags);
+    return read_by(read_socket, from, to, most);
+}
+
+/* ---- writes */
+
+static ssize_t write_by(ssize_t (*next)(int, const void *, size_t), int to, const void *from)
+{
     met->writes++;
     if ((long)met->writes == failed_write || (stay == 1 && (long)met->writes > failed_write)) {
         met->failed_writes++;
@@ -128,5 +177,48 @@ ssize_t write(int to, const void *from, size_t most)
         met->empty_writes++;
         return 0;
     }
-    return next_write(to, from, 1);
+    return next(to, from, 1);
+}
+
+ssize_t write(int to, const void *from, size_t most)
+{
+    return to == failing_stream && most > 0 ? write_by(next_write, to, from) : next_write(to, from, most);
+}
+
+ssize_t send(int to, const void *from, size_t most, int flags)
+{
+    if (failing_stream != SOCKET || clients != 1 || most == 0)
+        return next_send(to, from, most, flags);
+    return write_by(write_socket, to, from);
+}
+
+/* ---- clients, and the clock */
+
+int accept(int at, struct sockaddr *address, socklen_t *length)
+{
+    int (*next)(int, struct sockaddr *, socklen_t *) = dlsym(RTLD_NEXT, "accept");
+    clients++;
+    return next(at, address, length);
+}
+
+int accept4(int at, struct sockaddr *address, socklen_t *length, int flags)
+{
+    int (*next)(int, struct sockaddr *, socklen_t *, int) = dlsym(RTLD_NEXT, "accept4");
+    clients++;
+    return next(at, address, length, flags);
+}
+
+int clock_gettime(clockid_t clock, struct timespec *time)
+{
+    static int (*next)(clockid_t, struct timespec *);
+    static struct timespec stopped;
+    if (next == NULL)
+        next = (int (*)(clockid_t, struct timespec *))dlsym(RTLD_NEXT, "clock_gettime");
+    int answer = next(clock, time);
+    if (answer != 0 || clock != CLOCK_MONOTONIC || (long)met->reads >= interrupted)
+        return answer;
+    if (stopped.tv_sec == 0)
+        stopped = *time;
+    *time = stopped;
+    return 0;
 }
