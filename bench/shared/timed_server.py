@@ -28,6 +28,17 @@ def asked(client: Client, server, requests):
 
 def most_memory(server):
     """The most memory that a server has had until now, in MB."""
+    return memory_of(server, "VmHWM")
+
+
+def memory_of(server, name):
+    """What the system states of a server's memory by this name, in MB."""
     with open(f"/proc/{server.process.pid}/status", encoding="utf-8") as status:
-        (line,) = (line for line in status if line.startswith("VmHWM:"))
+        (line,) = (line for line in status if line.startswith(f"{name}:"))
     return int(line.split()[1]) / 1024
+
+
+def forget_most_memory(server):
+    """The most memory of a server is that which it has from now on."""
+    with open(f"/proc/{server.process.pid}/clear_refs", "w", encoding="utf-8") as file:
+        file.write("5")
