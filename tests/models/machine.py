@@ -5,6 +5,7 @@ from models.desk import DESK_COMMANDS, desk_lines
 from models.held import BUILT_IN, CLASSES, Held
 from models.files import Criterion
 from models.refused import Refused
+from models.rows import rows_of
 from models.tables import version_order
 from models.words import word_of
 
@@ -68,6 +69,10 @@ class Machine:
         yield counts_line("counts", list(standing.values()))
         yield counts_line("first", self.first)
         yield from self.moves
+
+    def rows(self):
+        """The rows of the tables, as `models/rows.py` has them."""
+        return rows_of(self.contents(), self.limit, self.held.next_entry, self.held.next_review)
 
 
 def held_lines(held):
