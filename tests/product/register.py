@@ -23,14 +23,15 @@ def answer_of(line):
 
 
 class Register:
-    """What a program answers about the register at a path, each time within so many seconds."""
+    """What a program answers about the register at a path, each time within so many seconds. It may have another
+    environment than the script."""
 
-    def __init__(self, program, path, seconds=60):
-        self.program, self.path, self.seconds = program, path, seconds
+    def __init__(self, program, path, seconds=60, environment=None):
+        self.program, self.path, self.seconds, self.environment = program, path, seconds, environment
 
     def run(self, command, *words, text=b""):
         words = [self.program, command, "--db", self.path, *words]
-        done = subprocess.run(words, input=text, capture_output=True, timeout=self.seconds)
+        done = subprocess.run(words, input=text, capture_output=True, timeout=self.seconds, env=self.environment)
         return done.returncode, done.stdout, done.stderr
 
     def make(self, limit=None):

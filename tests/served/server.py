@@ -1,5 +1,7 @@
-"""A `vetd serve` that ends by itself: how many connections it waits for is said when it starts."""
+"""A `vetd serve` that ends by itself: how many connections it waits for is said when it starts. Or it is killed, and
+waits for as many as there may be."""
 
+import contextlib
 import itertools
 import os
 import random
@@ -14,6 +16,7 @@ ROOT = os.path.dirname(os.path.dirname(os.path.dirname(os.path.abspath(__file__)
 PROGRAM = os.environ.get("VETD") or os.path.join(ROOT, "crates", "vetd", "out", "vetd")
 FAULTS = (AssertionError, OSError, ValueError, LookupError, subprocess.SubprocessError, sqlite3.Error)
 DAY = "2024-05-01"
+MOST_CONNECTIONS = 1_000_000
 PHRASES = {
     200: "OK",
     400: "Bad Request",
@@ -163,6 +166,17 @@ class Server:
     def posted(self, text, line, fields=()):
         """Posts a command document, and holds each byte of the reply."""
         self.answers(line, "POST", "/commands", text, fields)
+
+
+@contextlib.contextmanager
+def until_killed(*words):
+    """A server that is killed in the end, if not before."""
+    server = Server(MOST_CONNECTIONS, *words)
+    server.__enter__()
+    try:
+        yield server
+    finally:
+        server.killed()
 
 
 def reply_or_end(client, given):
