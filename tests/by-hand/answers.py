@@ -14,6 +14,8 @@ ERRORS = {
     "Unread": "crate::read::unread::Unread::NoMemory",
     "Stop": f"crate::change::Stop::Before({OUT_OF_MEMORY})",
     "Refused": "crate::refused::Refused {{ refusal: {vet_base}::refusal::Refusal::NoMemory, conn: {conn} }}",
+    "NotReopened": "crate::store::reopen_files::NotReopened {{ refusal: {vet_base}::refusal::Refusal::NoMemory, "
+    "remains: crate::store::reopen_files::Remains::Conn({conn}) }}",
     "io": "std::io::Error::from(std::io::ErrorKind::OutOfMemory)",
 }
 # of an error that has this name alone, by the library from which its file has it
@@ -26,7 +28,9 @@ PAIR = re.compile(r"->\s*\(Result<.*,\s*(\w+)>,\s*(Option<)?Connection<\w+>+\)\s
 RUN = re.compile(r"->\s*DatabaseRun<\w+>\s*$")
 LIBRARY = re.compile(r"^use (\w+)::(?:\{[^}]*\bError\b[^}]*\}|Error);", re.M)
 # what has the connection, by the signature
-HOLDERS = {r"\bconn: Connection<": "conn", r"\bstore: Store<": "store.close()", r"\(self\b": "self.close()"}
+HOLDERS = {r"\bconn: Connection<": "conn", r"\bstore: Store<": "store.close()", r"\(\s*self\b": "self.close()"}
+# errors that hand it back
+HANDED_BACK = ("Refused", "NotReopened")
 
 
 class Answer(NamedTuple):
@@ -67,5 +71,5 @@ def answer_of(signature, crate, text):
     if not found or found[2] in NEVER:
         return None
     kind = found[1] or found[2]
-    conn = holder_of(signature) if kind == "Refused" else None
+    conn = holder_of(signature) if kind in HANDED_BACK else None
     return Answer(f"Err({error_of(kind, crate, text, conn)})", conn and conn.partition(".")[0])

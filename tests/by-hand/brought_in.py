@@ -24,8 +24,8 @@ OTHER_KEEPER = ", relay"
 CHAINS_APART = 40
 QUESTIONS_APART = 60
 TABLES_AT_ONCE = 100
-# an odd number, so that each keeper and each way of giving commands is among them
-STORED_APART = 3
+# of six lists of an example, so that each keeper and each way of giving commands is among them
+STORED_APART = 5
 FORMS_APART = 5
 # how many drawn lists of run_held_files are taken
 LISTS = 8
@@ -50,8 +50,8 @@ def load(name, programs):
     return script
 
 
-def is_told(classes, words, file, line):
-    found = classes.told(words, file)
+def is_told(classes, program, words, file, line):
+    found = classes.told(program, words, file)
     if found != line + "\n":
         raise AssertionError(f"{found}, and not {line}")
 
@@ -80,7 +80,9 @@ def of_files(programs):
     scripts = ("classes/run_classes", "classes/run_chains", "program/run_program")
     classes, chains, program = (load(it, programs) for it in scripts)
     for name, words, file, line in classes.rows():
-        yield name, partial(is_told, classes, words, file, line)
+        yield name, partial(is_told, classes, classes.PROGRAM, words, file, line)
+    for name, words, file, line in classes.EXAMPLES:
+        yield f"{name}, at hand", partial(is_told, classes, classes.AT_HAND, words, file, line)
     cases = list(chains.cases())
     for at in range(0, len(cases), CHAINS_APART * chains.PACKAGES):
         batch = chains.Batch(cases[at : at + chains.PACKAGES])

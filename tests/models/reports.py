@@ -23,6 +23,12 @@ def reports_of(lines):
     }
 
 
+def standings_of(lines):
+    """The report of the standing for each class alone, by its words."""
+    standing = reports_of(lines)["standing"].splitlines(keepends=True)
+    return {f"standing {word}": "".join(line for line in standing if line.split()[-1] == word) for word in CLASSES}
+
+
 def counts_text(first, moves, present):
     """The table of counts; of the first ones and the present ones the words are given, a class and a number in turn."""
     rows = []

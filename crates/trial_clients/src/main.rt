@@ -4,7 +4,8 @@
 //! `failed`, for a client that can't be served; `lost`, for the loss of what listens; or, as the only one, `no-port`,
 //! where the port can't be had. Replies and what the program prints go to standard output in the order in which they
 //! are written, and a fault of the network to standard error. Last, where it closed what listened, is how many clients
-//! it released. The status is that of the program, and 3 where there was no memory for its words.
+//! it released. If the first word is `class` or `read`, it answers its words by `class_run` or `read_run`, as `vetd`
+//! does. The status is that of the program, and 3 where there was no memory for its words.
 #![tactic(auto)]
 
 use sqlite::Connection as Database;
@@ -18,12 +19,14 @@ use vet_base::refusal::Refusal;
 use vet_http::serve::Connection;
 use vet_masks::keeper::MaskKeeper;
 use vet_requests::input::CountedReader;
+use vet_requests::io_fault::IoFault;
 use vet_store::memory_file::MemoryFiles;
 use vetd_commands::databases::Databases;
 use vetd_program::clients::arrival::Arrival;
 use vetd_program::clients::memory_network::MemoryNetwork;
 use vetd_program::clients::network::{HangUp, Network};
 use vetd_program::program::program_run;
+use vetd_words::run::{class_run, read_run};
 
 /// The day on which all clients are served.
 const DAY: &str = "2024-05-01";
@@ -133,9 +136,36 @@ fn serve<N: Network>(rt: &HostRuntime, awaited: &str, network: &mut N) -> Result
         &mut io::writer(rt),
         &mut rt.stderr(),
     );
-    match run.status {
-        Ok(status) => Ok(status),
-        Err(_) => Ok(FAULTED),
+    Ok(status_of(run.status))
+}
+
+/// Answers the words of `vetd class`.
+fn run_class(rt: &HostRuntime, words: &[String]) -> u8 {
+    status_of(class_run(
+        rt.alloc(),
+        words,
+        &mut CountedReader::new(rt.alloc(), rt.reader()),
+        &mut io::writer(rt),
+        &mut rt.stderr(),
+    ))
+}
+
+/// Answers the words of `vetd read`.
+fn run_read(rt: &HostRuntime, words: &[String]) -> u8 {
+    status_of(read_run(
+        rt.alloc(),
+        words,
+        &mut CountedReader::new(rt.alloc(), rt.reader()),
+        &mut io::writer(rt),
+        &mut rt.stderr(),
+    ))
+}
+
+/// The status of a run.
+fn status_of(run: Result<u8, IoFault>) -> u8 {
+    match run {
+        Ok(status) => status,
+        Err(_) => FAULTED,
     }
 }
 
@@ -148,7 +178,19 @@ fn words_after_name(rt: &HostRuntime) -> Result<Vec<String>, Fault> {
 
 fn run(rt: &HostRuntime) -> Result<u8, Fault> {
     let words = words_after_name(rt)?;
-    run_words(rt, words.as_slice())
+    run_by(rt, words.as_slice())
+}
+
+/// Answers the words, by the first of them.
+fn run_by(rt: &HostRuntime, words: &[String]) -> Result<u8, Fault> {
+    let Some(first) = words.first() else {
+        return Err(Fault::NotUnderstood);
+    };
+    match first.as_str() {
+        "class" => Ok(run_class(rt, words)),
+        "read" => Ok(run_read(rt, words)),
+        _ => run_words(rt, words),
+    }
 }
 
 fn main(rt: HostRuntime) -> ExitCode {

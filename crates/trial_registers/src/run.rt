@@ -162,8 +162,8 @@ fn give_document<K: Keeper, R: Runs<K>>(
     }
 }
 
-// The command of a document. Refused: as `vetd apply` refuses it, the day first.
-fn command_of(alloc: Global, document: Document<'_>) -> Result<Command, Refusal> {
+/// The command of a document. Refused: as `vetd apply` refuses it, the day first.
+pub fn command_of(alloc: Global, document: Document<'_>) -> Result<Command, Refusal> {
     let day = Day::parse(document.day)?;
     let member = match document.member {
         Some(member) => Some(member.as_bytes()),
@@ -227,7 +227,8 @@ fn give_list<K: Keeper, R: Runs<K>>(
     }
 }
 
-fn print_answers(rt: &impl Print, answers: &[Result<Outcome, Refusal>]) -> io::Result<Given> {
+/// Prints the answers to some commands.
+pub fn print_answers(rt: &impl Print, answers: &[Result<Outcome, Refusal>]) -> io::Result<Given> {
     for answer in answers {
         match answer {
             Ok(outcome) => print_outcome(rt, *outcome)?,

@@ -1,9 +1,10 @@
 //! Lines that ask for lists of names and texts that are made at once, or by edits.
 //!
 //! `names-of [NAME ..]`, `packages-of [NAME ..]` and `texts-of [TEXT ..]` make the set of what stands there in
-//! whatever order, and tell its members, each in brackets. `edited [+NAME ..] [-NAME ..]` sets and drops names
-//! one by one, each by an edit that is made, undone and made again, and tells the names that are left.
-//! `touched [NAME ..]` tells the packages of a copy of those touched.
+//! whatever order, and tell its members, each in brackets. `pairs-of [PACKAGE,VERSION,CRITERION ..]` tells the demand
+//! of such pairs in the same way. `edited [+NAME ..] [-NAME ..]` sets and drops names one by one, each by an edit that
+//! is made, undone and made again, and tells the names that are left. `touched [NAME ..]` tells the packages of a copy
+//! of those touched.
 
 ghost use Rattle.vet_base.specs.Keyed.{Fits};
 
@@ -16,6 +17,9 @@ use vet_base::names::Names;
 use vet_base::package_names::PackageNames;
 use vet_base::text::Text;
 use vet_base::texts::Texts;
+use vet_base::version::VetVersion;
+use vet_demand::demand::Demand;
+use vet_demand::pair::Pair;
 use vet_graph::touched::Touched;
 
 /// The set of some names. Refused: `BadName`, and `NoMemory`.
@@ -42,6 +46,30 @@ pub fn texts_of(alloc: Global, texts: &[String]) -> Result<String, Fault> {
     in_brackets(alloc, Texts::of(alloc, items)?.as_slice())
 }
 
+/// The demand of some pairs. Refused: what their texts are refused for, and `NoMemory`.
+pub fn pairs_of(alloc: Global, texts: &[String]) -> Result<String, Fault> {
+    let mut pairs = Vec::new(alloc);
+    for text in texts {
+        pairs.push(pair(alloc, text.as_str())?)?;
+    }
+    told_pairs(alloc, Demand::of_pairs(alloc, pairs)?.pairs())
+}
+
+/// The pair that a text `PACKAGE,VERSION,CRITERION` is. Refused: what its parts are refused for, and `NoMemory`.
+pub fn pair(alloc: Global, text: &str) -> Result<Pair, Fault> {
+    let Some((package, rest)) = text.split_once(',') else {
+        return Err(Fault::NotUnderstood);
+    };
+    let Some((version, criterion)) = rest.split_once(',') else {
+        return Err(Fault::NotUnderstood);
+    };
+    Ok(Pair {
+        package: PackageName::parse(alloc, package)?,
+        version: VetVersion::parse(alloc, version)?,
+        criterion: Name::parse(alloc, criterion)?,
+    })
+}
+
 /// What edits leave of a list of names. Refused: `BadName`, and `NoMemory`.
 pub fn edited(alloc: Global, texts: &[String]) -> Result<String, Fault> {
     let mut names = Keyed::new(alloc);
@@ -53,12 +81,20 @@ pub fn edited(alloc: Global, texts: &[String]) -> Result<String, Fault> {
 
 /// The packages of a copy of those touched. Refused: `BadName`, and `NoMemory`.
 pub fn touched(alloc: Global, texts: &[String]) -> Result<String, Fault> {
-    let names = packages(alloc, texts)?;
-    let touched = Touched::Packages(PackageNames::of(alloc, names)?);
+    let touched = Touched::Packages(inserted(alloc, texts)?);
     match &touched.clone()? {
         Touched::All => Err(Fault::NotUnderstood),
         Touched::Packages(names) => in_brackets(alloc, names.as_slice()),
     }
+}
+
+// The set of some packages' names, each added by itself.
+fn inserted(alloc: Global, texts: &[String]) -> Result<PackageNames, Fault> {
+    let mut names = PackageNames::new(alloc);
+    for text in texts {
+        names.insert(PackageName::parse(alloc, text.as_str())?)?;
+    }
+    Ok(names)
 }
 
 /// Some packages' names, in their order. Refused: `BadName`, and `NoMemory`.
@@ -68,6 +104,15 @@ pub fn packages(alloc: Global, texts: &[String]) -> Result<Vec<PackageName>, Fau
         names.push(PackageName::parse(alloc, text.as_str())?)?;
     }
     Ok(names)
+}
+
+fn told_pairs(alloc: Global, pairs: &[Pair]) -> Result<String, Fault> {
+    let mut told = String::new(alloc);
+    for pair in pairs {
+        let text = format!(in alloc; "{} {} {}", pair.package, pair.version, pair.criterion)?;
+        push_in_brackets(&mut told, text.as_str())?;
+    }
+    Ok(told)
 }
 
 // Sets or drops a name.

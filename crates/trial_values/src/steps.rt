@@ -1,17 +1,19 @@
 //! Lines that ask what the entries say of a package.
 //!
 //! `steps PACKAGE` tells its steps, a line each: where it starts or `-`, where it leads, `exempt` or `-`, and its
-//! criteria in the order of the table. `condemned PACKAGE VERSION` tells the criteria for which a version is condemned.
-//! Where there is nothing to tell, each tells `-`.
+//! criteria in the order of the table. `violations PACKAGE` tells its violations, each in brackets: the requirement,
+//! and the criteria for which it condemns a version, or `-`. `condemned PACKAGE VERSION` tells the criteria for which a
+//! version is condemned. Where there is nothing to tell, each tells `-`.
 
 use crate::fault::Fault;
 use crate::line::{one, two};
+use crate::lists::push_in_brackets;
 use std::alloc::Global;
 use vet_base::criteria_set::CriteriaSet;
 use vet_base::criteria_table::CriteriaTable;
 use vet_base::name::PackageName;
 use vet_base::version::VetVersion;
-use vet_entries::condemned::condemned;
+use vet_entries::condemned::{Violation, condemned, violations_of};
 use vet_entries::facts::EntryFacts;
 use vet_entries::step::{Step, steps_of};
 
@@ -20,6 +22,13 @@ pub fn steps(alloc: Global, facts: &EntryFacts, texts: &[String]) -> Result<Stri
     let package = PackageName::parse(alloc, one(texts)?)?;
     let steps = steps_of(alloc, &package, facts)?;
     told_steps(alloc, facts.criteria(), steps.as_slice())
+}
+
+/// The violations of a package. Refused: `BadName`, and `NoMemory`.
+pub fn violations(alloc: Global, facts: &EntryFacts, texts: &[String]) -> Result<String, Fault> {
+    let package = PackageName::parse(alloc, one(texts)?)?;
+    let violations = violations_of(alloc, &package, facts)?;
+    told_violations(alloc, facts.criteria(), violations.as_slice())
 }
 
 /// The criteria for which a version of a package is condemned. Refused: `BadName`, `BadVersion`, and `NoMemory`.
@@ -58,6 +67,30 @@ fn told_steps(alloc: Global, table: &CriteriaTable, steps: &[Step]) -> Result<St
         push_behind(&mut told, "\n", line.as_str())?;
     }
     or_none(alloc, told)
+}
+
+fn told_violations(
+    alloc: Global,
+    table: &CriteriaTable,
+    violations: &[Violation],
+) -> Result<String, Fault> {
+    let mut told = String::new(alloc);
+    for violation in violations {
+        let text = told_violation(alloc, table, violation)?;
+        push_in_brackets(&mut told, text.as_str())?;
+    }
+    or_none(alloc, told)
+}
+
+fn told_violation(
+    alloc: Global,
+    table: &CriteriaTable,
+    violation: &Violation,
+) -> Result<String, Fault> {
+    let criteria = or_none(alloc, told_criteria(alloc, table, &violation.criteria)?)?;
+    let mut told = violation.requirement.to_string(alloc)?;
+    push_behind(&mut told, " ", criteria.as_str())?;
+    Ok(told)
 }
 
 fn told_step(alloc: Global, table: &CriteriaTable, step: &Step) -> Result<String, Fault> {

@@ -7,14 +7,12 @@
 
 use crate::fault::Fault;
 use crate::line::two;
-use crate::lists::push_in_brackets;
+use crate::lists::{pair, push_in_brackets};
 use crate::name_lists::names_between_commas;
 use std::alloc::Global;
 use vet_base::criteria_table::CriteriaTable;
 use vet_base::criterion::Criterion;
-use vet_base::name::{Name, PackageName};
-use vet_base::version::VetVersion;
-use vet_demand::pair::Pair;
+use vet_base::name::Name;
 use vet_graph::class::Class;
 use vet_graph::moves::{Move, differences};
 use vet_graph::standing::Stand;
@@ -89,25 +87,18 @@ fn stands(alloc: Global, text: &str) -> Result<Vec<Stand>, Fault> {
 
 // The stand that a text `PACKAGE,VERSION,CRITERION,CLASS` is.
 fn stand(alloc: Global, text: &str) -> Result<Stand, Fault> {
-    let Some((package, rest)) = text.split_once(',') else {
-        return Err(Fault::NotUnderstood);
-    };
-    let Some((version, rest)) = rest.split_once(',') else {
-        return Err(Fault::NotUnderstood);
-    };
-    let Some((criterion, word)) = rest.split_once(',') else {
+    let Some((text, word)) = text.rsplit_once(',') else {
         return Err(Fault::NotUnderstood);
     };
     let class = class_of_word(word)?;
-    let pair = Pair {
-        package: PackageName::parse(alloc, package)?,
-        version: VetVersion::parse(alloc, version)?,
-        criterion: Name::parse(alloc, criterion)?,
-    };
-    Ok(Stand { pair, class })
+    Ok(Stand {
+        pair: pair(alloc, text)?,
+        class,
+    })
 }
 
-fn class_of_word(word: &str) -> Result<Class, Fault> {
+/// The class of this word.
+pub fn class_of_word(word: &str) -> Result<Class, Fault> {
     match word {
         "conflicting" => Ok(Class::Conflicting),
         "full" => Ok(Class::Full),

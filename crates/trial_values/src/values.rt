@@ -10,11 +10,11 @@ use crate::days::{day_number, day_of_parts, day_order, plus};
 use crate::fault::Fault;
 use crate::files::peer_file;
 use crate::line::{one, words_of};
-use crate::lists::{edited, names_of, packages_of, push_in_brackets, texts_of, touched};
+use crate::lists::{edited, names_of, packages_of, pairs_of, push_in_brackets, texts_of, touched};
 use crate::name_lists::names;
 use crate::projects::{project, table_word};
 use crate::searches::{extended, searched};
-use crate::steps::{condemned_criteria, steps, told_criteria};
+use crate::steps::{condemned_criteria, steps, told_criteria, violations};
 use crate::tables::{moves, table, table_of};
 use crate::versions::{equal, matches, order};
 use crate::written::{written_audits, written_config, written_imports, written_project};
@@ -56,6 +56,7 @@ fn value_of(
         "texts" => set_of_texts(alloc, texts),
         "closure" => closure(alloc, facts, texts),
         "steps" => steps(alloc, facts, texts),
+        "violations" => violations(alloc, facts, texts),
         "condemned" => condemned_criteria(alloc, facts, texts),
         "search" => searched(alloc, facts, texts),
         "extend" => extended(alloc, facts, texts),
@@ -83,6 +84,7 @@ fn list_value(alloc: Global, word: &str, texts: &[String]) -> Result<String, Fau
         "names-of" => names_of(alloc, texts),
         "packages-of" => packages_of(alloc, texts),
         "texts-of" => texts_of(alloc, texts),
+        "pairs-of" => pairs_of(alloc, texts),
         "edited" => edited(alloc, texts),
         "touched" => touched(alloc, texts),
         "table-of" => table_of(alloc, texts),

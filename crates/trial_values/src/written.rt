@@ -12,6 +12,7 @@ use crate::fault::Fault;
 use crate::line::{two, word_of};
 use std::alloc::Global;
 use vet_base::refusal::Refusal;
+use vet_demand::policies::Policies;
 use vet_demand::project::Project;
 use vet_demand::table_reader::read_project;
 use vet_demand::table_writer::write_project;
@@ -112,16 +113,26 @@ fn write_config_of(alloc: Global, bytes: &[u8]) -> Result<Written, Fault> {
     copied_config_written(alloc, &mut found.content, found.notices)
 }
 
-// Writes a content with copies in place of its lists, so that what is written tells of copies too.
+// Writes a content with copies in place of its lists, so that what is written tells of copies too. The policies are
+// added one by one.
 fn copied_config_written(
     alloc: Global,
     content: &mut ConfigContent,
     notices: Notices,
 ) -> Result<Written, Fault> {
-    content.policies = content.policies.clone()?;
+    let policies = content.policies.clone()?;
+    content.policies = inserted(alloc, &policies)?;
     content.peers = copy_of(alloc, &content.peers)?;
     content.exemptions = copy_of(alloc, &content.exemptions)?;
     config_written(alloc, content, notices)
+}
+
+fn inserted(alloc: Global, policies: &Policies) -> Result<Policies, Fault> {
+    let mut found = Policies::new(alloc);
+    for held in policies.as_slice() {
+        found.insert(held.key.clone()?, held.policy.clone()?)?;
+    }
+    Ok(found)
 }
 
 fn copy_of<T: Clone + Drop>(alloc: Global, items: &Listed<T>) -> Result<Listed<T>, Refusal> {

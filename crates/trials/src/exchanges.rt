@@ -2,7 +2,8 @@
 //!
 //! The word `exchanges` stands first. The word behind it says how the requests are served that the other words are,
 //! each whole. With `slices` one call of `serve_slices` serves all of them. With `loopback` each is sent over a
-//! connection to this machine, which the same thread accepts and has `serve_one` serve. The replies go to standard
+//! connection to this machine, which the same thread accepts and has `serve_one` serve. With `parts` each is read by
+//! `read_request`, its route is found by `find_route`, and it is answered by `answer`. The replies go to standard
 //! output one behind the other, and nothing else.
 //!
 //! With `streams` each is served by `serve_one` over a reader that gives a byte a read and a writer that takes a byte
@@ -14,6 +15,7 @@
 //!
 //! The status is 2 where a word is none of these, and 1 where something failed.
 use crate::exchanges::loopback::serve_over_loopback;
+use crate::exchanges::parts::serve_in_parts;
 use crate::exchanges::slices::serve_together;
 use crate::exchanges::streams::serve_over_streams;
 use std::process::ExitCode;
@@ -27,6 +29,7 @@ use vet_store::memory::run_in_memory_files;
 
 mod faulty_streams;
 mod loopback;
+mod parts;
 mod slices;
 mod streams;
 
@@ -56,7 +59,7 @@ fn run_whole(rt: &HostRuntime) -> Result<(), Fault> {
     serve_requests(rt, how.as_str(), requests.as_slice())
 }
 
-// Serves the requests by a new register, in one of the three ways.
+// Serves the requests by a new register, in one of the four ways.
 fn serve_requests(rt: &HostRuntime, how: &str, requests: &[String]) -> Result<(), Fault> {
     let day = Day::parse(DAY)?;
     let mut first = run_in_memory_files::<MaskKeeper>(rt.alloc(), MOST_MOVES, &[])?;
@@ -66,6 +69,9 @@ fn serve_requests(rt: &HostRuntime, how: &str, requests: &[String]) -> Result<()
     }
     if how == "loopback" {
         return serve_over_loopback(rt, &mut first.store, day, requests, &mut writer);
+    }
+    if how == "parts" {
+        return serve_in_parts(rt.alloc(), &mut first.store, day, requests, &mut writer);
     }
     if how == "streams" {
         return serve_over_streams(rt, &mut first.store, day, requests, &mut writer);

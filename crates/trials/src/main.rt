@@ -4,26 +4,30 @@
 //! what is on standard input: in their order lines, and command documents as `vetd apply` takes them, each behind a
 //! line that says its day, how many bytes it has, and its member (`items`). It prints the answers and, where there is a
 //! document, in the end what the register holds. The first line may set a limit (`setting`). The others ask for values
-//! (`values` and the modules that it names), for reports (`reports`) and for files of what is held (`held_texts`).
+//! (`values` and the modules that it names), for texts (`reports`) and for files of what is held (`held_texts`).
 //! Behind the keeper may stand `--contents`, which prints also before each document what is held, or `--together`,
-//! which gives the commands as lists. Last may stand `--db PATH`, for a register that it makes in a database file, or
-//! `--db-open PATH`, for the one that is in such a file. In their place may stand `--stop-log N` or `--stop-db N`, for
-//! one in files in memory of which one stops at its N-th call (`stops`). A register in memory takes two flags more.
-//! `--touched` prints before each answer to a command that is done a line of the packages that it touches, or a star
-//! for all of them. `--ahead` gives the commands as lists, and has each prepared before the change of the one before it
-//! is installed.
+//! which gives the commands as lists. A register in memory takes two flags more. `--touched` prints before each answer
+//! to a command that is done a line of the packages that it touches, or a star for all of them. `--ahead` gives the
+//! commands as lists, and has each prepared before the change of the one before it is installed.
 //!
-//! `looks PACKAGE` has a register in memory, and prints how many looks at steps its keeper makes (`looks`). `demand`
-//! has no register, asks what projects demand, and has the lines of `workspace`, with the words of `policies` and
-//! `projects`. If memory runs out, the run ends with that refusal and what the register holds then, and with status 1.
-//! So it does if no register can be made or opened. At other words, an input that can't be read, or a line that isn't
-//! understood, it prints a message to standard error and returns status 2.
+//! Last may stand `--db PATH`, for a register that it makes in a database file, or `--db-open PATH`, for the one that
+//! is in such a file. `--db-reopen PATH` makes one and, before it prints what that holds in the end, closes it and
+//! opens it again, first on its connection and then by its files. In their place may stand `--stop-log N` or
+//! `--stop-db N`, for one in files in memory of which one stops at its N-th call (`stops`).
+//!
+//! `looks PACKAGE` has a register in memory, and prints how many looks at steps its keeper makes (`looks`). `at-once`
+//! gives the commands by the call that makes their register (`at_once`). `demand` has no register, asks what projects
+//! demand, and has the lines of `workspace`, with the words of `policies` and `projects`. If memory runs out, the run
+//! ends with that refusal and what the register holds then, and with status 1. So it does if no register can be made
+//! or opened. At other words, an input that can't be read, or a line that isn't understood, it prints a message to
+//! standard error and returns status 2.
 //!
 //! `times` times commands, `exchanges` serves requests, and `toml` has a TOML document read. The modules `times`,
 //! `exchanges` and `toml_only` tell what they take and print. These are one program, since each loads all libraries
 //! before its first line is proved.
 #![tactic(auto)]
 
+mod at_once;
 mod exchanges;
 mod looks;
 mod stops;
@@ -32,6 +36,7 @@ mod times;
 mod toml_only;
 mod words;
 
+use at_once::run_at_once;
 use exchanges::run_exchanges;
 use looks::run_looks;
 use std::io;
@@ -60,8 +65,8 @@ const NOT_UNDERSTOOD: u8 = 2;
 /// What is told where the words are not understood.
 const TAKEN_WORDS: &str = "trials takes the words (plain | masks | relay) \
     [--contents | --together | --touched | --ahead] \
-    [(--db | --db-open) PATH | (--stop-log | --stop-db) N [--stop-open] [--checkpoint]], looks PACKAGE, demand, \
-    times .., exchanges .., or toml";
+    [(--db | --db-open | --db-reopen) PATH | (--stop-log | --stop-db) N [--stop-open] [--checkpoint]], \
+    looks PACKAGE, at-once, demand, times .., exchanges .., or toml";
 
 fn main(rt: HostRuntime) -> io::Result<ExitCode> {
     match read_words(&rt) {
@@ -116,6 +121,7 @@ fn run_input(rt: &HostRuntime, asked: Asked<'_>) -> io::Result<Ending> {
 fn run_text(rt: &HostRuntime, text: &str, asked: Asked<'_>) -> io::Result<Ending> {
     match asked {
         Asked::Demand => run_workspace(rt, rt.alloc(), text),
+        Asked::AtOnce => run_at_once(rt, rt.alloc(), text),
         Asked::Looks(package) => run_looks(rt, rt.alloc(), text, package),
         Asked::Register(keeper, how, place) => run_register(rt, text, keeper, how, place),
     }

@@ -1,7 +1,8 @@
 //! A run on a register in a database file.
 ghost use Rattle.std.specs.Prelude.{◌≡◌, false};
 
-use sqlite::{Alter, Connection, Error, Wary};
+use sqlite::{Alter, Connection, Error, FileStore, Options, Wary};
+use sqlite_disk::Disk;
 use std::alloc::Global;
 use std::io;
 use trial_registers::items::Numbered;
@@ -25,6 +26,8 @@ pub enum Way {
     Made,
     /// It is opened.
     Opened,
+    /// It is made, and once all items are given it is closed and opened again.
+    Reopened,
 }
 
 /// A store whose commands a run gives.
@@ -90,26 +93,83 @@ pub fn refused_by_database(rt: &impl Print, error: Error) -> io::Result<Ending> 
 }
 
 // A run over a connection, which is given back unless it has no register; then it is let go, and nothing written.
-fn run_connected<S: Alter + Drop, K: Keeper>(
+fn run_connected<D: Disk + Drop, K: Keeper>(
     rt: &impl Print,
     alloc: Global,
-    conn: Connection<S>,
+    conn: Connection<FileStore<D>>,
     items: &[Numbered<'_>],
     how: How,
     way: Way,
-) -> io::Result<(Ending, Option<Connection<S>>)>
+) -> io::Result<(Ending, Option<Connection<FileStore<D>>>)>
     requires { conn.in_transaction ≡ false }
 {
-    match store_of::<S, K>(alloc, conn, items, way) {
-        Ok(store) => {
-            let mut stored = Stored { store };
-            let ending = give_all::<K, Stored<S, K>>(rt, alloc, &mut stored, items, how)?;
-            let ending = print_end(rt, stored.shown(), true, ending)?;
-            Ok((ending, Some(stored.store.close())))
-        }
+    match store_of::<FileStore<D>, K>(alloc, conn, items, way) {
+        Ok(store) => run_store::<D, K>(rt, alloc, store, items, how, way),
         Err(refused_store) => {
             let (refusal, _conn) = refused_store.into_parts();
             Ok((refused(rt, &Fault::Refused(refusal))?, None))
+        }
+    }
+}
+
+fn run_store<D: Disk + Drop, K: Keeper>(
+    rt: &impl Print,
+    alloc: Global,
+    store: Store<FileStore<D>, K>,
+    items: &[Numbered<'_>],
+    how: How,
+    way: Way,
+) -> io::Result<(Ending, Option<Connection<FileStore<D>>>)> {
+    let mut stored = Stored { store };
+    let ending = give_all::<K, Stored<FileStore<D>, K>>(rt, alloc, &mut stored, items, how)?;
+    match at_the_end::<D, K>(alloc, stored.store, way) {
+        Ok(store) => {
+            let ending = print_end(rt, store.register(), true, ending)?;
+            Ok((ending, Some(store.close())))
+        }
+        Err(refusal) => Ok((refused(rt, &Fault::Refused(refusal))?, None)),
+    }
+}
+
+// The store once all items are given.
+fn at_the_end<D: Disk + Drop, K: Keeper>(
+    alloc: Global,
+    store: Store<FileStore<D>, K>,
+    way: Way,
+) -> Result<Store<FileStore<D>, K>, Refusal> {
+    match way {
+        Way::Reopened => reopened::<D, K>(alloc, store),
+        _ => Ok(store),
+    }
+}
+
+// Closes a store and opens it again on its connection, and then by its files. One that is shut stays as it is.
+fn reopened<D: Disk + Drop, K: Keeper>(
+    alloc: Global,
+    store: Store<FileStore<D>, K>,
+) -> Result<Store<FileStore<D>, K>, Refusal> {
+    if store.is_shut() {
+        return Ok(store);
+    }
+    match store.reopen(alloc) {
+        Ok(store) => reopened_files::<D, K>(alloc, store),
+        Err(refused_store) => {
+            let (refusal, _conn) = refused_store.into_parts();
+            Err(refusal)
+        }
+    }
+}
+
+fn reopened_files<D: Disk + Drop, K: Keeper>(
+    alloc: Global,
+    store: Store<FileStore<D>, K>,
+) -> Result<Store<FileStore<D>, K>, Refusal> {
+    // nobody but this program reads the log, so that its salts need no chance
+    match store.reopen_files(alloc, Options::new(0)) {
+        Ok(store) => Ok(store),
+        Err(not_reopened) => {
+            let (refusal, _remains) = not_reopened.into_parts();
+            Err(refusal)
         }
     }
 }
@@ -124,6 +184,6 @@ fn store_of<S: Alter + Drop, K: Keeper>(
 {
     match way {
         Way::Opened => Store::open(alloc, conn),
-        Way::Made => Store::create(alloc, conn, limit_of(items)),
+        _ => Store::create(alloc, conn, limit_of(items)),
     }
 }

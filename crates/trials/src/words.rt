@@ -26,6 +26,8 @@ pub enum Words<'w> {
 pub enum Asked<'w> {
     /// What projects demand.
     Demand,
+    /// Commands that are given at once.
+    AtOnce,
     /// Looks at the steps of this package.
     Looks(&'w str),
     /// A register there, with this keeper of the classes.
@@ -70,7 +72,8 @@ pub fn meaning(words: &[String]) -> Words<'_> {
         "times" => Words::Times,
         "exchanges" => Words::Exchanges,
         "toml" => Words::Toml,
-        "demand" => of_demand(others),
+        "demand" => alone(others, Asked::Demand),
+        "at-once" => alone(others, Asked::AtOnce),
         "looks" => of_looks(others),
         word => of_register(word, others),
     }
@@ -86,9 +89,10 @@ pub fn keeper_of(word: &str) -> Option<KeeperWord> {
     }
 }
 
-fn of_demand(others: &[String]) -> Words<'_> {
+// What a word asks for behind which nothing stands.
+fn alone<'w>(others: &[String], asked: Asked<'w>) -> Words<'w> {
     match others {
-        [] => Words::Input(Asked::Demand),
+        [] => Words::Input(asked),
         _ => Words::Other,
     }
 }
@@ -148,6 +152,7 @@ fn place_of<'w>(flag: &str, value: &'w str, others: &[String]) -> Option<Place<'
     match flag {
         "--db" => file_at(Way::Made, value, others),
         "--db-open" => file_at(Way::Opened, value, others),
+        "--db-reopen" => file_at(Way::Reopened, value, others),
         "--stop-log" => stop_at(StoppedFile::Log, value, others),
         "--stop-db" => stop_at(StoppedFile::Database, value, others),
         _ => None,
