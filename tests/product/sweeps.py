@@ -9,6 +9,7 @@ from typing import NamedTuple
 
 from models.rows import rows_in
 from product.documents import demand_of, document, entry
+from product.refusals import NO_MEMORY
 from product.register import DAY, FILES, FOLDER, REPORTS, Register
 
 # more than any of these commands takes
@@ -16,7 +17,6 @@ MOST_ALLOCATIONS = 1 << 20
 # how many are refused one by one at the front, where words, input and tables are read, and at the end, where a command
 # is kept and told; and about how many between
 AT_THE_FRONT, AT_THE_END, BETWEEN = 150, 250, 250
-NO_MEMORY = (1, b"", b"refused 29 NoMemory\n")
 # how many runs of a sweep are made at a time; the sweeps themselves are made side by side
 AT_ONCE = 2
 
@@ -77,16 +77,17 @@ COMMANDS = [
     applied("what_is_held", document("add-member", member="ann"), b"already\n"),
     applied("a_refused_command", document("drop-policy", policy="app"), b"refused 14 UnknownPolicy\n"),
     applied("a_refused_document", b"command = 5\n", b"refused 28 FieldRefused command command\n"),
+    Swept("new_on_a_register", ["new"], b"", 1, b"refused 31 NotARegister\n"),
     *(Swept(f"report_{kind}", ["report", kind], b"", 0, b"") for kind in REPORTS),
     *(Swept(f"export_{kind}", ["export", kind], b"", 0, b"") for kind in FILES),
 ]
 
 
-def files_begun(program, *more):
-    """The files of the register that is swept, by the ends of their names. It was given more documents."""
+def files_begun(program, documents):
+    """The files of a register that was given these documents, by the ends of their names."""
     with tempfile.TemporaryDirectory(dir=FOLDER) as folder:
         register = Register(program, os.path.join(folder, "register.db")).make()
-        for given in (*MADE, *more):
+        for given in documents:
             status, _, errors = register.apply(given)
             if status != 0:
                 raise AssertionError(f"{given}: {errors}")

@@ -1,0 +1,47 @@
+"""Runs of a program in which one allocation is refused, by its number."""
+
+import os
+import subprocess
+
+TESTS = os.path.dirname(os.path.dirname(os.path.abspath(__file__)))
+SOURCE = os.path.join(TESTS, "program", "refusing_allocator.c")
+LIBRARY = "refusing_allocator.so"
+MOST_RUNS = 100_000
+WANT = b"refused 29 NoMemory\n"
+# what is answered by `vetd`, and by the program of trials if nothing is held yet
+NO_MEMORY = (1, b"", WANT)
+NO_MEMORY_BEFORE_ALL = (1, WANT, b"")
+
+
+def build_allocator(folder):
+    library = os.path.join(folder, LIBRARY)
+    subprocess.run(["cc", "-O1", "-shared", "-fPIC", "-o", library, SOURCE, "-ldl"], check=True)
+
+
+def refusing(refused, library, mark, **more):
+    """The environment of a run that has an allocation refused, and makes a file as it does."""
+    return dict(os.environ, LD_PRELOAD=library, REFUSE_ALLOCATION=str(refused), REFUSED_MARK=mark, **more)
+
+
+def run(program, words, given, refused, library, mark):
+    """Whether the run met its refusal, and what it answered."""
+    environment = refusing(refused, library, mark)
+    done = subprocess.run([program, *words], input=given, capture_output=True, env=environment, timeout=60)
+    met = os.path.exists(mark)
+    if met:
+        os.remove(mark)
+    return met, (done.returncode, done.stdout, done.stderr)
+
+
+def refused_in_turn(words, given, own, allowed, library, mark):
+    """How many refusals some words met, until a run met none. A run gives its own answer, or meets its refusal and
+    gives one that is allowed then. Else a fault is raised."""
+    for refused in range(1, MOST_RUNS):
+        met, answer = run(words[0], words[1:], given, refused, library, mark)
+        if answer != own and not (met and answer in allowed):
+            raise AssertionError(f"allocation {refused}: {answer}")
+        if not met and refused == 1:
+            raise AssertionError("no allocation was met")
+        if not met:
+            return refused - 1
+    raise AssertionError(f"still refusing after {MOST_RUNS} runs")
