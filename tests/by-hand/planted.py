@@ -191,7 +191,7 @@ def in_body(name, answer, text, found, body):
 
 def plants_of(module, text):
     """The plants of a file of this module."""
-    found = tokens(text)
+    found, names = tokens(text), []
     for at, (place, token) in enumerate(found):
         if not token.startswith("fn "):
             continue
@@ -202,15 +202,17 @@ def plants_of(module, text):
         is_inner = text[text.rfind("\n", 0, place) + 1].isspace()
         owner = [owner_of(text, place)] if is_inner else []
         name = "::".join([module, *owner, token[3:]])
+        names.append(name)
+        again = f" ({names.count(name)})" if names.count(name) > 1 else ""
         if name not in EXACT:
-            yield from in_body(name, answer, text, found, body)
+            yield from in_body(f"{name}{again}", answer, text, found, body)
 
 
-def sources(root):
-    """The crates of the product with the files of their code, each with the path of its module."""
+def sources(root, passed_over=PASSED_OVER):
+    """The paths of the modules with their files, crate by crate, but for the crates that are passed over."""
     for crate in sorted(os.listdir(os.path.join(root, "crates"))):
         top = os.path.join(root, "crates", crate, "src")
-        if crate in PASSED_OVER or not os.path.isdir(top):
+        if crate in passed_over or not os.path.isdir(top):
             continue
         for folder, within, files in os.walk(top):
             within.sort()
