@@ -16,13 +16,13 @@ FAILURES = {name: {"DISK_ERROR": str(getattr(errno, name))} for name in ("EIO", 
 
 
 class Met(NamedTuple):
-    """What a run met, in the order of the library's own struct."""
+    """What a run met, in the order of the library's own struct. `fault` is the number of the call with the fault."""
 
     loaded: int
     calls: int
     writes: int
     looks: int
-    faults: int
+    fault: int
 
 
 COUNTS = struct.Struct("5Q")

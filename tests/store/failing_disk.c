@@ -22,13 +22,14 @@
 #include <sys/stat.h>
 #include <unistd.h>
 
-/* `looks` are calls that read one of the two files, or ask for its length. */
+/* `looks` are calls that read one of the two files, or ask for its length. `fault` is the number of the call at which
+   the fault was met. */
 struct met {
     uint64_t loaded;
     uint64_t calls;
     uint64_t writes;
     uint64_t looks;
-    uint64_t faults;
+    uint64_t fault;
 };
 
 static struct met unseen;
@@ -87,7 +88,7 @@ static int is_met(int writes)
         return 0;
     if ((cut == 1 ? met->writes : met->calls) != place)
         return 0;
-    met->faults++;
+    met->fault = met->calls;
     return 1;
 }
 
