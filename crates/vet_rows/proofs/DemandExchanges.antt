@@ -81,7 +81,8 @@ policies_replaced old new up read =
 pub policies_become : (change : KeyedEdit KeyedPolicy) (old : KeyedRoom KeyedPolicy)
     → IsByKey policy_key_cmp key_of old.items → IsByKey policy_key_cmp key_of (keyed.edited change old.items)
     → Fits policy_key_cmp key_of change old → KeysAreRead old.items → KeysAreRead (keyed.edited change old.items)
-    → IsExchange same_policy (rows_if the_policy (removed_item change old.items)) (rows_if the_policy (added_item change))
+    → IsExchange same_policy
+    (rows_if the_policy (removed_item change old.items)) (rows_if the_policy (added_item change))
     (map policy_row old.items) (map policy_row (keyed.edited change old.items))
 policies_become change old up up_new fits read read_new =
     let new = keyed.edited change old.items in
@@ -104,7 +105,8 @@ policies_become change old up up_new fits read read_new =
 
 project_edit : (change : KeyedEdit NamedProject) (old : KeyedRoom NamedProject)
     → IsByKey (slice_cmp nat_cmp) project_name old.items → Fits (slice_cmp nat_cmp) project_name change old
-    → IsOneForOne project_name (removed_item change old.items) (added_item change) old.items (keyed.edited change old.items)
+    → IsOneForOne project_name (removed_item change old.items) (added_item change) old.items
+    (keyed.edited change old.items)
 project_edit change old up fits =
     edit_is (slice_cmp nat_cmp) nat_list_cmp_total only_equal project_name change old up fits
 

@@ -58,7 +58,8 @@ pub record HaveKeys (facts : Facts) : Type 0 where
 
 pub peer_edit : (change : KeyedEdit HeldPeer) (facts : Facts) (room : Room) → HaveKeys facts
     → Fits (edit.Peer change) (record { content = facts; room = room })
-    → IsOneForOne peer_name (removed_item change facts.peers) (added_item change) facts.peers (keyed.edited change facts.peers)
+    → IsOneForOne peer_name (removed_item change facts.peers) (added_item change) facts.peers
+    (keyed.edited change facts.peers)
 peer_edit change facts room k fits =
     edit_is (slice_cmp nat_cmp) nat_list_cmp_total only_equal peer_name change
     (record { items = facts.peers; room = room.peers }) k.peers fits

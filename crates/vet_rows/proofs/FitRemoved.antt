@@ -81,7 +81,8 @@ module _ (f : Facts) where
   facts_peers (edit.Publishers change) = none_fit Peers
 
   facts_publishers : (e : Edit) → AreRows Publishers (facts.publishers_removed e f)
-  facts_publishers (edit.Publishers change) = if_fit Publishers package_rows package_fit (removed_item change f.publishers)
+  facts_publishers (edit.Publishers change) =
+      if_fit Publishers package_rows package_fit (removed_item change f.publishers)
   facts_publishers (edit.Criteria table) = none_fit Publishers
   facts_publishers (edit.Insert place held) = none_fit Publishers
   facts_publishers (edit.Remove place) = none_fit Publishers
@@ -198,7 +199,8 @@ module _ {K U : Type 0} (s : State) (change : Change K U) where
   to_remove_fit table r i = by (is_compared table) i
     where
       by : (b : Bool)
-          → IsIn r (cond b (less (rows_removed s change table) (rows_added s change table)) (rows_removed s change table))
+          → IsIn r (cond b (less (rows_removed s change table) (rows_added s change table))
+          (rows_removed s change table))
           → IsRowOf (form_of table) r
       by true j = removed_fit table r
           (in_filter (λ x. not (list_any (same_row x) (rows_added s change table))) (rows_removed s change table) r j).0

@@ -357,8 +357,9 @@ module _ {K U : Type 0} (differences : MovesAreDifferences) (least : DemandIsLea
       let made = changed-append (clear_moves change.recording)
       (exchanges tables (rows_to_remove s change) (rows_to_add s change)) (rows_of s) in
       subst (λ rows. SameRows rows (rows_of (next s c))) (sym made)
-      (subst (λ t. SameRows (all_changed (exchanges tables (rows_to_remove s change) (rows_to_add s change)) cleared_rows)
-      (rows_of t)) is.step.becomes
+      (subst (λ t. SameRows
+      (all_changed (exchanges tables (rows_to_remove s change) (rows_to_add s change)) cleared_rows) (rows_of t))
+      is.step.becomes
       (exchanges_lead (rows_to_remove s change) (rows_to_add s change) cleared_rows (rows_of after) rows_become))
 
   -- ---- numbers of rows that come
@@ -408,7 +409,8 @@ module _ {K U : Type 0} (differences : MovesAreDifferences) (least : DemandIsLea
 
   pub standing_named : (x : RowChange) → IsIn x the_changes → IsOfMoves (moves_of s c.day c.action) x
   standing_named x i =
-      elim (in_append (clear_moves change.recording) (exchanges tables (rows_to_remove s change) (rows_to_add s change)) x i) [
+      elim (in_append (clear_moves change.recording)
+      (exchanges tables (rows_to_remove s change) (rows_to_add s change)) x i) [
         | inl clears ↦ clears_no_standing change.recording x clears
         | inr exchanged ↦ exchanges_no_other x exchanged
       ]

@@ -22,7 +22,8 @@ unmarked [] marks = []
 unmarked (r ∷ rows) [] = r ∷ unmarked rows []
 unmarked (r ∷ rows) (mark ∷ marks) = cond mark (unmarked rows marks) (r ∷ unmarked rows marks)
 
--- Of entries, publishers, nodes and edges there may be thousands, and a row of these that would be removed and added again stays
+-- There may be thousands of entries, publishers, nodes and edges. One of their rows that would be removed and added
+-- again stays.
 abbrev pub is_compared : TableName → Bool
 is_compared table.Entries = true
 is_compared table.Publishers = true

@@ -127,7 +127,8 @@ fn exchanges<K: Keeper>(
 ) -> Result<Vec<RowChange>, AllocError>
     requires numbers { AddedNumbersFit register.now.state change.now }
     ensures { IfOk result (λ changes. changes.items ≡ clear_moves change.now.recording
-        ++ exchanges tables (rows_to_remove register.now.state change.now) (rows_to_add register.now.state change.now)) }
+        ++ exchanges tables (rows_to_remove register.now.state change.now)
+        (rows_to_add register.now.state change.now)) }
 {
     let mut changes = clear_moves(alloc, change.recording())?;
     'tables: for at in 0..TABLE_COUNT {

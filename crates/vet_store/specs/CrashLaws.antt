@@ -1,4 +1,5 @@
--- What the next open finds after a crash (ours). SQLite's model tells which trees a crash leaves; here a database has them.
+-- What the next open finds after a crash (ours). SQLite's model tells which trees a crash leaves; here a database has
+-- them.
 use Rattle.std.specs.Prelude.{◌≡◌, ◌⊎◌, ◌↔◌, ◌<◌, ◌≤◌, ℕ}
 use Rattle.sqlite.specs.Effect.{Database, IsDatabase}
 use Rattle.sqlite.specs.Held.{Held, state}

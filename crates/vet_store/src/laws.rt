@@ -36,8 +36,8 @@ pub fn runs_keep_done()
     ensures { RunsKeepDone }
 {}
 
-/// After `Store::create`, where all names were free, a crash leaves a database without a register, in which `create` may
-/// be called again, or one that has the first state. Asks that a crash left what the connection showed as `create`
+/// After `Store::create`, where all names were free, a crash leaves a database without a register, in which `create`
+/// may be called again, or one that has the first state. Asks that a crash left what the connection showed as `create`
 /// began. Does nothing.
 pub fn create_leaves_nothing_or_the_first_state<S: Alter>()
     ensures { CreateLeaves S.Store }
@@ -45,8 +45,8 @@ pub fn create_leaves_nothing_or_the_first_state<S: Alter>()
     nothing_is_demanded();
 }
 
-/// After `Store::open` a crash leaves a database that has the same state as before, or none as before. Asks that a crash
-/// left what the connection showed as `open` began. Does nothing.
+/// After `Store::open` a crash leaves a database that has the same state as before, or none as before. Asks that a
+/// crash left what the connection showed as `open` began. Does nothing.
 pub fn open_leaves_the_same_state<S: Alter>()
     ensures { OpenLeaves S.Store }
 {}

@@ -12,4 +12,5 @@ use Rattle.vet_tables.specs.declared.table_name.TableName.{TableName}
 pub passes_keyed : (n : TableName) (key r : Cells)
     → passes (key_tests (form_of n)) key r ≡ is_keyed (form_of n) key (shown (form_of n) r)
 passes_keyed n key r =
-    each (λ n. passes (key_tests (form_of n)) key r ≡ is_keyed (form_of n) key (shown (form_of n) r)) (assumption refl) n
+    each (λ n. passes (key_tests (form_of n)) key r ≡ is_keyed (form_of n) key (shown (form_of n) r))
+    (assumption refl) n

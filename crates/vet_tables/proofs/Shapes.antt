@@ -66,7 +66,8 @@ pub insert_parses : (n : TableName) → (first (insert_text (form_of n)) ≡ Ok 
     × ((inserted n).formats ≡ [])
 unfolding everything
 insert_parses n =
-    each (λ n. (first (insert_text (form_of n)) ≡ Ok (inserted n)) × ((inserted n).statement ≡ written.Insert conflict.Abort (form_of n).name [] (given_rows n) [] [])
+    each (λ n. (first (insert_text (form_of n)) ≡ Ok (inserted n))
+    × ((inserted n).statement ≡ written.Insert conflict.Abort (form_of n).name [] (given_rows n) [] [])
     × ((inserted n).formats ≡ [])) (assumption refl) n
 
 abbrev pub rowid_term : Option ℕ → Term
@@ -104,7 +105,8 @@ pub delete_parses : (n : TableName) → (first (delete_text (form_of n)) ≡ Ok 
     × ((removed n).statement ≡ written.Delete (form_of n).name (given_test n) []) × ((removed n).formats ≡ [])
 unfolding everything
 delete_parses n =
-    each (λ n. (first (delete_text (form_of n)) ≡ Ok (removed n)) × ((removed n).statement ≡ written.Delete (form_of n).name (given_test n) [])
+    each (λ n. (first (delete_text (form_of n)) ≡ Ok (removed n))
+    × ((removed n).statement ≡ written.Delete (form_of n).name (given_test n) [])
     × ((removed n).formats ≡ [])) (assumption refl) n
 
 -- a DELETE without a test
@@ -115,7 +117,8 @@ pub clear_parses : (n : TableName) → (first (clear_text (form_of n)) ≡ Ok (e
     × ((emptied n).statement ≡ written.Delete (form_of n).name None []) × ((emptied n).formats ≡ [])
 unfolding everything
 clear_parses n =
-    each (λ n. (first (clear_text (form_of n)) ≡ Ok (emptied n)) × ((emptied n).statement ≡ written.Delete (form_of n).name None [])
+    each (λ n. (first (clear_text (form_of n)) ≡ Ok (emptied n))
+    × ((emptied n).statement ≡ written.Delete (form_of n).name None [])
     × ((emptied n).formats ≡ [])) (assumption refl) n
 
 abbrev pub IsKnown : Table → Key → Type 0

@@ -4,7 +4,13 @@ ghost use Rattle.std.specs.Prelude.{◌≡◌, IfOk, Some, option_map};
 ghost use Rattle.std.specs.List.{All};
 ghost use Rattle.vet_desk.specs.Review.{in_state};
 ghost use Rattle.vet_rows.specs.AddedNumbers.{AddedReviewsFit};
-ghost use Rattle.vet_rows.specs.DeskChanges.{members_added, members_removed, reviews_added, reviews_removed, the_review};
+ghost use Rattle.vet_rows.specs.DeskChanges.{
+  members_added,
+  members_removed,
+  reviews_added,
+  reviews_removed,
+  the_review,
+};
 ghost use Rattle.vet_rows.specs.KeyedItems.{rows_if};
 ghost use Rattle.vet_rows.specs.Numbers.{ReviewFits};
 ghost use Rattle.vet_desk.specs.declared.review.Review.{Review};
@@ -42,8 +48,8 @@ pub fn members_added(alloc: Global, change: &DeskChange) -> Result<Vec<Row>, All
     }
 }
 
-/// The rows of reviews that are removed, where a finished review has the entry of this number. Asks that their numbers have
-/// columns. Fails only if memory runs out.
+/// The rows of reviews that are removed, where a finished review has the entry of this number. Asks that their numbers
+/// have columns. Fails only if memory runs out.
 pub fn reviews_removed(
     alloc: Global,
     change: &DeskChange,
@@ -63,8 +69,8 @@ pub fn reviews_removed(
     }
 }
 
-/// The rows of reviews that are added, where a finished review has the entry of this number. Asks that their numbers have
-/// columns. Fails only if memory runs out.
+/// The rows of reviews that are added, where a finished review has the entry of this number. Asks that their numbers
+/// have columns. Fails only if memory runs out.
 pub fn reviews_added(
     alloc: Global,
     change: &DeskChange,

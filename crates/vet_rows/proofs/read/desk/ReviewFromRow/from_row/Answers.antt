@@ -9,4 +9,11 @@ returns c x stands =
     let criteria : c.in_ok-names.field-0 ≡ x.criteria = search rules in
     let day : c.in_ok-day.day ≡ x.day = search rules in
     let state : c.in_ok-review_state.field-0 ≡ x.state = search rules in
-    λ i. record { number = number i; «package» = of_package i; version = of_version i; criteria = criteria i; day = day i; state = state i }
+    λ i. record {
+      number = number i;
+      «package» = of_package i;
+      version = of_version i;
+      criteria = criteria i;
+      day = day i;
+      state = state i;
+    }
