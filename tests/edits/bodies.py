@@ -16,6 +16,19 @@ def body_of(text, function):
     return end and (body.end(), end.start())
 
 
+def sort_above(text):
+    """The words of the type of an `impl` of its own in whose items a text ends, joined as the prover joins them, if
+    the `impl` is of one sort of that type alone, such as a list of texts. None for an `impl` of every sort."""
+    heads = list(OWNER.finditer(text))
+    head = heads[-1][2] if heads and heads[-1][1] == "impl" else ""
+    if " for " in head:
+        return None
+    parameters, target = re.match(r"(<(?:[^<>]|<[^<>]*>)*>)?(.*)$", head.partition(" where ")[0]).groups()
+    given = set(re.findall(r"[<,]\s*(\w+)", re.sub(r"'\w+", "", parameters or "")))
+    words = re.findall(r"\w+", re.sub(r"'\w+", "", target))
+    return "+".join(words) if set(words[1:]) - given - {"_"} else None
+
+
 def type_above(text):
     """The type of the `impl` or trait in whose items a text ends, and the trait that the `impl` is of."""
     heads = list(OWNER.finditer(text))

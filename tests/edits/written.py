@@ -6,7 +6,7 @@ import os
 import re
 
 from . import callees
-from .bodies import FUNCTION, body_of, type_above
+from .bodies import FUNCTION, body_of, sort_above, type_above
 
 # of more functions an edit in the gate is refused: each is proved once more for it. Those by hand may call as many
 MOST_CALLEES = 15
@@ -82,16 +82,20 @@ def function_at(crate, change, texts):
     body = body_of(text, above[-1])
     if not body or not body[0] <= change.start or not change.end <= body[1]:
         return None
-    kind = type_above(text[: above[-1].start()]) if indent else ""
-    path = module_of(kind, change.path, texts)
-    return "::".join(it for it in (crate, path, kind and "".join(kind), name) if it)
+    before = text[: above[-1].start()]
+    kind, sort = (type_above(before), sort_above(before)) if indent else ("", None)
+    path = module_of_file(change.path) if sort else module_of(kind, change.path, texts)
+    return "::".join(it for it in (crate, path, sort or "".join(kind), name) if it)
 
 
 def module_of(kind, path, texts):
-    """The module that the prover names a function by: its type's, where another file has that."""
+    """The module that the prover names a function by: its type's, if that is in another file."""
     homes = [at for at, text in texts.items() if kind and re.search(rf"\b(?:struct|enum|trait) {kind[0]}\b", text)]
-    home = path if path in homes or not homes else homes[0]
-    inside = home.removeprefix("src/").removesuffix(".rt").removesuffix("/mod")
+    return module_of_file(path if path in homes or not homes else homes[0])
+
+
+def module_of_file(path):
+    inside = path.removeprefix("src/").removesuffix(".rt").removesuffix("/mod")
     return "" if inside in ("lib", "main") else inside.replace("/", "::")
 
 
