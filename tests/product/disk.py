@@ -1,4 +1,4 @@
-"""A disk below a register's file that stops or fails at one call: `store/failing_disk.c`, preloaded under `vetd`."""
+"""A disk under a register's file that stops or fails at one call: `store/failing_disk.c`, preloaded into `vetd`."""
 
 import errno
 import os
@@ -8,15 +8,15 @@ import subprocess
 from typing import NamedTuple
 
 TESTS = os.path.dirname(os.path.dirname(os.path.abspath(__file__)))
-# what is behind a register's path in the names of its file and of its log
+# the endings of the names of a register's file and of its log, after the register's path
 FILE, LOG = ENDS = ("", "-wal")
-# the faults, each with what the library is given for it: the process is killed at the call, or the call fails
+# the faults, each with the environment for the library: the process is killed at the call, or the call fails
 KILLS = {"killed before a call": {}, "killed within a write": {"DISK_CUT": "1"}}
 FAILURES = {name: {"DISK_ERROR": str(getattr(errno, name))} for name in ("EIO", "ENOSPC")}
 
 
 class Met(NamedTuple):
-    """What a run met, in the order of the library's own struct. `fault` is the number of the call with the fault."""
+    """The counts of a run, in the order of the library's struct. `fault` is the number of the call with the fault."""
 
     loaded: int
     calls: int
@@ -29,7 +29,7 @@ COUNTS = struct.Struct("5Q")
 
 
 def build_library(folder):
-    """The path of the library, built in a folder."""
+    """Builds the library in a folder, and returns its path."""
     library = os.path.join(folder, "failing_disk.so")
     source = os.path.join(TESTS, "store", "failing_disk.c")
     subprocess.run(["cc", "-O1", "-shared", "-fPIC", "-o", library, source, "-ldl"], check=True)
@@ -37,7 +37,7 @@ def build_library(folder):
 
 
 def copy_register(path, to, ends=ENDS):
-    """Copies a register's file and its log, or one of them. One that is not there is not there in the copy either."""
+    """Copies a register's file and its log, or one of them. If one is missing, it is missing in the copy too."""
     for end in ends:
         if os.path.exists(path + end):
             shutil.copyfile(path + end, to + end)
@@ -46,7 +46,7 @@ def copy_register(path, to, ends=ENDS):
 
 
 class Disk:
-    """A disk in a folder, with a copy of a register on it. The fault is at the call of this number."""
+    """A disk in a folder, with a copy of a register on it and a fault at the call of this number."""
 
     def __init__(self, library, folder, register, fault, place):
         names = ("register.db", "synced.db", "met")
@@ -66,7 +66,7 @@ class Disk:
         return met
 
     def after_crash(self, lost, folder):
-        """The path of the register in another folder, where some of its two files have lost what was not synced."""
+        """Copies the register to another folder, without what these files had not synced, and returns its path."""
         path = os.path.join(folder, "register.db")
         copy_register(self.path, path)
         copy_register(self.synced, path, lost)
