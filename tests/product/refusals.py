@@ -8,7 +8,7 @@ SOURCE = os.path.join(TESTS, "program", "refusing_allocator.c")
 LIBRARY = "refusing_allocator.so"
 MOST_RUNS = 100_000
 WANT = b"refused 29 NoMemory\n"
-# what is answered by `vetd`, and by the program of trials if nothing is held yet
+# the answers of `vetd`, and of the program of trials before it has a register
 NO_MEMORY = (1, b"", WANT)
 NO_MEMORY_BEFORE_ALL = (1, WANT, b"")
 
@@ -19,12 +19,12 @@ def build_allocator(folder):
 
 
 def refusing(refused, library, mark, **more):
-    """The environment of a run that has an allocation refused, and makes a file as it does."""
+    """The environment of a run in which an allocation is refused, which makes a file then."""
     return dict(os.environ, LD_PRELOAD=library, REFUSE_ALLOCATION=str(refused), REFUSED_MARK=mark, **more)
 
 
 def run(program, words, given, refused, library, mark):
-    """Whether the run met its refusal, and what it answered."""
+    """Whether the run met its refusal, and its answer."""
     environment = refusing(refused, library, mark)
     done = subprocess.run([program, *words], input=given, capture_output=True, env=environment, timeout=60)
     met = os.path.exists(mark)
@@ -34,8 +34,8 @@ def run(program, words, given, refused, library, mark):
 
 
 def refused_in_turn(words, given, own, allowed, library, mark):
-    """How many refusals some words met, until a run met none. A run gives its own answer, or meets its refusal and
-    gives one that is allowed then. Else a fault is raised."""
+    """How many refusals were met before a run met none. A run gives its own answer, or meets its refusal and gives an
+    answer that is allowed then. Otherwise an error is raised."""
     for refused in range(1, MOST_RUNS):
         met, answer = run(words[0], words[1:], given, refused, library, mark)
         if answer != own and not (met and answer in allowed):

@@ -1,7 +1,7 @@
-"""Lines and commands that are given to the program of trials with its allocations refused in turn. A run gives its own
-answers, or the want of memory after the answers before it, and then what is held without what was refused. Of commands
-as a list, one that is refused is as if it had not been given. The rows of a register in a file are those of what is
-held. A register that is shut by a commit holds the same once the file is opened again."""
+"""Lines and commands for the program of trials, with its allocations refused in turn. A run gives its own answers; or
+the answers before the refusal, then that memory ran out, and then what is held without the refused command. In a list,
+a refused command is as if it had not been given. A register in a file has the rows of what is held. A register that was
+shut by a commit holds the same after its file is opened again."""
 
 import contextlib
 import itertools
@@ -21,13 +21,13 @@ from product.stream import BOTH_KEEPERS, is_command, streamed
 TRIALS = os.path.join(os.path.dirname(os.path.dirname(EXAMPLES)), "crates", "trials", "out", "trials")
 # more than a few commands to a register in a file take
 MOST_OF_STORE = 100_000
-# so many are refused one by one at the front, and about one of so many behind it
+# how many are refused one by one at the start, and how far apart the others are
 AT_THE_FRONT, APART = 400, 23
 ANSWERS = (b"done ", b"already", b"refused ")
 SETTING = b"limit "
 TOLD = b"#> "
 HELD = b"#> step "
-# what is told of a command to a register that is shut
+# the answer to a command if the register is shut
 SHUT = b"refused 30 StoreRefused\n"
 
 
@@ -35,7 +35,7 @@ SHUT = b"refused 30 StoreRefused\n"
 
 
 def given_lines(text):
-    """Of each line that is given, whether it is a command, and how many lines it is told."""
+    """For each line, whether it is a command, and how many lines its answer has."""
     given, counts = [], True
     for line in text.splitlines():
         if line.startswith(TOLD):
@@ -47,8 +47,7 @@ def given_lines(text):
 
 
 def answers_and_contents(output, given):
-    """For each line that was given, what was held before it, where it is a command, and what it was told; and what
-    is held in the end."""
+    """For each line, what was held before it, if it is a command, and its answer; and what is held at the end."""
     lines, answers = output.splitlines(keepends=True), []
     for is_command, count in given:
         place = 0
@@ -60,8 +59,8 @@ def answers_and_contents(output, given):
 
 
 def told_before_want(own, text):
-    """What may be told where memory is wanting: for each line, what is told and held up to it, then the want of
-    memory, and then what is held."""
+    """The possible outputs if memory runs out: for each line the outputs before it, then the refusal, and then what is
+    held."""
     answers, last = answers_and_contents(own, given_lines(text))
     allowed, told = {NO_MEMORY_BEFORE_ALL}, b""
     for place, (_, before, answer) in enumerate(answers):
@@ -72,13 +71,14 @@ def told_before_want(own, text):
 
 
 def keepers_for(file):
-    """The keepers with which a file's lines are swept: only commands ask for one."""
+    """The keepers to run a file's lines with: only commands need one."""
     with open(file, encoding="utf-8") as lines:
         return BOTH_KEEPERS if any(map(is_command, lines)) else BOTH_KEEPERS[:1]
 
 
 def sweep_lines(keeper, file, library, mark):
-    """How many refusals the lines of the file met. The answers are those of the plain keeper. A fault is raised."""
+    """How many refusals the lines of a file met. With enough memory the plain keeper gives the expected answers. Raises
+    an error for a wrong one."""
     with open(file, "rb") as lines:
         text = lines.read()
     given = streamed(text.decode().split("\n"))
@@ -89,7 +89,7 @@ def sweep_lines(keeper, file, library, mark):
 
 
 def sweep_demands(file, library, mark):
-    """How many refusals the lines met that ask what projects demand. A fault is raised."""
+    """How many refusals the lines met that ask what projects demand. Raises an error for a wrong answer."""
     with open(file, "rb") as lines:
         given = lines.read()
     _, own = run(TRIALS, ["demand"], given, 0, library, mark)
@@ -105,13 +105,13 @@ def sweep_demands(file, library, mark):
 
 
 def commands_of(name):
-    """The lines of an example that give its commands."""
+    """The lines of an example that are commands."""
     with open(os.path.join(EXAMPLES, f"{name}.txt"), encoding="utf-8") as given:
         return [line for line, _ in Example(given.read()).told]
 
 
 class Course:
-    """Commands: what each is told, what is held before each and in the end, and the rows of that."""
+    """Commands: the answer to each, what is held before each and at the end, and its rows."""
 
     def __init__(self, lines):
         machine = Machine()
@@ -130,18 +130,18 @@ def held_in(machine):
 
 
 class Told(NamedTuple):
-    """What a run prints with ample memory, and the rows that are there after what it may answer, that among it."""
+    """The answer of a run with enough memory, and the rows after each possible answer, that one included."""
 
     own: tuple
     allowed: dict
 
     def with_end(self, text, rows):
-        """The same, if what is told last may be this."""
+        """The same, with another possible output."""
         return self._replace(allowed=self.allowed | {(1, text, b""): rows})
 
 
 def singly(lines, before=()):
-    """Of commands that are given one by one behind others. A run ends at the one that is refused."""
+    """For commands that are given one by one after others. A run ends at the one that is refused."""
     course, done = Course([*before, *lines]), len(before)
     own = (0, course.told(done) + course.held[-1], b"")
     allowed = {own: course.rows[-1], NO_MEMORY_BEFORE_ALL: course.rows[done] if before else None}
@@ -151,8 +151,8 @@ def singly(lines, before=()):
 
 
 def as_list(lines):
-    """Of commands that are given as a list, in which one that is refused is as if it had not been given. A document
-    that is not read ends the run, and so does a list without room for its answers."""
+    """For commands that are given as a list: a refused one is as if it had not been given. The run ends if a document
+    cannot be read, or if there is no room for the answers."""
     course = Course(lines)
     own = (0, course.told() + course.held[-1], b"")
     allowed = {own: course.rows[-1], NO_MEMORY_BEFORE_ALL: None, (1, course.held[0], b""): course.rows[0]}
@@ -165,14 +165,14 @@ def as_list(lines):
 
 
 def told_ahead(lines):
-    """The same of commands of which each is prepared before the one in front of it is installed. Room for an answer is
-    taken behind its command."""
+    """The same if each command is prepared before the previous one is installed. The room for an answer is taken after
+    its command."""
     told, course = as_list(lines), Course(lines)
     return told._replace(allowed=told.allowed | {(1, WANT + held, b""): None for held in course.held[1:]})
 
 
 def shut_by_one(lines):
-    """What may be told of a list by a register that is shut as the commit of a command fails, and the rows of it."""
+    """The possible answers to a list if the commit of a command fails and shuts the register, each with the rows."""
     course = Course(lines)
     for place, answer in enumerate(course.answers):
         if answer.startswith(b"done "):
@@ -181,7 +181,7 @@ def shut_by_one(lines):
 
 
 def sweep_list(words, told_of, name, library, mark):
-    """How many refusals the commands of an example met, which are given as a list. A fault is raised."""
+    """How many refusals the commands of an example met as a list. Raises an error for a wrong answer."""
     lines = commands_of(name)
     own, allowed = told_of(lines)
     return refused_in_turn([TRIALS, *words], streamed(lines), own, allowed, library, mark)
@@ -191,8 +191,8 @@ def sweep_list(words, told_of, name, library, mark):
 
 
 class InFile(NamedTuple):
-    """A sweep: the words before the path, the commands that the register is given, and those that it was given before.
-    One of about so many allocations is refused behind the front."""
+    """A sweep: the words before the path, the commands, and those that the register was given before. After the start,
+    allocations that are this far apart are refused."""
 
     words: list
     lines: list
@@ -200,7 +200,8 @@ class InFile(NamedTuple):
     apart: int = APART
 
     def told(self):
-        """What may be told. The last want of memory comes as the file is closed, and before that as it is reopened."""
+        """The possible answers. The last refusal comes while the file is closed, and the one before it while it is
+        reopened."""
         told = as_list(self.lines) if "--together" in self.words else singly(self.lines, self.before)
         if "--together" in self.words:
             told = told._replace(allowed=told.allowed | dict(shut_by_one(self.lines)))
@@ -214,7 +215,7 @@ class InFile(NamedTuple):
 
 
 def tables_in(path):
-    """How many tables the file has that is to be a database, if there is one."""
+    """How many tables a database file has. If there is no file, it has none."""
     if not os.path.exists(path):
         return 0
     with contextlib.closing(sqlite3.connect(f"file:{path}?mode=ro", uri=True)) as tables:
@@ -222,8 +223,8 @@ def tables_in(path):
 
 
 def stored(in_file, begun, refused, library, mark):
-    """Whether a run met its refusal, what it answered, and the rows in the tables, if there are tables. It is given a
-    copy of the file that was begun, or else makes one."""
+    """Whether a run met its refusal, its answer, and the rows in the tables, if there are tables. The run gets a copy
+    of the file that was begun, or makes one if there is none."""
     with tempfile.TemporaryDirectory(dir=FOLDER) as folder:
         path = os.path.join(folder, "register.db")
         for behind in ("", "-wal"):
@@ -237,15 +238,15 @@ def stored(in_file, begun, refused, library, mark):
 
 
 def check_opened(path, printed, library, mark):
-    """A register that was shut is opened again, and holds what it held in the end."""
+    """Opens a register that was shut. It must hold what it held at the end."""
     _, answer = run(TRIALS, ["plain", "--db-open", path], b"", 0, library, mark)
     if answer[0] != 0 or not answer[1].startswith(b"step ") or not printed.endswith(answer[1]):
         raise AssertionError(f"opened again: {answer}, behind {printed}")
 
 
 def sweep_stored(in_file, library, mark):
-    """How many refusals are met where a register is made in a file and given commands, or where one that was given some
-    is opened and given the others. There are thousands, nearly all of the database's own, so some are passed over."""
+    """How many refusals are met while a register is made in a file and given commands, or is opened and given more.
+    There are thousands of allocations, nearly all of them the database's own, so some are skipped."""
     own, allowed = in_file.told()
     with tempfile.TemporaryDirectory(dir=FOLDER) as folder:
         begun = os.path.join(folder, "begun.db")

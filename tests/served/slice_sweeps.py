@@ -1,6 +1,6 @@
-"""Requests that the program of trials serves as slices by one call, with its allocations refused in turn. A request has
-its reply by the plain model, or 503, and then it is as if it had not come; or none of them has a reply. Behind a commit
-that failed each command is refused."""
+"""Requests that the program of trials serves as slices by one call, with its allocations refused in turn. A request
+gets its reply by the plain model, or 503, and then it is as if it had not come. Or no request gets a reply. After a
+failed commit each command is refused."""
 
 import itertools
 
@@ -18,14 +18,14 @@ LINES = [
     "2024-05-01 add-member ann",
     "2024-05-01 add-member ann",
 ]
-# the last request, which shows what is held
+# the last request, which shows the counts
 COUNTS = request_of("GET", "/counts")
 REFUSED, OF_SHUT = reply_of(503, WANT), reply_of(503, SHUT)
 NO_REPLY = (1, b"", b"")
 
 
 def replies_to(lines):
-    """The replies to commands, and then what the counts are."""
+    """The replies to commands, and then the counts."""
     machine = Machine()
     told = [machine.told(line) for line in lines]
     counts = reports_of(list(machine.contents()))["counts"]
@@ -37,7 +37,7 @@ def served(replies):
 
 
 def allowed():
-    """What may be answered if memory runs out."""
+    """The possible answers if memory runs out."""
     own = replies_to(LINES)
     yield from (NO_MEMORY_BEFORE_ALL, NO_REPLY, served([*own[:-1], REFUSED]))
     for place, reply in enumerate(own[:-1]):
@@ -49,7 +49,7 @@ def allowed():
 
 
 def sweep(_name, library, mark):
-    """How many refusals were met, of those that are asked. A fault is raised."""
+    """How many refusals were met. Raises an error for a wrong answer."""
     own, others = served(replies_to(LINES)), set(allowed())
     requests = [request_of("POST", "/commands", given_of(line).document) for line in LINES]
     words = ["exchanges", "slices", *requests, COUNTS]

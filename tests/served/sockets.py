@@ -1,6 +1,6 @@
-"""A request over the socket of `vetd serve` where the reads and writes of the first client fail. It gets its whole
-reply, or the bytes before the write that failed, and the next client, whose streams are whole, is told what was done.
-`runner` runs the program under the library of `program/failing_streams.c`, and reads what was met."""
+"""Requests to `vetd serve` whose reads and writes fail for the first client. That client gets its whole reply, or the
+bytes before the write that failed. The next client, whose streams do not fail, learns what was done. `runner` runs the
+program with the library of `program/failing_streams.c`, and reads its counts."""
 
 import time
 
@@ -8,16 +8,16 @@ from served.cases import ADD_ANN, ALREADY_ANN, DONE_ANN
 from served.server import Server, compare, reply_or_end
 
 MOST_READS = 10_000_000
-# how long a busy machine may take for so many reads, in s
+# how long a busy machine may take for this many reads, in s
 PATIENCE = 600
 # what FAILING_STREAM calls the socket
 SOCKET = 0
-# a read gives a byte of the request, and a write takes one of the reply
+# each read gives one byte of the request, and each write takes one byte of the reply
 READS, WRITES = len(ADD_ANN), len(DONE_ANN)
 
 
 def met_over(runner, reply, then, **streams):
-    """What was met by a client that got this reply, and behind which another one with the same request was told so."""
+    """Sends the same request from two clients, which must get these replies. Returns the counts of the run."""
     with Server(2, env=runner.environment(**streams), seconds=PATIENCE) as server:
         with server.connect(faulted=reply != DONE_ANN, seconds=PATIENCE) as client:
             compare(f"over {streams}", reply_or_end(client, ADD_ANN), reply)
@@ -26,7 +26,7 @@ def met_over(runner, reply, then, **streams):
 
 
 def bytes_are_given_one_by_one(runner):
-    """Each is read once, or twice where it is interrupted before."""
+    """Each byte takes one read, or two if a read is interrupted before it."""
     for pieces, interrupted in ((1, 0), (2, READS)):
         met = met_over(runner, DONE_ANN, ALREADY_ANN, reads_in_pieces=pieces)
         found = met.reads, met.interrupted_reads, met.failed_reads, met.bytes_given
@@ -34,7 +34,7 @@ def bytes_are_given_one_by_one(runner):
 
 
 def each_read_fails_in_turn(runner):
-    """An interrupted one is before each byte. Wherever one fails, nothing is told and nobody is a member."""
+    """A read is interrupted before each byte. Whichever read fails, nothing is answered and no member is added."""
     reads = 2 * READS
     for failed in range(1, reads + 1):
         met = met_over(runner, b"", DONE_ANN, reads_in_pieces=2, failed_read=failed)
@@ -51,7 +51,7 @@ def reads_are_interrupted_without_end(runner):
 
 
 def each_write_fails_in_turn(runner):
-    """It is interrupted. Wherever one is, the bytes before it were sent, none after it, and the member is added."""
+    """One write is interrupted. Then only the bytes before it are sent, and the member is added."""
     for failed in range(1, WRITES + 1):
         met = met_over(runner, DONE_ANN[: failed - 1], ALREADY_ANN, failing_stream=SOCKET, failed_write=failed)
         compare(f"writes up to {failed}", (met.writes, met.failed_writes), (failed, 1))

@@ -1,6 +1,6 @@
-"""Requests with allocations refused in turn. A client has the reply that it would have, or 503, or its connection ends.
-What was told 503, or nothing, is not in the tables. Nor is it shown of a register in memory. A store may shut itself
-only where a commit failed: so behind a request that never comes to one, a command of the next client is done."""
+"""Requests with allocations refused in turn. A client gets the reply that it would get otherwise, or 503, or its
+connection ends. After 503, or no reply, the tables are as before, and a register in memory shows what it showed. Only a
+failed commit may shut a store: after a request that never comes to a commit, a command of the next client is done."""
 
 import os
 import tempfile
@@ -16,8 +16,8 @@ from served.swept import LOOK
 
 # more than any of these requests takes, with the start of the program
 MOST_ALLOCATIONS = 1 << 20
-# how many are refused at the front, where a request is read and its route found, and at the end, where a command is
-# kept and told
+# how many are refused at the start, where a request is read and its route found, and at the end, where a command is
+# written and answered
 AT_THE_FRONT, AT_THE_END = 10, 12
 REFUSED, ENDED = reply_of(503, b"refused 29 NoMemory\n"), b""
 OF_SHUT = reply_of(503, b"refused 30 StoreRefused\n")
@@ -25,14 +25,14 @@ NEXT = request_of("POST", "/commands", document("add-member", member="next"))
 
 
 class Sweep:
-    """The runs of a request to copies of a register in a file. `environment` is that of a program which has an
-    allocation refused, by its number, a file that it makes then, and from where allocations are counted."""
+    """The runs of a request, each on a copy of a register in a file. `environment` makes that of a run, from the number
+    of the allocation that is refused, the file that marks the refusal, and where the count of allocations begins."""
 
     def __init__(self, request, files, environment):
         self.request, self.files, self.environment = request, files, environment
 
     def answer(self, refused):
-        """Whether a run met its refusal, what it answered, what the next client was told, and the rows in the end."""
+        """Whether a run met its refusal, its answer, the reply to the next client, and the rows at the end."""
         request = self.request
         with tempfile.TemporaryDirectory(dir=FOLDER) as folder:
             met = os.path.join(folder, "met")
@@ -56,7 +56,7 @@ class Sweep:
         return path
 
     def unchanged(self):
-        """What the next client is told, and the rows in the end, where the request did nothing."""
+        """The reply to the next client and the rows at the end, if the request did nothing."""
         expected = self.request.expected_next()
         if not self.request.in_file:
             return expected, None
@@ -68,7 +68,7 @@ class Sweep:
             return expected, rows_in(path)
 
     def own(self):
-        """What is answered with ample memory, what the next client is told, and the rows in the end."""
+        """The answer with enough memory, the reply to the next client, and the rows at the end."""
         met, reply, *left = self.answer(0)
         body = reply.partition(b"\r\n\r\n")[2]
         compare("with ample memory", (met, reply.split(b" ")[1], body[: len(self.request.told)]), (
@@ -77,8 +77,8 @@ class Sweep:
         return reply, *left
 
     def wanting(self, unchanged):
-        """What may be answered if memory ran out, what the next client is told, and the rows in the end. A register
-        whose commit failed may be shut, and then does nothing for that client."""
+        """The possible answers if memory ran out, each with the reply to the next client and the rows at the end. A
+        register whose commit failed may be shut, and then does nothing for that client."""
         yield from ([reply, *unchanged] for reply in (REFUSED, ENDED))
         if not self.request.once_accepted:
             yield [NO_MEMORY, *unchanged]
@@ -95,7 +95,7 @@ class Sweep:
         return f"allocation {refused}: {answer[0]!r}, then {answer[1]!r}, and {as_before}"
 
     def last(self):
-        """The number of the last allocation that is met."""
+        """The number of the last allocation of a run."""
         met, more = 0, MOST_ALLOCATIONS
         while more - met > 1:
             middle = min((met + more) // 2, 4 * met + 64)
@@ -104,14 +104,14 @@ class Sweep:
 
 
 def numbers_up_to(last, between):
-    """The allocations that are refused: the first and the last ones, and some between."""
+    """The numbers of the allocations that are refused: the first and last ones, and some between."""
     step = max(1, last // between)
     chosen = [*range(1, AT_THE_FRONT + 1), *range(1, last, step), *range(last - AT_THE_END + 1, last + 1)]
     return sorted({number for number in chosen if 1 <= number <= last})
 
 
 def sweep(request, files, environment):
-    """How many refusals a request met. A fault is raised."""
+    """How many refusals a request met. Raises an error for a wrong answer."""
     runs = Sweep(request, files, environment)
     own, unchanged, last = runs.own(), runs.unchanged(), runs.last()
     if not request.commits():

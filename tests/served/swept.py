@@ -1,5 +1,5 @@
-"""The requests whose allocations are refused in turn: one to each route, of each command word one that is accepted, and
-the documents of the example that shows each refusal."""
+"""The requests whose allocations are refused in turn: one to each route, an accepted one of each command word, and the
+documents of the example that shows each refusal."""
 
 from typing import NamedTuple
 
@@ -9,17 +9,17 @@ from product.sweeps import CONFIG, IMPORTS, MADE, PEER
 from served.cases import ADD_ANN, DONE_ANN, FULL_RUN, TABLE
 from served.server import head_of, reply_of, request_of, status_of
 
-# about how many allocations are refused between the front and the end of a request; more of them for a few
+# about how many allocations are refused between the start and the end of a request; more for a few requests
 BETWEEN, MANY_BETWEEN = 18, 50
-# what the next client asks of a register in memory, and what it is told if the project was not loaded
+# what the next client asks a register in memory for, and the reply if the project was not loaded
 LOOK, NOT_FOUND = request_of("GET", "/projects/app"), reply_of(404, b"not found\n")
 
 
 class Swept(NamedTuple):
-    """A request: its bytes, the status and the front of the body of its reply, and whether what it leaves is looked for
-    in a file. Allocations are counted from its connection on, or from the start of the program. The register in the
-    file was made by documents. Of the allocations between the first and the last about `between` are refused. Of a
-    register in memory the next client asks for `look`, and is replied `not_done` if nothing was done before."""
+    """A request: its bytes, the status and the beginning of the body of its reply, and whether the register is in a
+    file. Allocations are counted from its connection on, or from the start of the program. The register in the file was
+    made by documents. Between the first and the last allocations about `between` are refused. If the register is in
+    memory, the next client asks for `look`, and gets the reply `not_done` if nothing was done before."""
 
     name: str
     given: bytes
@@ -33,11 +33,11 @@ class Swept(NamedTuple):
     not_done: bytes = NOT_FOUND
 
     def commits(self):
-        """Whether it changes the register, and so comes to a commit."""
+        """Whether it changes the register, and so commits."""
         return self.told.startswith(b"done ")
 
     def expected_next(self):
-        """What the next client is told, or shown of a register in memory, where the request changed nothing."""
+        """The reply to the next client if the request changed nothing."""
         if not self.in_file:
             return self.not_done
         return b"" if self.commits() else reply_of(200, b"done %d moves 0\n" % (len(self.made) + 1))
@@ -52,7 +52,7 @@ def posted(name, text, status, told, fields=(), **how):
     return swept("POST", "/commands", status, told, text, fields, name, **how)
 
 
-# of a register as `product/sweeps.py` makes it, which has done six commands
+# for a register as `product/sweeps.py` makes it, after six commands
 SHOWN = {
     "/counts": b"class ",
     "/standing": b"serde ",
@@ -74,7 +74,7 @@ UNKNOWN = '[[audits.serde]]\ncriteria = "nope"\nversion = "1.0.0"\n'
 NO_CRITERION = document("replace-files", audits=UNKNOWN, config=CONFIG, imports=IMPORTS)
 RECORDS = [{"version": "1.0.1", "when": "2024-01-01", "user-id": 5, "user-login": "ann"}]
 
-# of each command word: a document that is accepted, what is told behind the step, and which documents come before it
+# for each command word: a document that is accepted, the answer after its step, and the documents before it
 X = document("set-criterion", name="x")
 ONLY_RUN = document("set-policy", policy="app", criteria="safe-to-run")
 BOB = document("add-member", member="bob")
@@ -102,7 +102,7 @@ ACCEPTED = {
     "withdraw-review": (document("withdraw-review", review=1), "moves 0"),
 }
 OF_A_MEMBER = ("finish-review", "withdraw-review")
-# words of the lines of examples that no document has
+# words in lines of examples that are not command words
 OF_LINES = {"demand", "add-audit"}
 
 
@@ -116,7 +116,7 @@ def accepted():
 
 
 def documents_with_refusals():
-    """The documents of the example with a line for each refusal, each behind those before it that are accepted."""
+    """The documents of the example with a line for each refusal, each after the accepted ones before it."""
     made = (demand_of("1.0.1"), FULL_RUN)
     for number, (given, line) in enumerate(EXAMPLES_OF_REFUSALS["each_refusal_has_its_line"], 1):
         yield posted(f"document {number}", given, status_of(line), f"{line}\n".encode(), made=made)
