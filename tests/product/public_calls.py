@@ -1,5 +1,5 @@
-"""The public calls of the product's crates, read from their sources: what each may answer by its result, unless its
-contract or its documentation rules that out. And the list of the runs that meet them."""
+"""The public calls of the product's crates, read from their sources: which faults each may answer by the type of its
+result, unless its contract or its documentation rules them out. Also reads the list of the runs that make them."""
 
 import os
 import re
@@ -19,12 +19,12 @@ SECTION = "## What no run meets"
 DECLARED = re.compile(r"^(pub(?:\(\w+\))? )?(?:struct|enum|trait|type) (\w+)", re.M)
 MODULE = re.compile(r"^pub mod (\w+);", re.M)
 CLAUSE = re.compile(r"\b(requires|ensures)\*?\s*\w*\*?\s*$")
-# sentences of their own: a call of which only some cases take no memory says so within another one
+# only whole sentences: if just some cases of a call take no memory, that is said within a longer sentence
 TAKES_NO_MEMORY = re.compile(r"(?:^|\. )(?:It t|T)akes no memory\.")
 
 
 class Call(NamedTuple):
-    """A public call: its name as the prover has it, its signature, its clauses, and what is said of it."""
+    """A public call: its name in the prover, its signature, its clauses, and its documentation."""
 
     name: str
     signature: str
@@ -33,11 +33,11 @@ class Call(NamedTuple):
     may_give_up: bool
 
     def is_exact(self):
-        """Whether a clause says what is answered, whatever memory there is."""
+        """Whether a clause says what is answered, however much memory there is."""
         return any(clause.startswith("result ≡ ") and "→" not in clause for clause in self.clauses)
 
     def faults(self):
-        """What clauses say of a fault, whichever it is."""
+        """What the clauses say about each fault."""
         found = (re.fullmatch(r"IfErr result(?:\.status)? \(λ fault\. (.*)\)", clause) for clause in self.clauses)
         return [it[1] for it in found if it and "→" not in it[1]]
 
@@ -82,7 +82,7 @@ class Crates:
                     yield call_at(module, text, found, at)
 
     def is_call_public(self, module, text, place):
-        """Whether others may make the call of the function that begins here."""
+        """Whether other crates may call the function that begins here."""
         front = text[text.rfind("\n", 0, place) + 1 : place]
         if not front.startswith(" "):
             return front == "pub " and module in self.modules
@@ -110,7 +110,7 @@ def call_at(module, text, found, at):
 
 
 def clauses_behind(text, found, at):
-    """What the function ensures whose name is at this place in the list of tokens: each clause on one line."""
+    """The clauses of the function whose name is at this place in the list of tokens, each on one line."""
     at += 1
     while found[at][1] != ";":
         place, token = found[at]
@@ -124,7 +124,7 @@ def clauses_behind(text, found, at):
 
 
 def said_above(text):
-    """What the comment says in which a text ends, on one line."""
+    """The doc comment at the end of a text, on one line."""
     lines = []
     for line in reversed(text.split("\n")[:-1]):
         if not line.strip().startswith(("///", "#[")):
@@ -134,8 +134,8 @@ def said_above(text):
 
 
 class Run(NamedTuple):
-    """A run that meets a call: a script, and words in the names of its tests. Whether the call is one of those that may
-    answer a fault of the input."""
+    """A run that makes a call: a script, and words in the names of its tests. Also whether the call may answer a fault
+    of the input."""
 
     script: str
     test: str
@@ -161,7 +161,7 @@ def listed():
 
 
 def explained():
-    """The places that the section of tests/README.md names; a function alone stands for all places in it."""
+    """The places that the section of tests/README.md names. A function alone means all places in it."""
     with open(README, encoding="utf-8") as it:
         section = it.read().partition(SECTION)[2].partition("\n## ")[0]
     return set(re.findall(r"`(\w+::[^`]+)`", section))

@@ -1,6 +1,6 @@
-"""The functions that a program may come to, read off the texts of the crates by names. A method is taken to be called
-by each call of that name, since it is not looked at which type a value has. So a function that is not among them is met
-by no run of the program, and one that is among them may be met by none."""
+"""The functions that a program may reach, read from the texts of the crates by names. Types of values are not known
+here, so each call of a method's name counts as a call of that method. No run of the program reaches a function that is
+not among these, and perhaps none reaches one that is."""
 
 import os
 import re
@@ -8,13 +8,13 @@ from typing import NamedTuple
 
 from product.public_calls import OWNER, ROOT, crate_of, head_of, owner_of, past_group, sources, tokens, without_generics
 
-# a call, with the type or the module before its name, or the dot behind a value
+# a call, with the type or the module before its name, or the dot after a value
 TRAIT = re.compile(r"^(?:pub(?:\(\w+\))? )?trait (\w+)", re.M)
 CALL = re.compile(r"(?:\b(\w+)(?:::<[^()]*?>)?::|(\.))?\b(\w+)(?:::<[^()]*?>)?\(")
 
 
 class Function(NamedTuple):
-    """A function: its name as the prover has it, its module, the type and the trait of its impl, and its body."""
+    """A function: its name in the prover, its module, the type and the trait of its impl, and its body."""
 
     path: str
     module: str
@@ -39,14 +39,14 @@ def functions_in(module, text):
 
 
 def owners_of(text, place):
-    """The type and the trait in whose impl a function stands."""
+    """The type and the trait of the impl that a function is in."""
     words = [it[2] for it in OWNER.finditer(text, 0, place)][-1]
     of_trait, _, of_type = without_generics(words).strip().rpartition(" for ")
     return tuple(re.match(r"\w+", it.strip())[0] for it in (of_type, of_trait) if it.strip())
 
 
 def crates_below(program):
-    """The crates of which a program is made, by crates.txt."""
+    """The crates that a program consists of, by crates.txt."""
     with open(os.path.join(ROOT, "crates.txt"), encoding="utf-8") as it:
         rows = (line.split(":") for line in it if not line.startswith("#"))
         named = {crate: others.split() for crate, others in rows}
@@ -60,7 +60,7 @@ def crates_below(program):
 
 
 class Reached:
-    """What a program may come to from its `main`."""
+    """The functions that a program may reach from its `main`."""
 
     def __init__(self, program):
         crates = crates_below(program)
@@ -83,7 +83,7 @@ class Reached:
                 left += self.calls_of(function)
 
     def calls_of(self, function):
-        """The functions that one may call."""
+        """The functions that a function may call."""
         for before, dot, name in CALL.findall(function.body):
             self.called.add(name)
             found = self.named.get(name, [])
@@ -97,14 +97,14 @@ class Reached:
                 yield from (it for it in found if not it.owners and self.is_known(it, function.module))
 
     def is_known(self, function, module):
-        """Whether a module has a free function of its own, or imports it."""
+        """Whether a free function is of this module, or imported by it."""
         above = re.escape(function.module.rpartition("::")[2])
         imported = rf"\b{above}::(?:\{{[^}}]*)?\b{function.name}\b"
         return function.module == module or re.search(imported, self.texts[module])
 
     def has(self, path):
-        """Whether the program may come to a function. Of one without a body, whether it calls some function of that
-        name. Those of a trait of the toolchain are called from there."""
+        """Whether the program may reach a function. A function without a body counts if some function of its name is
+        called. Methods of a toolchain's trait are called by the toolchain."""
         function = next((it for it in self.named.get(path.rpartition("::")[2], []) if it.path == path), None)
         if function is None:
             return path.rpartition("::")[2] in self.called
