@@ -32,13 +32,13 @@ def most_memory(server):
 
 
 def memory_of(server, name):
-    """What the system states of a server's memory by this name, in MB."""
+    """The figure of this name that the system reports about a server's memory, in MB."""
     with open(f"/proc/{server.process.pid}/status", encoding="utf-8") as status:
         (line,) = (line for line in status if line.startswith(f"{name}:"))
     return int(line.split()[1]) / 1024
 
 
 def forget_most_memory(server):
-    """The most memory of a server is that which it has from now on."""
+    """Makes the system count the most memory of a server from now on."""
     with open(f"/proc/{server.process.pid}/clear_refs", "w", encoding="utf-8") as file:
         file.write("5")

@@ -29,7 +29,7 @@ RUN = re.compile(r"->\s*DatabaseRun<\w+>\s*$")
 LIBRARY = re.compile(r"^use (\w+)::(?:\{[^}]*\bError\b[^}]*\}|Error);", re.M)
 # what has the connection, by the signature
 HOLDERS = {r"\bconn: Connection<": "conn", r"\bstore: Store<": "store.close()", r"\(\s*self\b": "self.close()"}
-# errors that hand it back
+# errors that give the connection back
 HANDED_BACK = ("Refused", "NotReopened")
 
 

@@ -24,7 +24,7 @@ OTHER_KEEPER = ", relay"
 CHAINS_APART = 40
 QUESTIONS_APART = 60
 TABLES_AT_ONCE = 100
-# of six lists of an example, so that each keeper and each way of giving commands is among them
+# each example has six lists, so with this step each keeper and each way of giving commands is among those taken
 STORED_APART = 5
 FORMS_APART = 5
 # how many drawn lists of run_held_files are taken
@@ -33,7 +33,7 @@ LISTS = 8
 NOT_OF_KEEPERS = ("each_two_are_joined", "walks_find_what_chains_do")
 # these meet no function that others don't meet, and wait
 UNSERVED = ("always_out_of_memory", "a_wait_that_fails_is_one_of_them", "a_listener_that_is_lost")
-# of run_exchanges what makes ten million reads, and what starts a program for each byte of a reply
+# tests of run_exchanges that make ten million reads, or start a program for each byte of a reply
 NOT_OF_EXCHANGES = ("reads are interrupted without end", "each write ")
 
 

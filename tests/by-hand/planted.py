@@ -209,7 +209,7 @@ def plants_of(module, text):
 
 
 def sources(root, passed_over=PASSED_OVER):
-    """The paths of the modules with their files, crate by crate, but for the crates that are passed over."""
+    """The paths of the modules with their files, crate by crate, except for the crates that are passed over."""
     for crate in sorted(os.listdir(os.path.join(root, "crates"))):
         top = os.path.join(root, "crates", crate, "src")
         if crate in passed_over or not os.path.isdir(top):

@@ -1,9 +1,9 @@
 /* Streams that give and take little, and fail. Reads of standard input, or of the socket of the first client that a
    server accepts:
 
-     INTERRUPTED_READS  how many are interrupted before the first that is not; until then the clock stands still, so
+     INTERRUPTED_READS  how many are interrupted before the first that is not; until then the clock is stopped, so
                         that no deadline passes
-     READS_IN_PIECES    1: each gives one byte, and 2: besides, there is an interrupted one before each
+     READS_IN_PIECES    1: each gives one byte; 2: the same, with an interrupted one before each
      FAILED_READ        the number of the one that fails
      ENDLESS_INPUT      line feeds come without end
 
@@ -79,7 +79,7 @@ static ssize_t fails(int why)
     return -1;
 }
 
-/* ---- the calls behind these */
+/* ---- the C library's own calls */
 
 static ssize_t next_recv(int from, void *to, size_t most, int flags)
 {
@@ -156,7 +156,7 @@ ssize_t read(int from, void *to, size_t most)
     return from == STDIN_FILENO ? read_by(next_read, from, to, most) : next_read(from, to, most);
 }
 
-/* One that only looks at what has come is no read. */
+/* A call that only peeks does not count as a read. */
 ssize_t recv(int from, void *to, size_t most, int flags)
 {
     if (clients != 1 || (flags & MSG_PEEK))

@@ -1,5 +1,5 @@
-"""A `vetd serve` that ends by itself: how many connections it waits for is said when it starts. Or it is killed, and
-waits for as many as there may be."""
+"""A `vetd serve` that ends by itself after a number of connections that is given when it starts. Or it accepts as many
+as there may be, and is killed."""
 
 import contextlib
 import itertools
@@ -170,7 +170,7 @@ class Server:
 
 @contextlib.contextmanager
 def until_killed(*words):
-    """A server that is killed in the end, if not before."""
+    """A server that is killed at the end, if not before."""
     server = Server(MOST_CONNECTIONS, *words)
     server.__enter__()
     try:

@@ -1,12 +1,12 @@
-/* Preloaded under a program that keeps a register in the file DISK_FILE and in its log, which has the same name with
-   `-wal` behind it. The calls that write one of the two, change its length or sync it are counted. Before the one of
-   number DISK_PLACE the process is killed. Instead,
+/* Preloaded into a program that keeps a register in the file DISK_FILE and in its log, whose name is the same with
+   `-wal` at its end. The calls that write, resize or sync one of the two are counted. The process is killed before the
+   call of the number DISK_PLACE. Two variables change this:
 
      DISK_ERROR   the call does nothing, and fails with the error of this number
-     DISK_CUT     1: only writes are counted, and the process is killed once half of that one is written
+     DISK_CUT     1: only writes are counted, and the process is killed once half of that write is done
 
-   A copy of each of the two files as of its last sync is kept at DISK_SYNCED, again with `-wal` behind it for the log.
-   What was met is counted in the file that DISK_MET names, in the order of `struct met`. */
+   A copy of each of the two files as of its last sync is kept at DISK_SYNCED, with `-wal` at the end for the log. The
+   file that DISK_MET names has the counts, in the order of `struct met`. */
 #define _GNU_SOURCE
 #include <dlfcn.h>
 #include <errno.h>
@@ -22,8 +22,8 @@
 #include <sys/stat.h>
 #include <unistd.h>
 
-/* `looks` are calls that read one of the two files, or ask for its length. `fault` is the number of the call at which
-   the fault was met. */
+/* `looks` are calls that read one of the two files, or ask for its length. `fault` is the number of the call with the
+   fault. */
 struct met {
     uint64_t loaded;
     uint64_t calls;
@@ -63,7 +63,7 @@ __attribute__((constructor)) static void begin(void)
     met->loaded = 1;
 }
 
-/* What the name of an open file has behind DISK_FILE, if it is one of the two. */
+/* If an open file is one of the two: the end of its name, after DISK_FILE. */
 static const char *end_of(int file)
 {
     char link[32], name[PATH_MAX];
