@@ -1,9 +1,9 @@
 //! How long a connection may last, how long its client may be silent, and the day of the clock.
-ghost use Rattle.std.specs.Prelude.{◌≡◌, ◌==◌, ◌+◌, ◌<◌, ◌≤◌, ◌/◌, IfOk, IfSome, None, Some, if◌then◌else◌, min, pos};
+ghost use Rattle.std.specs.Prelude.{◌≡◌, ◌==◌, ◌≤◌, ◌/◌, IfErr, IfOk, IfSome, None, Some, if◌then◌else◌, min, pos};
 ghost use Rattle.std.specs.Prelude.{true};
 ghost use Rattle.std.specs.Duration.{as_nanos};
 ghost use Rattle.std.specs.Time.{FitsClock, instant_nanos};
-ghost use Rattle.vetd.specs.Deadline.{end_of_connection, longest_silence};
+ghost use Rattle.vetd.specs.Deadline.{IsLeft, IsWait, end_of_connection, longest_silence};
 ghost use Rattle.vet_base.specs.Day.{DayValue, day_number, is_day};
 
 use std::io;
@@ -35,7 +35,7 @@ impl Deadline {
         }
     }
 
-    /// The deadline of a connection that was accepted at a time; none exactly where no clock counts so far.
+    /// The deadline of a connection that was accepted at a time. `None` exactly if no clock counts that far.
     fn after(accepted: Instant) -> Option<Deadline>
         ensures is { IfSome result (λ d. instant_nanos d.end ≡ end_of_connection (instant_nanos accepted)) }
         ensures none { result ≡ None → ¬ FitsClock (end_of_connection (instant_nanos accepted)) }
@@ -45,38 +45,39 @@ impl Deadline {
         Some(Deadline { end })
     }
 
-    /// The time that is left, which is never none: as a time-out of a socket, none would mean that it may wait forever.
-    /// An error where no time is left, or the clock can't be read.
-    pub fn time_left<C: Clock>(self, clock: &C) -> io::Result<Duration>
-        ensures { IfOk result (λ left. 0 < as_nanos left) }
+    /// The time that is left, which is never zero: a stream refuses a time-out of zero. Fails with `TimedOut` if no time
+    /// is left.
+    pub fn time_left(self, now: Instant) -> io::Result<Duration>
+        ensures left { IfOk result (λ left. IsLeft (instant_nanos now) (instant_nanos self.end) (as_nanos left)) }
+        ensures none { IfErr result (λ _. instant_nanos self.end ≤ instant_nanos now) }
     {
-        match self.left_at(Instant::now(clock)?) {
+        match self.left_at(now) {
             Some(left) => Ok(left),
             None => Err(io::Error::from(io::ErrorKind::TimedOut)),
         }
     }
 
-    /// How long a read may wait: for the time that is left, and no longer than a client may be silent. Never none. An
-    /// error where no time is left, or the clock can't be read.
-    pub fn read_wait<C: Clock>(self, clock: &C) -> io::Result<Duration>
-        ensures { IfOk result (λ wait. (0 < as_nanos wait) × (as_nanos wait ≤ longest_silence)) }
+    /// How long a read may wait that begins now: for the time that is left, and no longer than a client may be silent.
+    /// Fails with `TimedOut` if no time is left.
+    pub fn read_wait(self, now: Instant) -> io::Result<Duration>
+        ensures wait { IfOk result (λ wait. IsWait (instant_nanos now) (instant_nanos self.end) (as_nanos wait)) }
+        ensures none { IfErr result (λ _. instant_nanos self.end ≤ instant_nanos now) }
     {
-        let left = self.time_left(clock)?;
+        let left = self.time_left(now)?;
         Ok(wait_within(left))
     }
 
-    /// The time that is left at a time, unless it is none.
+    /// The time that is left, unless it is zero.
     fn left_at(self, now: Instant) -> Option<Duration>
-        ensures left { IfSome result (λ left. (0 < as_nanos left)
-            × (instant_nanos now + as_nanos left ≡ instant_nanos self.end)) }
+        ensures left { IfSome result (λ left. IsLeft (instant_nanos now) (instant_nanos self.end) (as_nanos left)) }
         ensures none { result ≡ None → instant_nanos self.end ≤ instant_nanos now }
     {
-        some_time(self.end.duration_since(now))
+        nonzero(self.end.duration_since(now))
     }
 }
 
-/// A time, unless it is none.
-fn some_time(left: Duration) -> Option<Duration>
+/// A time, unless it is zero.
+fn nonzero(left: Duration) -> Option<Duration>
     ensures { result ≡ (if as_nanos left == 0 then None else Some left) }
 {
     if left.is_zero() { None } else { Some(left) }
@@ -94,7 +95,7 @@ fn wait_within(left: Duration) -> Duration
     }
 }
 
-/// The clock's day in UTC. An error where the clock can't be read, or is past 9999-12-31.
+/// The clock's day in UTC. Fails if the clock can't be read, or is past 9999-12-31.
 pub fn today<C: Clock>(clock: &C) -> io::Result<Day> {
     match SystemTime::now(clock)?.duration_since(UNIX_EPOCH) {
         Ok(since_1970) => match day_at(since_1970.as_secs()) {
@@ -105,7 +106,7 @@ pub fn today<C: Clock>(clock: &C) -> io::Result<Day> {
     }
 }
 
-/// The day that it is so many seconds after 1970 began, and none exactly where that is past 9999-12-31.
+/// The day that it is so many seconds after 1970 began. `None` exactly if that is past 9999-12-31.
 fn day_at(seconds: u64) -> Option<Day>
     ensures number { IfSome result (λ day. day_number day ≡ pos (seconds / 86400)) }
     ensures only { (d : DayValue) → is_day d ≡ true → day_number d ≡ pos (seconds / 86400)

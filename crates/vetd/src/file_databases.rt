@@ -14,7 +14,7 @@ use vet_store::refused::refusal_of;
 use vetd_commands::databases::Databases;
 
 /// A file and its log, of which a torn write may leave anything.
-pub type WaryFile = FileStore<FileFrom<Wary>>;
+pub type DatabaseFile = FileStore<FileFrom<Wary>>;
 
 /// The most bytes of a file that holds no database.
 const MOST_BYTES_OF_NONE: u64 = 1;
@@ -33,16 +33,16 @@ impl<'a> FileDatabases<'a> {
     }
 }
 
-impl Databases<WaryFile> for FileDatabases<'_> {
+impl Databases<DatabaseFile> for FileDatabases<'_> {
     ghost may_give = { λ _ _ given. MatchResult given IsOpenedNew IsOfStore };
 
     ghost may_find = { λ _ _ given. MatchResult given IsOpenedNew (λ e. IsOfStore e ⊎ (e ≡ NotARegister)) };
 
-    fn connect(&mut self, path: &str) -> Result<Connection<WaryFile>, Refusal> {
+    fn connect(&mut self, path: &str) -> Result<Connection<DatabaseFile>, Refusal> {
         connect_as(self.rt, path, Wary)
     }
 
-    fn find(&mut self, path: &str) -> Result<Connection<WaryFile>, Refusal> {
+    fn find(&mut self, path: &str) -> Result<Connection<DatabaseFile>, Refusal> {
         check_file(self.rt, path)?;
         connect_as(self.rt, path, Wary)
     }

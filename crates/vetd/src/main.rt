@@ -24,7 +24,7 @@ mod file_databases;
 mod tcp_network;
 mod timed;
 
-use crate::file_databases::{FileDatabases, WaryFile};
+use crate::file_databases::{DatabaseFile, FileDatabases};
 use crate::tcp_network::TcpNetwork;
 use std::alloc::Global;
 use std::io::Write;
@@ -84,7 +84,7 @@ fn status_of<R: Eprint>(rt: &R, run: Result<u8, IoFault>) -> u8
 fn run_words(rt: &HostRuntime, words: &[String]) -> Result<u8, IoFault> {
     let run = program_run::<
         String,
-        WaryFile,
+        DatabaseFile,
         MaskKeeper,
         FileDatabases<'_>,
         TcpNetwork<'_, HostRuntime>,

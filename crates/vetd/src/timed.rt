@@ -1,8 +1,8 @@
 //! A stream that is read and written by a deadline.
 //!
-//! **Each call waits no longer than the time that is left, and with none left it fails.** So a client that gives or
+//! **Each call waits no longer than the time that is left, and fails if no time is left.** So a client that gives or
 //! takes a byte at a time holds the program no longer than its connection may last. **A read waits no longer than a
-//! client may be silent**, which is less, so one that sends nothing is let go sooner.
+//! client may be silent**, which is less, so one that sends nothing is disconnected sooner.
 ghost use Rattle.std.specs.Io.{ReadsAtMost};
 ghost use Rattle.std.specs.Io.KnownBytes.{ReadConsumes};
 
@@ -10,10 +10,10 @@ use crate::deadline::Deadline;
 use std::io;
 use std::io::{Read, Write};
 use std::net::{OpenStream, Shutdown};
-use std::time::Clock;
+use std::time::{Clock, Instant};
 use vetd_program::clients::network::HangUp;
 
-/// The most bytes that are read away after a reply.
+/// The most bytes that are read and discarded after a reply.
 pub const MOST_BYTES_AFTER_REPLY: usize = 33_554_432;
 
 /// Reads a stream by a deadline.
@@ -53,7 +53,7 @@ fn read_by<C: Clock, T: Read + OpenStream>(
     ensures bound { ReadsAtMost result buf.new }
     ensures bytes { ReadConsumes (T.Read.remaining stream.old) (T.Read.remaining stream.new) result buf.new }
 {
-    let wait = deadline.read_wait(clock)?;
+    let wait = deadline.read_wait(Instant::now(clock)?)?;
     stream.set_read_timeout(Some(wait))?;
     stream.read(buf)
 }
@@ -77,10 +77,10 @@ impl<'a, C: Clock, T: Write + OpenStream> TimedWriter<'a, C, T> {
     }
 }
 
-// What is read away through it changes nothing that it holds, but no clause of a stream says so: so it tells no bytes.
+// What is read through it changes nothing that it holds, but no clause of a stream says so. So its bytes are not known.
 impl<C: Clock, T: Write + OpenStream> Write for TimedWriter<'_, C, T> {
     fn write(&mut self, buf: &[u8]) -> io::Result<usize> {
-        let left = self.deadline.time_left(self.clock)?;
+        let left = self.deadline.time_left(Instant::now(self.clock)?)?;
         self.stream.set_write_timeout(Some(left))?;
         self.stream.write(buf)
     }
@@ -99,7 +99,7 @@ impl<C: Clock, T: Read + Write + OpenStream> HangUp for TimedWriter<'_, C, T> {
     }
 }
 
-/// Whether bytes have come that nobody read. Where that can't be learned, it is taken that there are none.
+/// Whether bytes have come that nobody read. False if this can't be found out.
 fn has_unread<T: OpenStream>(stream: &T) -> bool {
     if stream.set_nonblocking(true).is_err() {
         return false;
@@ -112,8 +112,7 @@ fn has_unread<T: OpenStream>(stream: &T) -> bool {
     stream.set_nonblocking(false).is_ok() && unread
 }
 
-/// Reads to the stream's end, and no further than 32 MiB or the deadline. A read that fails ends it, also one that
-/// waited in vain.
+/// Reads to the stream's end, and no further than 32 MiB or the deadline. A read that fails or times out ends it.
 fn read_away<C: Clock, T: Read + OpenStream>(clock: &C, stream: &mut T, deadline: Deadline) {
     let mut chunk = [0u8; 4096];
     let mut taken = 0;
