@@ -96,10 +96,11 @@ class Built:
 
 
 class Building:
-    """Libraries that are built side by side. Who looks on is told of each as it begins and as it ends."""
+    """Libraries that are built side by side, each by a call of `build` with its jobs. Who looks on is told of each as it
+    begins and as it ends."""
 
-    def __init__(self, libraries, onlooker):
-        self.onlooker = onlooker
+    def __init__(self, libraries, onlooker, build=Built):
+        self.onlooker, self.build = onlooker, build
         self.left = sorted(libraries, key=lambda it: -self.lines_above(it, libraries))
         self.running, self.built = {}, set()
 
@@ -137,5 +138,5 @@ class Building:
             jobs = jobs_of(idle, min(len(ready) - at, free_lanes))
             self.left.remove(crate)
             self.onlooker.begins(crate, jobs)
-            self.running[pool.submit(Built, crate, jobs)] = crate, jobs
+            self.running[pool.submit(self.build, crate, jobs)] = crate, jobs
         self.onlooker.goes_on()
