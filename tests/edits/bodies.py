@@ -16,11 +16,11 @@ def body_of(text, function):
     return end and (body.end(), end.start())
 
 
-def sort_above(text):
-    """The words of the type of an `impl` of its own in whose items a text ends, joined as the prover joins them, if
-    the `impl` is of one sort of that type alone, such as a list of texts. None for an `impl` of every sort."""
+def instance_above(text):
+    """The prover's name for the `impl` in whose items a text ends, if it is of one instance of a generic type, such as
+    `Store<FileStore<D>, K>`: the words of that type, joined by `+`. None for any other `impl`."""
     heads = list(OWNER.finditer(text))
-    head = heads[-1][2] if heads and heads[-1][1] == "impl" else ""
+    head = heads[-1][2].replace("->", "") if heads and heads[-1][1] == "impl" else ""
     if " for " in head:
         return None
     parameters, target = re.match(r"(<(?:[^<>]|<[^<>]*>)*>)?(.*)$", head.partition(" where ")[0]).groups()

@@ -6,7 +6,7 @@ import os
 import re
 
 from . import callees
-from .bodies import FUNCTION, body_of, sort_above, type_above
+from .bodies import FUNCTION, body_of, instance_above, type_above
 
 # of more functions an edit in the gate is refused: each is proved once more for it. Those by hand may call as many
 MOST_CALLEES = 15
@@ -83,9 +83,9 @@ def function_at(crate, change, texts):
     if not body or not body[0] <= change.start or not change.end <= body[1]:
         return None
     before = text[: above[-1].start()]
-    kind, sort = (type_above(before), sort_above(before)) if indent else ("", None)
-    path = module_of_file(change.path) if sort else module_of(kind, change.path, texts)
-    return "::".join(it for it in (crate, path, sort or "".join(kind), name) if it)
+    kind, instance = (type_above(before), instance_above(before)) if indent else ("", None)
+    path = module_of_file(change.path) if instance else module_of(kind, change.path, texts)
+    return "::".join(it for it in (crate, path, instance or "".join(kind), name) if it)
 
 
 def module_of(kind, path, texts):
