@@ -1,5 +1,6 @@
-"""What the proofs of each crate take of processors and of memory, seen from outside: the processes of the prover are
-looked at each second. What one took in its last second is lost, and so is one that ends within a second."""
+"""What the proofs of each crate take of processors and of memory, seen from outside: the processes of the prover, and
+those that they start, are looked at each second. What a prover took in its last second is lost, and so is one that ends
+within a second."""
 
 import contextlib
 import os
@@ -9,25 +10,30 @@ from collections import defaultdict
 GB = 1_000_000_000
 SECOND_TICKS = os.sysconf("SC_CLK_TCK")
 ALL = "all crates"
+PROVER = "rattle"
+# shared memory is read at one look of this many, since that takes longer than the rest of a look
+SELDOM = 10
 
 
 def processes():
-    """Each process: its number, with its parent, its name, its start and the ticks that it took."""
+    """Each process: its number, with its parent, its name, its start, and the ticks that it took, with those of the
+    processes that it started and that have ended."""
     found = {}
     for number in filter(str.isdigit, os.listdir("/proc")):
         with contextlib.suppress(OSError), open(f"/proc/{number}/stat", encoding="utf-8", errors="replace") as it:
             head, _, rest = it.read().rpartition(")")
             told = rest.split()
-            ticks = int(told[11]) + int(told[12])
-            found[int(number)] = int(told[1]), head.partition("(")[2], told[19], ticks
+            found[int(number)] = int(told[1]), head.partition("(")[2], told[19], sum(map(int, told[11:15]))
     return found
 
 
-def is_below(number, top, found):
-    """Whether a process comes of another, by its parents."""
+def prover_of(number, top, found):
+    """The uppermost prover from which a process comes, or which it is, below the process `top`. Otherwise None."""
+    prover = None
     while number in found and number != top:
+        prover = number if found[number][1] == PROVER else prover
         number = found[number][0]
-    return number == top
+    return prover if number == top else None
 
 
 def work_of(number):
@@ -48,12 +54,20 @@ def memory_of(number):
     return tuple(1024 * int(told.get(word, "0 kB").split()[0]) for word in ("VmRSS", "VmHWM"))
 
 
+def share_of(number):
+    """What a process holds in bytes, where memory that several share counts as a part for each."""
+    with contextlib.suppress(OSError), open(f"/proc/{number}/smaps_rollup", encoding="utf-8", errors="replace") as it:
+        return sum(1024 * int(line.split()[1]) for line in it if line.startswith("Pss:"))
+    return 0
+
+
 class Watched:
     """What was seen of the provers below a process, by crate and by whether they prove it or try edits of it."""
 
     def __init__(self, top):
         self.top = top
         self.ticks, self.peaks = {}, defaultdict(int)
+        self.looks, self.shared = 0, {}
         self.over = threading.Event()
         self.thread = threading.Thread(target=self.go_on, daemon=True)
 
@@ -72,18 +86,32 @@ class Watched:
                 self.look()
 
     def look(self):
-        found, held = processes(), defaultdict(int)
-        for number, (_, name, start, ticks) in found.items():
-            work = work_of(number) if name == "rattle" and is_below(number, self.top, found) else None
+        found, provers, held = processes(), defaultdict(list), defaultdict(int)
+        for number in found:
+            prover = prover_of(number, self.top, found)
+            if prover:
+                provers[prover].append(number)
+        for prover, numbers in provers.items():
+            work = work_of(prover)
             if work:
-                self.ticks[number, start] = work, ticks
-                now, most = memory_of(number)
+                self.ticks[prover, found[prover][2]] = work, sum(found[it][3] for it in numbers)
+                now, most = self.memory(prover, numbers)
                 self.peaks[work] = max(self.peaks[work], most)
                 for it in (work, ALL):
                     held[it] += now
-        # the prover shares a crate's proofs among processes if it has several jobs
         for work, now in held.items():
             self.peaks[work] = max(self.peaks[work], now)
+        self.looks += 1
+
+    def memory(self, prover, numbers):
+        """What a prover holds in bytes, and the most that it held. With several jobs it starts processes that prove for
+        it, and that share most of its memory."""
+        now, most = memory_of(prover)
+        if len(numbers) == 1:
+            return now, most
+        if self.looks % SELDOM == 0 or prover not in self.shared:
+            self.shared[prover] = sum(map(share_of, numbers))
+        return max(now, self.shared[prover]), most
 
     def lines(self):
         """A line of each crate's proof and of its edits, and one of all together."""
