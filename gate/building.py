@@ -96,11 +96,11 @@ class Built:
 
 
 class Building:
-    """Libraries that are built side by side, each by a call of `build` with its jobs. Who looks on is told of each as it
-    begins and as it ends."""
+    """Libraries that are built side by side, as many as there are lanes, each by a call of `build` with its jobs. Who
+    looks on is told of each as it begins and as it ends."""
 
-    def __init__(self, libraries, onlooker, build=Built):
-        self.onlooker, self.build = onlooker, build
+    def __init__(self, libraries, onlooker, build=Built, lanes=None):
+        self.onlooker, self.build, self.lanes = onlooker, build, lanes or kit.lanes()
         self.left = sorted(libraries, key=lambda it: -self.lines_above(it, libraries))
         self.running, self.built = {}, set()
 
@@ -113,26 +113,26 @@ class Building:
     def run(self):
         """Whether all were built."""
         os.makedirs(KEPT, exist_ok=True)
-        held, lanes = rtlib.lock(self.left), kit.lanes()
-        with concurrent.futures.ThreadPoolExecutor(lanes) as pool:
-            self.begin(pool, lanes)
+        held = rtlib.lock(self.left)
+        with concurrent.futures.ThreadPoolExecutor(self.lanes) as pool:
+            self.begin(pool)
             while self.running:
                 done, _ = concurrent.futures.wait(self.running, return_when=concurrent.futures.FIRST_COMPLETED)
                 for it in done:
                     crate, _ = self.running.pop(it)
                     self.onlooker.ended(crate, it.result())
                     self.built |= {crate} if it.result().is_well else set()
-                self.begin(pool, lanes)
+                self.begin(pool)
         for it in held:
             os.close(it)
         return not self.left and self.onlooker.is_well
 
-    def begin(self, pool, lanes):
+    def begin(self, pool):
         """Begins those that are ready, as many as there are lanes, and shares the processors among them."""
         ready = [it for it in self.left if self.built.issuperset(it.deps)]
         for at, crate in enumerate(ready):
             idle = kit.processors() - sum(jobs for _, jobs in self.running.values())
-            free_lanes = lanes - len(self.running)
+            free_lanes = self.lanes - len(self.running)
             if idle < 1 or free_lanes < 1:
                 break
             jobs = jobs_of(idle, min(len(ready) - at, free_lanes))
