@@ -101,7 +101,8 @@ class Building:
 
     def __init__(self, libraries, onlooker, build=Built, lanes=None):
         self.onlooker, self.build, self.lanes = onlooker, build, lanes or kit.lanes()
-        self.left = sorted(libraries, key=lambda it: -self.lines_above(it, libraries))
+        self.above = {it: self.lines_above(it, libraries) for it in libraries}
+        self.left = sorted(libraries, key=lambda it: -self.above[it])
         self.running, self.built = {}, set()
 
     @staticmethod
@@ -127,9 +128,18 @@ class Building:
             os.close(it)
         return not self.left and self.onlooker.is_well
 
+    def ready(self):
+        """The libraries that may begin. While the next one of the longest chain waits for those that run, none begins
+        that has a chain of less than half its own: that one is to find a second processor, and the memory for it."""
+        found = [it for it in self.left if self.built.issuperset(it.deps)]
+        begun = self.built.union(crate for crate, _ in self.running.values())
+        if not self.left or self.left[0] in found or not begun.issuperset(self.left[0].deps):
+            return found
+        return [it for it in found if 2 * self.above[it] >= self.above[self.left[0]]]
+
     def begin(self, pool):
         """Begins those that are ready, as many as there are lanes, and shares the processors among them."""
-        ready = [it for it in self.left if self.built.issuperset(it.deps)]
+        ready = self.ready()
         for at, crate in enumerate(ready):
             idle = kit.processors() - sum(jobs for _, jobs in self.running.values())
             free_lanes = self.lanes - len(self.running)
