@@ -7,21 +7,25 @@ import struct
 import subprocess
 from typing import NamedTuple
 
+LIBRARY = "failing_disk.so"
 TESTS = os.path.dirname(os.path.dirname(os.path.abspath(__file__)))
 # the endings of the names of a register's file and of its log, after the register's path
 FILE, LOG = ENDS = ("", "-wal")
 # the faults, each with the environment for the library: the process is killed at the call, or the call fails
 KILLS = {"killed before a call": {}, "killed within a write": {"DISK_CUT": "1"}}
 FAILURES = {name: {"DISK_ERROR": str(getattr(errno, name))} for name in ("EIO", "ENOSPC")}
+# a call that reads fails
+READS = {"EIO at a read": {"DISK_ERROR": str(errno.EIO), "DISK_READ": "1"}}
 
 
 class Met(NamedTuple):
-    """The counts of a run, in the order of the library's struct. `fault` is the number of the call with the fault."""
+    """The counts of a run, in the order of the library's struct. `fault` is the number of the call with the fault:
+    among `reads` if calls that read fail, otherwise among `calls`."""
 
     loaded: int
     calls: int
     writes: int
-    looks: int
+    reads: int
     fault: int
 
 
@@ -30,7 +34,7 @@ COUNTS = struct.Struct("5Q")
 
 def build_library(folder):
     """Builds the library in a folder, and returns its path."""
-    library = os.path.join(folder, "failing_disk.so")
+    library = os.path.join(folder, LIBRARY)
     source = os.path.join(TESTS, "store", "failing_disk.c")
     subprocess.run(["cc", "-O1", "-shared", "-fPIC", "-o", library, source, "-ldl"], check=True)
     return library
@@ -45,25 +49,37 @@ def copy_register(path, to, ends=ENDS):
             os.remove(to + end)
 
 
+def counting(path, synced, counts):
+    """Makes the file of the counts. Returns the variables by which the library counts the calls to a register's files,
+    and keeps a copy of each file as of its last sync."""
+    with open(counts, "wb") as file:
+        file.write(bytes(COUNTS.size))
+    # the library compares this with the names of open files, which have no symbolic links in them
+    return {"DISK_FILE": os.path.realpath(path), "DISK_SYNCED": synced, "DISK_MET": counts}
+
+
+def met_at(counts):
+    """The counts so far in the file of the counts."""
+    with open(counts, "rb") as file:
+        met = Met(*COUNTS.unpack(file.read()))
+    if met.loaded != 1:
+        raise AssertionError("the library was not loaded")
+    return met
+
+
 class Disk:
     """A disk in a folder, with a copy of a register on it and a fault at the call of this number."""
 
     def __init__(self, library, folder, register, fault, place):
         names = ("register.db", "synced.db", "met")
-        self.path, self.synced, self.counts = (os.path.join(os.path.realpath(folder), name) for name in names)
+        self.path, self.synced, self.counts = (os.path.join(folder, name) for name in names)
         for path in (self.path, self.synced):
             copy_register(register, path)
-        with open(self.counts, "wb") as counts:
-            counts.write(bytes(COUNTS.size))
-        files = {"DISK_FILE": self.path, "DISK_SYNCED": self.synced, "DISK_MET": self.counts}
+        files = counting(self.path, self.synced, self.counts)
         self.environment = dict(os.environ, LD_PRELOAD=library, DISK_PLACE=str(place), **files, **fault)
 
     def met(self):
-        with open(self.counts, "rb") as counts:
-            met = Met(*COUNTS.unpack(counts.read()))
-        if met.loaded != 1:
-            raise AssertionError("the library was not loaded")
-        return met
+        return met_at(self.counts)
 
     def after_crash(self, lost, folder):
         """Copies the register to another folder, without what these files had not synced, and returns its path."""

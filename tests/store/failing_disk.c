@@ -1,9 +1,10 @@
 /* Preloaded into a program that keeps a register in the file DISK_FILE and in its log, whose name is the same with
    `-wal` at its end. The calls that write, resize or sync one of the two are counted. The process is killed before the
-   call of the number DISK_PLACE. Two variables change this:
+   call of the number DISK_PLACE. Three variables change this:
 
      DISK_ERROR   the call does nothing, and fails with the error of this number
      DISK_CUT     1: only writes are counted, and the process is killed once half of that write is done
+     DISK_READ    1: the calls that read one of the two, or ask for its length, are counted in place of these
 
    A copy of each of the two files as of its last sync is kept at DISK_SYNCED, with `-wal` at the end for the log. The
    file that DISK_MET names has the counts, in the order of `struct met`. */
@@ -22,20 +23,20 @@
 #include <sys/stat.h>
 #include <unistd.h>
 
-/* `looks` are calls that read one of the two files, or ask for its length. `fault` is the number of the call with the
-   fault. */
+/* `reads` are calls that read one of the two files, or ask for its length. `fault` is the number of the call with the
+   fault: among `reads` with DISK_READ, otherwise among `calls`. */
 struct met {
     uint64_t loaded;
     uint64_t calls;
     uint64_t writes;
-    uint64_t looks;
+    uint64_t reads;
     uint64_t fault;
 };
 
 static struct met unseen;
 static struct met *met = &unseen;
 static const char *path, *synced;
-static long failure, cut;
+static long failure, cut, of_reads;
 static uint64_t place;
 
 static long number(const char *name)
@@ -51,6 +52,7 @@ __attribute__((constructor)) static void begin(void)
     place = number("DISK_PLACE");
     failure = number("DISK_ERROR");
     cut = number("DISK_CUT");
+    of_reads = number("DISK_READ");
     const char *name = getenv("DISK_MET");
     int file = name == NULL ? -1 : open(name, O_RDWR);
     if (path == NULL || synced == NULL || file < 0)
@@ -84,11 +86,22 @@ static int is_met(int writes)
 {
     met->calls++;
     met->writes += writes;
-    if (cut == 1 && !writes)
+    if (of_reads == 1 || (cut == 1 && !writes))
         return 0;
     if ((cut == 1 ? met->writes : met->calls) != place)
         return 0;
     met->fault = met->calls;
+    return 1;
+}
+
+static int is_read(int file)
+{
+    if (end_of(file) == NULL)
+        return 0;
+    met->reads++;
+    if (of_reads != 1 || met->reads != place)
+        return 0;
+    met->fault = met->reads;
     return 1;
 }
 
@@ -158,13 +171,11 @@ int fdatasync(int file)
 ssize_t pread(int from, void *to, size_t most, off_t at)
 {
     ssize_t (*next)(int, void *, size_t, off_t) = dlsym(RTLD_NEXT, "pread");
-    met->looks += end_of(from) != NULL;
-    return next(from, to, most, at);
+    return is_read(from) ? fails() : next(from, to, most, at);
 }
 
 int statx(int file, const char *name, int flags, unsigned mask, struct statx *found)
 {
     int (*next)(int, const char *, int, unsigned, struct statx *) = dlsym(RTLD_NEXT, "statx");
-    met->looks += end_of(file) != NULL;
-    return next(file, name, flags, mask, found);
+    return is_read(file) ? fails() : next(file, name, flags, mask, found);
 }
