@@ -137,11 +137,15 @@ class Shown(NamedTuple):
 
 SHOWN = Shown(HELD, AUDITS, CONFIG, IMPORTS, MORE)
 
-# changes after the first two commands of an example, with a pair that is full and one that is unvetted
-ALTERED_STANDING = [
+# changes after the first two commands of an example, with an entry, a pair that is full and one that is unvetted
+ALTERED_TABLES = [
     "UPDATE standing SET class = 1 WHERE class = 4",
     "DELETE FROM standing WHERE class = 4",
+    "UPDATE meta SET version = 9",
+    "UPDATE meta SET next_entry = 1",
+    ("UPDATE entries SET criteria = ?", names(["a b"])),
     "UPDATE meta SET first4 = first4 + 1",
+    "DROP TABLE reviews",
 ]
 
 # what no cell of a type holds: a number below all, a word that is no name, a version or requirement, no packed list
