@@ -1,5 +1,5 @@
-"""Commands to a register in a file, each with its allocations refused in turn. A run gives its own answer, with the
-rows that it leaves, or the want of memory, with the rows that were there before."""
+"""Commands to a register in a file, each with its allocations refused in turn. A run gives its own answer and leaves
+its own rows, or it answers that memory ran out and leaves the rows that were there before."""
 
 import itertools
 import os
@@ -8,7 +8,7 @@ from concurrent.futures import ThreadPoolExecutor
 from typing import NamedTuple
 
 from models.rows import rows_in
-from product.documents import demand_of, document, entry
+from product.documents import Given, demand_of, document, entry
 from product.refusals import NO_MEMORY
 from product.register import DAY, FILES, FOLDER, REPORTS, Register
 
@@ -84,11 +84,13 @@ COMMANDS = [
 
 
 def files_begun(program, documents):
-    """The files of a register that was given these documents, by the ends of their names."""
+    """The files of a register that was given these documents, by the ends of their names. Those without a day come on
+    the same one."""
     with tempfile.TemporaryDirectory(dir=FOLDER) as folder:
         register = Register(program, os.path.join(folder, "register.db")).make()
-        for given in documents:
-            status, _, errors = register.apply(given)
+        for it in documents:
+            given = it if isinstance(it, Given) else Given(DAY, it)
+            status, _, errors = register.apply(given.document, given.day, given.member)
             if status != 0:
                 raise AssertionError(f"{given}: {errors}")
         found = {}

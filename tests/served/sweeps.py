@@ -1,12 +1,15 @@
 """Requests with allocations refused in turn. A client gets the reply that it would get otherwise, or 503, or its
-connection ends. After 503, or no reply, the tables are as before, and a register in memory shows what it showed. Only a
-failed commit may shut a store: after a request that never comes to a commit, a command of the next client is done."""
+connection ends. After 503, or no reply, the tables are as before, and a register in memory shows what it showed. A
+command of the next client is done, unless the store is shut. It may be shut only if a commit failed: the request wrote
+to the register's file or its log, or memory ran out at one of its last allocations."""
 
 import os
 import tempfile
 from concurrent.futures import ThreadPoolExecutor
+from typing import NamedTuple
 
 from models.rows import rows_in
+from product.disk import counting, met_at
 from product.documents import document
 from product.refusals import NO_MEMORY
 from product.register import FOLDER
@@ -21,32 +24,27 @@ MOST_ALLOCATIONS = 1 << 20
 AT_THE_FRONT, AT_THE_END = 10, 12
 REFUSED, ENDED = reply_of(503, b"refused 29 NoMemory\n"), b""
 OF_SHUT = reply_of(503, b"refused 30 StoreRefused\n")
+# what the next client of a register in a file posts
 NEXT = request_of("POST", "/commands", document("add-member", member="next"))
+
+
+class Run(NamedTuple):
+    """A run of a request: whether it met its refusal, and whether it wrote to the register's file or its log. Then what
+    it left: its answer, the reply to the next client, and the rows at the end, if there is a file."""
+
+    met: bool
+    wrote: bool
+    left: tuple
 
 
 class Sweep:
     """The runs of a request, each on a copy of a register in a file. `environment` makes that of a run, from the number
-    of the allocation that is refused, the file that marks the refusal, and where the count of allocations begins."""
+    of the allocation that is refused, the file that marks the refusal, where the count of allocations begins, and the
+    variables by which writes are counted."""
 
     def __init__(self, request, files, environment):
         self.request, self.files, self.environment = request, files, environment
-
-    def answer(self, refused):
-        """Whether a run met its refusal, its answer, the reply to the next client, and the rows at the end."""
-        request = self.request
-        with tempfile.TemporaryDirectory(dir=FOLDER) as folder:
-            met = os.path.join(folder, "met")
-            how = {"env": self.environment(refused, met, request.once_accepted)}
-            path = self.copy(folder) if request.in_file else None
-            words = ["--db", path] if path else []
-            then = [] if request.in_file and request.commits() else [NEXT if request.in_file else request.look]
-            try:
-                with Server(1 + len(then), *words, **how) as server:
-                    reply, was_met = server.reply_or_end(request.given), os.path.exists(met)
-                    later = b"".join(server.reply_or_end(given) for given in then)
-            except NotListening as unheard:
-                reply, was_met, later = unheard.answer, os.path.exists(met), request.expected_next()
-            return was_met, reply, later, rows_in(path) if path else None
+        self.before = self.rows_before() if request.in_file else None
 
     def copy(self, folder):
         path = os.path.join(folder, "register.db")
@@ -55,51 +53,77 @@ class Sweep:
                 file.write(content)
         return path
 
+    def rows_before(self):
+        with tempfile.TemporaryDirectory(dir=FOLDER) as folder:
+            return rows_in(self.copy(folder))
+
+    def run(self, refused):
+        """Refuses the allocation of this number, or none if it is 0."""
+        with tempfile.TemporaryDirectory(dir=FOLDER) as folder:
+            mark, synced, counts = (os.path.join(folder, name) for name in ("met", "synced.db", "counts"))
+            path = self.copy(folder) if self.request.in_file else None
+            variables = counting(path, synced, counts) if path else {}
+            how = {"env": self.environment(refused, mark, self.request.once_accepted, variables)}
+            try:
+                with Server(2, *(["--db", path] if path else []), **how) as server:
+                    written = met_at(counts).writes if path else 0
+                    reply, met = server.reply_or_end(self.request.given), os.path.exists(mark)
+                    wrote = bool(path) and met_at(counts).writes > written
+                    later = server.reply_or_end(NEXT if path else self.request.look)
+            except NotListening as unheard:
+                reply, met, wrote, later = unheard.answer, os.path.exists(mark), False, ENDED
+            return Run(met, wrote, (reply, later, rows_in(path) if path else None))
+
+    def own(self):
+        """What the request leaves with enough memory."""
+        request, run = self.request, self.run(0)
+        reply, later, _ = run.left
+        found = run.met, reply.split(b" ")[1], reply.partition(b"\r\n\r\n")[2][: len(request.told)], later
+        expected = False, b"%d" % request.status, request.told, request.next_reply(request.commits())
+        compare("with ample memory", found, expected)
+        return run.left
+
     def unchanged(self):
         """The reply to the next client and the rows at the end, if the request did nothing."""
-        expected = self.request.expected_next()
+        expected = self.request.next_reply(False)
         if not self.request.in_file:
             return expected, None
         with tempfile.TemporaryDirectory(dir=FOLDER) as folder:
             path = self.copy(folder)
-            if not self.request.commits():
-                with Server(1, "--db", path) as server:
-                    compare("the next client", server.exchange(NEXT), expected)
+            with Server(1, "--db", path) as server:
+                compare("the next client", server.exchange(NEXT), expected)
             return expected, rows_in(path)
 
-    def own(self):
-        """The answer with enough memory, the reply to the next client, and the rows at the end."""
-        met, reply, *left = self.answer(0)
-        body = reply.partition(b"\r\n\r\n")[2]
-        compare("with ample memory", (met, reply.split(b" ")[1], body[: len(self.request.told)]), (
-            False, b"%d" % self.request.status, self.request.told
-        ))
-        return reply, *left
-
-    def wanting(self, unchanged):
-        """The possible answers if memory ran out, each with the reply to the next client and the rows at the end. A
-        register whose commit failed may be shut, and then does nothing for that client."""
-        yield from ([reply, *unchanged] for reply in (REFUSED, ENDED))
+    def without_memory(self, unchanged):
+        """What the request may leave if memory ran out: it did nothing, or the program ended before it listened."""
+        yield from ((reply, *unchanged) for reply in (REFUSED, ENDED))
         if not self.request.once_accepted:
-            yield [NO_MEMORY, *unchanged]
-        if self.request.look != LOOK:
-            yield [REFUSED, OF_SHUT, None]
+            yield NO_MEMORY, ENDED, self.before
 
-    def fault_at(self, refused, own, unchanged):
-        met, *answer = self.answer(refused)
-        if not met:
+    def shut(self):
+        """What it may leave if its commit failed: the store is shut, and the command is not in the tables. A client
+        that only reads gets the same reply as before."""
+        if self.request.commits() and (self.request.in_file or self.request.look != LOOK):
+            yield REFUSED, OF_SHUT, self.before
+
+    def fault_at(self, refused, last, own, unchanged):
+        run = self.run(refused)
+        if not run.met:
             return f"allocation {refused} was not met"
-        if answer in (list(own), *self.wanting(unchanged)):
+        # a commit takes memory before it writes, and nothing outside shows that it has begun
+        may_be_shut = run.wrote or refused > last - AT_THE_END or not self.request.in_file
+        if run.left in (own, *self.without_memory(unchanged), *(self.shut() if may_be_shut else ())):
             return None
-        as_before = "as before" if tuple(answer[1:]) == unchanged else "something else"
-        return f"allocation {refused}: {answer[0]!r}, then {answer[1]!r}, and {as_before}"
+        reply, later, rows = run.left
+        kept = "the rows before it" if rows == self.before else "other rows"
+        return f"allocation {refused}, wrote {run.wrote}: {reply!r}, then {later!r}, and {kept}"
 
     def last(self):
         """The number of the last allocation of a run."""
         met, more = 0, MOST_ALLOCATIONS
         while more - met > 1:
             middle = min((met + more) // 2, 4 * met + 64)
-            met, more = (middle, more) if self.answer(middle)[0] else (met, middle)
+            met, more = (middle, more) if self.run(middle).met else (met, middle)
         return met
 
 
@@ -118,7 +142,7 @@ def sweep(request, files, environment):
         compare("what changes nothing", own[1:], unchanged)
     numbers = numbers_up_to(last, request.between)
     with ThreadPoolExecutor(AT_ONCE) as pool:
-        faults = [it for it in pool.map(lambda at: runs.fault_at(at, own, unchanged), numbers) if it]
+        faults = [it for it in pool.map(lambda at: runs.fault_at(at, last, own, unchanged), numbers) if it]
     if faults or not numbers:
         raise AssertionError(f"{len(faults)} of {len(numbers)}, of {last}: {faults[:1]}")
     return len(numbers)

@@ -1,25 +1,27 @@
-"""The requests whose allocations are refused in turn: one to each route, an accepted one of each command word, and the
-documents of the example that shows each refusal."""
+"""The requests whose allocations are refused in turn: one to each route, some for the texts of worked examples, an
+accepted one of each command word, and the documents of the example that shows each refusal."""
 
 from typing import NamedTuple
 
+from product.cases import COUNTS, MOVES, REVIEW, STANDING, STANDING_CSV
 from product.cases import REFUSED as EXAMPLES_OF_REFUSALS
-from product.documents import LINES, demand_of, document, entry, table_of
+from product.documents import LINES, demand_of, document, entry, given_of, table_of
+from product.examples import examples
 from product.sweeps import CONFIG, IMPORTS, MADE, PEER
-from served.cases import ADD_ANN, DONE_ANN, FULL_RUN, TABLE
-from served.server import head_of, reply_of, request_of, status_of
+from served.cases import ADD_ANN, ALREADY_ANN, DONE_ANN, FULL_RUN, TABLE
+from served.server import CSV, head_of, reply_of, request_of, status_of
 
 # about how many allocations are refused between the start and the end of a request; more for a few requests
 BETWEEN, MANY_BETWEEN = 18, 50
-# what the next client asks a register in memory for, and the reply if the project was not loaded
-LOOK, NOT_FOUND = request_of("GET", "/projects/app"), reply_of(404, b"not found\n")
+# what the next client asks a register in memory for, and the reply if the project was not loaded, and if it was
+LOOK, NOT_FOUND, FOUND = request_of("GET", "/projects/app"), reply_of(404, b"not found\n"), reply_of(200, TABLE, CSV)
 
 
 class Swept(NamedTuple):
     """A request: its bytes, the status and the beginning of the body of its reply, and whether the register is in a
     file. Allocations are counted from its connection on, or from the start of the program. The register in the file was
-    made by documents. Between the first and the last allocations about `between` are refused. If the register is in
-    memory, the next client asks for `look`, and gets the reply `not_done` if nothing was done before."""
+    given the documents in `made`. Between the first and the last allocations about `between` are refused. If the
+    register is in memory, the next client asks for `look`, and gets the reply `done` or `not_done`."""
 
     name: str
     given: bytes
@@ -31,16 +33,18 @@ class Swept(NamedTuple):
     between: int = BETWEEN
     look: bytes = LOOK
     not_done: bytes = NOT_FOUND
+    done: bytes = FOUND
 
     def commits(self):
         """Whether it changes the register, and so commits."""
         return self.told.startswith(b"done ")
 
-    def expected_next(self):
-        """The reply to the next client if the request changed nothing."""
+    def next_reply(self, is_done):
+        """The reply to the next client if the request was done, or if it changed nothing. If the register is in a file,
+        that client's command is done."""
         if not self.in_file:
-            return self.not_done
-        return b"" if self.commits() else reply_of(200, b"done %d moves 0\n" % (len(self.made) + 1))
+            return self.done if is_done else self.not_done
+        return reply_of(200, b"done %d moves 0\n" % (len(self.made) + is_done + 1))
 
 
 def swept(method, target, status, told, body=None, fields=(), name=None, **how):
@@ -124,14 +128,33 @@ def documents_with_refusals():
             made = (*made, given)
 
 
+def made_by(name):
+    """The commands of a worked example that are done."""
+    return tuple(given_of(line) for line, told in dict(examples())[name].told if told.startswith("done "))
+
+
+# the texts of worked examples, each with the commands that led to it
+DROPPED, FINISHED = made_by("counts_after_a_dropped_project"), made_by("a_review_is_finished_by_its_member")
+TEXTS = {
+    "/counts": (COUNTS, DROPPED),
+    "/moves": (MOVES, DROPPED),
+    "/standing": (STANDING, DROPPED[:2]),
+    "/standing.csv": (STANDING_CSV, DROPPED[:2]),
+    "/desk": (REVIEW, FINISHED),
+}
+
 # a member who is posted to a register in memory that holds nothing, and then again
 IN_MEMORY = {"in_file": False, "made": ()}
 POSTED_TWICE = Swept(
     "serve a member posted twice, from the start", ADD_ANN, 200, b"done 1 moves 0\n", **IN_MEMORY,
-    once_accepted=False, look=ADD_ANN, not_done=DONE_ANN,
+    once_accepted=False, look=ADD_ANN, not_done=DONE_ANN, done=ALREADY_ANN,
 )
 REQUESTS = [
     *(swept("GET", target, 200, told) for target, told in SHOWN.items()),
+    *(
+        swept("GET", target, 200, text.encode(), name=f"a worked text, {target}", made=made)
+        for target, (text, made) in TEXTS.items()
+    ),
     swept("PUT", "/projects/app", 200, b"done 7 moves 2\n", MORE),
     swept("PUT", "/peers/p", 200, b"done 7 moves 1\n", PEER.encode()),
     *accepted(),
