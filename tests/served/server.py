@@ -30,14 +30,14 @@ PHRASES = {
 # the status of each refusal that has another than 409, by its number
 STATUSES = dict.fromkeys((1, 2, 3, 4, 5, 26, 27, 28), 400) | {18: 413, 29: 503, 30: 503}
 TEXT, CSV, TOML = "text/plain; charset=utf-8", "text/csv; charset=utf-8", "application/toml"
-# ports that nobody is given who connects, from one that is drawn, so that scripts may run side by side
+# ports that the system gives to no client, in turn from a random one, so that scripts can run side by side
 FIRST_PORT, PORT_COUNT = 10_000, 22_000
 DRAWN = random.randrange(PORT_COUNT)
 PORTS = itertools.cycle([FIRST_PORT + (DRAWN + at) % PORT_COUNT for at in range(PORT_COUNT)])
 
 
 def share_ports(place, count):
-    """This process takes each so manieth of the ports, so that no other of so many processes is given the same."""
+    """Leaves this process a share of the ports, so that none of this many processes takes the port of another."""
     global PORTS
     own = range(DRAWN + place, DRAWN + PORT_COUNT, count)
     PORTS = itertools.cycle([FIRST_PORT + at % PORT_COUNT for at in own])
@@ -49,7 +49,7 @@ def compare(what, found, expected):
 
 
 def status_of(line):
-    """The status of what a command is told."""
+    """The status of the answer to a command."""
     word, *words = line.split(" ")
     return STATUSES.get(int(words[0]), 409) if word == "refused" else 200
 
@@ -155,16 +155,16 @@ class Server:
         return reply
 
     def told(self, method, target, status, body, kind=TEXT, given=None, fields=(), allow=None):
-        """Asks, and holds each byte of the reply."""
+        """Sends a request, and compares each byte of the reply."""
         found = self.exchange(request_of(method, target, given, fields))
         compare(f"{method} {target} {fields} {given!r}"[:200], found, reply_of(status, body, kind, allow))
 
     def answers(self, line, method, target, given=None, fields=()):
-        """Asks for a command, and holds each byte of the reply: the line, with the status of what it tells."""
+        """Sends a command, and compares each byte of the reply: the line, with the status that belongs to it."""
         self.told(method, target, status_of(line), line.encode() + b"\n", given=given, fields=fields)
 
     def posted(self, text, line, fields=()):
-        """Posts a command document, and holds each byte of the reply."""
+        """Posts a command document, and compares each byte of the reply."""
         self.answers(line, "POST", "/commands", text, fields)
 
 
@@ -199,8 +199,8 @@ def read_to_end(client):
 
 
 def run(named, workers=1):
-    """Runs tests with their names, so many beside each other, and says which failed: all, or those whose names have
-    one of the words of the command line. The status of the script."""
+    """Runs tests, as many at a time as there are workers, and prints which failed: all tests, or those whose names have
+    one of the words of the command line. Returns the status of the script."""
     words = sys.argv[1:]
     chosen = [(name, test) for name, test in named if not words or any(word in name for word in words)]
     with ThreadPoolExecutor(workers) as pool:
@@ -210,7 +210,8 @@ def run(named, workers=1):
             print(f"FAILED {name}: {fault[:1000]}")
     failed = sum(fault is not None for fault in faults)
     print(f"{len(chosen) - failed} passed, {failed} failed")
-    return 1 if failed else 0
+    # if no test was chosen, nothing was shown
+    return 1 if failed or not chosen else 0
 
 
 def fault_of(test):
