@@ -1,10 +1,12 @@
 //! Prints the members and the reviews that a desk holds, a line each. Printing takes no memory.
 //!
 //! Behind the version of a review stands its state, with the member to whom it is assigned or the number of the entry
-//! that finished it, and then its criteria.
+//! that finished it, and then its criteria. The line `restored-desk` asks for a desk that is restored.
 
 use crate::held::print_names;
+use std::alloc::Global;
 use std::io;
+use trial_values::fault::Fault;
 use vet_desk::desk::Desk;
 use vet_desk::review::{Review, ReviewState};
 
@@ -17,6 +19,16 @@ pub fn print_desk(rt: &impl Print, desk: &Desk) -> io::Result<()> {
         print_review(rt, review)?;
     }
     Ok(())
+}
+
+/// Restores a desk without members and reviews, and tells how many it has of each, and the next number of a review.
+/// Refused: `NoMemory`.
+pub fn restored_desk(alloc: Global) -> Result<String, Fault> {
+    let desk = Desk::restore(alloc, Vec::new(alloc), Vec::new(alloc), 1)?;
+    let members = desk.members().len();
+    let reviews = desk.reviews().len();
+    let next = desk.next_review();
+    Ok(format!(in alloc; "members {members} reviews {reviews} next {next}")?)
 }
 
 fn print_review(rt: &impl Print, review: &Review) -> io::Result<()> {

@@ -1,8 +1,9 @@
 //! Lines that ask for the files of what the register holds.
 //!
 //! `audits-file`, `config-file` and `imports-file` have nothing behind them. Each tells the text of that file, as the
-//! word that writes it.
+//! word that writes it. Other lines are passed on to the modules of their values.
 
+use crate::held_desk::restored_desk;
 use crate::packed::{is_packed, packed_value};
 use std::alloc::Global;
 use trial_values::fault::Fault;
@@ -27,6 +28,7 @@ pub fn line_told<K: Keeper>(
         "audits-file" => audits_file(alloc, register),
         "config-file" => config_file(alloc, register),
         "imports-file" => imports_file(alloc, register),
+        "restored-desk" => restored_desk(alloc),
         _ => value_told(alloc, register.facts(), line),
     }
 }
