@@ -74,8 +74,8 @@ used_below-most zero steps = omega arith
 used_below-most (suc n) steps = omega (arith, used_below-most n steps, one-most (is_used steps n))
 
 -- so many looks are few
-pub few_looks : (x s u : ℕ) → u ≤ 64 → x ≤ s * (u + 1) → x ≤ s * 65
-few_looks x s u l h = (let at : s * (u + 1) ≤ s * 65 = mul-le-mul (omega arith) (omega (arith, l)) in
+pub few_looks : (x s u : ℕ) → u ≤ most → x ≤ s * (u + 1) → x ≤ s * (most + 1)
+few_looks x s u l h = (let at : s * (u + 1) ≤ s * (most + 1) = mul-le-mul (omega arith) (omega (arith, l)) in
     omega (arith, h, at))
 
 -- sets that are filled up with empty ones say of each version what they said

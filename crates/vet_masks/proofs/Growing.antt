@@ -394,7 +394,7 @@ spent_by-most u (x ∷ xs) ends l = omega (
 
 -- what was found took few looks
 pub found-few : (steps : List Step) (condemned : Condemned) (p : PackageClasses) → IsFound steps condemned p
-    → p.looks.count ≤ length steps + 131 * (64 * length steps)
+    → p.looks.count ≤ length steps + 131 * (most * length steps)
 found-few steps condemned p f =
     let u = size most p.index.used in
     let ends = p.index.ends.items in

@@ -125,7 +125,8 @@ impl PackageClasses {
         ensures count { IfOk result (λ all. looks.new.count + spent_first shared.now (held_by_all self.now.clean.items)
             ≤ looks.old.count + spent_now shared.now (held_by_all all.items)) }
         ensures bound { IfOk result (λ all.
-            looks.new.count ≤ looks.old.count + length all.items * (65 * length looks.old.steps)) }
+            looks.new.count ≤ looks.old.count
+            + length all.items * ((MOST_CRITERIA + 1) * length looks.old.steps)) }
         ensures memory { IfErr result (λ e. e ≡ Refusal.NoMemory) }
     {
         let count = searches_for(shared.exempt.count).max(self.clean.len());
@@ -157,7 +158,8 @@ impl PackageClasses {
             ≤ looks.old.count + spent_now shared.now (held.items ∷ [])) }
         ensures begins { length self.now.clean.items ≤ place → IfOk result (λ held.
             looks.new.count ≤ looks.old.count + spent_now shared.now (held.items ∷ [])) }
-        ensures bound { IfOk result (λ _. looks.new.count ≤ looks.old.count + 65 * length looks.old.steps) }
+        ensures bound { IfOk result (λ _.
+            looks.new.count ≤ looks.old.count + (MOST_CRITERIA + 1) * length looks.old.steps) }
         ensures memory { IfErr result (λ e. e ≡ Refusal.NoMemory) }
     {
         let skipped = skipped_under(alloc, shared.exempt, &Rule::of(place))?;

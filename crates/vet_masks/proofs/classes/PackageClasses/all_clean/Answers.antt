@@ -36,7 +36,7 @@ clean_at-requires-clause-count c =
     let most_searches : c.max-count.result ≤ 129 = subst (λ n. n ≤ 129) (sym c.max-count.ensures)
     (max-le (omega (arith, c.searches_for.ensures.most))
     (omega (arith, c.len.ensures, c.args.self.now.clean.ok, h.found.1.below))) in
-    let times : c.searches.place * (65 * length steps) ≤ 129 * (65 * length steps) =
+    let times : c.searches.place * ((most + 1) * length steps) ≤ 129 * ((most + 1) * length steps) =
     mul-le-mul (omega (arith, most_searches, c.searches-test.true)) (omega arith) in
     omega (
       arith,
@@ -89,7 +89,7 @@ searches-preserved c =
             (take_all (place + 1) clean (le-next (length clean) place high) ∙ sym (take_all place clean high)))
             spent_now
       ];
-      bound = omega (arith, inv.bound, told.bound, times-next place (65 * length steps));
+      bound = omega (arith, inv.bound, told.bound, times-next place ((most + 1) * length steps));
     }
 
 pub returns-clause-enough : goal.returns-clause-enough

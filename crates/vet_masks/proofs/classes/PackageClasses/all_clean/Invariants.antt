@@ -1,5 +1,6 @@
 -- What the searches so far reached.
 use Rattle.std.proofs.Common.{◌≡◌, ◌<◌, ◌≤◌, ◌+◌, ◌*◌, ℕ, length, take}
+use Rattle.vet_base.specs.declared.limits.TheConstants.{MOST_CRITERIA as most}
 use Rattle.vet_graph.specs.Chain.{Condemned}
 use Rattle.vet_masks.specs.Classes.{AreReached, held_by, held_by_all}
 use Rattle.vet_masks.specs.Growing.{IsShared, is_taken_now, spent_first, spent_now}
@@ -17,5 +18,5 @@ invariant-searches l = record {
   least : l.fn.looks.count ≤ l.looks.count;
   count : l.looks.count + spent_first l.shared (held_by_all (take l.place l.self.clean.items))
       ≤ l.fn.looks.count + spent_now l.shared (held_by_all l.all.items);
-  bound : l.looks.count ≤ l.fn.looks.count + l.place * (65 * length l.fn.looks.steps);
+  bound : l.looks.count ≤ l.fn.looks.count + l.place * ((most + 1) * length l.fn.looks.steps);
 }

@@ -87,7 +87,7 @@ any_chains-requires-clause-count c =
     let n = length p.looks.steps in
     let same : length c.extended.new.looks.steps ≡ length steps =
     ap length (c.in_ok-index.ensures.steps ∙ c.over_others-looks.ensures.steps) in
-    let times : length c.in_ok-clean.clean.items * (65 * length steps) ≤ 129 * (65 * length steps) =
+    let times : length c.in_ok-clean.clean.items * ((most + 1) * length steps) ≤ 129 * ((most + 1) * length steps) =
     mul-le-mul (omega (arith, c.in_ok-clean.ensures.most)) (omega arith) in
     omega (
       arith,
