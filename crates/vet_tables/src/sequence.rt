@@ -40,6 +40,14 @@ impl<T: Drop> Sequence<T> {
     {
         self.items.as_slice()
     }
+
+    /// The items, given away. Takes no memory.
+    pub fn into_items(self) -> Vec<T>
+        ensures { result.items ≡ self }
+    {
+        let Sequence { items } = self;
+        items
+    }
 }
 
 impl<T: PartialEq + Drop> PartialEq for Sequence<T> {
