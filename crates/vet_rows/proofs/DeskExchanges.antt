@@ -23,10 +23,10 @@ use Rattle.vet_desk.specs.declared.review.ReviewState.TheVariants.{Finished}
 use Rattle.vet_desk.specs.Desk.{DeskState, own_name}
 use Rattle.vet_desk.specs.DeskView.{DeskRoom, FitsDesk, desk_changed, with_state_there}
 use Rattle.vet_desk.specs.Review.{in_state, review_number}
-use Rattle.vet_rows.specs.DeskChanges.{members_added, members_removed, reviews_added, reviews_removed, the_member}
-use Rattle.vet_rows.specs.DeskChanges.{the_review}
+use Rattle.vet_rows.specs.DeskChanges.{desk_change_exchanges, the_member, the_review}
 use Rattle.vet_rows.specs.DeskRows.{member_row, review_row}
 use Rattle.vet_rows.specs.KeyedItems.{added_item, removed_item, rows_if}
+use Rattle.vet_rows.proofs.ExchangeParts.{Leads}
 use Rattle.vet_rows.proofs.Exchanges.{IsExchange, of_items, stays}
 use Rattle.vet_rows.proofs.KeyedExchanges.{IsOneForOne, edit_is, swap_is}
 use Rattle.vet_rows.proofs.RowViews.{only_mapped}
@@ -56,7 +56,7 @@ one_member g x r s (inr none) b e = absurd none
 
 pub members_become : (change : DeskChange) (old : DeskState) (room : DeskRoom) (entry : Option ℕ)
     → FitsDesk change (record { content = old; room = room }) → IsByKey (slice_cmp nat_cmp) own_name old.members
-    → IsExchange same_member (members_removed change old) (members_added change) (map member_row old.members)
+    → Leads Members (desk_change_exchanges change entry old) (map member_row old.members)
     (map member_row (desk_changed change entry old).members)
 members_become (Join change) old room entry fits up =
     let new = keyed.edited change old.members in
@@ -70,7 +70,8 @@ members_become (Join change) old room entry fits up =
     (λ c r s i a j e. members_keyed new r s ((only_mapped member_row new).item_in c r i a) j e)
 members_become (Open review) old room entry fits up = stays same_member (map member_row old.members)
 members_become (Turn place state) old room entry fits up = stays same_member (map member_row old.members)
-members_become (Finish place made) old room entry fits up = stays same_member (map member_row old.members)
+members_become (Finish place made) old room None fits up = stays same_member (map member_row old.members)
+members_become (Finish place made) old room (Some number) fits up = stays same_member (map member_row old.members)
 
 -- ---- reviews
 
@@ -142,8 +143,8 @@ turn reviews place state (Some review) up up_new at =
 pub reviews_become : (change : DeskChange) (old : DeskState) (entry : Option ℕ)
     → IsByKey nat_cmp review_number old.reviews
     → IsByKey nat_cmp review_number (desk_changed change entry old).reviews
-    → IsExchange same_review (reviews_removed change entry old) (reviews_added change entry old)
-    (map review_row old.reviews) (map review_row (desk_changed change entry old).reviews)
+    → Leads Reviews (desk_change_exchanges change entry old) (map review_row old.reviews)
+    (map review_row (desk_changed change entry old).reviews)
 reviews_become (Join change) old entry up up_new = stays same_review (map review_row old.reviews)
 reviews_become (Open review) old entry up up_new =
     review_exchange None (Some review) old.reviews (old.reviews ++ review ∷ []) up_new (opened old.reviews review)

@@ -23,11 +23,12 @@ use Rattle.vet_entries.specs.HeldPeer.{holding_or_none, peer_name, peer_of, with
 use Rattle.vet_entries.specs.PublisherRecords.{package_of}
 use Rattle.vet_rows.specs.Columns.{own_peer}
 use Rattle.vet_rows.specs.EntryRows.{all_entries, entry_row, peer_entries}
-use Rattle.vet_rows.specs.FactsRows.{entries_added, entries_removed, own_entry}
+use Rattle.vet_rows.specs.FactsRows.{fact_exchanges, own_entry}
 use Rattle.vet_rows.specs.KeyedItems.{added_item, removed_item, rows_if}
 use Rattle.vet_tables.specs.Cells.{Row, same_key}
 use Rattle.vet_tables.specs.Forms.{form_of}
 use Rattle.vet_tables.specs.declared.table_name.TableName.TheVariants.{Entries}
+use Rattle.vet_rows.proofs.ExchangeParts.{Leads, removed_by}
 use Rattle.vet_rows.proofs.Exchanges.{AreRowsOf, IsExchange, alike, gone_of, of_items, stays}
 use Rattle.vet_rows.proofs.KeyedExchanges.{IsOneForOne, edit_is, found_in, put_is, take_is, with_is}
 use Rattle.vet_rows.proofs.ListEdits.{flat_in, in_flat}
@@ -193,7 +194,7 @@ unchanged old new entries peers =
 
 module _ (old : Facts) (room : Room) (k : HaveKeys old) where
   pub entries_become : (e : Edit) → Fits e (record { content = old; room = room }) → HaveKeys (edited e old)
-      → IsExchange same_entry (entries_removed e old) (entries_added e) (all_entries old) (all_entries (edited e old))
+      → Leads Entries (fact_exchanges e old) (all_entries old) (all_entries (edited e old))
   entries_become (edit.Criteria table) fits l = unchanged old (edited (edit.Criteria table) old) refl refl
   entries_become (edit.Insert place held) fits l =
       own_exchange old (edited (edit.Insert place held) old) None (Some held) k l refl
@@ -237,7 +238,7 @@ module _ (old : Facts) (room : Room) (k : HaveKeys old) where
 
   -- the rows that go are there
   pub entries_there : (e : Edit) → Fits e (record { content = old; room = room }) → (r : Row)
-      → IsIn r (entries_removed e old) → IsIn r (all_entries old)
+      → IsIn r (removed_by (fact_exchanges e old) Entries) → IsIn r (all_entries old)
   entries_there (edit.Criteria table) fits r i = absurd i
   entries_there (edit.Insert place held) fits r i = absurd i
   entries_there (edit.Remove place) fits r i =

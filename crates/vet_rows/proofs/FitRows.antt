@@ -15,6 +15,7 @@ use Rattle.vet_desk.specs.declared.review.Review.{Review}
 use Rattle.vet_entries.specs.Facts.{Facts}
 use Rattle.vet_entries.specs.declared.facts.HeldEntry.{HeldEntry}
 use Rattle.vet_entries.specs.declared.held_peer.HeldPeer.{HeldPeer}
+use Rattle.vet_entries.specs.declared.peer_settings.PeerSettings.{PeerSettings}
 use Rattle.vet_entries.specs.declared.publisher.Publisher.{Publisher}
 use Rattle.vet_entries.specs.declared.publisher_records.PackagePublishers.{PackagePublishers}
 use Rattle.vet_graph.specs.declared.standing.Stand.{Stand}
@@ -110,8 +111,11 @@ package_fit p = mapped_fit Publishers (publisher_row p.«package») (publisher_f
 pub publishers_fit : (packages : List PackagePublishers) → AreRows Publishers (flat_map package_rows packages)
 publishers_fit = flat_fit Publishers package_rows package_fit
 
+pub settings_fit : (settings : PeerSettings) → IsRowOf (form_of Peers) (peer_row settings)
+settings_fit settings = (tt, (tt, (tt, (tt, tt))))
+
 pub peer_fits : (p : HeldPeer) → IsRowOf (form_of Peers) (peer_row p.settings)
-peer_fits p = (tt, (tt, (tt, (tt, tt))))
+peer_fits p = settings_fit p.settings
 
 pub peers_fit : (peers : List HeldPeer) → AreRows Peers (map (λ (p : HeldPeer). peer_row p.settings) peers)
 peers_fit = mapped_fit Peers (λ (p : HeldPeer). peer_row p.settings) peer_fits

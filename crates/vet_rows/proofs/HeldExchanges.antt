@@ -1,5 +1,5 @@
 -- What an edit of all that is held makes of the rows of each table.
-use Rattle.std.proofs.Common.{◌≡◌, Bool, List, map}
+use Rattle.std.proofs.Common.{◌≡◌, Bool, List, [], map, subst, sym}
 use Rattle.std.specs.Bool.{Decides}
 use Rattle.std.specs.List.{flat_map}
 use Rattle.std.specs.Ordering.{nat_cmp}
@@ -9,21 +9,21 @@ use Rattle.vet_base.specs.Keyed.{IsByKey}
 use Rattle.vet_demand.specs.NamedProject.{project_name}
 use Rattle.vet_demand.specs.Policies.{key_of}
 use Rattle.vet_demand.specs.PolicyKey.{policy_key_cmp}
-use Rattle.vet_entries.specs.declared.held_peer.HeldPeer.{HeldPeer}
 use Rattle.vet_register.specs.declared.held.HeldEdit.{HeldEdit}
 use Rattle.vet_register.specs.declared.held.HeldEdit.TheVariants as edit
 use Rattle.vet_register.specs.Held.{Fits, HeldRoom, HeldValue, edited, held_with}
 use Rattle.vet_rows.specs.EntryRows.{all_entries, package_rows}
-use Rattle.vet_rows.specs.HeldChanges.{criteria_added, criteria_removed, edges_added, edges_removed, entries_added}
-use Rattle.vet_rows.specs.HeldChanges.{entries_removed, nodes_added, nodes_removed, peers_added, peers_removed}
-use Rattle.vet_rows.specs.HeldChanges.{policies_added, policies_removed, publishers_added, publishers_removed}
+use Rattle.vet_rows.specs.HeldChanges.{held_exchanges, peer_rows}
 use Rattle.vet_rows.specs.KeyTexts.{KeysAreRead, AddedProjectsAreRead, ProjectsHeldAreRead}
 use Rattle.vet_rows.specs.ProjectRows.{edge_rows, node_rows}
-use Rattle.vet_rows.specs.RowExchanges.{less, same_row}
-use Rattle.vet_rows.specs.SettingRows.{all_criteria, peer_row, policy_row}
+use Rattle.vet_rows.specs.RowExchanges.{exchange_of, same_row}
+use Rattle.vet_rows.specs.SettingRows.{all_criteria, policy_row}
+use Rattle.vet_rows.specs.declared.row_changes.exchange.Exchange.{Exchange}
+use Rattle.vet_rows.proofs.ChangeParts.{facts_leave}
 use Rattle.vet_rows.proofs.DemandExchanges.{edges_become, edges_keyed, edges_there, nodes_become, nodes_keyed}
 use Rattle.vet_rows.proofs.DemandExchanges.{nodes_there}
 use Rattle.vet_rows.proofs.DemandExchanges.{policies_become, policies_replaced}
+use Rattle.vet_rows.proofs.ExchangeParts.{Leads, LeadsByDifference, added_by, of_table, removed_by}
 use Rattle.vet_rows.proofs.Exchanges.{IsExchange, differ, stays, whole}
 use Rattle.vet_rows.proofs.FactsExchanges.{HaveKeys, entries_become, entries_keyed, entries_there}
 use Rattle.vet_rows.proofs.FitRows.{criteria_fit, entries_fit, peers_fit, publishers_fit}
@@ -37,9 +37,6 @@ use Rattle.vet_tables.specs.declared.table_name.TableName.TheVariants.{Criteria,
 use Rattle.vet_tables.specs.declared.table_name.TableName.TheVariants.{Publishers}
 use Rattle.vet_rows.proofs.SettingExchanges.{criteria_become, criteria_keyed, peers_become, peers_keyed}
 use Rattle.vet_rows.proofs.SettingExchanges.{publishers_become, publishers_keyed, publishers_there}
-
-abbrev peer_rows : List HeldPeer → List Row
-peer_rows peers = map (λ (peer : HeldPeer). peer_row peer.settings) peers
 
 -- rows of a table of the same key
 abbrev same_in : TableName → Row → Row → Bool
@@ -55,10 +52,16 @@ pub record HaveTexts (held : HeldValue) : Type 0 where
   pub read : KeysAreRead held.policies
   pub projects : IsByKey (slice_cmp nat_cmp) project_name held.projects
 
+-- a table of which there is no exchange stays
+untouched : (name : TableName) (e : Exchange) (rows : List Row) → e ≡ exchange_of name [] []
+    → IsExchange (same_in name) e.removed e.added rows rows
+untouched name e rows none =
+    subst (λ (x : Exchange). IsExchange (same_in name) x.removed x.added rows rows) (sym none)
+    (stays (same_in name) rows)
+
 module _ (old : HeldValue) (room : HeldRoom) (k : HaveTexts old) where
   pub held_criteria : (e : HeldEdit) → Fits e (held_with old room) → HaveTexts (edited e old)
-      → IsExchange (same_in Criteria) (criteria_removed e old) (criteria_added e) (all_criteria old.facts)
-      (all_criteria (edited e old).facts)
+      → Leads Criteria (held_exchanges e old) (all_criteria old.facts) (all_criteria (edited e old).facts)
   held_criteria (edit.Facts e) fits l = criteria_become old.facts room.facts k.facts e fits l.facts
   held_criteria (edit.Policies e) fits l = stays (same_in Criteria) (all_criteria old.facts)
   held_criteria (edit.Projects e) fits l = stays (same_in Criteria) (all_criteria old.facts)
@@ -69,8 +72,7 @@ module _ (old : HeldValue) (room : HeldRoom) (k : HaveTexts old) where
       (criteria_keyed files.facts.content l.facts)
 
   pub held_entries : (e : HeldEdit) → Fits e (held_with old room) → HaveTexts (edited e old)
-      → IsExchange (same_in Entries) (entries_removed e old) (entries_added e) (all_entries old.facts)
-      (all_entries (edited e old).facts)
+      → Leads Entries (held_exchanges e old) (all_entries old.facts) (all_entries (edited e old).facts)
   held_entries (edit.Facts e) fits l = entries_become old.facts room.facts k.facts e fits l.facts
   held_entries (edit.Policies e) fits l = stays (same_in Entries) (all_entries old.facts)
   held_entries (edit.Projects e) fits l = stays (same_in Entries) (all_entries old.facts)
@@ -81,8 +83,8 @@ module _ (old : HeldValue) (room : HeldRoom) (k : HaveTexts old) where
       (entries_keyed files.facts.content l.facts)
 
   pub held_publishers : (e : HeldEdit) → Fits e (held_with old room)
-      → IsExchange (same_in Publishers) (publishers_removed e old) (publishers_added e)
-      (flat_map package_rows old.facts.publishers) (flat_map package_rows (edited e old).facts.publishers)
+      → Leads Publishers (held_exchanges e old) (flat_map package_rows old.facts.publishers)
+      (flat_map package_rows (edited e old).facts.publishers)
   held_publishers (edit.Facts e) fits = publishers_become old.facts room.facts k.facts e fits
   held_publishers (edit.Policies e) fits = stays (same_in Publishers) (flat_map package_rows old.facts.publishers)
   held_publishers (edit.Projects e) fits = stays (same_in Publishers) (flat_map package_rows old.facts.publishers)
@@ -94,8 +96,7 @@ module _ (old : HeldValue) (room : HeldRoom) (k : HaveTexts old) where
       (publishers_keyed files.facts.content.publishers)
 
   pub held_peers : (e : HeldEdit) → Fits e (held_with old room) → HaveTexts (edited e old)
-      → IsExchange (same_in Peers) (peers_removed e old) (peers_added e) (peer_rows old.facts.peers)
-      (peer_rows (edited e old).facts.peers)
+      → Leads Peers (held_exchanges e old) (peer_rows old.facts.peers) (peer_rows (edited e old).facts.peers)
   held_peers (edit.Facts e) fits l = peers_become old.facts room.facts k.facts e fits l.facts
   held_peers (edit.Policies e) fits l = stays (same_in Peers) (peer_rows old.facts.peers)
   held_peers (edit.Projects e) fits l = stays (same_in Peers) (peer_rows old.facts.peers)
@@ -106,9 +107,10 @@ module _ (old : HeldValue) (room : HeldRoom) (k : HaveTexts old) where
       (peers_keyed files.facts.content l.facts)
 
   pub held_policies : (e : HeldEdit) → Fits e (held_with old room) → HaveTexts (edited e old)
-      → IsExchange (same_in Policies) (policies_removed e old) (policies_added e) (map policy_row old.policies)
-      (map policy_row (edited e old).policies)
-  held_policies (edit.Facts e) fits l = stays (same_in Policies) (map policy_row old.policies)
+      → Leads Policies (held_exchanges e old) (map policy_row old.policies) (map policy_row (edited e old).policies)
+  held_policies (edit.Facts e) fits l =
+      untouched Policies (of_table (held_exchanges (edit.Facts e) old) Policies) (map policy_row old.policies)
+      (facts_leave e old.facts).0
   held_policies (edit.Policies e) fits l =
       policies_become e (record { items = old.policies; room = room.policies }) k.policies l.policies fits k.read l.read
   held_policies (edit.Projects e) fits l = stays (same_in Policies) (map policy_row old.policies)
@@ -116,9 +118,11 @@ module _ (old : HeldValue) (room : HeldRoom) (k : HaveTexts old) where
   held_policies (edit.Files files) fits l = policies_replaced old.policies files.policies.items l.policies l.read
 
   pub held_nodes : (e : HeldEdit) → Fits e (held_with old room) → HaveTexts (edited e old) → AddedProjectsAreRead e
-      → IsExchange (same_in Nodes) (nodes_removed e old) (nodes_added e) (flat_map node_rows old.projects)
+      → Leads Nodes (held_exchanges e old) (flat_map node_rows old.projects)
       (flat_map node_rows (edited e old).projects)
-  held_nodes (edit.Facts e) fits l read = stays (same_in Nodes) (flat_map node_rows old.projects)
+  held_nodes (edit.Facts e) fits l read =
+      untouched Nodes (of_table (held_exchanges (edit.Facts e) old) Nodes) (flat_map node_rows old.projects)
+      (facts_leave e old.facts).1.0
   held_nodes (edit.Policies e) fits l read = stays (same_in Nodes) (flat_map node_rows old.projects)
   held_nodes (edit.Projects e) fits l read =
       nodes_become e (record { items = old.projects; room = room.projects }) k.projects l.projects fits read
@@ -126,9 +130,11 @@ module _ (old : HeldValue) (room : HeldRoom) (k : HaveTexts old) where
   held_nodes (edit.Files files) fits l read = stays (same_in Nodes) (flat_map node_rows old.projects)
 
   pub held_edges : (e : HeldEdit) → Fits e (held_with old room)
-      → IsExchange (same_in Edges) (edges_removed e old) (edges_added e) (flat_map edge_rows old.projects)
+      → Leads Edges (held_exchanges e old) (flat_map edge_rows old.projects)
       (flat_map edge_rows (edited e old).projects)
-  held_edges (edit.Facts e) fits = stays (same_in Edges) (flat_map edge_rows old.projects)
+  held_edges (edit.Facts e) fits =
+      untouched Edges (of_table (held_exchanges (edit.Facts e) old) Edges) (flat_map edge_rows old.projects)
+      (facts_leave e old.facts).1.1
   held_edges (edit.Policies e) fits = stays (same_in Edges) (flat_map edge_rows old.projects)
   held_edges (edit.Projects e) fits =
       edges_become e (record { items = old.projects; room = room.projects }) k.projects fits
@@ -138,8 +144,8 @@ module _ (old : HeldValue) (room : HeldRoom) (k : HaveTexts old) where
 -- ---- only the rows that differ go and come
 
 module _ (old : HeldValue) (room : HeldRoom) (k : HaveTexts old) where
-  entries_there_held : (e : HeldEdit) → Fits e (held_with old room) → (r : Row) → IsIn r (entries_removed e old)
-      → IsIn r (all_entries old.facts)
+  entries_there_held : (e : HeldEdit) → Fits e (held_with old room) → (r : Row)
+      → IsIn r (removed_by (held_exchanges e old) Entries) → IsIn r (all_entries old.facts)
   entries_there_held (edit.Facts e) fits r i = entries_there old.facts room.facts k.facts e fits r i
   entries_there_held (edit.Policies e) fits r i = absurd i
   entries_there_held (edit.Projects e) fits r i = absurd i
@@ -147,16 +153,17 @@ module _ (old : HeldValue) (room : HeldRoom) (k : HaveTexts old) where
   entries_there_held (edit.Files files) fits r i = i
 
   publishers_there_held : (e : HeldEdit) → Fits e (held_with old room) → (r : Row)
-      → IsIn r (publishers_removed e old) → IsIn r (flat_map package_rows old.facts.publishers)
+      → IsIn r (removed_by (held_exchanges e old) Publishers) → IsIn r (flat_map package_rows old.facts.publishers)
   publishers_there_held (edit.Facts e) fits r i = publishers_there old.facts room.facts k.facts e fits r i
   publishers_there_held (edit.Policies e) fits r i = absurd i
   publishers_there_held (edit.Projects e) fits r i = absurd i
   publishers_there_held edit.Nothing fits r i = absurd i
   publishers_there_held (edit.Files files) fits r i = i
 
-  edges_there_held : (e : HeldEdit) → Fits e (held_with old room) → (r : Row) → IsIn r (edges_removed e old)
-      → IsIn r (flat_map edge_rows old.projects)
-  edges_there_held (edit.Facts e) fits r i = absurd i
+  edges_there_held : (e : HeldEdit) → Fits e (held_with old room) → (r : Row)
+      → IsIn r (removed_by (held_exchanges e old) Edges) → IsIn r (flat_map edge_rows old.projects)
+  edges_there_held (edit.Facts e) fits r i =
+      absurd (subst (λ (x : Exchange). IsIn r x.removed) (facts_leave e old.facts).1.1 i)
   edges_there_held (edit.Policies e) fits r i = absurd i
   edges_there_held (edit.Projects e) fits r i =
       edges_there e (record { items = old.projects; room = room.projects }) k.projects fits r i
@@ -164,33 +171,35 @@ module _ (old : HeldValue) (room : HeldRoom) (k : HaveTexts old) where
   edges_there_held (edit.Files files) fits r i = absurd i
 
   pub entries_differ : (e : HeldEdit) → Fits e (held_with old room) → HaveTexts (edited e old)
-      → IsExchange (same_in Entries) (less (entries_removed e old) (entries_added e))
-      (less (entries_added e) (entries_removed e old)) (all_entries old.facts)
+      → LeadsByDifference Entries (of_table (held_exchanges e old) Entries) (all_entries old.facts)
       (all_entries (edited e old).facts)
   entries_differ e fits l =
-      differ (same_in Entries) same_row rows_decide (entries_removed e old) (entries_added e)
-      (all_entries old.facts) (all_entries (edited e old).facts) (held_entries old room k e fits l)
+      differ (same_in Entries) same_row rows_decide (removed_by (held_exchanges e old) Entries)
+      (added_by (held_exchanges e old) Entries) (all_entries old.facts) (all_entries (edited e old).facts)
+      (held_entries old room k e fits l)
       (entries_there_held e fits) (entries_keyed old.facts k.facts)
 
   pub publishers_differ : (e : HeldEdit) → Fits e (held_with old room)
-      → IsExchange (same_in Publishers) (less (publishers_removed e old) (publishers_added e))
-      (less (publishers_added e) (publishers_removed e old))
+      → LeadsByDifference Publishers (of_table (held_exchanges e old) Publishers)
       (flat_map package_rows old.facts.publishers) (flat_map package_rows (edited e old).facts.publishers)
   publishers_differ e fits =
-      differ (same_in Publishers) same_row rows_decide (publishers_removed e old) (publishers_added e)
-      (flat_map package_rows old.facts.publishers) (flat_map package_rows (edited e old).facts.publishers)
+      differ (same_in Publishers) same_row rows_decide (removed_by (held_exchanges e old) Publishers)
+      (added_by (held_exchanges e old) Publishers) (flat_map package_rows old.facts.publishers)
+      (flat_map package_rows (edited e old).facts.publishers)
       (held_publishers old room k e fits) (publishers_there_held e fits) (publishers_keyed old.facts.publishers)
 
   pub nodes_differ : (e : HeldEdit) → Fits e (held_with old room) → HaveTexts (edited e old) → AddedProjectsAreRead e
       → ProjectsHeldAreRead e old.projects
-      → IsExchange (same_in Nodes) (less (nodes_removed e old) (nodes_added e))
-      (less (nodes_added e) (nodes_removed e old)) (flat_map node_rows old.projects)
+      → LeadsByDifference Nodes (of_table (held_exchanges e old) Nodes) (flat_map node_rows old.projects)
       (flat_map node_rows (edited e old).projects)
-  nodes_differ (edit.Facts e) fits l read there = held_nodes old room k (edit.Facts e) fits l read
+  nodes_differ (edit.Facts e) fits l read there =
+      subst (λ (x : Exchange). LeadsByDifference Nodes x (flat_map node_rows old.projects)
+      (flat_map node_rows old.projects)) (sym (facts_leave e old.facts).1.0)
+      (stays (same_in Nodes) (flat_map node_rows old.projects))
   nodes_differ (edit.Policies e) fits l read there = held_nodes old room k (edit.Policies e) fits l read
   nodes_differ (edit.Projects e) fits l read there =
-      differ (same_in Nodes) same_row rows_decide (nodes_removed (edit.Projects e) old)
-      (nodes_added (edit.Projects e)) (flat_map node_rows old.projects)
+      differ (same_in Nodes) same_row rows_decide (removed_by (held_exchanges (edit.Projects e) old) Nodes)
+      (added_by (held_exchanges (edit.Projects e) old) Nodes) (flat_map node_rows old.projects)
       (flat_map node_rows (edited (edit.Projects e) old).projects)
       (held_nodes old room k (edit.Projects e) fits l read)
       (nodes_there e (record { items = old.projects; room = room.projects }) k.projects fits)
@@ -199,10 +208,10 @@ module _ (old : HeldValue) (room : HeldRoom) (k : HaveTexts old) where
   nodes_differ (edit.Files files) fits l read there = held_nodes old room k (edit.Files files) fits l read
 
   pub edges_differ : (e : HeldEdit) → Fits e (held_with old room)
-      → IsExchange (same_in Edges) (less (edges_removed e old) (edges_added e))
-      (less (edges_added e) (edges_removed e old)) (flat_map edge_rows old.projects)
+      → LeadsByDifference Edges (of_table (held_exchanges e old) Edges) (flat_map edge_rows old.projects)
       (flat_map edge_rows (edited e old).projects)
   edges_differ e fits =
-      differ (same_in Edges) same_row rows_decide (edges_removed e old) (edges_added e)
-      (flat_map edge_rows old.projects) (flat_map edge_rows (edited e old).projects)
+      differ (same_in Edges) same_row rows_decide (removed_by (held_exchanges e old) Edges)
+      (added_by (held_exchanges e old) Edges) (flat_map edge_rows old.projects)
+      (flat_map edge_rows (edited e old).projects)
       (held_edges old room k e fits) (edges_there_held e fits) (edges_keyed old.projects)

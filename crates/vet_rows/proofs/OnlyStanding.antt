@@ -1,37 +1,41 @@
--- What holds of all rows of the standing that go and come holds of the changes that exchange them.
-use Rattle.std.proofs.Common.{inl, inr, List, [], ◌∷◌, map, sym, subst}
-use Rattle.vet_base.specs.Items.{IsIn}
-use Rattle.vet_base.proofs.ItemLemmas.{in_append, in_map}
+-- Exchanges of tables other than the standing change no row of it.
+use Rattle.std.proofs.Common.{◌≡◌, ◌⊎◌, inl, inr, ℕ, ◌+◌, ◌<◌, ◌≤◌, List, [], ◌∷◌, arith, refl}
+use Rattle.std.specs.List.{AllByRecursion}
 use Rattle.vet_graph.specs.declared.moves.Move.{Move}
-use Rattle.vet_rows.specs.RowExchanges.{exchange, exchanges}
-use Rattle.vet_rows.specs.StandingChanges.{IsOfMove, IsOfMoves, RowIsOfMoves}
-use Rattle.vet_rows.specs.declared.row_change.RowChange.{RowChange}
-use Rattle.vet_rows.specs.declared.row_change.RowChange.TheVariants.{Put, Drop}
-use Rattle.vet_tables.proofs.TablePlaces.{each as each_table}
-use Rattle.vet_tables.specs.Cells.{Row, RowsValue}
+use Rattle.vet_rows.proofs.ExchangeParts.{Makes, Rise, rise_within}
+use Rattle.vet_rows.specs.StandingChanges.{IsOfMoves, RowIsOfMoves}
+use Rattle.vet_rows.specs.declared.row_changes.exchange.Exchange.{Exchange}
+use Rattle.vet_tables.specs.Cells.{Row}
+use Rattle.vet_tables.specs.Forms.{code}
 use Rattle.vet_tables.specs.declared.table_name.TableName.{TableName}
-use Rattle.vet_tables.specs.declared.table_name.TableName.TheVariants as name
+use Rattle.vet_tables.specs.declared.table_name.TableName.TheVariants.{Standing}
 
-module _ (moves : List Move) (g c : RowsValue) (going : (r : Row) → IsIn r (g name.Standing) → IsOfMove moves r)
-    (coming : (r : Row) → IsIn r (c name.Standing) → IsOfMove moves r) where
-  -- of a table, the rows that go or come
-  of_table : (rows : RowsValue) → ((r : Row) → IsIn r (rows name.Standing) → IsOfMove moves r) → (table : TableName)
-      → (r : Row) → IsIn r (rows table) → RowIsOfMoves moves table r
-  of_table rows standing table r i =
-      each_table (λ table. (r : Row) → IsIn r (rows table) → RowIsOfMoves moves table r) (search standing) table r i
+-- the tables are before the standing, or behind it
+abbrev pub AreBeside : ℕ → ℕ → Type 0
+AreBeside low high = (high ≤ code Standing) ⊎ (code Standing < low)
 
-  of_exchange : (table : TableName) (x : RowChange) → IsIn x (exchange table (g table) (c table)) → IsOfMoves moves x
-  of_exchange table x i =
-      elim (in_append (map (λ r. Drop table r) (g table)) (map (λ r. Put table r) (c table)) x i) [
-        | inl drops ↦ (let r = in_map (λ r. Drop table r) (g table) x drops in
-            subst (IsOfMoves moves) (sym r.1.1) (of_table g going table r.0 r.1.0))
-        | inr puts ↦ (let r = in_map (λ r. Put table r) (c table) x puts in
-            subst (IsOfMoves moves) (sym r.1.1) (of_table c coming table r.0 r.1.0))
-      ]
+later : (low high at : ℕ) → low ≤ at → AreBeside low high → AreBeside (at + 1) high
+later low high at le (inl before) = inl before
+later low high at le (inr behind) = inr (omega (arith, le, behind))
 
-  pub only_standing : (names : List TableName) (x : RowChange) → IsIn x (exchanges names g c) → IsOfMoves moves x
-  only_standing [] x none = absurd none
-  only_standing (table ∷ more) x i = elim (in_append (exchange table (g table) (c table)) (exchanges more g c) x i) [
-    | inl here ↦ of_exchange table x here
-    | inr later ↦ only_standing more x later
-  ]
+differs : (e : Exchange) (more : List Exchange) (low high : ℕ) → Rise low high (e ∷ more) → AreBeside low high
+    → code e.table ≡ code Standing → ⊥
+differs e more low high up (inl before) same =
+    let rest = rise_within more (code e.table + 1) high up.1 in omega (arith, rest, before, same)
+differs e more low high up (inr behind) same =
+    let first = up.0 in omega (arith, first, behind, same)
+
+module _ (moves : List Move) where
+  -- of a row of another table nothing is asked
+  other_row : (name : TableName) (r : Row) → (code name ≡ code Standing → ⊥) → RowIsOfMoves moves name r
+  other_row Standing r apart = absurd (apart refl)
+  other_row _ r apart = tt
+
+  pub others_named : (exchanges : List Exchange) (low high : ℕ) → Rise low high exchanges → AreBeside low high
+      → AllByRecursion (Makes (IsOfMoves moves)) exchanges
+  others_named [] low high up beside = tt
+  others_named (e ∷ more) low high up beside =
+      let apart = differs e more low high up beside in (
+        (λ r i. other_row e.table r apart, λ r i. other_row e.table r apart),
+        others_named more (code e.table + 1) high up.1 (later low high (code e.table) up.0 beside),
+      )

@@ -1,40 +1,28 @@
 -- Changes that are pushed one run after another.
-use Rattle.std.proofs.Common.{◌≡◌, ◌++◌, true, false, cond, List, [], ◌∷◌, Ok, Err, Result, OnOk, ap, append_assoc, sym}
-use Rattle.std.proofs.Common.{◌∙◌}
-use Rattle.std.proofs.lemmas.List.{append-nil}
-use Rattle.vet_rows.specs.RowExchanges.{differing, exchange, exchanges, is_compared, less}
-use Rattle.vet_tables.specs.Cells.{Row, RowsValue}
+use Rattle.std.proofs.Common.{◌≡◌, ◌++◌, true, false, cond, List, Ok, Err, Result, OnOk, ap, sym, ◌∙◌}
+use Rattle.vet_rows.specs.RowExchanges.{drops_then_puts, exchange_of, is_compared, less, row_changes_of}
+use Rattle.vet_tables.specs.Cells.{Row}
 use Rattle.vet_tables.specs.declared.table_name.TableName.{TableName}
 
 -- ---- of one table
 
-module _ (table : TableName) (going coming : RowsValue) (g c : List Row) (goes : g ≡ going table)
-    (comes : c ≡ coming table) where
+module _ (table : TableName) (removed added : List Row) where
   pub as_compared : is_compared table ≡ true
-      → exchange table (less g c) (less c g)
-      ≡ exchange table (differing going coming table) (differing coming going table)
+      → drops_then_puts table (less removed added) (less added removed)
+      ≡ row_changes_of (exchange_of table removed added)
   as_compared is =
-      (λ i. exchange table (less (goes i) (comes i)) (less (comes i) (goes i)))
-      ∙ ap (λ b. exchange table (cond b (less (going table) (coming table)) (going table))
-      (cond b (less (coming table) (going table)) (coming table))) (sym is)
+      ap (λ b. drops_then_puts table (cond b (less removed added) removed) (cond b (less added removed) added)) (sym is)
 
   pub as_whole : is_compared table ≡ false
-      → exchange table g c ≡ exchange table (differing going coming table) (differing coming going table)
+      → drops_then_puts table removed added ≡ row_changes_of (exchange_of table removed added)
   as_whole is =
-      (λ i. exchange table (goes i) (comes i))
-      ∙ ap (λ b. exchange table (cond b (less (going table) (coming table)) (going table))
-      (cond b (less (coming table) (going table)) (coming table))) (sym is)
+      ap (λ b. drops_then_puts table (cond b (less removed added) removed) (cond b (less added removed) added)) (sym is)
 
--- ---- of one table more
+-- ---- of one run more
 
-pub exchanges_more : (names : List TableName) (table : TableName) (going coming : RowsValue)
-    → exchanges names going coming ++ exchange table (going table) (coming table)
-    ≡ exchanges (names ++ table ∷ []) going coming
-exchanges_more [] table going coming = sym (append-nil (exchange table (going table) (coming table)))
-exchanges_more (name ∷ more) table going coming =
-    append_assoc (exchange name (going name) (coming name)) (exchanges more going coming)
-    (exchange table (going table) (coming table))
-    ∙ ap (λ changes. exchange name (going name) (coming name) ++ changes) (exchanges_more more table going coming)
+pub pushed : {X : Type 0} {all before more xs ys : List X} → before ≡ xs → more ≡ ys → all ≡ before ++ more
+    → all ≡ xs ++ ys
+pushed before_is more_is all_is = all_is ∙ (λ i. before_is i ++ more_is i)
 
 -- what follows from what a call ensures where it goes well
 pub where_ok : {T E : Type 0} {P Q : Type 0} (r : Result T E) → (P → Q) → OnOk r P → OnOk r Q

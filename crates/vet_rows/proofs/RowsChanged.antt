@@ -1,5 +1,5 @@
--- The rows that go and that come by a prepared change make the rows of the state after it.
-use Rattle.std.proofs.Common.{◌≡◌, ◌⊎◌, ℕ, ◌+◌, inl, inr, Bool, true, false, cond, List, [], ◌∷◌, ◌++◌}
+-- The rows that a prepared change removes and adds make the rows of the state after it.
+use Rattle.std.proofs.Common.{◌≡◌, ◌⊎◌, ℕ, ◌+◌, ◌<◌, ◌≤◌, inl, inr, Bool, true, false, cond, List, [], ◌∷◌, ◌++◌}
 use Rattle.std.proofs.Common.{map, refl, sym, ap, subst, ◌∙◌, arith, get_or, Option, Some, None}
 use Rattle.std.specs.List.{All, AllPairs}
 use Rattle.std.specs.Ordering.{nat_cmp}
@@ -14,7 +14,7 @@ use Rattle.vet_register.specs.declared.command.Action.TheVariants as action
 use Rattle.vet_rows.specs.AddedNumbers.{AddedNumbersFit, ReviewsFit}
 use Rattle.vet_rows.specs.Numbers.{CountsFit}
 use Rattle.vet_rows.specs.RowChanges.{all_changed}
-use Rattle.vet_rows.specs.RowExchanges.{exchanges}
+use Rattle.vet_rows.specs.RowExchanges.{row_changes_of}
 use Rattle.vet_demand.specs.declared.pair.Pair.{Pair}
 use Rattle.vet_demand.specs.DemandOf.{DemandIsLeast}
 use Rattle.vet_demand.specs.Pair.{pair_cmp}
@@ -43,37 +43,37 @@ use Rattle.vet_register.specs.RegisterView.{HoldsDesk, IsPrepared, RegisterView}
 use Rattle.vet_register.specs.Sound.{IsSound, IsSoundHeld}
 use Rattle.vet_register.specs.State.{State, changes_of, demanded, standing}
 use Rattle.vet_register.proofs.Soundness.{standing_in_order}
-use Rattle.vet_rows.specs.ChangedRows.{members_added, members_removed, reviews_added, reviews_removed, rows_to_add}
-use Rattle.vet_rows.specs.ChangedRows.{rows_to_remove}
+use Rattle.vet_rows.specs.ChangedRows.{change_exchanges}
 use Rattle.vet_rows.specs.Columns.{class_or_none}
 use Rattle.vet_rows.specs.DeskRows.{member_row, review_row}
-use Rattle.vet_rows.specs.FitChanges.{Fits}
+use Rattle.vet_rows.specs.DeskChanges.{desk_exchanges}
+use Rattle.vet_rows.specs.HeldChanges.{held_exchanges}
 use Rattle.vet_rows.specs.KeyTexts.{AreRead, MovesAreRead}
 use Rattle.vet_rows.specs.RowsOf.{meta_row, rows_of}
-use Rattle.vet_rows.specs.StandingChanges.{clear_moves, moves_added, recorded_moves}
+use Rattle.vet_rows.specs.StandingChanges.{clear_moves, move_exchanges, moves_added, recorded_moves}
 use Rattle.vet_rows.specs.StandingRows.{move_row}
 use Rattle.vet_rows.specs.Numbers.{ReviewFits}
 use Rattle.vet_rows.specs.StandingChanges.{IsOfMove, IsOfMoves, leaves, moved_row, stands}
 use Rattle.vet_rows.specs.declared.row_change.RowChange.{RowChange}
+use Rattle.vet_rows.specs.declared.row_changes.exchange.Exchange.{Exchange}
 use Rattle.vet_rows.proofs.AddedNumbers.{held_entries_come, moves_come, reviews_come}
 use Rattle.vet_rows.proofs.NumbersFit.{numbers_fit}
-use Rattle.vet_rows.proofs.OnlyStanding.{only_standing}
-use Rattle.std.specs.List.{filter}
+use Rattle.vet_rows.proofs.OnlyStanding.{others_named}
+use Rattle.std.specs.List.{AllByRecursion, filter, flat_map}
 use Rattle.vet_base.proofs.ItemLemmas.{in_filter}
+use Rattle.vet_rows.proofs.ChangeParts.{all_rise, desk_part, desk_rise, held_part, held_rise, moves_part, of_parts}
 use Rattle.vet_rows.proofs.DeskExchanges.{members_become, reviews_become}
+use Rattle.vet_rows.proofs.ExchangeParts.{Leads, LeadsByDifference, Makes, made_by, of_table}
 use Rattle.vet_rows.proofs.Exchanges.{IsExchange, stays}
-use Rattle.vet_rows.proofs.FitChanges.{all_fit}
-use Rattle.vet_rows.proofs.FitRemoved.{to_remove_fit}
-use Rattle.vet_rows.proofs.FitRows.{rows_fit}
 use Rattle.vet_rows.proofs.HeldExchanges.{HaveTexts, edges_differ, entries_differ, held_criteria, held_peers}
 use Rattle.vet_rows.proofs.HeldExchanges.{held_policies, nodes_differ, publishers_differ}
 use Rattle.vet_rows.proofs.HeldKeys.{have_keys}
 use Rattle.vet_rows.proofs.StandingExchanges.{moves_behind, standing_becomes}
-use Rattle.vet_rows.proofs.TableChanges.{AreExchanges, changed-append, exchanges_lead}
+use Rattle.vet_rows.proofs.TableChanges.{changed-append, exchanges_lead}
 use Rattle.vet_tables.proofs.TablePlaces.{same_or_other}
 use Rattle.vet_tables.proofs.TableRows.{cleared_elsewhere}
 use Rattle.vet_tables.specs.Cells.{Row, RowsValue, SameRows, same_key}
-use Rattle.vet_tables.specs.Forms.{code, form_of, tables}
+use Rattle.vet_tables.specs.Forms.{code, form_of}
 use Rattle.vet_tables.specs.declared.cell.Cell.TheVariants.{Int}
 use Rattle.vet_tables.specs.declared.table_name.TableName.{TableName}
 use Rattle.vet_tables.specs.declared.table_name.TableName.TheVariants as table
@@ -151,15 +151,15 @@ pairs_unmap f R (x ∷ xs) up =
 module _ (s : State) (room : DeskRoom) where
   members_are : (e : Option DeskEdit) → HoldsDesk e (record { content = s.desk; room = room })
       → IsSound s
-      → IsExchange (same_in table.Members) (members_removed e s.desk) (members_added e) (map member_row s.desk.members)
+      → Leads table.Members (desk_exchanges e s.desk) (map member_row s.desk.members)
       (map member_row (desk_edited e s.desk).members)
   members_are None holds sound = stays (same_in table.Members) (map member_row s.desk.members)
   members_are (Some e) holds sound =
       members_become e.change s.desk room e.entry holds.prepared.fits sound.desk.desk.members.by_name
 
   reviews_are : (e : Option DeskEdit) (after : State) → desk_edited e s.desk ≡ after.desk → IsSound s → IsSound after
-      → IsExchange (same_in table.Reviews) (reviews_removed e s.desk) (reviews_added e s.desk)
-      (map review_row s.desk.reviews) (map review_row (desk_edited e s.desk).reviews)
+      → Leads table.Reviews (desk_exchanges e s.desk) (map review_row s.desk.reviews)
+      (map review_row (desk_edited e s.desk).reviews)
   reviews_are None after is sound sound_after = stays (same_in table.Reviews) (map review_row s.desk.reviews)
   reviews_are (Some e) after is sound sound_after =
       reviews_become e.change s.desk e.entry sound.desk.desk.reviews.numbers_rise
@@ -316,51 +316,83 @@ module _ {K U : Type 0} (differences : MovesAreDifferences) (least : DemandIsLea
           (λ k d l. (let early = sound.moves.steps k d l in omega (arith, early))) at apart read_moves
       by (Anew counts) at apart read_moves = stays (same_in table.Moves) []
 
+  abbrev exchanges : List Exchange
+  exchanges = change_exchanges s change
+
+  -- the exchange of a table leads to its rows after the change
   abbrev Becomes : TableName → List Row → Type 0
-  Becomes name old =
-      IsExchange (same_in name) (rows_to_remove s change name) (rows_to_add s change name) old (rows_of after name)
+  Becomes name old = LeadsByDifference name (of_table exchanges name) old (rows_of after name)
+
+  by_held : (name : TableName) → 1 ≤ code name → code name < 8
+      → LeadsByDifference name (of_table (held_exchanges change.edit s.held) name) (rows_of s name) (rows_of after name)
+      → Becomes name (rows_of s name)
+  by_held name low high =
+      subst (λ (e : Exchange). LeadsByDifference name e (rows_of s name) (rows_of after name))
+      (sym (held_part s change name low high))
+
+  by_moves : (name : TableName) (old : List Row) → 8 ≤ code name → code name < 10
+      → LeadsByDifference name (of_table (move_exchanges change.recording) name) old (rows_of after name)
+      → Becomes name old
+  by_moves name old low high =
+      subst (λ (e : Exchange). LeadsByDifference name e old (rows_of after name))
+      (sym (moves_part s change name low high))
+
+  by_desk : (name : TableName) → 10 ≤ code name
+      → LeadsByDifference name (of_table (desk_exchanges change.desk s.desk) name) (rows_of s name) (rows_of after name)
+      → Becomes name (rows_of s name)
+  by_desk name low =
+      subst (λ (e : Exchange). LeadsByDifference name e (rows_of s name) (rows_of after name))
+      (sym (desk_part s change name low))
 
   others_become : (name : TableName) → (code name ≡ code table.Moves → ⊥) → Becomes name (rows_of s name)
   others_become table.Meta apart = meta_becomes s after
-  others_become table.Criteria apart = held_criteria s.held r.room.held texts change.edit is.fits texts_after
-  others_become table.Entries apart = entries_differ s.held r.room.held texts change.edit is.fits texts_after
-  others_become table.Publishers apart = publishers_differ s.held r.room.held texts change.edit is.fits
-  others_become table.Policies apart = held_policies s.held r.room.held texts change.edit is.fits texts_after
-  others_become table.Peers apart = held_peers s.held r.room.held texts change.edit is.fits texts_after
+  others_become table.Criteria apart =
+      by_held table.Criteria (omega arith) (omega arith)
+      (held_criteria s.held r.room.held texts change.edit is.fits texts_after)
+  others_become table.Entries apart =
+      by_held table.Entries (omega arith) (omega arith)
+      (entries_differ s.held r.room.held texts change.edit is.fits texts_after)
+  others_become table.Publishers apart =
+      by_held table.Publishers (omega arith) (omega arith)
+      (publishers_differ s.held r.room.held texts change.edit is.fits)
+  others_become table.Policies apart =
+      by_held table.Policies (omega arith) (omega arith)
+      (held_policies s.held r.room.held texts change.edit is.fits texts_after)
+  others_become table.Peers apart =
+      by_held table.Peers (omega arith) (omega arith)
+      (held_peers s.held r.room.held texts change.edit is.fits texts_after)
   others_become table.Nodes apart =
-      nodes_differ s.held r.room.held texts change.edit is.fits texts_after read.projects read.projects_held
-  others_become table.Edges apart = edges_differ s.held r.room.held texts change.edit is.fits
+      by_held table.Nodes (omega arith) (omega arith)
+      (nodes_differ s.held r.room.held texts change.edit is.fits texts_after read.projects read.projects_held)
+  others_become table.Edges apart =
+      by_held table.Edges (omega arith) (omega arith) (edges_differ s.held r.room.held texts change.edit is.fits)
   others_become table.Standing apart =
-      standing_becomes (standing s) (standing after) more standing_up after_up are_moves read_stands read.moves
+      by_moves table.Standing (rows_of s table.Standing) (omega arith) (omega arith)
+      (standing_becomes (standing s) (standing after) more standing_up after_up are_moves read_stands read.moves)
   others_become table.Moves apart = absurd (apart refl)
-  others_become table.Members apart = members_are s r.room.desk change.desk is.desk sound
-  others_become table.Reviews apart = reviews_are s r.room.desk change.desk after refl sound sound_after
+  others_become table.Members apart =
+      by_desk table.Members (omega arith) (members_are s r.room.desk change.desk is.desk sound)
+  others_become table.Reviews apart =
+      by_desk table.Reviews (omega arith) (reviews_are s r.room.desk change.desk after refl sound sound_after)
 
-  rows_become : AreExchanges (rows_to_remove s change) (rows_to_add s change) cleared_rows (rows_of after)
+  rows_become : (name : TableName) → Becomes name (cleared_rows name)
   rows_become name = elim (same_or_other name table.Moves) [
-    | inl same ↦ subst (λ n. Becomes n (cleared_rows n)) (sym same) moves_become
+    | inl same ↦ subst (λ n. Becomes n (cleared_rows n)) (sym same)
+        (by_moves table.Moves (cleared_rows table.Moves) (omega arith) (omega arith) moves_become)
     | inr apart ↦ subst (Becomes name) (sym (others_stay name apart)) (others_become name apart)
   ]
 
   abbrev the_changes : List RowChange
-  the_changes = clear_moves change.recording ++ exchanges tables (rows_to_remove s change) (rows_to_add s change)
-
-  -- what is added is of the state after, so that it has the columns of its table
-  pub changes_fit : (x : RowChange) → IsIn x the_changes → Fits x
-  changes_fit =
-      all_fit (rows_to_remove s change) (rows_to_add s change) (to_remove_fit s change)
-      (λ name row i. rows_fit after name row ((rows_become name).come_in row i)) change.recording
+  the_changes = clear_moves change.recording ++ flat_map row_changes_of exchanges
 
   -- made in order, they lead to the rows of the next state
   pub changes_lead : SameRows (all_changed the_changes (rows_of s)) (rows_of (next s c))
   changes_lead =
-      let made = changed-append (clear_moves change.recording)
-      (exchanges tables (rows_to_remove s change) (rows_to_add s change)) (rows_of s) in
+      let made = changed-append (clear_moves change.recording) (flat_map row_changes_of exchanges) (rows_of s) in
       subst (λ rows. SameRows rows (rows_of (next s c))) (sym made)
-      (subst (λ t. SameRows
-      (all_changed (exchanges tables (rows_to_remove s change) (rows_to_add s change)) cleared_rows) (rows_of t))
+      (subst (λ t. SameRows (all_changed (flat_map row_changes_of exchanges) cleared_rows) (rows_of t))
       is.step.becomes
-      (exchanges_lead (rows_to_remove s change) (rows_to_add s change) cleared_rows (rows_of after) rows_become))
+      (exchanges_lead exchanges 0 12 (all_rise s change) cleared_rows (rows_of after) rows_become))
 
   -- ---- numbers of rows that come
 
@@ -397,20 +429,34 @@ module _ {K U : Type 0} (differences : MovesAreDifferences) (least : DemandIsLea
   clears_no_standing (Anew counts) x (inl is) = subst (IsOfMoves (moves_of s c.day c.action)) (sym is) tt
   clears_no_standing (Anew counts) x (inr none) = absurd none
 
-  exchanges_no_other : (x : RowChange) → IsIn x (exchanges tables (rows_to_remove s change) (rows_to_add s change))
-      → IsOfMoves (moves_of s c.day c.action) x
-  exchanges_no_other =
-      only_standing (moves_of s c.day c.action) (rows_to_remove s change) (rows_to_add s change)
-      (λ x i. (let m = in_map moved_row (filter leaves more) x i in
-      of_moves x m.0 (in_filter leaves more m.0 m.1.0).0 m.1.1))
-      (λ x i. (let m = in_map moved_row (filter stands more) x i in
-      of_moves x m.0 (in_filter stands more m.0 m.1.0).0 m.1.1))
-      tables
+  -- so are those of the exchange of the standing, and the others are of other tables
+  abbrev NamesMoves : Exchange → Type 0
+  NamesMoves = Makes (IsOfMoves (moves_of s c.day c.action))
+
+  moves_named : AllByRecursion NamesMoves (move_exchanges change.recording)
+  moves_named = (
+    (
+      λ x i.
+          (let m = in_map moved_row (filter leaves more) x i in
+          of_moves x m.0 (in_filter leaves more m.0 m.1.0).0 m.1.1),
+      λ x i.
+          (let m = in_map moved_row (filter stands more) x i in
+          of_moves x m.0 (in_filter stands more m.0 m.1.0).0 m.1.1),
+    ),
+    ((λ x i. tt, λ x i. tt), tt),
+  )
+
+  all_named : AllByRecursion NamesMoves exchanges
+  all_named =
+      of_parts s change NamesMoves (λ x i. tt, λ x i. tt)
+      (others_named (moves_of s c.day c.action) (held_exchanges change.edit s.held) 1 8
+      (held_rise change.edit s.held) (inl (omega arith)))
+      moves_named
+      (others_named (moves_of s c.day c.action) (desk_exchanges change.desk s.desk) 10 12
+      (desk_rise change.desk s.desk) (inr (omega arith)))
 
   pub standing_named : (x : RowChange) → IsIn x the_changes → IsOfMoves (moves_of s c.day c.action) x
-  standing_named x i =
-      elim (in_append (clear_moves change.recording)
-      (exchanges tables (rows_to_remove s change) (rows_to_add s change)) x i) [
-        | inl clears ↦ clears_no_standing change.recording x clears
-        | inr exchanged ↦ exchanges_no_other x exchanged
-      ]
+  standing_named x i = elim (in_append (clear_moves change.recording) (flat_map row_changes_of exchanges) x i) [
+    | inl clears ↦ clears_no_standing change.recording x clears
+    | inr made ↦ made_by (IsOfMoves (moves_of s c.day c.action)) exchanges all_named x made
+  ]

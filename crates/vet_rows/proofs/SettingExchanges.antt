@@ -23,10 +23,10 @@ use Rattle.vet_entries.specs.HeldPeer.{holding_or_none, peer_name, peer_of, with
 use Rattle.vet_entries.specs.PublisherRecords.{package_of}
 use Rattle.vet_rows.specs.Columns.{own_peer}
 use Rattle.vet_rows.specs.EntryRows.{package_rows, publisher_row}
-use Rattle.vet_rows.specs.FactsRows.{criteria_added, criteria_removed, peers_added, peers_removed, publishers_added}
-use Rattle.vet_rows.specs.FactsRows.{publishers_removed, the_peer}
+use Rattle.vet_rows.specs.FactsRows.{fact_exchanges, the_peer}
 use Rattle.vet_rows.specs.KeyedItems.{added_item, removed_item, rows_if}
 use Rattle.vet_rows.specs.SettingRows.{all_criteria, criteria_rows, criterion_row, peer_criteria, peer_row}
+use Rattle.vet_rows.proofs.ExchangeParts.{Leads, removed_by}
 use Rattle.vet_rows.proofs.Exchanges.{AreRowsOf, IsExchange, alike, gone_of, of_items, stays}
 use Rattle.vet_rows.proofs.FactsExchanges.{HaveKeys, name_of, peer_edit, put_for}
 use Rattle.vet_rows.proofs.KeyedExchanges.{IsOneForOne, edit_is}
@@ -233,8 +233,7 @@ publishers_keyed packages r s i j =
 
 module _ (old : Facts) (room : Room) (k : HaveKeys old) where
   pub criteria_become : (e : Edit) → Fits e (record { content = old; room = room }) → HaveKeys (edited e old)
-      → IsExchange same_criterion (criteria_removed e old) (criteria_added e) (all_criteria old)
-      (all_criteria (edited e old))
+      → Leads table.Criteria (fact_exchanges e old) (all_criteria old) (all_criteria (edited e old))
   criteria_become (edit.Criteria table) fits l = table_exchange old (edited (edit.Criteria table) old) k l refl
   criteria_become (edit.Insert place held) fits l = same_tables old (edited (edit.Insert place held) old) refl refl
   criteria_become (edit.Remove place) fits l = same_tables old (edited (edit.Remove place) old) refl refl
@@ -277,8 +276,7 @@ module _ (old : Facts) (room : Room) (k : HaveKeys old) where
   criteria_become (edit.Publishers change) fits l = same_tables old (edited (edit.Publishers change) old) refl refl
 
   pub peers_become : (e : Edit) → Fits e (record { content = old; room = room }) → HaveKeys (edited e old)
-      → IsExchange same_peer (peers_removed e old) (peers_added e) (peer_rows old.peers)
-      (peer_rows (edited e old).peers)
+      → Leads table.Peers (fact_exchanges e old) (peer_rows old.peers) (peer_rows (edited e old).peers)
   peers_become (edit.Criteria table) fits l = stays same_peer (peer_rows old.peers)
   peers_become (edit.Insert place held) fits l = stays same_peer (peer_rows old.peers)
   peers_become (edit.Remove place) fits l = stays same_peer (peer_rows old.peers)
@@ -318,7 +316,7 @@ module _ (old : Facts) (room : Room) (k : HaveKeys old) where
   peers_become (edit.Publishers change) fits l = stays same_peer (peer_rows old.peers)
 
   pub publishers_become : (e : Edit) → Fits e (record { content = old; room = room })
-      → IsExchange same_publisher (publishers_removed e old) (publishers_added e) (flat_map package_rows old.publishers)
+      → Leads table.Publishers (fact_exchanges e old) (flat_map package_rows old.publishers)
       (flat_map package_rows (edited e old).publishers)
   publishers_become (edit.Criteria table) fits = stays same_publisher (flat_map package_rows old.publishers)
   publishers_become (edit.Insert place held) fits = stays same_publisher (flat_map package_rows old.publishers)
@@ -341,7 +339,7 @@ module _ (old : Facts) (room : Room) (k : HaveKeys old) where
 
   -- the rows that go are there
   pub publishers_there : (e : Edit) → Fits e (record { content = old; room = room }) → (r : Row)
-      → IsIn r (publishers_removed e old) → IsIn r (flat_map package_rows old.publishers)
+      → IsIn r (removed_by (fact_exchanges e old) table.Publishers) → IsIn r (flat_map package_rows old.publishers)
   publishers_there (edit.Criteria table) fits r i = absurd i
   publishers_there (edit.Insert place held) fits r i = absurd i
   publishers_there (edit.Remove place) fits r i = absurd i

@@ -1,17 +1,20 @@
--- What the exchange of the rows of each table makes of all tables.
-use Rattle.std.proofs.Common.{◌≡◌, inl, inr, Bool, ℕ, List, [], ◌∷◌, ◌++◌, map, refl, sym, ap}
-use Rattle.std.proofs.Common.{◌+◌, ◌≤◌, arith, drop, get_or, length, subst, ◌∙◌}
-use Rattle.std.specs.List.{range_with_len}
-use Rattle.vet_base.specs.Items.{IsIn, SameItems}
+-- What exchanges, no two of which are of one table, make of all tables.
+use Rattle.std.proofs.Common.{◌≡◌, inl, inr, Bool, true, false, cond, ℕ, List, [], ◌∷◌, ◌++◌, map, refl, sym, ap}
+use Rattle.std.proofs.Common.{◌+◌, ◌<◌, arith, subst, ◌∙◌}
+use Rattle.std.specs.List.{flat_map}
+use Rattle.vet_base.specs.Items.{SameItems}
 use Rattle.vet_rows.specs.RowChanges.{all_changed, changed}
-use Rattle.vet_rows.specs.RowExchanges.{exchange, exchanges}
+use Rattle.vet_rows.specs.RowExchanges.{differing, drops_then_puts, exchange_of, is_compared, less, row_changes_of}
 use Rattle.vet_rows.specs.declared.row_change.RowChange.{RowChange}
 use Rattle.vet_rows.specs.declared.row_change.RowChange.TheVariants.{Put, Drop}
-use Rattle.vet_rows.proofs.Exchanges.{IsExchange, all_without, exchanged, with_all}
-use Rattle.vet_tables.proofs.TablePlaces.{among_tables}
+use Rattle.vet_rows.specs.declared.row_changes.exchange.Exchange.{Exchange}
+use Rattle.vet_rows.proofs.ExchangeParts.{LeadsByDifference, Rise, of_table}
+use Rattle.vet_rows.proofs.Exchanges.{all_without, exchanged, with_all}
+use Rattle.vet_tables.proofs.Effects.{apart_is, here_is}
+use Rattle.vet_tables.proofs.TablePlaces.{same_or_other}
 use Rattle.vet_tables.proofs.TableRows.{dropped_elsewhere, dropped_here, put_elsewhere, put_here}
 use Rattle.vet_tables.specs.Cells.{Row, RowsValue, SameRows, dropped, put, same_key}
-use Rattle.vet_tables.specs.Forms.{code, form_of, tables}
+use Rattle.vet_tables.specs.Forms.{code, form_of}
 use Rattle.vet_tables.specs.declared.table_name.TableName.{TableName}
 
 -- rows of a table of the same key
@@ -54,14 +57,14 @@ module _ (table : TableName) where
         puts_elsewhere more (put table r rows) ∙ put_elsewhere other table r rows apart
 
     exchanged_elsewhere : (going coming : List Row) (rows : RowsValue)
-        → all_changed (exchange table going coming) rows other ≡ rows other
+        → all_changed (drops_then_puts table going coming) rows other ≡ rows other
     exchanged_elsewhere going coming rows =
         ap (λ (t : RowsValue). t other)
         (changed-append (map (λ r. Drop table r) going) (map (λ r. Put table r) coming) rows)
         ∙ puts_elsewhere coming (all_changed (map (λ r. Drop table r) going) rows) ∙ drops_elsewhere going rows
 
   exchanged_here : (going coming : List Row) (rows : RowsValue)
-      → all_changed (exchange table going coming) rows table
+      → all_changed (drops_then_puts table going coming) rows table
       ≡ with_all (same_in table) coming (all_without (same_in table) going (rows table))
   exchanged_here going coming rows =
       ap (λ (t : RowsValue). t table)
@@ -71,75 +74,93 @@ module _ (table : TableName) where
 
 -- ---- of all tables
 
--- the rows of a table after some went and others came
-abbrev after : TableName → RowsValue → RowsValue → RowsValue → List Row
-after table going coming rows =
-    with_all (same_in table) (coming table) (all_without (same_in table) (going table) (rows table))
+-- the rows of a table after some are dropped and others put, those of an exchange that differ
+abbrev after : TableName → Exchange → List Row → List Row
+after table e rows =
+    with_all (same_in table) (differing table e.added e.removed)
+    (all_without (same_in table) (differing table e.removed e.added) rows)
 
--- each table's old rows become its new rows
-abbrev pub AreExchanges : RowsValue → RowsValue → RowsValue → RowsValue → Type 0
-AreExchanges going coming old new =
-    (table : TableName) → IsExchange (same_in table) (going table) (coming table) (old table) (new table)
-
--- these tables are each another one
-abbrev AreApart : List TableName → Type 0
-AreApart [] = Unit {0}
-AreApart (name ∷ more) = ((other : TableName) → IsIn other more → code other ≡ code name → ⊥) × AreApart more
-
--- so they are where their codes are numbers one after the other
-codes_rise : (names : List TableName) (at : ℕ) → map code names ≡ range_with_len at (length names)
-    → (other : TableName) → IsIn other names → at ≤ code other
-codes_rise [] at is other none = absurd none
-codes_rise (name ∷ more) at is other (inl here) =
-    let first : code name ≡ at = ap (λ ns. get_or ns 0 0) is in
-    let same = ap code here in
-    omega (arith, first, same)
-codes_rise (name ∷ more) at is other (inr later) =
-    let rest = codes_rise more (at + 1) (ap (drop 1) is) other later in omega (arith, rest)
-
-all_apart : (names : List TableName) (at : ℕ) → map code names ≡ range_with_len at (length names) → AreApart names
-all_apart [] at is = tt
-all_apart (name ∷ more) at is = (
-  λ other i e.
-      (let first : code name ≡ at = ap (λ ns. get_or ns 0 0) is in
-      let rest = codes_rise more (at + 1) (ap (drop 1) is) other i in
-      omega (arith, first, rest, e)),
-  all_apart more (at + 1) (ap (drop 1) is),
-)
-
-module _ (g c : RowsValue) where
-  -- a table that is none of these stays
-  others_stay : (names : List TableName) (table : TableName)
-      → ((other : TableName) → IsIn other names → code table ≡ code other → ⊥) → (rows : RowsValue)
-      → all_changed (exchanges names g c) rows table ≡ rows table
-  others_stay [] table apart rows = refl
-  others_stay (name ∷ more) table apart rows =
-      ap (λ (t : RowsValue). t table) (changed-append (exchange name (g name) (c name)) (exchanges more g c) rows)
-      ∙ others_stay more table (λ other i. apart other (inr i)) (all_changed (exchange name (g name) (c name)) rows)
-      ∙ exchanged_elsewhere name table (apart name (inl refl)) (g name) (c name) rows
-
-  -- each of these is exchanged
-  each_exchanged : (names : List TableName) → AreApart names → (table : TableName) → IsIn table names
-      → (rows : RowsValue) → all_changed (exchanges names g c) rows table ≡ after table g c rows
-  each_exchanged [] apart table none rows = absurd none
-  each_exchanged (name ∷ more) apart table (inl here) rows =
-      subst (λ n. all_changed (exchanges (name ∷ more) g c) rows n ≡ after n g c rows) (sym here)
-      (ap (λ (t : RowsValue). t name) (changed-append (exchange name (g name) (c name)) (exchanges more g c) rows)
-      ∙ others_stay more name (λ other i e. apart.0 other i (sym e))
-      (all_changed (exchange name (g name) (c name)) rows)
-      ∙ exchanged_here name (g name) (c name) rows)
-  each_exchanged (name ∷ more) apart table (inr later) rows =
-      ap (λ (t : RowsValue). t table) (changed-append (exchange name (g name) (c name)) (exchanges more g c) rows)
-      ∙ each_exchanged more apart.1 table later (all_changed (exchange name (g name) (c name)) rows)
-      ∙ ap (λ xs. with_all (same_in table) (c table) (all_without (same_in table) (g table) xs))
-      (exchanged_elsewhere name table (apart.0 table later) (g name) (c name) rows)
-
--- so the exchanges of all tables lead to the same rows
-pub exchanges_lead : (going coming old new : RowsValue) → AreExchanges going coming old new
-    → SameRows (all_changed (exchanges tables going coming) old) new
-exchanges_lead g c old new h table =
-    subst (λ rows. SameItems rows (new table)) (sym (each_exchanged g c tables apart table (among_tables table) old))
-    (exchanged (same_in table) (g table) (c table) (old table) (new table) (h table))
+-- an exchange of no rows changes none
+no_rows : (table : TableName) (rows : List Row) → after table (exchange_of table [] []) rows ≡ rows
+no_rows table rows = by (is_compared table)
   where
-    apart : AreApart tables
-    apart = all_apart tables 0 refl
+    by : (b : Bool) → with_all (same_in table) (cond b (less [] []) [])
+        (all_without (same_in table) (cond b (less [] []) []) rows) ≡ rows
+    by true = refl
+    by false = refl
+
+-- the changes of one exchange and of more
+one_then_more : (e : Exchange) (more : List Exchange) (table : TableName) (rows : RowsValue)
+    → all_changed (flat_map row_changes_of (e ∷ more)) rows table
+    ≡ all_changed (flat_map row_changes_of more) (all_changed (row_changes_of e) rows) table
+one_then_more e more table rows =
+    ap (λ (t : RowsValue). t table) (changed-append (row_changes_of e) (flat_map row_changes_of more) rows)
+
+-- what one exchange makes of its table, and of another
+here_one : (e : Exchange) (rows : RowsValue)
+    → all_changed (row_changes_of e) rows e.table ≡ after e.table e (rows e.table)
+here_one e rows =
+    exchanged_here e.table (differing e.table e.removed e.added) (differing e.table e.added e.removed) rows
+
+elsewhere_one : (e : Exchange) (table : TableName) → (code table ≡ code e.table → ⊥) → (rows : RowsValue)
+    → all_changed (row_changes_of e) rows table ≡ rows table
+elsewhere_one e table apart rows =
+    exchanged_elsewhere e.table table apart (differing e.table e.removed e.added)
+    (differing e.table e.added e.removed) rows
+
+-- a table before those of the exchanges stays
+others_stay : (exchanges : List Exchange) (low high : ℕ) → Rise low high exchanges → (table : TableName)
+    → code table < low → (rows : RowsValue) → all_changed (flat_map row_changes_of exchanges) rows table ≡ rows table
+others_stay [] low high up table below rows = refl
+others_stay (e ∷ more) low high up table below rows =
+    let first = up.0 in
+    one_then_more e more table rows
+    ∙ others_stay more (code e.table + 1) high up.1 table (omega (arith, first, below))
+    (all_changed (row_changes_of e) rows)
+    ∙ elsewhere_one e table (λ same. omega (arith, first, below, same)) rows
+
+-- the table of the first exchange
+here : (e : Exchange) (more : List Exchange) (high : ℕ) → Rise (code e.table + 1) high more → (rows : RowsValue)
+    → all_changed (flat_map row_changes_of (e ∷ more)) rows e.table
+    ≡ after e.table (of_table (e ∷ more) e.table) (rows e.table)
+here e more high up rows =
+    one_then_more e more e.table rows
+    ∙ others_stay more (code e.table + 1) high up e.table (omega arith) (all_changed (row_changes_of e) rows)
+    ∙ here_one e rows
+    ∙ ap (λ b. after e.table (cond b e (of_table more e.table)) (rows e.table)) (sym (here_is e.table))
+
+-- a table that is another
+elsewhere : (e : Exchange) (more : List Exchange) (table : TableName) → (code table ≡ code e.table → ⊥)
+    → (rows : RowsValue)
+    → all_changed (flat_map row_changes_of more) (all_changed (row_changes_of e) rows) table
+    ≡ after table (of_table more table) (all_changed (row_changes_of e) rows table)
+    → all_changed (flat_map row_changes_of (e ∷ more)) rows table
+    ≡ after table (of_table (e ∷ more) table) (rows table)
+elsewhere e more table apart rows rest =
+    one_then_more e more table rows ∙ rest
+    ∙ ap (after table (of_table more table)) (elsewhere_one e table apart rows)
+    ∙ ap (λ b. after table (cond b e (of_table more table)) (rows table))
+    (sym (apart_is e.table table (λ same. apart (sym same))))
+
+-- so each table is changed by its own exchange alone
+each_of : (exchanges : List Exchange) (low high : ℕ) → Rise low high exchanges → (table : TableName)
+    → (rows : RowsValue)
+    → all_changed (flat_map row_changes_of exchanges) rows table ≡ after table (of_table exchanges table) (rows table)
+each_of [] low high up table rows = sym (no_rows table (rows table))
+each_of (e ∷ more) low high up table rows = elim (same_or_other table e.table) [
+  | inl same ↦ subst
+      (λ n. all_changed (flat_map row_changes_of (e ∷ more)) rows n ≡ after n (of_table (e ∷ more) n) (rows n))
+      (sym same) (here e more high up.1 rows)
+  | inr apart ↦ elsewhere e more table apart rows
+      (each_of more (code e.table + 1) high up.1 table (all_changed (row_changes_of e) rows))
+]
+
+-- and they lead to the rows to which each exchange leads in its table
+pub exchanges_lead : (exchanges : List Exchange) (low high : ℕ) → Rise low high exchanges → (old new : RowsValue)
+    → ((table : TableName) → LeadsByDifference table (of_table exchanges table) (old table) (new table))
+    → SameRows (all_changed (flat_map row_changes_of exchanges) old) new
+exchanges_lead exchanges low high up old new h table =
+    let e = of_table exchanges table in
+    subst (λ rows. SameItems rows (new table)) (sym (each_of exchanges low high up table old))
+    (exchanged (same_in table) (differing table e.removed e.added) (differing table e.added e.removed) (old table)
+    (new table) (h table))

@@ -1,4 +1,4 @@
--- The rows of what is held beside facts, and those that go and that come by an edit of all that is held (ours).
+-- The rows of policies (ours).
 use Rattle.std.specs.Prelude.{List}
 use Rattle.vet_demand.specs.declared.policies.KeyedPolicy.{KeyedPolicy}
 use Rattle.vet_rows.specs.KeyedItems.{one_row}

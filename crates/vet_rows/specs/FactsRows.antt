@@ -9,9 +9,12 @@ use Rattle.vet_entries.specs.Facts.{Facts}
 use Rattle.vet_entries.specs.HeldPeer.{peer_of}
 use Rattle.vet_rows.specs.Columns.{own_peer}
 use Rattle.vet_rows.specs.EntryRows.{entry_row, package_rows, peer_entries}
-use Rattle.vet_rows.specs.KeyedItems.{added_item, one_row, removed_item, rows_if}
+use Rattle.vet_rows.specs.KeyedItems.{one_row, rows_if}
+use Rattle.vet_rows.specs.RowExchanges.{exchange_of, item_exchange}
 use Rattle.vet_rows.specs.SettingRows.{criteria_rows, peer_criteria, peer_row}
+use Rattle.vet_rows.specs.declared.row_changes.exchange.Exchange.{Exchange}
 use Rattle.vet_tables.specs.Cells.{Row}
+use Rattle.vet_tables.specs.declared.table_name.TableName.TheVariants as table
 
 -- ---- the rows of facts
 
@@ -24,44 +27,21 @@ the_peer = one_row (λ (peer : HeldPeer). peer_row peer.settings)
 
 -- ---- what an edit changes
 
-abbrev pub criteria_removed : Edit → Facts → List Row
-criteria_removed (edit.Criteria table) facts = criteria_rows own_peer facts.criteria
-criteria_removed (edit.Peer change) facts = rows_if peer_criteria (removed_item change facts.peers)
-criteria_removed (edit.Content name content) facts = rows_if peer_criteria (peer_of facts.peers name)
-criteria_removed _ facts = []
-
-abbrev pub criteria_added : Edit → List Row
-criteria_added (edit.Criteria table) = criteria_rows own_peer table
-criteria_added (edit.Peer change) = rows_if peer_criteria (added_item change)
-criteria_added (edit.Content name content) = criteria_rows name content.table
-criteria_added _ = []
-
-abbrev pub entries_removed : Edit → Facts → List Row
-entries_removed (edit.Remove place) facts = rows_if own_entry (slice_get facts.entries place)
-entries_removed (edit.Peer change) facts = rows_if peer_entries (removed_item change facts.peers)
-entries_removed (edit.Content name content) facts = rows_if peer_entries (peer_of facts.peers name)
-entries_removed _ facts = []
-
-abbrev pub entries_added : Edit → List Row
-entries_added (edit.Insert place held) = own_entry held
-entries_added (edit.Peer change) = rows_if peer_entries (added_item change)
-entries_added (edit.Content name content) = map entry_row content.entries
-entries_added _ = []
-
-abbrev pub peers_removed : Edit → Facts → List Row
-peers_removed (edit.Peer change) facts = rows_if the_peer (removed_item change facts.peers)
-peers_removed (edit.Settings settings) facts = rows_if the_peer (peer_of facts.peers settings.name)
-peers_removed _ facts = []
-
-abbrev pub peers_added : Edit → List Row
-peers_added (edit.Peer change) = rows_if the_peer (added_item change)
-peers_added (edit.Settings settings) = peer_row settings ∷ []
-peers_added _ = []
-
-abbrev pub publishers_removed : Edit → Facts → List Row
-publishers_removed (edit.Publishers change) facts = rows_if package_rows (removed_item change facts.publishers)
-publishers_removed _ facts = []
-
-abbrev pub publishers_added : Edit → List Row
-publishers_added (edit.Publishers change) = rows_if package_rows (added_item change)
-publishers_added _ = []
+-- Where a peer is removed or added, so is all that it has. Where its content is exchanged, all of it is removed.
+abbrev pub fact_exchanges : Edit → Facts → List Exchange
+fact_exchanges (edit.Criteria criteria) facts =
+    exchange_of table.Criteria (criteria_rows own_peer facts.criteria) (criteria_rows own_peer criteria) ∷ []
+fact_exchanges (edit.Insert place held) facts = exchange_of table.Entries [] (own_entry held) ∷ []
+fact_exchanges (edit.Remove place) facts =
+    exchange_of table.Entries (rows_if own_entry (slice_get facts.entries place)) [] ∷ []
+fact_exchanges (edit.Peer change) facts =
+    item_exchange table.Criteria peer_criteria change facts.peers
+    ∷ item_exchange table.Entries peer_entries change facts.peers
+    ∷ item_exchange table.Peers the_peer change facts.peers ∷ []
+fact_exchanges (edit.Settings settings) facts =
+    exchange_of table.Peers (rows_if the_peer (peer_of facts.peers settings.name)) (peer_row settings ∷ []) ∷ []
+fact_exchanges (edit.Content name content) facts =
+    exchange_of table.Criteria (rows_if peer_criteria (peer_of facts.peers name)) (criteria_rows name content.table)
+    ∷ exchange_of table.Entries (rows_if peer_entries (peer_of facts.peers name)) (map entry_row content.entries) ∷ []
+fact_exchanges (edit.Publishers change) facts =
+    item_exchange table.Publishers package_rows change facts.publishers ∷ []

@@ -1,12 +1,28 @@
--- The changes by which some rows are removed and others added (ours).
+-- Rows of a table that are removed and others that are added, and the changes that do so (ours).
 use Rattle.std.specs.Cmp.Lexicographic.{pointwise}
 use Rattle.std.specs.Prelude.{◌++◌, Bool, List, [], ◌∷◌, cond, filter, map, not, true, false}
 use Rattle.std.specs.List.{list_any}
+use Rattle.vet_base.specs.declared.keyed.KeyedEdit.{KeyedEdit}
+use Rattle.vet_rows.specs.KeyedItems.{added_item, removed_item, rows_if}
 use Rattle.vet_rows.specs.declared.row_change.RowChange.{RowChange}
 use Rattle.vet_rows.specs.declared.row_change.RowChange.TheVariants.{Put, Drop}
-use Rattle.vet_tables.specs.Cells.{Row, RowsValue, cell_eq}
+use Rattle.vet_rows.specs.declared.row_changes.exchange.Exchange.{Exchange}
+use Rattle.vet_tables.specs.Cells.{Row, cell_eq}
 use Rattle.vet_tables.specs.declared.table_name.TableName.{TableName}
-use Rattle.vet_tables.specs.declared.table_name.TableName.TheVariants as table
+use Rattle.vet_tables.specs.declared.table_name.TableName.TheVariants.{Edges, Entries, Nodes, Publishers}
+
+-- ---- exchanges
+
+-- some rows of a table for others
+abbrev pub exchange_of : TableName → List Row → List Row → Exchange
+exchange_of name removed added = record { table = name; removed = removed; added = added }
+
+-- the rows of the item that an edit of a list by key removes, for those of the item that it adds
+abbrev pub item_exchange : {E : Type 0} → TableName → (E → List Row) → KeyedEdit E → List E → Exchange
+item_exchange name rows_of edit items =
+    exchange_of name (rows_if rows_of (removed_item edit items)) (rows_if rows_of (added_item edit))
+
+-- ---- the rows that differ
 
 -- two rows are the same
 abbrev pub same_row : Row → Row → Bool
@@ -25,21 +41,23 @@ unmarked (r ∷ rows) (mark ∷ marks) = cond mark (unmarked rows marks) (r ∷ 
 -- There may be thousands of entries, publishers, nodes and edges. One of their rows that would be removed and added
 -- again stays.
 abbrev pub is_compared : TableName → Bool
-is_compared table.Entries = true
-is_compared table.Publishers = true
-is_compared table.Nodes = true
-is_compared table.Edges = true
+is_compared Entries = true
+is_compared Publishers = true
+is_compared Nodes = true
+is_compared Edges = true
 is_compared _ = false
 
 -- So of what is removed for others, or added for them, these are the rows that differ.
-abbrev pub differing : RowsValue → RowsValue → RowsValue
-differing rows others table = cond (is_compared table) (less (rows table) (others table)) (rows table)
+abbrev pub differing : TableName → List Row → List Row → List Row
+differing name rows others = cond (is_compared name) (less rows others) rows
 
--- of one table: each row that is removed is dropped, and then each that is added is put
-abbrev pub exchange : TableName → List Row → List Row → List RowChange
-exchange table removed added = map (λ r. Drop table r) removed ++ map (λ r. Put table r) added
+-- ---- changes
 
--- of some tables, one after the other
-abbrev pub exchanges : List TableName → RowsValue → RowsValue → List RowChange
-exchanges [] removed added = []
-exchanges (table ∷ more) removed added = exchange table (removed table) (added table) ++ exchanges more removed added
+-- each row that is removed is dropped, and then each that is added is put
+abbrev pub drops_then_puts : TableName → List Row → List Row → List RowChange
+drops_then_puts name removed added = map (λ r. Drop name r) removed ++ map (λ r. Put name r) added
+
+-- so are those of an exchange that differ
+abbrev pub row_changes_of : Exchange → List RowChange
+row_changes_of e =
+    drops_then_puts e.table (differing e.table e.removed e.added) (differing e.table e.added e.removed)

@@ -7,9 +7,11 @@ use Rattle.vet_register.specs.declared.moves.RecordedMove.{RecordedMove}
 use Rattle.vet_register.specs.declared.moves.Recording.{Recording}
 use Rattle.vet_register.specs.declared.moves.Recording.TheVariants.{Behind, Anew}
 use Rattle.vet_rows.specs.Columns.{class_or_none}
+use Rattle.vet_rows.specs.RowExchanges.{exchange_of}
 use Rattle.vet_rows.specs.StandingRows.{move_row}
 use Rattle.vet_rows.specs.declared.row_change.RowChange.{RowChange}
 use Rattle.vet_rows.specs.declared.row_change.RowChange.TheVariants.{Put, Drop, Clear}
+use Rattle.vet_rows.specs.declared.row_changes.exchange.Exchange.{Exchange}
 use Rattle.vet_tables.specs.Cells.{Row}
 use Rattle.vet_tables.specs.declared.cell.Cell.{Cell}
 use Rattle.vet_tables.specs.declared.cell.Cell.TheVariants.{Int, Text}
@@ -40,13 +42,18 @@ standing_removed recording = map moved_row (filter leaves (recorded_moves record
 abbrev pub standing_added : Recording → List Row
 standing_added recording = map moved_row (filter stands (recorded_moves recording))
 
--- where a period begins, no move stays
+abbrev pub moves_added : Recording → List Row
+moves_added recording = map move_row (recorded_moves recording)
+
+-- a move is removed only with all others: where a period begins, none stays
+abbrev pub move_exchanges : Recording → List Exchange
+move_exchanges recording =
+    exchange_of table.Standing (standing_removed recording) (standing_added recording)
+    ∷ exchange_of table.Moves [] (moves_added recording) ∷ []
+
 abbrev pub clear_moves : Recording → List RowChange
 clear_moves (Behind more) = []
 clear_moves (Anew counts) = Clear table.Moves ∷ []
-
-abbrev pub moves_added : Recording → List Row
-moves_added recording = map move_row (recorded_moves recording)
 
 -- ---- whose rows these are
 

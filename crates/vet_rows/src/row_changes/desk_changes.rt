@@ -1,20 +1,15 @@
-//! The rows of the review desk that are removed and added by a change of the desk.
-ghost use Rattle.std.specs.Option.{option_copied};
-ghost use Rattle.std.specs.Prelude.{◌≡◌, IfOk, Some, option_map};
+//! The rows of the review desk that an edit of it removes and adds.
 ghost use Rattle.std.specs.List.{All};
+ghost use Rattle.std.specs.Option.{option_copied};
+ghost use Rattle.std.specs.Prelude.{◌≡◌, ◌∷◌, [], IfOk, Some, option_map};
 ghost use Rattle.vet_desk.specs.Review.{in_state};
-ghost use Rattle.vet_rows.specs.AddedNumbers.{AddedReviewsFit};
-ghost use Rattle.vet_rows.specs.DeskChanges.{
-  members_added,
-  members_removed,
-  reviews_added,
-  reviews_removed,
-  the_review,
-};
+ghost use Rattle.vet_desk.specs.declared.review.Review.{Review};
+ghost use Rattle.vet_rows.specs.AddedNumbers.{AddedReviewsFit, ReviewsFit};
+ghost use Rattle.vet_rows.specs.DeskChanges.{desk_change_exchanges, desk_exchanges, the_review, turned_exchange};
 ghost use Rattle.vet_rows.specs.KeyedItems.{rows_if};
 ghost use Rattle.vet_rows.specs.Numbers.{ReviewFits};
-ghost use Rattle.vet_desk.specs.declared.review.Review.{Review};
 
+use crate::row_changes::exchange::{Exchange, only_row_exchange};
 use crate::row_changes::keyed_items::{added_item, removed_item};
 use crate::rows_of::desk_rows::turned_row;
 use crate::rows_of::to_row::row_if;
@@ -22,77 +17,74 @@ use std::alloc::{AllocError, Global};
 use vet_desk::change::DeskChange;
 use vet_desk::desk::Desk;
 use vet_desk::review::{Review, ReviewState};
+use vet_register::change::DeskEdit;
 use vet_tables::sequence::Row;
+use vet_tables::table_name::TableName;
 
-/// The rows of members that are removed. Fails only if memory runs out.
-pub fn members_removed(
+/// The rows that an edit of the desk removes and adds, if there is one. Asks that the numbers of reviews have columns.
+/// Fails only if memory runs out.
+pub fn desk_exchanges(
     alloc: Global,
-    change: &DeskChange,
+    edit: Option<&DeskEdit>,
     desk: &Desk,
-) -> Result<Vec<Row>, AllocError>
-    ensures { IfOk result (λ rows. rows.items ≡ members_removed change.now desk.now.content) }
-{
-    match change {
-        DeskChange::Join(edit) => row_if(alloc, removed_item(edit, desk.members())),
-        _ => Ok(Vec::new(alloc)),
-    }
-}
-
-/// The rows of members that are added. Fails only if memory runs out.
-pub fn members_added(alloc: Global, change: &DeskChange) -> Result<Vec<Row>, AllocError>
-    ensures { IfOk result (λ rows. rows.items ≡ members_added change.now) }
-{
-    match change {
-        DeskChange::Join(edit) => row_if(alloc, added_item(edit)),
-        _ => Ok(Vec::new(alloc)),
-    }
-}
-
-/// The rows of reviews that are removed, where a finished review has the entry of this number. Asks that their numbers
-/// have columns. Fails only if memory runs out.
-pub fn reviews_removed(
-    alloc: Global,
-    change: &DeskChange,
-    entry: Option<u64>,
-    desk: &Desk,
-) -> Result<Vec<Row>, AllocError>
-    requires { All ReviewFits desk.now.content.reviews }
-    ensures { IfOk result (λ rows. rows.items ≡ reviews_removed change.now entry desk.now.content) }
-{
-    match change {
-        DeskChange::Turn(place, _) => row_if(alloc, desk.reviews().get(*place)),
-        DeskChange::Finish(place, _) => match entry {
-            Some(_) => row_if(alloc, desk.reviews().get(*place)),
-            None => Ok(Vec::new(alloc)),
-        },
-        _ => Ok(Vec::new(alloc)),
-    }
-}
-
-/// The rows of reviews that are added, where a finished review has the entry of this number. Asks that their numbers
-/// have columns. Fails only if memory runs out.
-pub fn reviews_added(
-    alloc: Global,
-    change: &DeskChange,
-    entry: Option<u64>,
-    desk: &Desk,
-) -> Result<Vec<Row>, AllocError>
+) -> Result<Vec<Exchange>, AllocError>
     requires held { All ReviewFits desk.now.content.reviews }
-    requires coming { AddedReviewsFit change.now entry desk.now.content }
-    ensures { IfOk result (λ rows. rows.items ≡ reviews_added change.now entry desk.now.content) }
+    requires added { ReviewsFit (option_copied edit) desk.now.content }
+    ensures { IfOk result (λ exchanges. exchanges.items
+        ≡ desk_exchanges (option_copied edit.entry) desk.now.content) }
+{
+    match edit {
+        Some(edit) => desk_change_exchanges(alloc, &edit.change, edit.entry, desk),
+        None => Ok(Vec::new(alloc)),
+    }
+}
+
+// The rows that a change of the desk removes and adds, where a finished review has the entry of this number.
+fn desk_change_exchanges(
+    alloc: Global,
+    change: &DeskChange,
+    entry: Option<u64>,
+    desk: &Desk,
+) -> Result<Vec<Exchange>, AllocError>
+    requires held { All ReviewFits desk.now.content.reviews }
+    requires added { AddedReviewsFit change.now entry desk.now.content }
+    ensures { IfOk result (λ exchanges. exchanges.items
+        ≡ desk_change_exchanges change.now entry desk.now.content) }
 {
     match change {
-        DeskChange::Open(review) => row_if(alloc, Some(review)),
-        DeskChange::Turn(place, state) => turned(alloc, desk.reviews().get(*place), state),
+        DeskChange::Join(edit) => {
+            let removed = removed_item(edit, desk.members());
+            only_row_exchange(alloc, TableName::Members, removed, added_item(edit))
+        }
+        DeskChange::Open(review) => {
+            only_row_exchange(alloc, TableName::Reviews, None, Some(review))
+        }
+        DeskChange::Turn(place, state) => review_turned(alloc, desk.reviews().get(*place), state),
         DeskChange::Finish(place, _) => match entry {
             Some(number) => {
                 let state = ReviewState::Finished(number);
-                turned(alloc, desk.reviews().get(*place), &state)
+                review_turned(alloc, desk.reviews().get(*place), &state)
             }
             None => Ok(Vec::new(alloc)),
         },
-        DeskChange::Join(_) => Ok(Vec::new(alloc)),
     }
+}
+
+// A review is put into another state, if there is one.
+fn review_turned(
+    alloc: Global,
+    review: Option<&Review>,
+    state: &ReviewState,
+) -> Result<Vec<Exchange>, AllocError>
+    requires held { (r : Review) → option_copied review ≡ Some r → ReviewFits r }
+    requires added { (r : Review) → option_copied review ≡ Some r → ReviewFits (in_state state.now r) }
+    ensures { IfOk result (λ exchanges. exchanges.items
+        ≡ turned_exchange state.now (option_copied review.entry) ∷ []) }
+{
+    let removed = row_if(alloc, review)?;
+    let added = turned(alloc, review, state)?;
+    let reviews = Exchange::of(TableName::Reviews, removed, added);
+    Ok(vec![in alloc; reviews]?)
 }
 
 // The row of a review in another state, if there is one.

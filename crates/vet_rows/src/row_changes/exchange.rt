@@ -1,103 +1,109 @@
-//! Rows that are removed from a table, and rows that are added.
-ghost use Rattle.std.specs.Prelude.{◌≡◌, ◌++◌, ◌∷◌, [], IfOk, OnOk, cond, length, map};
-ghost use Rattle.vet_rows.specs.RowExchanges.{exchange, is_compared, less, unmarked};
-ghost use Rattle.vet_rows.specs.declared.row_change.RowChange.TheVariants as change;
+//! Rows of one table that are removed, and others that are added.
+ghost use Rattle.std.specs.List.{All};
+ghost use Rattle.std.specs.Option.{option_copied};
+ghost use Rattle.std.specs.Prelude.{◌≡◌, ◌++◌, ◌∷◌, [], IfOk, OnOk, Some, map};
+ghost use Rattle.vet_rows.specs.KeyedItems.{one_row, rows_if};
+ghost use Rattle.vet_rows.specs.RowExchanges.{exchange_of, row_changes_of};
 
 use crate::row_change::RowChange;
+use crate::row_changes::difference::push_rows;
+use crate::rows_of::to_row::{ToRow, row_if, rows_each};
 use std::alloc::{AllocError, Global};
-use vet_tables::same_items::marks_among;
-use vet_tables::sequence::Row;
+use vet_tables::sequence::{Row, Sequence};
 use vet_tables::table_name::TableName;
 
-/// Pushes the changes by which some rows of a table are removed, and then others added. Fails only if memory runs out.
-pub fn push_exchange(
-    changes: &mut Vec<RowChange>,
+/// The rows of one table that are removed, and those that are added.
+pub struct Exchange {
     table: TableName,
-    removed: Vec<Row>,
-    added: Vec<Row>,
-) -> Result<(), AllocError>
-    ensures { OnOk result (changes.new.items ≡ changes.old.items ++ exchange table removed.items added.items) }
-{
-    push_drops(changes, table, removed)?;
-    push_puts(changes, table, added)
+    removed: Sequence<Row>,
+    added: Sequence<Row>,
 }
 
-/// The same, but rows that would be removed and added again stay. Costs a search for each row among the others.
-/// Fails only if memory runs out.
-pub fn push_difference(
+impl Drop for Exchange {
+    fn drop(self) {
+        let Exchange {
+            table: _,
+            removed: _,
+            added: _,
+        } = self;
+    }
+}
+
+impl Exchange {
+    /// Some rows of a table for others. Takes no memory.
+    pub fn of(table: TableName, removed: Vec<Row>, added: Vec<Row>) -> Exchange
+        ensures { result ≡ exchange_of table removed.items added.items }
+    {
+        Exchange {
+            table,
+            removed: Sequence::of(removed),
+            added: Sequence::of(added),
+        }
+    }
+
+    /// Pushes its changes behind others. Costs a search for each row among the others, if only the rows that differ
+    /// are written. Fails only if memory runs out.
+    pub fn push_changes(self, alloc: Global, changes: &mut Vec<RowChange>) -> Result<(), AllocError>
+        ensures { OnOk result (changes.new.items ≡ changes.old.items ++ row_changes_of self) }
+    {
+        let Exchange {
+            table,
+            removed,
+            added,
+        } = self;
+        let removed = removed.into_items();
+        let added = added.into_items();
+        push_rows(alloc, changes, table, removed, added)
+    }
+}
+
+/// The row of one thing for that of another, where either may be missing. Asks that their numbers are below 2^63. Fails
+/// only if memory runs out.
+pub fn row_exchange<T: ToRow>(
     alloc: Global,
-    changes: &mut Vec<RowChange>,
     table: TableName,
-    removed: Vec<Row>,
-    added: Vec<Row>,
-) -> Result<(), AllocError>
-    ensures { OnOk result (changes.new.items ≡ changes.old.items
-        ++ exchange table (less removed.items added.items) (less added.items removed.items)) }
+    removed: Option<&T>,
+    added: Option<&T>,
+) -> Result<Exchange, AllocError>
+    requires removed { (t : T) → option_copied removed ≡ Some t → T.fits t }
+    requires added { (t : T) → option_copied added ≡ Some t → T.fits t }
+    ensures { IfOk result (λ e. e ≡ exchange_of table (rows_if (one_row T.row_of) (option_copied removed.entry))
+        (rows_if (one_row T.row_of) (option_copied added.entry))) }
 {
-    let stay = marks_among(alloc, removed.as_slice(), added.as_slice())?;
-    let stand = marks_among(alloc, added.as_slice(), removed.as_slice())?;
-    let removed = unmarked(alloc, removed, stay.as_slice())?;
-    let added = unmarked(alloc, added, stand.as_slice())?;
-    push_exchange(changes, table, removed, added)
+    let removed = row_if(alloc, removed)?;
+    let added = row_if(alloc, added)?;
+    Ok(Exchange::of(table, removed, added))
 }
 
-// The rows that have no mark.
-fn unmarked<R: Drop>(alloc: Global, rows: Vec<R>, marks: &[bool]) -> Result<Vec<R>, AllocError>
-    requires { length marks.now ≡ length rows.items }
-    ensures { IfOk result (λ left. left.items ≡ unmarked rows.items marks.now) }
-{
-    let mut left = Vec::new(alloc);
-    let mut at = 0;
-    'rows: for row in rows {
-        push_unless(&mut left, row, marks[at])?;
-        at += 1;
-    }
-    Ok(left)
-}
-
-// Adds a row unless it has a mark.
-fn push_unless<R: Drop>(left: &mut Vec<R>, row: R, mark: bool) -> Result<(), AllocError>
-    ensures { OnOk result (left.new.items ≡ left.old.items ++ cond mark [] (row ∷ [])) }
-{
-    if mark {
-        return Ok(());
-    }
-    left.push(row)?;
-    Ok(())
-}
-
-fn push_drops(
-    changes: &mut Vec<RowChange>,
+/// The same, where nothing else is exchanged.
+pub fn only_row_exchange<T: ToRow>(
+    alloc: Global,
     table: TableName,
-    rows: Vec<Row>,
-) -> Result<(), AllocError>
-    ensures { OnOk result (changes.new.items ≡ changes.old.items ++ map (λ r. change.Drop table r) rows.items) }
+    removed: Option<&T>,
+    added: Option<&T>,
+) -> Result<Vec<Exchange>, AllocError>
+    requires removed { (t : T) → option_copied removed ≡ Some t → T.fits t }
+    requires added { (t : T) → option_copied added ≡ Some t → T.fits t }
+    ensures { IfOk result (λ exchanges. exchanges.items
+        ≡ exchange_of table (rows_if (one_row T.row_of) (option_copied removed.entry))
+        (rows_if (one_row T.row_of) (option_copied added.entry)) ∷ []) }
 {
-    'rows: for row in rows {
-        changes.push(RowChange::Drop(table, row))?;
-    }
-    Ok(())
+    let exchange = row_exchange(alloc, table, removed, added)?;
+    Ok(vec![in alloc; exchange]?)
 }
 
-fn push_puts(
-    changes: &mut Vec<RowChange>,
+/// The rows of some things for those of others. Asks that their numbers are below 2^63. Fails only if memory runs out.
+pub fn rows_exchange<T: ToRow>(
+    alloc: Global,
     table: TableName,
-    rows: Vec<Row>,
-) -> Result<(), AllocError>
-    ensures { OnOk result (changes.new.items ≡ changes.old.items ++ map (λ r. change.Put table r) rows.items) }
+    removed: &[T],
+    added: &[T],
+) -> Result<Exchange, AllocError>
+    requires removed { All T.fits removed.now }
+    requires added { All T.fits added.now }
+    ensures { IfOk result (λ e. e ≡ exchange_of table (map T.row_of removed.now) (map T.row_of added.now)) }
 {
-    'rows: for row in rows {
-        changes.push(RowChange::Put(table, row))?;
-    }
-    Ok(())
-}
-
-/// Whether rows of a table stay that would be removed and added again: for tables that may have thousands of rows.
-pub fn is_compared(table: TableName) -> bool
-    ensures { result ≡ is_compared table }
-{
-    match table {
-        TableName::Entries | TableName::Publishers | TableName::Nodes | TableName::Edges => true,
-        _ => false,
-    }
+    let removed = rows_each(alloc, removed)?;
+    let added = rows_each(alloc, added)?;
+    Ok(Exchange::of(table, removed, added))
 }

@@ -1,4 +1,4 @@
-//! The rows that are removed and added by an edit of the facts of packages.
+//! The rows that an edit of the facts of packages removes and adds.
 //!
 //! Of a peer whose content is exchanged, all criteria and entries are removed, and then those of the new content added.
 ghost use Rattle.std.specs.List.{All, slice_get};
@@ -7,53 +7,174 @@ ghost use Rattle.std.specs.Prelude.{◌≡◌, IfOk, Some};
 ghost use Rattle.vet_entries.specs.declared.held_peer.HeldPeer.{HeldPeer};
 ghost use Rattle.vet_rows.specs.AddedNumbers.{AddedEntriesFit};
 ghost use Rattle.vet_rows.specs.EntryRows.{package_rows, peer_entries};
-ghost use Rattle.vet_rows.specs.FactsRows.{criteria_added, criteria_removed, entries_added, entries_removed};
-ghost use Rattle.vet_rows.specs.FactsRows.{peers_added, peers_removed, publishers_added, publishers_removed};
-ghost use Rattle.vet_rows.specs.KeyedItems.{rows_if};
+ghost use Rattle.vet_rows.specs.FactsRows.{fact_exchanges};
+ghost use Rattle.vet_rows.specs.KeyedItems.{added_item, rows_if};
 ghost use Rattle.vet_rows.specs.Numbers.{EntryFits, PeerFits};
 ghost use Rattle.vet_rows.specs.SettingRows.{criteria_rows, peer_criteria};
 
+use crate::row_changes::exchange::{Exchange, only_row_exchange, row_exchange};
 use crate::row_changes::keyed_items::{added_item, removed_item};
 use crate::rows_of::entry_rows::push_publishers;
 use crate::rows_of::setting_rows::{own_criteria, push_criteria};
 use crate::rows_of::to_row::{row_if, rows_each};
 use std::alloc::{AllocError, Global};
+use vet_base::criteria_table::CriteriaTable;
 use vet_base::definitions::Definitions;
+use vet_base::keyed::KeyedEdit;
 use vet_base::name::Name;
 use vet_entries::facts::{Edit, EntryFacts, HeldEntry};
 use vet_entries::held_peer::HeldPeer;
+use vet_entries::holding::Holding;
+use vet_entries::peer_settings::PeerSettings;
 use vet_entries::publisher_records::PackagePublishers;
 use vet_tables::sequence::Row;
+use vet_tables::table_name::TableName;
 
-// ---- criteria
-
-/// The rows of criteria that are removed. Fails only if memory runs out.
-pub fn criteria_removed(
+/// The rows that an edit of facts removes and adds. Asks that the numbers of entries have columns. Fails only if memory
+/// runs out.
+pub fn fact_exchanges(
     alloc: Global,
     edit: &Edit,
     facts: &EntryFacts,
-) -> Result<Vec<Row>, AllocError>
-    ensures { IfOk result (λ rows. rows.items ≡ criteria_removed edit.now facts.now.content) }
+) -> Result<Vec<Exchange>, AllocError>
+    requires own { All EntryFits facts.now.content.entries }
+    requires peers { All PeerFits facts.now.content.peers }
+    requires added { AddedEntriesFit edit.now }
+    ensures { IfOk result (λ exchanges. exchanges.items ≡ fact_exchanges edit.now facts.now.content) }
 {
     match edit {
-        Edit::Criteria(_) => own_criteria(alloc, facts.criteria()),
-        Edit::Peer(change) => criteria_of_peer(alloc, removed_item(change, facts.peers())),
-        Edit::Content(name, _) => criteria_of_peer(alloc, facts.peer(name)),
-        _ => Ok(Vec::new(alloc)),
+        Edit::Criteria(table) => criteria_exchange(alloc, facts, table),
+        Edit::Insert(_, held) => only_row_exchange(alloc, TableName::Entries, None, Some(held)),
+        Edit::Remove(place) => entry_removed(alloc, facts, *place),
+        Edit::Peer(change) => peer_exchanges(alloc, facts, change),
+        Edit::Settings(settings) => settings_exchange(alloc, facts, settings),
+        Edit::Content(name, content) => content_exchanges(alloc, facts, name, content),
+        Edit::Publishers(change) => publishers_exchange(alloc, facts, change),
     }
 }
 
-/// The rows of criteria that are added. Fails only if memory runs out.
-pub fn criteria_added(alloc: Global, edit: &Edit) -> Result<Vec<Row>, AllocError>
-    ensures { IfOk result (λ rows. rows.items ≡ criteria_added edit.now) }
+// One's own criteria, for those of another table.
+fn criteria_exchange(
+    alloc: Global,
+    facts: &EntryFacts,
+    table: &CriteriaTable,
+) -> Result<Vec<Exchange>, AllocError>
+    ensures { IfOk result (λ exchanges. exchanges.items
+        ≡ fact_exchanges (Edit.Criteria table.now) facts.now.content) }
 {
-    match edit {
-        Edit::Criteria(table) => own_criteria(alloc, table),
-        Edit::Peer(change) => criteria_of_peer(alloc, added_item(change)),
-        Edit::Content(name, content) => criteria_of(alloc, name, content.definitions()),
-        _ => Ok(Vec::new(alloc)),
-    }
+    let removed = own_criteria(alloc, facts.criteria())?;
+    let added = own_criteria(alloc, table)?;
+    let criteria = Exchange::of(TableName::Criteria, removed, added);
+    Ok(vec![in alloc; criteria]?)
 }
+
+// The own entry at a place is removed.
+fn entry_removed(
+    alloc: Global,
+    facts: &EntryFacts,
+    place: usize,
+) -> Result<Vec<Exchange>, AllocError>
+    requires { All EntryFits facts.now.content.entries }
+    ensures { IfOk result (λ exchanges. exchanges.items ≡ fact_exchanges (Edit.Remove place) facts.now.content) }
+{
+    only_row_exchange(
+        alloc,
+        TableName::Entries,
+        entry_at(facts.entries(), place),
+        None,
+    )
+}
+
+// The entry at a place, if there is one.
+fn entry_at(entries: &[HeldEntry], place: usize) -> Option<&HeldEntry>
+    ensures { option_copied result ≡ slice_get entries.now place }
+{
+    entries.get(place)
+}
+
+// A peer is removed, or exchanged for another, with all that it has; or one is added.
+fn peer_exchanges(
+    alloc: Global,
+    facts: &EntryFacts,
+    change: &KeyedEdit<HeldPeer>,
+) -> Result<Vec<Exchange>, AllocError>
+    requires held { All PeerFits facts.now.content.peers }
+    requires added { (p : HeldPeer) → added_item change.now ≡ Some p → PeerFits p }
+    ensures { IfOk result (λ exchanges. exchanges.items ≡ fact_exchanges (Edit.Peer change.now) facts.now.content) }
+{
+    let removed = removed_item(change, facts.peers());
+    let added = added_item(change);
+    let criteria = Exchange::of(
+        TableName::Criteria,
+        criteria_of_peer(alloc, removed)?,
+        criteria_of_peer(alloc, added)?,
+    );
+    let entries = Exchange::of(
+        TableName::Entries,
+        entries_of_peer(alloc, removed)?,
+        entries_of_peer(alloc, added)?,
+    );
+    let peers = row_exchange(alloc, TableName::Peers, removed, added)?;
+    Ok(vec![in alloc; criteria, entries, peers]?)
+}
+
+// The settings of a held peer, for others.
+fn settings_exchange(
+    alloc: Global,
+    facts: &EntryFacts,
+    settings: &PeerSettings,
+) -> Result<Vec<Exchange>, AllocError>
+    ensures { IfOk result (λ exchanges. exchanges.items
+        ≡ fact_exchanges (Edit.Settings settings.now) facts.now.content) }
+{
+    let removed = row_if(alloc, facts.peer(&settings.name))?;
+    let added = row_if(alloc, Some(settings))?;
+    let peers = Exchange::of(TableName::Peers, removed, added);
+    Ok(vec![in alloc; peers]?)
+}
+
+// The content of a held peer, for another.
+fn content_exchanges(
+    alloc: Global,
+    facts: &EntryFacts,
+    name: &Name,
+    content: &Holding,
+) -> Result<Vec<Exchange>, AllocError>
+    requires held { All PeerFits facts.now.content.peers }
+    requires added { All EntryFits content.now.entries }
+    ensures { IfOk result (λ exchanges. exchanges.items
+        ≡ fact_exchanges (Edit.Content name.now content.now) facts.now.content) }
+{
+    let held = facts.peer(name);
+    let criteria = Exchange::of(
+        TableName::Criteria,
+        criteria_of_peer(alloc, held)?,
+        criteria_of(alloc, name, content.definitions())?,
+    );
+    let entries = Exchange::of(
+        TableName::Entries,
+        entries_of_peer(alloc, held)?,
+        rows_each(alloc, content.entries())?,
+    );
+    Ok(vec![in alloc; criteria, entries]?)
+}
+
+// The publisher records of a package, for others.
+fn publishers_exchange(
+    alloc: Global,
+    facts: &EntryFacts,
+    change: &KeyedEdit<PackagePublishers>,
+) -> Result<Vec<Exchange>, AllocError>
+    ensures { IfOk result (λ exchanges. exchanges.items
+        ≡ fact_exchanges (Edit.Publishers change.now) facts.now.content) }
+{
+    let removed = publishers_of(alloc, removed_item(change, facts.publishers()))?;
+    let added = publishers_of(alloc, added_item(change))?;
+    let publishers = Exchange::of(TableName::Publishers, removed, added);
+    Ok(vec![in alloc; publishers]?)
+}
+
+// ---- rows of a peer and of a package
 
 // The rows of the criteria of a peer, if there is one.
 fn criteria_of_peer(alloc: Global, peer: Option<&HeldPeer>) -> Result<Vec<Row>, AllocError>
@@ -78,46 +199,6 @@ fn criteria_of(
     Ok(rows)
 }
 
-// ---- entries
-
-/// The rows of entries that are removed. Asks that their numbers have columns. Fails only if memory runs out.
-pub fn entries_removed(
-    alloc: Global,
-    edit: &Edit,
-    facts: &EntryFacts,
-) -> Result<Vec<Row>, AllocError>
-    requires own { All EntryFits facts.now.content.entries }
-    requires peers { All PeerFits facts.now.content.peers }
-    ensures { IfOk result (λ rows. rows.items ≡ entries_removed edit.now facts.now.content) }
-{
-    match edit {
-        Edit::Remove(place) => row_if(alloc, entry_at(facts.entries(), *place)),
-        Edit::Peer(change) => entries_of_peer(alloc, removed_item(change, facts.peers())),
-        Edit::Content(name, _) => entries_of_peer(alloc, facts.peer(name)),
-        _ => Ok(Vec::new(alloc)),
-    }
-}
-
-/// The rows of entries that are added. Asks that their numbers have columns. Fails only if memory runs out.
-pub fn entries_added(alloc: Global, edit: &Edit) -> Result<Vec<Row>, AllocError>
-    requires { AddedEntriesFit edit.now }
-    ensures { IfOk result (λ rows. rows.items ≡ entries_added edit.now) }
-{
-    match edit {
-        Edit::Insert(_, held) => row_if(alloc, Some(held)),
-        Edit::Peer(change) => entries_of_peer(alloc, added_item(change)),
-        Edit::Content(_, content) => rows_each(alloc, content.entries()),
-        _ => Ok(Vec::new(alloc)),
-    }
-}
-
-// The entry at a place, if there is one.
-fn entry_at(entries: &[HeldEntry], place: usize) -> Option<&HeldEntry>
-    ensures { option_copied result ≡ slice_get entries.now place }
-{
-    entries.get(place)
-}
-
 // The rows of the entries of a peer, if there is one.
 fn entries_of_peer(alloc: Global, peer: Option<&HeldPeer>) -> Result<Vec<Row>, AllocError>
     requires { (p : HeldPeer) → option_copied peer ≡ Some p → PeerFits p }
@@ -126,56 +207,6 @@ fn entries_of_peer(alloc: Global, peer: Option<&HeldPeer>) -> Result<Vec<Row>, A
     match peer {
         Some(peer) => rows_each(alloc, peer.content.entries()),
         None => Ok(Vec::new(alloc)),
-    }
-}
-
-// ---- peers
-
-/// The rows of peers that are removed. Fails only if memory runs out.
-pub fn peers_removed(alloc: Global, edit: &Edit, facts: &EntryFacts) -> Result<Vec<Row>, AllocError>
-    ensures { IfOk result (λ rows. rows.items ≡ peers_removed edit.now facts.now.content) }
-{
-    match edit {
-        Edit::Peer(change) => row_if(alloc, removed_item(change, facts.peers())),
-        Edit::Settings(settings) => row_if(alloc, facts.peer(&settings.name)),
-        _ => Ok(Vec::new(alloc)),
-    }
-}
-
-/// The rows of peers that are added. Fails only if memory runs out.
-pub fn peers_added(alloc: Global, edit: &Edit) -> Result<Vec<Row>, AllocError>
-    ensures { IfOk result (λ rows. rows.items ≡ peers_added edit.now) }
-{
-    match edit {
-        Edit::Peer(change) => row_if(alloc, added_item(change)),
-        Edit::Settings(settings) => row_if(alloc, Some(settings)),
-        _ => Ok(Vec::new(alloc)),
-    }
-}
-
-// ---- publishers
-
-/// The rows of publishers that are removed. Fails only if memory runs out.
-pub fn publishers_removed(
-    alloc: Global,
-    edit: &Edit,
-    facts: &EntryFacts,
-) -> Result<Vec<Row>, AllocError>
-    ensures { IfOk result (λ rows. rows.items ≡ publishers_removed edit.now facts.now.content) }
-{
-    match edit {
-        Edit::Publishers(change) => publishers_of(alloc, removed_item(change, facts.publishers())),
-        _ => Ok(Vec::new(alloc)),
-    }
-}
-
-/// The rows of publishers that are added. Fails only if memory runs out.
-pub fn publishers_added(alloc: Global, edit: &Edit) -> Result<Vec<Row>, AllocError>
-    ensures { IfOk result (λ rows. rows.items ≡ publishers_added edit.now) }
-{
-    match edit {
-        Edit::Publishers(change) => publishers_of(alloc, added_item(change)),
-        _ => Ok(Vec::new(alloc)),
     }
 }
 

@@ -1,221 +1,177 @@
-//! The rows that are removed and added by an edit of all that is held.
+//! The rows that an edit of all that is held removes and adds.
 //!
 //! Where all that files hold is exchanged, all rows of it are removed, and then those of the new files added.
+ghost use Rattle.std.specs.List.{All, flat_map};
 ghost use Rattle.std.specs.Option.{option_copied};
-ghost use Rattle.std.specs.Prelude.{◌≡◌, IfOk};
+ghost use Rattle.std.specs.Prelude.{◌≡◌, IfOk, map};
 ghost use Rattle.vet_rows.specs.AddedNumbers.{HeldEntriesFit};
-ghost use Rattle.vet_rows.specs.HeldChanges.{criteria_added, criteria_removed, edges_added, edges_removed};
-ghost use Rattle.vet_rows.specs.HeldChanges.{entries_added, entries_removed, nodes_added, nodes_removed};
-ghost use Rattle.vet_rows.specs.HeldChanges.{peers_added, peers_removed};
-ghost use Rattle.vet_rows.specs.HeldChanges.{policies_added, policies_removed, publishers_added, publishers_removed};
+ghost use Rattle.vet_rows.specs.EntryRows.{all_entries, package_rows};
+ghost use Rattle.vet_rows.specs.HeldChanges.{held_exchanges};
 ghost use Rattle.vet_rows.specs.KeyedItems.{rows_if};
+ghost use Rattle.vet_rows.specs.Numbers.{EntryFits, PeerFits};
 ghost use Rattle.vet_rows.specs.ProjectRows.{edge_rows, node_rows};
+ghost use Rattle.vet_rows.specs.RowExchanges.{exchange_of};
+ghost use Rattle.vet_rows.specs.SettingRows.{all_criteria, policy_row};
 
-use crate::row_changes::fact_changes;
+use crate::row_changes::exchange::{Exchange, only_row_exchange, rows_exchange};
+use crate::row_changes::fact_changes::fact_exchanges;
 use crate::row_changes::keyed_items::{added_item, removed_item};
 use crate::rows_of::entry_rows::{all_entries, all_publishers};
 use crate::rows_of::meta_rows::numbers_fit;
 use crate::rows_of::project_rows::{push_edges, push_nodes};
 use crate::rows_of::setting_rows::all_criteria;
-use crate::rows_of::to_row::{row_if, rows_each};
 use std::alloc::{AllocError, Global};
+use vet_base::keyed::KeyedEdit;
+use vet_demand::policies::KeyedPolicy;
 use vet_demand::project::NamedProject;
+use vet_entries::facts::EntryFacts;
 use vet_graph::keeper::Keeper;
-use vet_register::held::HeldEdit;
+use vet_register::held::{FilesHeld, HeldEdit};
 use vet_register::register::Register;
 use vet_tables::sequence::Row;
+use vet_tables::table_name::TableName;
 
-// ---- criteria
-
-/// The rows of criteria that are removed. Fails only if memory runs out.
-pub fn criteria_removed<K: Keeper>(
+/// The rows that an edit of all that is held removes and adds. Asks that the numbers of entries that are added have
+/// columns. Fails only if memory runs out.
+pub fn held_exchanges<K: Keeper>(
     alloc: Global,
     edit: &HeldEdit,
     register: &Register<K>,
-) -> Result<Vec<Row>, AllocError>
-    ensures { IfOk result (λ rows. rows.items ≡ criteria_removed edit.now register.now.state.held) }
-{
-    match edit {
-        HeldEdit::Facts(edit) => fact_changes::criteria_removed(alloc, edit, register.facts()),
-        HeldEdit::Files(_) => all_criteria(alloc, register.facts()),
-        _ => Ok(Vec::new(alloc)),
-    }
-}
-
-/// The rows of criteria that are added. Fails only if memory runs out.
-pub fn criteria_added(alloc: Global, edit: &HeldEdit) -> Result<Vec<Row>, AllocError>
-    ensures { IfOk result (λ rows. rows.items ≡ criteria_added edit.now) }
-{
-    match edit {
-        HeldEdit::Facts(edit) => fact_changes::criteria_added(alloc, edit),
-        HeldEdit::Files(files) => all_criteria(alloc, &files.facts),
-        _ => Ok(Vec::new(alloc)),
-    }
-}
-
-// ---- entries
-
-/// The rows of entries that are removed. Fails only if memory runs out.
-pub fn entries_removed<K: Keeper>(
-    alloc: Global,
-    edit: &HeldEdit,
-    register: &Register<K>,
-) -> Result<Vec<Row>, AllocError>
-    ensures { IfOk result (λ rows. rows.items ≡ entries_removed edit.now register.now.state.held) }
+) -> Result<Vec<Exchange>, AllocError>
+    requires { HeldEntriesFit edit.now }
+    ensures { IfOk result (λ exchanges. exchanges.items ≡ held_exchanges edit.now register.now.state.held) }
 {
     numbers_fit(register);
     match edit {
-        HeldEdit::Facts(edit) => fact_changes::entries_removed(alloc, edit, register.facts()),
-        HeldEdit::Files(_) => all_entries(alloc, register.facts()),
-        _ => Ok(Vec::new(alloc)),
+        HeldEdit::Nothing => Ok(Vec::new(alloc)),
+        HeldEdit::Facts(edit) => fact_exchanges(alloc, edit, register.facts()),
+        HeldEdit::Policies(change) => policy_exchange(alloc, register, change),
+        HeldEdit::Projects(change) => project_exchanges(alloc, register, change),
+        HeldEdit::Files(files) => files_exchanges(alloc, register, files),
     }
 }
 
-/// The rows of entries that are added. Asks that their numbers have columns. Fails only if memory runs out.
-pub fn entries_added(alloc: Global, edit: &HeldEdit) -> Result<Vec<Row>, AllocError>
-    requires { HeldEntriesFit edit.now }
-    ensures { IfOk result (λ rows. rows.items ≡ entries_added edit.now) }
-{
-    match edit {
-        HeldEdit::Facts(edit) => fact_changes::entries_added(alloc, edit),
-        HeldEdit::Files(files) => all_entries(alloc, &files.facts),
-        _ => Ok(Vec::new(alloc)),
-    }
-}
-
-// ---- publishers
-
-/// The rows of publishers that are removed. Fails only if memory runs out.
-pub fn publishers_removed<K: Keeper>(
+// A policy is removed, or exchanged for another, or one is added.
+fn policy_exchange<K: Keeper>(
     alloc: Global,
-    edit: &HeldEdit,
     register: &Register<K>,
-) -> Result<Vec<Row>, AllocError>
-    ensures { IfOk result (λ rows. rows.items ≡ publishers_removed edit.now register.now.state.held) }
+    change: &KeyedEdit<KeyedPolicy>,
+) -> Result<Vec<Exchange>, AllocError>
+    ensures { IfOk result (λ exchanges. exchanges.items
+        ≡ held_exchanges (HeldEdit.Policies change.now) register.now.state.held) }
 {
-    match edit {
-        HeldEdit::Facts(edit) => fact_changes::publishers_removed(alloc, edit, register.facts()),
-        HeldEdit::Files(_) => all_publishers(alloc, register.publishers()),
-        _ => Ok(Vec::new(alloc)),
-    }
+    let removed = removed_item(change, register.policies());
+    only_row_exchange(alloc, TableName::Policies, removed, added_item(change))
 }
 
-/// The rows of publishers that are added. Fails only if memory runs out.
-pub fn publishers_added(alloc: Global, edit: &HeldEdit) -> Result<Vec<Row>, AllocError>
-    ensures { IfOk result (λ rows. rows.items ≡ publishers_added edit.now) }
-{
-    match edit {
-        HeldEdit::Facts(edit) => fact_changes::publishers_added(alloc, edit),
-        HeldEdit::Files(files) => all_publishers(alloc, files.facts.publishers()),
-        _ => Ok(Vec::new(alloc)),
-    }
-}
-
-// ---- peers
-
-/// The rows of peers that are removed. Fails only if memory runs out.
-pub fn peers_removed<K: Keeper>(
+// A project is removed, or exchanged for another, with its nodes and edges; or one is added.
+fn project_exchanges<K: Keeper>(
     alloc: Global,
-    edit: &HeldEdit,
     register: &Register<K>,
-) -> Result<Vec<Row>, AllocError>
-    ensures { IfOk result (λ rows. rows.items ≡ peers_removed edit.now register.now.state.held) }
+    change: &KeyedEdit<NamedProject>,
+) -> Result<Vec<Exchange>, AllocError>
+    ensures { IfOk result (λ exchanges. exchanges.items
+        ≡ held_exchanges (HeldEdit.Projects change.now) register.now.state.held) }
 {
-    match edit {
-        HeldEdit::Facts(edit) => fact_changes::peers_removed(alloc, edit, register.facts()),
-        HeldEdit::Files(_) => rows_each(alloc, register.peers()),
-        _ => Ok(Vec::new(alloc)),
-    }
+    let removed = removed_item(change, register.projects());
+    let added = added_item(change);
+    let nodes = Exchange::of(
+        TableName::Nodes,
+        nodes_of(alloc, removed)?,
+        nodes_of(alloc, added)?,
+    );
+    let edges = Exchange::of(
+        TableName::Edges,
+        edges_of(alloc, removed)?,
+        edges_of(alloc, added)?,
+    );
+    Ok(vec![in alloc; nodes, edges]?)
 }
 
-/// The rows of peers that are added. Fails only if memory runs out.
-pub fn peers_added(alloc: Global, edit: &HeldEdit) -> Result<Vec<Row>, AllocError>
-    ensures { IfOk result (λ rows. rows.items ≡ peers_added edit.now) }
-{
-    match edit {
-        HeldEdit::Facts(edit) => fact_changes::peers_added(alloc, edit),
-        HeldEdit::Files(files) => rows_each(alloc, files.facts.peers()),
-        _ => Ok(Vec::new(alloc)),
-    }
-}
-
-// ---- policies
-
-/// The rows of policies that are removed. Fails only if memory runs out.
-pub fn policies_removed<K: Keeper>(
+// All that files hold, for what other files hold.
+fn files_exchanges<K: Keeper>(
     alloc: Global,
-    edit: &HeldEdit,
     register: &Register<K>,
-) -> Result<Vec<Row>, AllocError>
-    ensures { IfOk result (λ rows. rows.items ≡ policies_removed edit.now register.now.state.held) }
+    files: &FilesHeld,
+) -> Result<Vec<Exchange>, AllocError>
+    requires own { All EntryFits files.now.facts.content.entries }
+    requires peers { All PeerFits files.now.facts.content.peers }
+    ensures { IfOk result (λ exchanges. exchanges.items
+        ≡ held_exchanges (HeldEdit.Files files.now) register.now.state.held) }
 {
-    match edit {
-        HeldEdit::Policies(change) => row_if(alloc, removed_item(change, register.policies())),
-        HeldEdit::Files(_) => rows_each(alloc, register.policies()),
-        _ => Ok(Vec::new(alloc)),
-    }
+    numbers_fit(register);
+    let held = register.facts();
+    let filed = &files.facts;
+    let criteria = criteria_replaced(alloc, held, filed)?;
+    let entries = entries_replaced(alloc, held, filed)?;
+    let publishers = publishers_replaced(alloc, held, filed)?;
+    let policies = policies_replaced(alloc, register, files)?;
+    let peers = rows_exchange(alloc, TableName::Peers, held.peers(), filed.peers())?;
+    Ok(vec![in alloc; criteria, entries, publishers, policies, peers]?)
 }
 
-/// The rows of policies that are added. Fails only if memory runs out.
-pub fn policies_added(alloc: Global, edit: &HeldEdit) -> Result<Vec<Row>, AllocError>
-    ensures { IfOk result (λ rows. rows.items ≡ policies_added edit.now) }
-{
-    match edit {
-        HeldEdit::Policies(change) => row_if(alloc, added_item(change)),
-        HeldEdit::Files(files) => rows_each(alloc, files.policies.items()),
-        _ => Ok(Vec::new(alloc)),
-    }
-}
-
-// ---- projects
-
-/// The rows of nodes that are removed. Fails only if memory runs out.
-pub fn nodes_removed<K: Keeper>(
+// All criteria, for others.
+fn criteria_replaced(
     alloc: Global,
-    edit: &HeldEdit,
-    register: &Register<K>,
-) -> Result<Vec<Row>, AllocError>
-    ensures { IfOk result (λ rows. rows.items ≡ nodes_removed edit.now register.now.state.held) }
+    held: &EntryFacts,
+    filed: &EntryFacts,
+) -> Result<Exchange, AllocError>
+    ensures { IfOk result (λ e. e
+        ≡ exchange_of TableName.Criteria (all_criteria held.now.content) (all_criteria filed.now.content)) }
 {
-    match edit {
-        HeldEdit::Projects(change) => nodes_of(alloc, removed_item(change, register.projects())),
-        _ => Ok(Vec::new(alloc)),
-    }
+    let removed = all_criteria(alloc, held)?;
+    let added = all_criteria(alloc, filed)?;
+    Ok(Exchange::of(TableName::Criteria, removed, added))
 }
 
-/// The rows of nodes that are added. Fails only if memory runs out.
-pub fn nodes_added(alloc: Global, edit: &HeldEdit) -> Result<Vec<Row>, AllocError>
-    ensures { IfOk result (λ rows. rows.items ≡ nodes_added edit.now) }
-{
-    match edit {
-        HeldEdit::Projects(change) => nodes_of(alloc, added_item(change)),
-        _ => Ok(Vec::new(alloc)),
-    }
-}
-
-/// The rows of edges that are removed. Fails only if memory runs out.
-pub fn edges_removed<K: Keeper>(
+// All entries, for others.
+fn entries_replaced(
     alloc: Global,
-    edit: &HeldEdit,
-    register: &Register<K>,
-) -> Result<Vec<Row>, AllocError>
-    ensures { IfOk result (λ rows. rows.items ≡ edges_removed edit.now register.now.state.held) }
+    held: &EntryFacts,
+    filed: &EntryFacts,
+) -> Result<Exchange, AllocError>
+    requires own { All EntryFits held.now.content.entries }
+    requires peers { All PeerFits held.now.content.peers }
+    requires own_added { All EntryFits filed.now.content.entries }
+    requires peers_added { All PeerFits filed.now.content.peers }
+    ensures { IfOk result (λ e. e
+        ≡ exchange_of TableName.Entries (all_entries held.now.content) (all_entries filed.now.content)) }
 {
-    match edit {
-        HeldEdit::Projects(change) => edges_of(alloc, removed_item(change, register.projects())),
-        _ => Ok(Vec::new(alloc)),
-    }
+    let removed = all_entries(alloc, held)?;
+    let added = all_entries(alloc, filed)?;
+    Ok(Exchange::of(TableName::Entries, removed, added))
 }
 
-/// The rows of edges that are added. Fails only if memory runs out.
-pub fn edges_added(alloc: Global, edit: &HeldEdit) -> Result<Vec<Row>, AllocError>
-    ensures { IfOk result (λ rows. rows.items ≡ edges_added edit.now) }
+// All publisher records, for others.
+fn publishers_replaced(
+    alloc: Global,
+    held: &EntryFacts,
+    filed: &EntryFacts,
+) -> Result<Exchange, AllocError>
+    ensures { IfOk result (λ e. e
+        ≡ exchange_of TableName.Publishers (flat_map package_rows held.now.content.publishers)
+        (flat_map package_rows filed.now.content.publishers)) }
 {
-    match edit {
-        HeldEdit::Projects(change) => edges_of(alloc, added_item(change)),
-        _ => Ok(Vec::new(alloc)),
-    }
+    let removed = all_publishers(alloc, held.publishers())?;
+    let added = all_publishers(alloc, filed.publishers())?;
+    Ok(Exchange::of(TableName::Publishers, removed, added))
 }
+
+// All policies, for others.
+fn policies_replaced<K: Keeper>(
+    alloc: Global,
+    register: &Register<K>,
+    files: &FilesHeld,
+) -> Result<Exchange, AllocError>
+    ensures { IfOk result (λ e. e
+        ≡ exchange_of TableName.Policies (map policy_row register.now.state.held.policies)
+        (map policy_row files.now.policies.items)) }
+{
+    let filed = files.policies.items();
+    rows_exchange(alloc, TableName::Policies, register.policies(), filed)
+}
+
+// ---- rows of a project
 
 // The rows of the nodes of a project, if there is one.
 fn nodes_of(alloc: Global, named: Option<&NamedProject>) -> Result<Vec<Row>, AllocError>

@@ -1,12 +1,14 @@
-//! The one row of `meta` after a change.
+//! The one row of `meta`, which a change puts in place of the one that is there.
 ghost use Rattle.std.specs.Option.{option_copied};
 ghost use Rattle.std.specs.Prelude.{◌≡◌, ◌<◌, ◌^◌, IfOk};
 ghost use Rattle.vet_register.specs.Changes.{changed, desk_edited, first_by};
 ghost use Rattle.vet_register.specs.Held.{edited};
+ghost use Rattle.vet_rows.specs.ChangedRows.{meta_exchange};
 ghost use Rattle.vet_rows.specs.Numbers.{CountsFit, NumbersFit};
 ghost use Rattle.vet_rows.specs.RowsOf.{meta_row};
 
 use crate::meta::MetaNumbers;
+use crate::row_changes::exchange::Exchange;
 use crate::rows_of::meta_rows::row_of_meta;
 use std::alloc::{AllocError, Global};
 use vet_desk::change::DeskChange;
@@ -19,9 +21,24 @@ use vet_register::moves::Recording;
 use vet_register::register::Register;
 use vet_register::tool_settings::ToolSettings;
 use vet_tables::sequence::Row;
+use vet_tables::table_name::TableName;
 
-/// The row of `meta` after a change. Asks that its numbers have columns. Fails only if memory runs out.
-pub fn meta_row_after<K: Keeper>(
+/// The row of `meta` that a change adds. Asks that its numbers have columns. Fails only if memory runs out.
+pub fn meta_exchange<K: Keeper>(
+    alloc: Global,
+    register: &Register<K>,
+    change: &Change<K>,
+) -> Result<Exchange, AllocError>
+    requires numbers { NumbersFit (changed change.now register.now.state) }
+    requires counts { CountsFit (changed change.now register.now.state).first }
+    ensures { IfOk result (λ e. e ≡ meta_exchange register.now.state change.now) }
+{
+    let added = vec![in alloc; meta_row_after(alloc, register, change)?]?;
+    Ok(Exchange::of(TableName::Meta, Vec::new(alloc), added))
+}
+
+// The row of `meta` after a change. Asks that its numbers have columns.
+fn meta_row_after<K: Keeper>(
     alloc: Global,
     register: &Register<K>,
     change: &Change<K>,

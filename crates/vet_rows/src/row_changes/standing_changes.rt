@@ -1,11 +1,16 @@
-//! The changes of the rows of the standing and of moves by what is recorded.
+//! The rows of the standing and of moves that are removed and added by what is recorded.
 //!
 //! **Rows of the standing are those of the pairs that move, and of no others.**
+ghost use Rattle.std.specs.List.{All};
 ghost use Rattle.std.specs.Prelude.{◌≡◌, IfOk, filter, map};
-ghost use Rattle.vet_rows.specs.StandingChanges.{clear_moves, leaves, moved_row, recorded_moves, stands};
+ghost use Rattle.vet_rows.specs.Numbers.{MoveFits};
+ghost use Rattle.vet_rows.specs.StandingChanges.{clear_moves, leaves, move_exchanges, moved_row, recorded_moves};
+ghost use Rattle.vet_rows.specs.StandingChanges.{stands};
 
 use crate::row_change::RowChange;
+use crate::row_changes::exchange::Exchange;
 use crate::rows_of::columns::{class_or_none, version_column};
+use crate::rows_of::to_row::rows_each;
 use std::alloc::{AllocError, Global};
 use vet_register::moves::{RecordedMove, Recording};
 use vet_tables::cell::Cell;
@@ -22,8 +27,23 @@ pub fn recorded_moves(recording: &Recording) -> &[RecordedMove]
     }
 }
 
-/// The rows of the pairs that aren't demanded any more. Fails only if memory runs out.
-pub fn standing_removed(alloc: Global, moves: &[RecordedMove]) -> Result<Vec<Row>, AllocError>
+/// The rows of the standing and of moves that are removed and added by what is recorded. Asks that the steps of moves
+/// have columns. Fails only if memory runs out.
+pub fn move_exchanges(alloc: Global, recording: &Recording) -> Result<Vec<Exchange>, AllocError>
+    requires { All MoveFits (recorded_moves recording.now) }
+    ensures { IfOk result (λ exchanges. exchanges.items ≡ move_exchanges recording.now) }
+{
+    let more = recorded_moves(recording);
+    let removed = standing_removed(alloc, more)?;
+    let added = standing_added(alloc, more)?;
+    let standing = Exchange::of(TableName::Standing, removed, added);
+    let rows = rows_each(alloc, more)?;
+    let moves = Exchange::of(TableName::Moves, Vec::new(alloc), rows);
+    Ok(vec![in alloc; standing, moves]?)
+}
+
+// The rows of the pairs that aren't demanded any more.
+fn standing_removed(alloc: Global, moves: &[RecordedMove]) -> Result<Vec<Row>, AllocError>
     ensures { IfOk result (λ rows. rows.items ≡ map moved_row (filter leaves moves.now)) }
 {
     let mut rows = Vec::new(alloc);
@@ -35,8 +55,8 @@ pub fn standing_removed(alloc: Global, moves: &[RecordedMove]) -> Result<Vec<Row
     Ok(rows)
 }
 
-/// The rows of the pairs that come to a class. Fails only if memory runs out.
-pub fn standing_added(alloc: Global, moves: &[RecordedMove]) -> Result<Vec<Row>, AllocError>
+// The rows of the pairs that come to a class.
+fn standing_added(alloc: Global, moves: &[RecordedMove]) -> Result<Vec<Row>, AllocError>
     ensures { IfOk result (λ rows. rows.items ≡ map moved_row (filter stands moves.now)) }
 {
     let mut rows = Vec::new(alloc);

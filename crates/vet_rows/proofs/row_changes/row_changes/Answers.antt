@@ -3,12 +3,13 @@ use Rattle.vet_base.specs.Items.{IsIn}
 use Rattle.vet_register.specs.Machine.{next}
 use Rattle.vet_rows.specs.RowChanges.{all_changed}
 use Rattle.vet_rows.specs.RowsOf.{rows_of}
-use Rattle.vet_rows.proofs.RowsChanged.{changes_fit, changes_lead, numbers_come, standing_named}
+use Rattle.vet_rows.proofs.FitChanges.{changes_fit}
+use Rattle.vet_rows.proofs.RowsChanged.{changes_lead, numbers_come, standing_named}
 use Rattle.vet_rows.proofs.row_changes.row_changes.Goals as goal
 use Rattle.vet_tables.specs.Cells.{SameRows}
 
-pub exchanges-requires : goal.exchanges-requires
-exchanges-requires g c = record {
+pub all_changes-requires : goal.all_changes-requires
+all_changes-requires g c = record {
   numbers = numbers_come c.moves_are_differences.ensures c.demand_is_least.ensures.least g.K.Keeper.keeping
       c.args.register.now c.requires.0 c.args.change.now c.requires.1 c.facts.ensures.sound c.texts_are_read.ensures
       c.counts_fit_after.ensures;
@@ -29,6 +30,4 @@ returns-in-Ok-clause-standing g c = λ command is x among.
 
 pub returns-in-Ok-clause-fit : goal.returns-in-Ok-clause-fit
 returns-in-Ok-clause-fit g c = λ x among.
-    changes_fit c.moves_are_differences.ensures c.demand_is_least.ensures.least g.K.Keeper.keeping
-    c.args.register.now c.requires.0 c.args.change.now c.requires.1 c.facts.ensures.sound c.texts_are_read.ensures x
-    (subst (IsIn x) c.in-Ok.ensures among)
+    changes_fit c.args.register.now.state c.args.change.now x (subst (IsIn x) c.in-Ok.ensures among)

@@ -2,7 +2,7 @@ use Rattle.std.proofs.Common.{◌≡◌, ap, map, refl, ◌∙◌}
 use Rattle.std.specs.List.{list_any}
 use Rattle.vet_rows.specs.RowExchanges.{less, same_row, unmarked}
 use Rattle.vet_rows.proofs.Unmarked.{unmarked_by}
-use Rattle.vet_rows.proofs.row_changes.exchange.push_difference.Goals as goal
+use Rattle.vet_rows.proofs.row_changes.difference.push_difference.Goals as goal
 
 pub returns : goal.returns
 returns c =
@@ -18,4 +18,4 @@ returns c =
     c.in_ok-removed.ensures ∙ ap (unmarked gone) stay ∙ unmarked_by (λ x. list_any (same_row x) come) gone in
     let right : c.in_ok-added.added.items ≡ less come gone =
     c.in_ok-added.ensures ∙ ap (unmarked come) stand ∙ unmarked_by (λ x. list_any (same_row x) gone) come in
-    rw (left, right) at c.push_exchange.ensures
+    rw (left, right) at c.push_drops_then_puts.ensures

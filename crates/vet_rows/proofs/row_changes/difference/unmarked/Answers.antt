@@ -2,7 +2,7 @@ use Rattle.std.proofs.Common.{◌+◌, ◌∷◌, ◌++◌, [], ap, cond, false,
 use Rattle.std.proofs.lemmas.List.{length-append}
 use Rattle.vet_rows.specs.RowExchanges.{unmarked}
 use Rattle.vet_rows.proofs.Unmarked.{unmarked_more}
-use Rattle.vet_rows.proofs.row_changes.exchange.unmarked.Goals as goal
+use Rattle.vet_rows.proofs.row_changes.difference.unmarked.Goals as goal
 
 pub rows-preserved : goal.rows-preserved
 rows-preserved g c =

@@ -1,0 +1,126 @@
+-- The exchanges of a change are of tables one behind the other, and each table's is in one of their four parts.
+use Rattle.std.proofs.Common.{◌≡◌, ℕ, ◌<◌, ◌≤◌, List, [], ◌∷◌, ◌++◌, Option, Some, None, arith, refl, ◌∙◌}
+use Rattle.std.specs.List.{AllByRecursion}
+use Rattle.vet_desk.specs.declared.change.DeskChange.{DeskChange}
+use Rattle.vet_desk.specs.declared.change.DeskChange.TheVariants.{Join, Open, Turn, Finish}
+use Rattle.vet_desk.specs.Desk.{DeskState}
+use Rattle.vet_entries.specs.declared.facts.Edit.{Edit}
+use Rattle.vet_entries.specs.declared.facts.Edit.TheVariants as edit
+use Rattle.vet_entries.specs.Facts.{Facts}
+use Rattle.vet_register.specs.declared.change.Change.{Change}
+use Rattle.vet_register.specs.declared.change.DeskEdit.{DeskEdit}
+use Rattle.vet_register.specs.declared.held.HeldEdit.{HeldEdit}
+use Rattle.vet_register.specs.declared.held.HeldEdit.TheVariants as held
+use Rattle.vet_register.specs.declared.moves.Recording.{Recording}
+use Rattle.vet_register.specs.Held.{HeldValue}
+use Rattle.vet_register.specs.State.{State}
+use Rattle.vet_rows.proofs.ExchangeParts.{Rise, both, of_back, of_front, of_table, rises}
+use Rattle.vet_rows.specs.ChangedRows.{change_exchanges, meta_exchange}
+use Rattle.vet_rows.specs.DeskChanges.{desk_change_exchanges, desk_exchanges}
+use Rattle.vet_rows.specs.FactsRows.{fact_exchanges}
+use Rattle.vet_rows.specs.HeldChanges.{held_exchanges}
+use Rattle.vet_rows.specs.RowExchanges.{exchange_of}
+use Rattle.vet_rows.specs.StandingChanges.{move_exchanges}
+use Rattle.vet_rows.specs.declared.row_changes.exchange.Exchange.{Exchange}
+use Rattle.vet_tables.specs.Forms.{code}
+use Rattle.vet_tables.specs.declared.table_name.TableName.{TableName}
+use Rattle.vet_tables.specs.declared.table_name.TableName.TheVariants.{Edges, Nodes, Policies}
+
+-- ---- of each edit
+
+facts_rise : (e : Edit) (f : Facts) → Rise 1 8 (fact_exchanges e f)
+facts_rise (edit.Criteria criteria) f = (omega arith, omega arith)
+facts_rise (edit.Insert place h) f = (omega arith, omega arith)
+facts_rise (edit.Remove place) f = (omega arith, omega arith)
+facts_rise (edit.Peer change) f = (omega arith, (omega arith, (omega arith, omega arith)))
+facts_rise (edit.Settings settings) f = (omega arith, omega arith)
+facts_rise (edit.Content name content) f = (omega arith, (omega arith, omega arith))
+facts_rise (edit.Publishers change) f = (omega arith, omega arith)
+
+pub held_rise : (e : HeldEdit) (h : HeldValue) → Rise 1 8 (held_exchanges e h)
+held_rise held.Nothing h = omega arith
+held_rise (held.Facts e) h = facts_rise e h.facts
+held_rise (held.Policies e) h = (omega arith, omega arith)
+held_rise (held.Projects e) h = (omega arith, (omega arith, omega arith))
+held_rise (held.Files files) h =
+    (omega arith, (omega arith, (omega arith, (omega arith, (omega arith, omega arith)))))
+
+pub moves_rise : (recording : Recording) → Rise 8 10 (move_exchanges recording)
+moves_rise recording = (omega arith, (omega arith, omega arith))
+
+desk_change_rises : (c : DeskChange) (entry : Option ℕ) (d : DeskState) → Rise 10 12 (desk_change_exchanges c entry d)
+desk_change_rises (Join change) entry d = (omega arith, omega arith)
+desk_change_rises (Open review) entry d = (omega arith, omega arith)
+desk_change_rises (Turn place state) entry d = (omega arith, omega arith)
+desk_change_rises (Finish place made) None d = omega arith
+desk_change_rises (Finish place made) (Some number) d = (omega arith, omega arith)
+
+pub desk_rise : (e : Option DeskEdit) (d : DeskState) → Rise 10 12 (desk_exchanges e d)
+desk_rise None d = omega arith
+desk_rise (Some e) d = desk_change_rises e.change e.entry d
+
+-- an edit of facts leaves policies, nodes and edges
+pub facts_leave : (e : Edit) (f : Facts)
+    → (of_table (fact_exchanges e f) Policies ≡ exchange_of Policies [] [])
+    × ((of_table (fact_exchanges e f) Nodes ≡ exchange_of Nodes [] [])
+    × (of_table (fact_exchanges e f) Edges ≡ exchange_of Edges [] []))
+facts_leave (edit.Criteria criteria) f = (refl, (refl, refl))
+facts_leave (edit.Insert place h) f = (refl, (refl, refl))
+facts_leave (edit.Remove place) f = (refl, (refl, refl))
+facts_leave (edit.Peer change) f = (refl, (refl, refl))
+facts_leave (edit.Settings settings) f = (refl, (refl, refl))
+facts_leave (edit.Content name content) f = (refl, (refl, refl))
+facts_leave (edit.Publishers change) f = (refl, (refl, refl))
+
+-- ---- of a change
+
+module _ {K U : Type 0} (s : State) (change : Change K U) where
+  abbrev of_meta : List Exchange
+  of_meta = meta_exchange s change ∷ []
+
+  abbrev of_held : List Exchange
+  of_held = held_exchanges change.edit s.held
+
+  abbrev of_moves : List Exchange
+  of_moves = move_exchanges change.recording
+
+  abbrev of_desk : List Exchange
+  of_desk = desk_exchanges change.desk s.desk
+
+  meta_rises : Rise 0 1 of_meta
+  meta_rises = (omega arith, omega arith)
+
+  held_then : Rise 0 8 (of_meta ++ of_held)
+  held_then = rises of_meta of_held 0 1 8 meta_rises (held_rise change.edit s.held)
+
+  moves_then : Rise 0 10 ((of_meta ++ of_held) ++ of_moves)
+  moves_then = rises (of_meta ++ of_held) of_moves 0 8 10 held_then (moves_rise change.recording)
+
+  pub all_rise : Rise 0 12 (change_exchanges s change)
+  all_rise = rises ((of_meta ++ of_held) ++ of_moves) of_desk 0 10 12 moves_then (desk_rise change.desk s.desk)
+
+  -- what is held, the standing and moves, and the desk
+  pub held_part : (name : TableName) → 1 ≤ code name → code name < 8
+      → of_table (change_exchanges s change) name ≡ of_table (held_exchanges change.edit s.held) name
+  held_part name low high =
+      of_front ((of_meta ++ of_held) ++ of_moves) of_desk 10 12 name (desk_rise change.desk s.desk)
+      (omega (arith, high))
+      ∙ of_front (of_meta ++ of_held) of_moves 8 10 name (moves_rise change.recording) high
+      ∙ of_back of_meta of_held 0 1 name meta_rises low
+
+  pub moves_part : (name : TableName) → 8 ≤ code name → code name < 10
+      → of_table (change_exchanges s change) name ≡ of_table (move_exchanges change.recording) name
+  moves_part name low high =
+      of_front ((of_meta ++ of_held) ++ of_moves) of_desk 10 12 name (desk_rise change.desk s.desk) high
+      ∙ of_back (of_meta ++ of_held) of_moves 0 8 name held_then low
+
+  pub desk_part : (name : TableName) → 10 ≤ code name
+      → of_table (change_exchanges s change) name ≡ of_table (desk_exchanges change.desk s.desk) name
+  desk_part name low = of_back ((of_meta ++ of_held) ++ of_moves) of_desk 0 10 name moves_then low
+
+  -- what holds of each exchange of the parts holds of all
+  pub of_parts : (Q : Exchange → Type 0) → Q (meta_exchange s change) → AllByRecursion Q of_held
+      → AllByRecursion Q of_moves → AllByRecursion Q of_desk → AllByRecursion Q (change_exchanges s change)
+  of_parts Q first then_held then_moves then_desk =
+      both Q ((of_meta ++ of_held) ++ of_moves) of_desk
+      (both Q (of_meta ++ of_held) of_moves (first, then_held) then_moves) then_desk

@@ -1,0 +1,121 @@
+//! The changes of an exchange of rows: in a table that may have thousands of rows, only of those that differ.
+ghost use Rattle.std.specs.Prelude.{◌≡◌, ◌++◌, ◌∷◌, [], IfOk, OnOk, cond, length, map};
+ghost use Rattle.vet_rows.specs.RowExchanges.{drops_then_puts, exchange_of, is_compared, less, row_changes_of};
+ghost use Rattle.vet_rows.specs.RowExchanges.{unmarked};
+ghost use Rattle.vet_rows.specs.declared.row_change.RowChange.TheVariants as change;
+
+use crate::row_change::RowChange;
+use std::alloc::{AllocError, Global};
+use vet_tables::same_items::marks_among;
+use vet_tables::sequence::Row;
+use vet_tables::table_name::TableName;
+
+/// Pushes the changes by which some rows of a table are removed and others added, or those of them that differ. Fails
+/// only if memory runs out.
+pub fn push_rows(
+    alloc: Global,
+    changes: &mut Vec<RowChange>,
+    table: TableName,
+    removed: Vec<Row>,
+    added: Vec<Row>,
+) -> Result<(), AllocError>
+    ensures { OnOk result (changes.new.items
+        ≡ changes.old.items ++ row_changes_of (exchange_of table removed.items added.items)) }
+{
+    if is_compared(table) {
+        return push_difference(alloc, changes, table, removed, added);
+    }
+    push_drops_then_puts(changes, table, removed, added)
+}
+
+// Pushes the changes by which some rows of a table are removed, and then others added.
+fn push_drops_then_puts(
+    changes: &mut Vec<RowChange>,
+    table: TableName,
+    removed: Vec<Row>,
+    added: Vec<Row>,
+) -> Result<(), AllocError>
+    ensures { OnOk result (changes.new.items ≡ changes.old.items ++ drops_then_puts table removed.items added.items) }
+{
+    push_drops(changes, table, removed)?;
+    push_puts(changes, table, added)
+}
+
+// The same, but rows that would be removed and added again stay. Costs a search for each row among the others.
+fn push_difference(
+    alloc: Global,
+    changes: &mut Vec<RowChange>,
+    table: TableName,
+    removed: Vec<Row>,
+    added: Vec<Row>,
+) -> Result<(), AllocError>
+    ensures { OnOk result (changes.new.items ≡ changes.old.items
+        ++ drops_then_puts table (less removed.items added.items) (less added.items removed.items)) }
+{
+    let stay = marks_among(alloc, removed.as_slice(), added.as_slice())?;
+    let stand = marks_among(alloc, added.as_slice(), removed.as_slice())?;
+    let removed = unmarked(alloc, removed, stay.as_slice())?;
+    let added = unmarked(alloc, added, stand.as_slice())?;
+    push_drops_then_puts(changes, table, removed, added)
+}
+
+// The rows that have no mark.
+fn unmarked<R: Drop>(alloc: Global, rows: Vec<R>, marks: &[bool]) -> Result<Vec<R>, AllocError>
+    requires { length marks.now ≡ length rows.items }
+    ensures { IfOk result (λ left. left.items ≡ unmarked rows.items marks.now) }
+{
+    let mut left = Vec::new(alloc);
+    let mut at = 0;
+    'rows: for row in rows {
+        push_unless(&mut left, row, marks[at])?;
+        at += 1;
+    }
+    Ok(left)
+}
+
+// Adds a row unless it has a mark.
+fn push_unless<R: Drop>(left: &mut Vec<R>, row: R, mark: bool) -> Result<(), AllocError>
+    ensures { OnOk result (left.new.items ≡ left.old.items ++ cond mark [] (row ∷ [])) }
+{
+    if mark {
+        return Ok(());
+    }
+    left.push(row)?;
+    Ok(())
+}
+
+fn push_drops(
+    changes: &mut Vec<RowChange>,
+    table: TableName,
+    rows: Vec<Row>,
+) -> Result<(), AllocError>
+    ensures { OnOk result (changes.new.items ≡ changes.old.items ++ map (λ r. change.Drop table r) rows.items) }
+{
+    'rows: for row in rows {
+        changes.push(RowChange::Drop(table, row))?;
+    }
+    Ok(())
+}
+
+fn push_puts(
+    changes: &mut Vec<RowChange>,
+    table: TableName,
+    rows: Vec<Row>,
+) -> Result<(), AllocError>
+    ensures { OnOk result (changes.new.items ≡ changes.old.items ++ map (λ r. change.Put table r) rows.items) }
+{
+    'rows: for row in rows {
+        changes.push(RowChange::Put(table, row))?;
+    }
+    Ok(())
+}
+
+// Whether rows of a table stay that would be removed and added again: for tables that may have thousands of rows.
+fn is_compared(table: TableName) -> bool
+    ensures { result ≡ is_compared table }
+{
+    match table {
+        TableName::Entries | TableName::Publishers | TableName::Nodes | TableName::Edges => true,
+        _ => false,
+    }
+}
