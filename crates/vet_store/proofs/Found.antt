@@ -1,5 +1,6 @@
 -- What the next open finds: the same trees are the same database.
-use Rattle.std.proofs.Common.{◌≡◌, ◌⊎◌, ◌↔◌, ◌<◌, ◌≤◌, ℕ, inl, inr, None, Option, Some, sym, ap, ap₂, subst, ◌∙◌}
+use Rattle.std.proofs.Common.{◌≡◌, ◌⊎◌, ◌<◌, ◌≤◌, ℕ, IsTrue, inl, inr, None, Option, Some, refl, sym, ap, ap₂, subst}
+use Rattle.std.proofs.Common.{◌∙◌}
 use Rattle.std.specs.List.{All}
 use Rattle.std.proofs.lemmas.List.Elements.{All-nil}
 use Rattle.sqlite.proofs.Callers.{finds_again}
@@ -26,13 +27,15 @@ use Rattle.vet_register.specs.State.{State, start}
 use Rattle.vet_rows.specs.HeldState.{IsHeldState}
 use Rattle.vet_rows.specs.RowsOf.{rows_of}
 use Rattle.vet_rows.specs.Values.{IsCriterion}
+use Rattle.vet_store.proofs.OneRows.{one_rows}
 use Rattle.vet_store.proofs.StartRows.{none_further}
 use Rattle.vet_store.specs.Committed.{AreTreesOf}
-use Rattle.vet_store.specs.CrashLaws.{CreateLeaves, HasNone, IsLeft, IsState, LeavesShown, OpenLeaves, RunLeaves}
+use Rattle.vet_store.specs.CrashLaws.{CreateLeaves, IsState, OpenLeaves, RunLeaves, TiedLeaves}
 use Rattle.vet_store.specs.Opened.{IsStored}
 use Rattle.vet_store.specs.Stands.{Holds}
 use Rattle.vet_store.specs.Tied.{IsTied}
 use Rattle.vet_tables.proofs.Extends.{unused}
+use Rattle.vet_tables.specs.Extends.{SparesOthers}
 use Rattle.vet_tables.specs.Free.{AreFree}
 use Rattle.vet_tables.specs.Has.{HasTables}
 use Rattle.vet_tables.specs.declared.table_name.TableName.TheVariants.{Meta}
@@ -89,18 +92,21 @@ module _ {S : Type 0} (g : Ghosts S) where
         | inl before ↦
             (let same = same_database db (state g old).now (shown db.trees before) is.sound live in
             let frees : AreFree db.schema = subst (λ (d : Database). AreFree d.schema) (sym same) free in
-            inl (record { none = free_has_none db frees; free = frees }))
+            inl (record { none = free_has_none db frees; free = frees; same = same }))
         | inr made ↦
-            inr (left_of db (start limit) is.sound
-            (record { sound = start_is_sound law limit first_table limits; held = start_is_held limit })
-            (made.0, made.1, (made.2 rests free).0))
+            (let it = made.2 rests free in
+            let same = same_database db made.0 made.1 is.sound it.0.sound in
+            inr (record {
+              stored = left_of db (start limit) is.sound
+                  (record { sound = start_is_sound law limit first_table limits; held = start_is_held limit })
+                  (made.0, made.1, it.0);
+              others = subst (SparesOthers (state g old).now) (sym same) it.1;
+            }))
       ]
 
   pub open_leaves : OpenLeaves g
-  open_leaves old new db live shown survives clean is s = elim (survives.crash clean db.trees is.left) [
-    | inl before ↦
-        (let same = same_database db (state g old).now (shown db.trees before) is.sound live in
-        (subst (λ d. IsStored d s) same, subst (λ d. IsStored d s) (sym same)))
+  open_leaves old new db live shown survives clean is = elim (survives.crash clean db.trees is.left) [
+    | inl before ↦ same_database db (state g old).now (shown db.trees before) is.sound live
     | inr none ↦ absurd none
   ]
 
@@ -109,6 +115,22 @@ module _ {S : Type 0} (g : Ghosts S) where
     | inl h ↦ inl (left_of db s is.sound before h)
     | inr h ↦ inr (left_of db _ is.sound after h)
   ]
+
+  -- while a connection serves, a crash leaves the last commit
+  pub tied_leaves : ((store : S) (trees : Trees) → IsTrue (g.view store).is_open → g.recovers store trees
+      → trees ≡ (g.view store).committed) → TiedLeaves g
+  tied_leaves settled c s db is tied clean left =
+      let here = left_of db s left.sound is (tied.leaves clean refl db.trees left.left) in (
+        record {
+          stored = here;
+          only = λ t there. one_rows db (rows_of s) (rows_of t) here.holds there.holds;
+        },
+        λ serves.
+            let stands = tied.stands clean serves in
+            same_database db (state g c).now
+            (settled c.store db.trees serves left.left ∙ ap (λ (d : Database). d.trees) (sym stands.rests.settled))
+            left.sound stands.holds.sound,
+      )
 
 -- ---- files that are closed and opened again
 

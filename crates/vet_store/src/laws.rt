@@ -2,10 +2,11 @@
 //!
 //! **Whatever a register holds, each demanded pair stands in the class that chains give it. Two runs one after the
 //! other are one run of the commands of both. Each leaves what the machine makes alone of the commands that were
-//! done. After a crash the next open finds the state before the command or after it.**
+//! done. After a crash the next open finds the state before the command or after it; and of a store that is not shut,
+//! the state of its register.**
 ghost use Rattle.vet_register.specs.Sound.{IsBalanced};
 ghost use Rattle.vet_store.specs.Classes.{AddsUp, HasClassesOfChains};
-ghost use Rattle.vet_store.specs.CrashLaws.{CreateLeaves, OpenLeaves, RunLeaves};
+ghost use Rattle.vet_store.specs.CrashLaws.{CreateLeaves, OpenLeaves, RunLeaves, TiedLeaves};
 ghost use Rattle.vet_store.specs.RunLaws.{RunsKeepDone, TwoRunsAreOne};
 
 use sqlite::Alter;
@@ -36,16 +37,16 @@ pub fn runs_keep_done()
     ensures { RunsKeepDone }
 {}
 
-/// After `Store::create`, where all names were free, a crash leaves a database without a register, in which `create`
-/// may be called again, or one that has the first state. Asks that a crash left what the connection showed as `create`
-/// began. Does nothing.
+/// After `Store::create`, where all names were free, a crash leaves the database as it was, in which `create` may be
+/// called again, or one that has the first state beside all that was there. Asks that a crash left what the connection
+/// showed as `create` began. Does nothing.
 pub fn create_leaves_nothing_or_the_first_state<S: Alter>()
     ensures { CreateLeaves S.Store }
 {
     nothing_is_demanded();
 }
 
-/// After `Store::open` a crash leaves a database that has the same state as before, or none as before. Asks that a
+/// After `Store::open` a crash leaves the same database, with the same state as before, or none as before. Asks that a
 /// crash left what the connection showed as `open` began. Does nothing.
 pub fn open_leaves_the_same_state<S: Alter>()
     ensures { OpenLeaves S.Store }
@@ -55,4 +56,10 @@ pub fn open_leaves_the_same_state<S: Alter>()
 /// nothing.
 pub fn run_leaves_the_state_before_or_after<S: Alter>()
     ensures { RunLeaves S.Store }
+{}
+
+/// While a store is not shut, a crash leaves a database that has the state of its register, and no state whose rows are
+/// others. As long as its connection serves, it is the database that this shows. Does nothing.
+pub fn a_crash_leaves_the_registers_state<S: Alter>()
+    ensures { TiedLeaves S.Store }
 {}
