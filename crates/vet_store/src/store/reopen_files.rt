@@ -1,11 +1,20 @@
 //! The files of a store are closed, and opened again.
 //!
-//! **What is opened has the state that was closed.** A close copies the log into the database file, so the next open
-//! finds the last commit, whose rows are those of the register.
-ghost use Rattle.std.specs.Prelude.{◌≡◌, IfErr, IfOk};
+//! **What is opened has the state that was closed, and goes on as a store that was opened.** A close copies the log
+//! into the database file, so the next open finds the last commit, whose rows are those of the register. A refusal
+//! loses nothing that was committed, and gives back what remains.
+ghost use Rattle.std.specs.Prelude.{◌≡◌, false, IfErr, IfOk, IsTrue, MatchResult};
 ghost use Rattle.sqlite.specs.Files.{file_state};
+ghost use Rattle.sqlite.specs.Held.{IsNew};
 ghost use Rattle.sqlite.specs.State.{HasCleanDisk};
-ghost use Rattle.vet_store.specs.Reopened.{RefusesAgain};
+ghost use Rattle.vet_register.specs.Sound.{IsSound};
+ghost use Rattle.vet_register.specs.State as machine;
+ghost use Rattle.vet_rows.specs.HeldState.{IsHeldState};
+ghost use Rattle.vet_rows.specs.RowsOf.{rows_of};
+ghost use Rattle.vet_store.specs.Opened.{IsStored};
+ghost use Rattle.vet_store.specs.Reopened.{LeavesAgain, NothingIsLost, OfConn, RefusesAgain, ShowsAgain};
+ghost use Rattle.vet_store.specs.Stands.{Holds};
+ghost use Rattle.vet_store.specs.Tied.{IsTied};
 
 use super::Store;
 use crate::refused::refusal_of;
@@ -64,7 +73,8 @@ impl<D: Disk + Drop> NotReopened<D> {
 
 impl<D: Disk + Drop, K: Keeper> Store<FileStore<D>, K> {
     /// Closes the files of the store, opens them again with these options, and reads the register. A store that is shut
-    /// cannot be closed. Refused, as long as the connection serves on a clean disk: `NoMemory` or `StoreRefused`.
+    /// cannot be closed. A refusal gives back what remains. Refused, as long as the connection serves on a clean disk:
+    /// `NoMemory` or `StoreRefused`.
     pub fn reopen_files(
         self,
         alloc: Global,
@@ -72,7 +82,26 @@ impl<D: Disk + Drop, K: Keeper> Store<FileStore<D>, K> {
     ) -> Result<Store<FileStore<D>, K>, NotReopened<D>>
         ensures same { IfOk result (λ s. HasCleanDisk (file_state s.conn)
             → s.register.state ≡ self.register.state) }
+        ensures found { IfOk result (λ s. HasCleanDisk (file_state s.conn)
+            → Holds (file_state self.conn).now (rows_of s.register.state)) }
+        ensures sound { IfOk result (λ s. IsSound s.register.state) }
+        ensures held { IfOk result (λ s. IsHeldState s.register.state) }
+        ensures only { IfOk result (λ s. HasCleanDisk (file_state s.conn)
+            → (t : machine.State) → IsStored (file_state self.conn).now t → s.register.state ≡ t) }
+        ensures tables { IfOk result (λ s. (s.shut ≡ false)
+            × IsTied (file_state s.conn) s.shut (rows_of s.register.state)) }
+        ensures outside { IfOk result (λ s. s.conn.in_transaction ≡ false) }
+        ensures unchanged { IfOk result (λ s. HasCleanDisk (file_state s.conn)
+            → ShowsAgain (file_state self.conn) (file_state s.conn)) }
+        ensures fresh { IfOk result (λ s. HasCleanDisk (file_state s.conn) → IsNew s.conn) }
+        ensures guarded { IfOk result (λ s. HasCleanDisk (file_state s.conn) → (file_state s.conn).IsShielded) }
         ensures refused { IfErr result (λ e. RefusesAgain e.remains e.refusal) }
+        ensures as_before { IfErr result (λ e. OfConn e.remains (λ c. HasCleanDisk (file_state c)
+            → IsTrue (file_state c).is_open → ShowsAgain (file_state self.conn) (file_state c))) }
+        ensures lost { IfErr result (λ e. NothingIsLost self.conn self.register.state e.remains) }
+        ensures crash { MatchResult result
+            (λ s. LeavesAgain (file_state self.conn) (file_state s.conn))
+            (λ e. OfConn e.remains (λ c. LeavesAgain (file_state self.conn) (file_state c))) }
     {
         register_is_held(self.register());
         let _sound = self.register().facts();
