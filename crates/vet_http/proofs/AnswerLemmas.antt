@@ -28,9 +28,9 @@ use Rattle.vet_requests.specs.Request.{RequestValue}
 use Rattle.vet_requests.specs.Route.{asked_at, asked_by, told_methods}
 use Rattle.vet_requests.specs.Path.{route_at, route_of}
 use Rattle.vet_requests.specs.declared.reply.Reply.{Reply}
-use Rattle.vet_requests.specs.declared.route.Asked.{Asked}
-use Rattle.vet_requests.specs.declared.route.Asked.TheVariants.{Runs, Shows}
-use Rattle.vet_requests.specs.declared.route.Given.{Given}
+use Rattle.vet_requests.specs.declared.route.RouteAction.{RouteAction}
+use Rattle.vet_requests.specs.declared.route.RouteAction.TheVariants.{Runs, Shows}
+use Rattle.vet_requests.specs.declared.route.BodyKind.{BodyKind}
 use Rattle.vet_requests.specs.declared.route.Route.{Route}
 use Rattle.vet_requests.specs.declared.route.Shown.{Shown}
 use Rattle.vet_requests.specs.declared.status.Status.TheVariants as status
@@ -108,27 +108,27 @@ on_err (Err e) P h = h
 -- ---- a route
 
 -- what is asked by the method of a request
-pub asks : (method given : Bytes) (route : Route) (asked : Option Asked) (x y : Asked)
+pub asks : (method given : Bytes) (route : Route) (asked : Option RouteAction) (x y : RouteAction)
     → asked ≡ asked_by given (asked_at route) → given ≡ method → asked ≡ Some x → x ≡ y
     → asked_by method (asked_at route) ≡ Some y
 asks method given route asked x y told is some same =
     ap (λ (m : Bytes). asked_by m (asked_at route)) (sym is) ∙ sym told ∙ some
-    ∙ ap (λ (z : Asked). Some z) same
+    ∙ ap (λ (z : RouteAction). Some z) same
 
-pub asks_nothing : (method given : Bytes) (route : Route) (asked : Option Asked)
+pub asks_nothing : (method given : Bytes) (route : Route) (asked : Option RouteAction)
     → asked ≡ asked_by given (asked_at route) → given ≡ method → asked ≡ None
     → asked_by method (asked_at route) ≡ None
 asks_nothing method given route asked told is none =
     ap (λ (m : Bytes). asked_by m (asked_at route)) (sym is) ∙ sym told ∙ none
 
-module _ (route : Route) (asked : Option Asked) (day : DayValue) (r : RequestValue) (s : State) where
+module _ (route : Route) (asked : Option RouteAction) (day : DayValue) (r : RequestValue) (s : State) where
   -- what is asked is shown
   pub by_shown : (what given : Shown) (text : Bytes) (held : State) (reply : Reply) → asked ≡ Some (Shows what)
       → given ≡ what → text ≡ r.target → held ≡ s → IsShown given text held reply
       → IsByMethod route asked day r s reply s
   unfolding IsByMethod
   by_shown what given text held reply is same is_text is_held shown =
-      subst (λ (o : Option Asked). IsByMethod route o day r s reply s) (sym is) (
+      subst (λ (o : Option RouteAction). IsByMethod route o day r s reply s) (sym is) (
         subst (λ (t : Bytes). IsShown what t s reply) is_text
             (subst (λ (t : State). IsShown what text t reply) is_held
             (subst (λ (x : Shown). IsShown x text held reply) same shown)),
@@ -136,14 +136,14 @@ module _ (route : Route) (asked : Option Asked) (day : DayValue) (r : RequestVal
       )
 
   -- or it is run
-  pub by_run : (what given : Given) (text : Bytes) (reply : Reply) (end : State) → asked ≡ Some (Runs what)
+  pub by_run : (what given : BodyKind) (text : Bytes) (reply : Reply) (end : State) → asked ≡ Some (Runs what)
       → given ≡ what → text ≡ r.target → IsRun (given_told given day text r) s reply end
       → IsByMethod route asked day r s reply end
   unfolding IsByMethod
   by_run what given text reply end is same is_text run =
-      subst (λ (o : Option Asked). IsByMethod route o day r s reply end) (sym is)
+      subst (λ (o : Option RouteAction). IsByMethod route o day r s reply end) (sym is)
       (subst (λ (t : Bytes). IsRun (given_told what day t r) s reply end) is_text
-      (subst (λ (x : Given). IsRun (given_told x day text r) s reply end) same run))
+      (subst (λ (x : BodyKind). IsRun (given_told x day text r) s reply end) same run))
 
   -- what is refused is of the store, or is told so
   pub shown_refused : (what given : Shown) (text : Bytes) (held : State) (e : Refusal) → asked ≡ Some (Shows what)
@@ -153,7 +153,7 @@ module _ (route : Route) (asked : Option Asked) (day : DayValue) (r : RequestVal
   shown_refused what given text held e is same is_text is_held (inr shown) =
       inr (by_shown what given text held (refusal_reply e) is same is_text is_held shown)
 
-  pub run_refused : (what given : Given) (text : Bytes) (e : Refusal) → asked ≡ Some (Runs what) → given ≡ what
+  pub run_refused : (what given : BodyKind) (text : Bytes) (e : Refusal) → asked ≡ Some (Runs what) → given ≡ what
       → text ≡ r.target → IsOfStore e ⊎ IsRun (given_told given day text r) s (refusal_reply e) s
       → IsOfStore e ⊎ IsByMethod route asked day r s (refusal_reply e) s
   run_refused what given text e is same is_text (inl of_store) = inl of_store
@@ -165,7 +165,7 @@ module _ (route : Route) (asked : Option Asked) (day : DayValue) (r : RequestVal
       → IsByMethod route asked day r s reply s
   unfolding IsByMethod
   by_none reply is lacks =
-      subst (λ (o : Option Asked). IsByMethod route o day r s reply s) (sym is) (lacks, refl)
+      subst (λ (o : Option RouteAction). IsByMethod route o day r s reply s) (sym is) (lacks, refl)
 
 module _ (found : Option Route) (day : DayValue) (r : RequestValue) (s : State) where
   -- at a route the method is looked at

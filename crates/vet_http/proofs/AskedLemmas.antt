@@ -21,9 +21,9 @@ use Rattle.vet_http.specs.Told.{outcome_reply}
 use Rattle.vet_http.specs.declared.answer.Answered.{Answered}
 use Rattle.vet_http.specs.declared.answer.Answered.TheVariants as answered
 use Rattle.vet_requests.specs.declared.reply.Reply.{Reply}
-use Rattle.vet_requests.specs.declared.route.Asked.{Asked}
-use Rattle.vet_requests.specs.declared.route.Asked.TheVariants.{Runs, Shows}
-use Rattle.vet_requests.specs.declared.route.Given.{Given}
+use Rattle.vet_requests.specs.declared.route.RouteAction.{RouteAction}
+use Rattle.vet_requests.specs.declared.route.RouteAction.TheVariants.{Runs, Shows}
+use Rattle.vet_requests.specs.declared.route.BodyKind.{BodyKind}
 use Rattle.vet_requests.specs.declared.route.Route.{Route}
 use Rattle.vet_requests.specs.declared.route.Shown.{Shown}
 use Rattle.vet_register.specs.State.{State}
@@ -53,19 +53,19 @@ unfolding given_in
 in_refused given e is = ap given_in is
 
 module _ (day : DayValue) (r : RequestValue) where
-  pub by_shown : (asked : Option Asked) (what : Shown) → asked ≡ Some (Shows what) → None ≡ given_by day r asked
+  pub by_shown : (asked : Option RouteAction) (what : Shown) → asked ≡ Some (Shows what) → None ≡ given_by day r asked
   unfolding given_by
   by_shown asked what is = sym (ap (given_by day r) is)
 
-  pub by_lacking : (asked : Option Asked) → asked ≡ None → None ≡ given_by day r asked
+  pub by_lacking : (asked : Option RouteAction) → asked ≡ None → None ≡ given_by day r asked
   unfolding given_by
   by_lacking asked is = sym (ap (given_by day r) is)
 
-  pub by_giving : (asked : Option Asked) (what given : Given) (text : Bytes) → asked ≡ Some (Runs what)
+  pub by_giving : (asked : Option RouteAction) (what given : BodyKind) (text : Bytes) → asked ≡ Some (Runs what)
       → given ≡ what → text ≡ r.target → given_in (given_told given day text r) ≡ given_by day r asked
   unfolding given_by
   by_giving asked what given text is same is_text =
-      ap (λ (x : Given). given_in (given_told x day text r)) same
+      ap (λ (x : BodyKind). given_in (given_told x day text r)) same
       ∙ ap (λ (t : Bytes). given_in (given_told what day t r)) is_text ∙ sym (ap (given_by day r) is)
 
   pub at_found : (found : Option Route) (route : Route) → found ≡ Some route

@@ -24,8 +24,8 @@ use Rattle.vet_requests.specs.Route.{asked_at, asked_by}
 use Rattle.vet_requests.specs.declared.io_fault.IoFault.{IoFault}
 use Rattle.vet_requests.specs.declared.io_fault.IoFault.TheVariants.{Input, Output, Endless, NoMemory}
 use Rattle.vet_requests.specs.declared.reply.Reply.{Reply}
-use Rattle.vet_requests.specs.declared.route.Asked.{Asked}
-use Rattle.vet_requests.specs.declared.route.Asked.TheVariants.{Runs, Shows}
+use Rattle.vet_requests.specs.declared.route.RouteAction.{RouteAction}
+use Rattle.vet_requests.specs.declared.route.RouteAction.TheVariants.{Runs, Shows}
 use Rattle.vet_requests.specs.declared.route.Route.{Route}
 use Rattle.vet_store.specs.Runs.{is_done, machine}
 
@@ -47,7 +47,7 @@ by_run (Ok c) s end reply run = elim (by_verdict s c (verdict s c)) [
   | inr done ↦ inr (c, (refl, (done, run.1)))
 ]
 
-by_asked : (day : DayValue) (r : RequestValue) (route : Route) (asked : Option Asked) (s end : State) (reply : Reply)
+by_asked : (day : DayValue) (r : RequestValue) (route : Route) (asked : Option RouteAction) (s end : State) (reply : Reply)
     → IsByMethod route asked day r s reply end → Settles (given_by day r asked) s end
 unfolding IsByMethod given_by
 by_asked day r route None s end reply h = inl h.1

@@ -14,8 +14,8 @@ use Rattle.vet_requests.specs.Request.{RequestValue}
 use Rattle.vet_requests.specs.Route.{asked_at, asked_by, told_methods}
 use Rattle.vet_requests.specs.Path.{route_of}
 use Rattle.vet_requests.specs.declared.reply.Reply.{Reply}
-use Rattle.vet_requests.specs.declared.route.Asked.{Asked}
-use Rattle.vet_requests.specs.declared.route.Asked.TheVariants.{Runs, Shows}
+use Rattle.vet_requests.specs.declared.route.RouteAction.{RouteAction}
+use Rattle.vet_requests.specs.declared.route.RouteAction.TheVariants.{Runs, Shows}
 use Rattle.vet_requests.specs.declared.route.Route.{Route}
 use Rattle.vet_requests.specs.declared.status.Status.TheVariants as status
 
@@ -29,12 +29,12 @@ IsRun (Ok command) s reply end = (reply ≡ command_reply (told s command)) × (
 IsRun (Err refusal) s reply end = Stays (refusal_reply refusal) reply s end
 
 -- what is asked is answered
-abbrev pub IsAnswered : Asked → DayValue → RequestValue → State → Reply → State → Type 0
+abbrev pub IsAnswered : RouteAction → DayValue → RequestValue → State → Reply → State → Type 0
 IsAnswered (Shows what) day r s reply end = IsShown what r.target s reply × (end ≡ s)
 IsAnswered (Runs given) day r s reply end = IsRun (given_told given day r.target r) s reply end
 
 -- a method that the route lacks: the reply tells those that it has
-unfoldable pub IsByMethod : Route → Option Asked → DayValue → RequestValue → State → Reply → State → Type 0
+unfoldable pub IsByMethod : Route → Option RouteAction → DayValue → RequestValue → State → Reply → State → Type 0
 IsByMethod route None day r s reply end = Stays (not_allowed (told_methods (asked_at route))) reply s end
 IsByMethod route (Some asked) day r s reply end = IsAnswered asked day r s reply end
 

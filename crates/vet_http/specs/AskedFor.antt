@@ -7,8 +7,8 @@ use Rattle.vet_register.specs.declared.command.Command.{Command}
 use Rattle.vet_requests.specs.Request.{RequestValue}
 use Rattle.vet_requests.specs.Route.{asked_at, asked_by}
 use Rattle.vet_requests.specs.Path.{route_of}
-use Rattle.vet_requests.specs.declared.route.Asked.{Asked}
-use Rattle.vet_requests.specs.declared.route.Asked.TheVariants.{Runs, Shows}
+use Rattle.vet_requests.specs.declared.route.RouteAction.{RouteAction}
+use Rattle.vet_requests.specs.declared.route.RouteAction.TheVariants.{Runs, Shows}
 use Rattle.vet_requests.specs.declared.route.Route.{Route}
 
 -- a command that is told
@@ -17,7 +17,7 @@ given_in (Ok command) = Some command
 given_in (Err refusal) = None
 
 -- the command of what is asked
-unfoldable pub given_by : DayValue → RequestValue → Option Asked → Option Command
+unfoldable pub given_by : DayValue → RequestValue → Option RouteAction → Option Command
 given_by day r None = None
 given_by day r (Some (Shows what)) = None
 given_by day r (Some (Runs given)) = given_in (given_told given day r.target r)

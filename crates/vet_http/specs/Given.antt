@@ -11,8 +11,8 @@ use Rattle.vet_register.specs.declared.command.Action.TheVariants.{ImportPeer, L
 use Rattle.vet_register.specs.declared.command.Command.{Command}
 use Rattle.vet_requests.specs.Parameter.{first_parameter, name_told, package_told}
 use Rattle.vet_requests.specs.Request.{RequestValue}
-use Rattle.vet_requests.specs.declared.route.Given.{Given}
-use Rattle.vet_requests.specs.declared.route.Given.TheVariants.{Document, Peer, Project}
+use Rattle.vet_requests.specs.declared.route.BodyKind.{BodyKind}
+use Rattle.vet_requests.specs.declared.route.BodyKind.TheVariants.{Document, Peer, Project}
 
 -- the dependency table is that of the project which is the parameter; that one is looked at first
 abbrev pub project_given : Text → RequestValue → Told Action
@@ -33,7 +33,7 @@ abbrev pub on_day : DayValue → Action → Told Command
 on_day day action = Ok (record { day = day; action = action })
 
 -- the command that is given on a day
-unfoldable pub given_told : Given → DayValue → Text → RequestValue → Told Command
+unfoldable pub given_told : BodyKind → DayValue → Text → RequestValue → Told Command
 given_told Project day target r = project_given target r >>= on_day day
 given_told Peer day target r = peer_given target r >>= on_day day
 given_told Document day target r = command_told r.body day r.member

@@ -36,7 +36,7 @@ use vet_register::command::{Command, Outcome};
 use vet_register::register::Register;
 use vet_requests::reply::Reply;
 use vet_requests::request::Request;
-use vet_requests::route::{Asked, Given, Route, Routes, Shown};
+use vet_requests::route::{BodyKind, Route, RouteAction, Routes, Shown};
 use vet_requests::status::Status;
 use vet_store::store::Store;
 
@@ -214,8 +214,8 @@ fn answer_by_method<S: Alter, K: Keeper>(
         (state S.Store store.new.conn) result }
 {
     match route.asked(request.method()) {
-        Some(Asked::Shows(what)) => shown(alloc, store.register(), what, target),
-        Some(Asked::Runs(given)) => run_given(alloc, store, day, given, target, request),
+        Some(RouteAction::Shows(what)) => shown(alloc, store.register(), what, target),
+        Some(RouteAction::Runs(given)) => run_given(alloc, store, day, given, target, request),
         None => not_allowed(alloc, route),
     }
 }
@@ -249,7 +249,7 @@ fn run_given<S: Alter, K: Keeper>(
     alloc: Global,
     store: &mut Store<S, K>,
     day: Day,
-    given: Given,
+    given: BodyKind,
     target: &str,
     request: &Request,
 ) -> Result<Answered, Refusal>

@@ -13,14 +13,14 @@ use vet_files::imports_file::read_peer;
 use vet_register::command::{Action, Command};
 use vet_requests::parameter::first_parameter;
 use vet_requests::request::Request;
-use vet_requests::route::Given;
+use vet_requests::route::BodyKind;
 
 /// The command that the body of a request gives on a day. Refused: `BadName` of a parameter, before the body is looked
 /// at, and what the reader of the body refuses. `NoMemory` can come at any point.
 #[tactic(auto, unfolding(crate::specs::Given::given_told))]
 pub(crate) fn read_given(
     alloc: Global,
-    given: Given,
+    given: BodyKind,
     day: Day,
     target: &str,
     request: &Request,
@@ -28,15 +28,15 @@ pub(crate) fn read_given(
     ensures { Gives (λ c. c) (given_told given day target.now request.now) result }
 {
     match given {
-        Given::Project => {
+        BodyKind::Project => {
             let action = read_given_project(alloc, target, request)?;
             Ok(Command { day, action })
         }
-        Given::Peer => {
+        BodyKind::Peer => {
             let action = read_given_peer(alloc, target, request)?;
             Ok(Command { day, action })
         }
-        Given::Document => read_command(alloc, request.body(), day, request.member()),
+        BodyKind::Document => read_command(alloc, request.body(), day, request.member()),
     }
 }
 

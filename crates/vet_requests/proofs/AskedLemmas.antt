@@ -11,7 +11,7 @@ use Rattle.httparse.specs.declared.spans.Span.{Span}
 use Rattle.vet_requests.specs.Fields.{AskedValue, IsAskedWithin, asked_at, member_at}
 use Rattle.vet_requests.specs.Request.{request_of, rest_told}
 use Rattle.vet_requests.specs.RequestFault.{◌>>=◌}
-use Rattle.vet_requests.specs.declared.fields.Asked.{Asked}
+use Rattle.vet_requests.specs.declared.fields.HeadSpans.{HeadSpans}
 use Rattle.vet_requests.specs.declared.request_fault.RequestFault.TheVariants.{BadRequest}
 
 span_more : (a b : List ℕ) (s : Span) → IsWithin (length a) s → span_bytes (a ++ b) s ≡ span_bytes a s
@@ -27,7 +27,7 @@ member_more : (a b : List ℕ) (member : Option Span) → IfSome member (IsWithi
 member_more a b None within = refl
 member_more a b (Some span) within = ap Some (span_more a b span within)
 
-pub asked_more : (a b : List ℕ) (asked : Asked) → IsAskedWithin (length a) asked
+pub asked_more : (a b : List ℕ) (asked : HeadSpans) → IsAskedWithin (length a) asked
     → asked_at (a ++ b) asked ≡ asked_at a asked
 asked_more a b asked within =
     rw (
@@ -67,7 +67,7 @@ body_cut asked begun more short =
     Ok (request_of asked body)) cut)
 
 -- where the parts stand in the front of some bytes, they stand in the bytes
-pub asked_front : (n : ℕ) (bytes : List ℕ) (asked : Asked) → IsAskedWithin (length (take n bytes)) asked
+pub asked_front : (n : ℕ) (bytes : List ℕ) (asked : HeadSpans) → IsAskedWithin (length (take n bytes)) asked
     → asked_at bytes asked ≡ asked_at (take n bytes) asked
 asked_front n bytes asked within =
     ap (λ (bs : List ℕ). asked_at bs asked) (sym (take-append-drop n bytes))
@@ -80,7 +80,7 @@ member_within : (m n : ℕ) (member : Option Span) → m ≤ n → IfSome member
 member_within m n None fewer within = within
 member_within m n (Some span) fewer within = within_more m n span fewer within
 
-pub asked_within : (m n : ℕ) (asked : Asked) → m ≤ n → IsAskedWithin m asked → IsAskedWithin n asked
+pub asked_within : (m n : ℕ) (asked : HeadSpans) → m ≤ n → IsAskedWithin m asked → IsAskedWithin n asked
 asked_within m n asked fewer within = record {
   method = within_more m n asked.method fewer within.method;
   target = within_more m n asked.target fewer within.target;

@@ -10,7 +10,7 @@ use Rattle.httparse.specs.declared.spans.Span.{Span}
 use Rattle.vet_base.specs.Words.{Bytes, Text}
 use Rattle.vet_base.specs.declared.limits.TheConstants.{MOST_INPUT_BYTES}
 use Rattle.vet_requests.specs.RequestFault.{ToldOf, ◌>>=◌}
-use Rattle.vet_requests.specs.declared.fields.Asked.{Asked}
+use Rattle.vet_requests.specs.declared.fields.HeadSpans.{HeadSpans}
 use Rattle.vet_requests.specs.declared.fields.Occurrence.{Occurrence}
 use Rattle.vet_requests.specs.declared.fields.Occurrence.TheVariants.{Absent, Once, Again}
 use Rattle.vet_requests.specs.declared.request_fault.RequestFault.TheVariants.{BadRequest, TooLarge, NotImplemented}
@@ -92,7 +92,7 @@ member_at bytes None = None
 member_at bytes (Some span) = Some (span_bytes bytes span)
 
 -- what a head asks for, where its parts stand in these bytes
-abbrev pub asked_at : Bytes → Asked → AskedValue
+abbrev pub asked_at : Bytes → HeadSpans → AskedValue
 asked_at bytes asked = record {
   method = span_bytes bytes asked.method;
   target = span_bytes bytes asked.target;
@@ -101,7 +101,7 @@ asked_at bytes asked = record {
 }
 
 -- its parts stand in the first n bytes
-pub record IsAskedWithin (n : ℕ) (asked : Asked) : Type 0 where
+pub record IsAskedWithin (n : ℕ) (asked : HeadSpans) : Type 0 where
   pub method : IsWithin n asked.method
   pub target : IsWithin n asked.target
   pub member : IfSome asked.member (IsWithin n)

@@ -2,9 +2,9 @@
 use Rattle.std.specs.Prelude.{List, [], ◌∷◌, ◌++◌, Option, Some, None, codes, if◌then◌else◌}
 use Rattle.std.specs.Str.{bytes_eq}
 use Rattle.vet_base.specs.Words.{Bytes, Text}
-use Rattle.vet_requests.specs.declared.route.Asked.{Asked}
-use Rattle.vet_requests.specs.declared.route.Asked.TheVariants.{Shows, Runs}
-use Rattle.vet_requests.specs.declared.route.Given.TheVariants as given
+use Rattle.vet_requests.specs.declared.route.RouteAction.{RouteAction}
+use Rattle.vet_requests.specs.declared.route.RouteAction.TheVariants.{Shows, Runs}
+use Rattle.vet_requests.specs.declared.route.BodyKind.TheVariants as given
 use Rattle.vet_requests.specs.declared.route.Route.{Route}
 use Rattle.vet_requests.specs.declared.route.Route.TheVariants as route
 use Rattle.vet_requests.specs.declared.route.Shown.{Shown}
@@ -12,7 +12,7 @@ use Rattle.vet_requests.specs.declared.route.Shown.TheVariants as shown
 
 -- a method, and what is asked by it
 abbrev pub Row : Type 0
-Row = Text × Asked
+Row = Text × RouteAction
 
 abbrev pub GET : Text
 GET = codes "GET"
@@ -38,7 +38,7 @@ asked_at route.Peer = (PUT, Runs given.Peer) ∷ []
 asked_at route.Commands = (POST, Runs given.Document) ∷ []
 
 -- what is asked by a method
-abbrev pub asked_by : Bytes → List Row → Option Asked
+abbrev pub asked_by : Bytes → List Row → Option RouteAction
 asked_by method [] = None
 asked_by method (row ∷ rows) = if bytes_eq method row.0 then Some row.1 else asked_by method rows
 

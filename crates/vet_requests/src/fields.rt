@@ -22,7 +22,7 @@ pub(crate) enum Occurrence {
 
 /// What a head asks for, by where its parts stand.
 #[derive(Clone, Copy)]
-pub(crate) struct Asked {
+pub(crate) struct HeadSpans {
     pub(crate) method: Span,
     pub(crate) target: Span,
     pub(crate) member: Option<Span>,
@@ -37,7 +37,7 @@ pub(crate) fn read_asked(
     bytes: &[u8],
     fields: &[HeaderSpan],
     spans: RequestSpans,
-) -> Result<Asked, RequestFault>
+) -> Result<HeadSpans, RequestFault>
     requires { IsRequestWithin bytes.now fields.now spans }
     ensures told { (head : RequestHead) → IsRequestAt bytes.now fields.now spans head
         → Tells (asked_at bytes.now) (head_told head) result }
@@ -49,7 +49,7 @@ pub(crate) fn read_asked(
     check_form(bytes, spans.method.of(bytes), fields)?;
     let length = read_length(bytes, fields)?;
     let member = read_member(bytes, fields)?;
-    Ok(Asked {
+    Ok(HeadSpans {
         method: spans.method,
         target: spans.path,
         member,

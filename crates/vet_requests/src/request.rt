@@ -11,7 +11,7 @@ ghost use Rattle.vet_requests.specs.Request.{Requests, request_of, request_told,
 ghost use Rattle.vet_requests.specs.declared.request_limits.TheConstants.{MOST_HEAD_BYTES};
 
 use crate::field_room::FieldRoom;
-use crate::fields::{Asked, read_asked};
+use crate::fields::{HeadSpans, read_asked};
 use crate::head::{Head, front_of, read_head};
 use crate::input::CountedReader;
 use crate::io_fault::IoFault;
@@ -173,7 +173,7 @@ fn read_rest<R: Read>(
     alloc: Global,
     reader: &mut CountedReader<R>,
     start: usize,
-    asked: Asked,
+    asked: HeadSpans,
 ) -> Result<Result<Request, RequestFault>, IoFault>
     requires start { start ≤ length reader.old.handed }
     requires within { IsAskedWithin (length (drop start reader.old.handed)) asked }
@@ -194,7 +194,7 @@ fn read_rest<R: Read>(
 }
 
 /// What a head asks for that stands in these bytes, with its body behind it.
-fn request_of(alloc: Global, bytes: &[u8], asked: Asked) -> Result<Request, AllocError>
+fn request_of(alloc: Global, bytes: &[u8], asked: HeadSpans) -> Result<Request, AllocError>
     requires within { IsAskedWithin (length bytes.now) asked }
     requires body { asked.head + asked.length ≤ length bytes.now }
     ensures { IfOk result (λ request.

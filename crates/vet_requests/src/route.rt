@@ -48,7 +48,7 @@ pub enum Shown {
 
 /// What the body of a request gives, which becomes a command.
 #[derive(Clone, Copy)]
-pub enum Given {
+pub enum BodyKind {
     /// The dependency table of a project, which is loaded.
     Project,
     /// The audits file of a peer, which is imported.
@@ -59,11 +59,11 @@ pub enum Given {
 
 /// What is asked of the register.
 #[derive(Clone, Copy)]
-pub enum Asked {
+pub enum RouteAction {
     /// To show something. It changes nothing.
     Shows(Shown),
     /// To run the command that the body gives.
-    Runs(Given),
+    Runs(BodyKind),
 }
 
 /// The routes, by which targets are found. They are made once for many requests.
@@ -131,7 +131,7 @@ fn routed(router: &Router<Route>, target: &str) -> Option<Route>
 
 impl Route {
     /// What is asked at the route by a method, if it has that method. Case matters in a method (RFC 9110, methods).
-    pub fn asked(self, method: &[u8]) -> Option<Asked>
+    pub fn asked(self, method: &[u8]) -> Option<RouteAction>
         ensures { result ≡ asked_by method.now (asked_at self) }
     {
         match self {
@@ -140,8 +140,8 @@ impl Route {
             Route::Class => shown_by_get(method, Shown::Class),
             Route::File => shown_by_get(method, Shown::File),
             Route::Project => asked_of_project(method),
-            Route::Peer => given_by(method, b"PUT".as_slice(), Given::Peer),
-            Route::Commands => given_by(method, b"POST".as_slice(), Given::Document),
+            Route::Peer => given_by(method, b"PUT".as_slice(), BodyKind::Peer),
+            Route::Commands => given_by(method, b"POST".as_slice(), BodyKind::Document),
         }
     }
 
@@ -160,32 +160,32 @@ impl Route {
 }
 
 // What a route that only shows something is asked.
-fn shown_by_get(method: &[u8], shown: Shown) -> Option<Asked>
+fn shown_by_get(method: &[u8], shown: Shown) -> Option<RouteAction>
     ensures { result ≡ asked_by method.now (shown_alone shown) }
 {
     if method == b"GET".as_slice() {
-        Some(Asked::Shows(shown))
+        Some(RouteAction::Shows(shown))
     } else {
         None
     }
 }
 
 // What a project is asked.
-fn asked_of_project(method: &[u8]) -> Option<Asked>
+fn asked_of_project(method: &[u8]) -> Option<RouteAction>
     ensures { result ≡ asked_by method.now (asked_at Route.Project) }
 {
     if method == b"PUT".as_slice() {
-        return Some(Asked::Runs(Given::Project));
+        return Some(RouteAction::Runs(BodyKind::Project));
     }
     shown_by_get(method, Shown::Project)
 }
 
 // What a route is asked that has one method, and no other than to give something.
-fn given_by(method: &[u8], word: &[u8], given: Given) -> Option<Asked>
-    ensures { result ≡ (if bytes_eq method.now word.now then Some (Asked.Runs given) else None) }
+fn given_by(method: &[u8], word: &[u8], given: BodyKind) -> Option<RouteAction>
+    ensures { result ≡ (if bytes_eq method.now word.now then Some (RouteAction.Runs given) else None) }
 {
     if method == word {
-        Some(Asked::Runs(given))
+        Some(RouteAction::Runs(given))
     } else {
         None
     }

@@ -5,7 +5,7 @@ use Rattle.sqlite.specs.Held.{state}
 use Rattle.vet_http.specs.Answered.{reply_of}
 use Rattle.vet_http.specs.AskedFor.{given_by}
 use Rattle.vet_requests.specs.Route.{asked_at, asked_by}
-use Rattle.vet_requests.specs.declared.route.Asked.TheVariants.{Runs, Shows}
+use Rattle.vet_requests.specs.declared.route.RouteAction.TheVariants.{Runs, Shows}
 use Rattle.vet_http.proofs.AnswerLemmas.{asks, asks_nothing, by_none, by_run, by_shown, run_refused, shown_refused}
 use Rattle.vet_http.proofs.AskedLemmas as asked
 use Rattle.vet_http.proofs.answer.answer_by_method.Goals as goal
