@@ -47,8 +47,8 @@ by_run (Ok c) s end reply run = elim (by_verdict s c (verdict s c)) [
   | inr done ↦ inr (c, (refl, (done, run.1)))
 ]
 
-by_asked : (day : DayValue) (r : RequestValue) (route : Route) (asked : Option RouteAction) (s end : State) (reply : Reply)
-    → IsByMethod route asked day r s reply end → Settles (given_by day r asked) s end
+by_asked : (day : DayValue) (r : RequestValue) (route : Route) (asked : Option RouteAction) (s end : State)
+    (reply : Reply) → IsByMethod route asked day r s reply end → Settles (given_by day r asked) s end
 unfolding IsByMethod given_by
 by_asked day r route None s end reply h = inl h.1
 by_asked day r route (Some (Shows what)) s end reply h = inl h.1

@@ -7,7 +7,7 @@ use Rattle.clap.specs.declared.error.kind.ErrorKind.{ErrorKind}
 use Rattle.clap.specs.declared.error.kind.ErrorKind.TheVariants.{OutOfMemory}
 use Rattle.vetd_words.specs.Answer.{Answers, Says, Stops, Telling}
 use Rattle.vetd_words.specs.Asked.{line_told, telling_of}
-use Rattle.vetd_words.specs.declared.asked.Asked.{Asked}
+use Rattle.vetd_words.specs.declared.asked.FileQuery.{FileQuery}
 use Rattle.vet_requests.specs.Input.{Heard}
 use Rattle.vet_requests.specs.declared.io_fault.IoFault.{IoFault}
 use Rattle.vet_requests.specs.declared.io_fault.IoFault.TheVariants.{Input, Output, Endless, NoMemory}
@@ -27,14 +27,14 @@ is_for_want Nothing kind (Err NoMemory) none memory other = refl
 
 module _ (meant : Option Telling) where
   -- what was asked is what is meant, but for want of memory
-  same_asked : (asked : Result Asked Error) (r : Result ℕ IoFault) → IfOk asked (λ a. meant ≡ Some (line_told a))
+  same_asked : (asked : Result FileQuery Error) (r : Result ℕ IoFault) → IfOk asked (λ a. meant ≡ Some (line_told a))
       → IfErr asked (λ error. kind_of error ≢ OutOfMemory → meant ≡ None)
       → IfErr asked (λ error. kind_of error ≡ OutOfMemory → r ≡ Err NoMemory)
       → r ≢ Err NoMemory → telling_of asked ≡ meant
   same_asked (Ok a) r found refused memory other = sym found
   same_asked (Err error) r found refused memory other = sym (refused (λ want. other (memory want)))
 
-  pub says_meant : (before after : Heard) (asked : Result Asked Error) (r : Result ℕ IoFault)
+  pub says_meant : (before after : Heard) (asked : Result FileQuery Error) (r : Result ℕ IoFault)
       (out out' errors errors' : Option (List ℕ))
       → IfOk asked (λ a. meant ≡ Some (line_told a))
       → IfErr asked (λ error. kind_of error ≢ OutOfMemory → meant ≡ None)
@@ -47,7 +47,7 @@ module _ (meant : Option Telling) where
       subst (λ (m : Option Telling). Answers before after m (λ answer. Says answer status out out' errors errors'))
       (same_asked asked (Ok status) found refused memory (λ bad. cc)) says
 
-  pub stops_meant : (before after : Heard) (asked : Result Asked Error) (r : Result ℕ IoFault)
+  pub stops_meant : (before after : Heard) (asked : Result FileQuery Error) (r : Result ℕ IoFault)
       (out out' errors errors' : Option (List ℕ))
       → IfOk asked (λ a. meant ≡ Some (line_told a))
       → IfErr asked (λ error. kind_of error ≢ OutOfMemory → meant ≡ None)
@@ -62,13 +62,13 @@ module _ (meant : Option Telling) where
       (stops output)
 
   -- what holds where clap told an error holds where nothing is meant
-  pub of_nothing : (P : Type 0) (asked : Result Asked Error) → IfOk asked (λ a. meant ≡ Some (line_told a))
+  pub of_nothing : (P : Type 0) (asked : Result FileQuery Error) → IfOk asked (λ a. meant ≡ Some (line_told a))
       → meant ≡ None → IfErr asked (λ _. P) → P
   of_nothing P (Ok a) found none holds = let two : Some (line_told a) ≡ None = sym found ∙ none in cc
   of_nothing P (Err error) found none holds = holds
 
   -- with no read left, what is meant is not answered
-  pub spent_meant : (asked : Result Asked Error) (r : Result ℕ IoFault)
+  pub spent_meant : (asked : Result FileQuery Error) (r : Result ℕ IoFault)
       → IfErr asked (λ error. kind_of error ≢ OutOfMemory → meant ≡ None)
       → IfErr asked (λ error. kind_of error ≡ OutOfMemory → r ≡ Err NoMemory) → IfOk asked (λ _. r ≡ Err Endless)
       → meant ≢ None

@@ -6,18 +6,18 @@ use Rattle.vetd_words.specs.Answer.{Telling}
 use Rattle.vetd_words.specs.ClassLine.{class_line_told}
 use Rattle.vetd_words.specs.ReadLine.{read_told}
 use Rattle.vetd_words.specs.Words.{asked_of, class_given, read_given}
-use Rattle.vetd_words.specs.declared.asked.Asked.{Asked}
-use Rattle.vetd_words.specs.declared.asked.Asked.TheVariants.{Class, Read}
+use Rattle.vetd_words.specs.declared.asked.FileQuery.{FileQuery}
+use Rattle.vetd_words.specs.declared.asked.FileQuery.TheVariants.{Class, Read}
 use Rattle.vetd_words.specs.declared.asked.CommandKind.{CommandKind}
 use Rattle.vetd_words.specs.declared.asked.CommandKind.TheVariants.{Class as AsClass, Read as AsRead}
 
 -- what is told of a file, command by command
-abbrev pub line_told : Asked → Telling
+abbrev pub line_told : FileQuery → Telling
 line_told (Class words) = class_line_told (asked_of words)
 line_told (Read kind) = read_told kind
 
 -- what was asked for, or nothing where clap told an error
-abbrev pub telling_of : Result Asked Error → Option Telling
+abbrev pub telling_of : Result FileQuery Error → Option Telling
 telling_of (Ok asked) = Some (line_told asked)
 telling_of (Err error) = None
 

@@ -9,9 +9,9 @@ use Rattle.vet_files.specs.declared.config_file.ConfigContent.{ConfigContent}
 use Rattle.vet_files.specs.declared.imports_file.ImportedPeer.{ImportedPeer}
 use Rattle.vet_files.specs.declared.imports_file.ImportsContent.{ImportsContent}
 use Rattle.vet_files.specs.declared.notices.Notices.{Notices}
-use Rattle.vetd_words.specs.declared.counts.Counts.{Counts}
+use Rattle.vetd_words.specs.declared.counts.FileCounts.{FileCounts}
 
-abbrev pub counts_of_audits : AuditsContent → Counts
+abbrev pub counts_of_audits : AuditsContent → FileCounts
 counts_of_audits content = record {
   criteria = length content.criteria;
   entries = length content.entries;
@@ -21,7 +21,7 @@ counts_of_audits content = record {
 }
 
 -- exemptions are entries
-abbrev pub counts_of_config : ConfigContent → Counts
+abbrev pub counts_of_config : ConfigContent → FileCounts
 counts_of_config content = record {
   criteria = 0;
   entries = length content.exemptions;
@@ -37,7 +37,7 @@ criteria_total peers = sum_by (λ peer. length peer.content.criteria) peers
 abbrev pub entries_total : List ImportedPeer → ℕ
 entries_total peers = sum_by (λ peer. length peer.content.entries) peers
 
-abbrev pub counts_of_imports : ImportsContent → Counts
+abbrev pub counts_of_imports : ImportsContent → FileCounts
 counts_of_imports content = record {
   criteria = criteria_total content.peers;
   entries = entries_total content.peers;
@@ -47,11 +47,11 @@ counts_of_imports content = record {
 }
 
 -- what is printed of what a file holds, and of what was passed over in it
-abbrev pub entries_text : Counts → Text
+abbrev pub entries_text : FileCounts → Text
 entries_text counts = codes "criteria " ++ (decimal counts.criteria ++ (codes " entries " ++ (decimal counts.entries
     ++ (codes " publishers " ++ decimal counts.publishers))))
 
-abbrev pub settings_text : Counts → Text
+abbrev pub settings_text : FileCounts → Text
 settings_text counts = codes "policies " ++ (decimal counts.policies ++ (codes " peers " ++ decimal counts.peers))
 
 abbrev pub notices_text : Notices → Text
@@ -59,7 +59,7 @@ notices_text notices = codes "keys " ++ (decimal notices.keys ++ (codes " skippe
     ++ (codes " doubles " ++ decimal notices.doubles))))
 
 -- the line of a file
-abbrev pub counts_line : Counts → Notices → Text
+abbrev pub counts_line : FileCounts → Notices → Text
 counts_line counts notices =
     codes "read " ++ (entries_text counts ++ (codes " " ++ (settings_text counts
     ++ (codes " " ++ (notices_text notices ++ codes "\n")))))

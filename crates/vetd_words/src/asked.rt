@@ -17,19 +17,19 @@ use vet_documents::register_file::RegisterFile;
 
 /// What a command asks for. A further command is a row here, a row in `line`, and the function that makes its line.
 #[derive(Clone, Copy)]
-pub enum Asked<'a> {
+pub enum FileQuery<'a> {
     Class(ClassWords<'a>),
     Read(RegisterFile),
 }
 
-impl Asked<'_> {
+impl FileQuery<'_> {
     /// The line about a file.
     pub fn line(self, alloc: Global, file: &[u8]) -> Result<String, Refusal>
         ensures { Gives string_bytes (line_told self.entry file.now) result }
     {
         match self {
-            Asked::Class(words) => class_line(alloc, words, file),
-            Asked::Read(kind) => read_line(alloc, kind, file),
+            FileQuery::Class(words) => class_line(alloc, words, file),
+            FileQuery::Read(kind) => read_line(alloc, kind, file),
         }
     }
 }
@@ -44,7 +44,7 @@ pub enum CommandKind {
 
 impl CommandKind {
     /// What words ask for that are to be this command. Refused as `class_words` and `read_words` refuse them.
-    pub fn asked<'a, S: AsStr>(self, alloc: Global, words: &'a [S]) -> Result<Asked<'a>, Error>
+    pub fn asked<'a, S: AsStr>(self, alloc: Global, words: &'a [S]) -> Result<FileQuery<'a>, Error>
         ensures found { IfOk result (λ asked.
             asked_by self (map S.text words.entry.now) ≡ Some (line_told asked)) }
         ensures refused { IfErr result (λ error. kind_of error ≢ ErrorKind.OutOfMemory
@@ -60,7 +60,7 @@ impl CommandKind {
 }
 
 /// What the words of a class command ask for. Refused as `class_words` refuses them.
-fn asked_class<'a, S: AsStr>(alloc: Global, words: &'a [S]) -> Result<Asked<'a>, Error>
+fn asked_class<'a, S: AsStr>(alloc: Global, words: &'a [S]) -> Result<FileQuery<'a>, Error>
     ensures found { IfOk result (λ asked.
         class_asked (map S.text words.entry.now) ≡ Some (line_told asked)) }
     ensures refused { IfErr result (λ error. kind_of error ≢ ErrorKind.OutOfMemory
@@ -68,16 +68,16 @@ fn asked_class<'a, S: AsStr>(alloc: Global, words: &'a [S]) -> Result<Asked<'a>,
     ensures clean { IfOk result (λ _. faults_of (map S.text words.entry.now) ≡ []) }
     ensures kinds { IfErr result (λ error. IsErrorOf (map S.text words.entry.now) (kind_of error)) }
 {
-    Ok(Asked::Class(class_words(alloc, words)?))
+    Ok(FileQuery::Class(class_words(alloc, words)?))
 }
 
 /// What the words of a read command ask for. Refused as `read_words` refuses them.
-fn asked_read<S: AsStr>(alloc: Global, words: &[S]) -> Result<Asked<'static>, Error>
+fn asked_read<S: AsStr>(alloc: Global, words: &[S]) -> Result<FileQuery<'static>, Error>
     ensures found { IfOk result (λ asked. read_asked (map S.text words.now) ≡ Some (line_told asked)) }
     ensures refused { IfErr result (λ error. kind_of error ≢ ErrorKind.OutOfMemory
         → read_asked (map S.text words.now) ≡ None) }
     ensures clean { IfOk result (λ _. faults_of (map S.text words.now) ≡ []) }
     ensures kinds { IfErr result (λ error. IsErrorOf (map S.text words.now) (kind_of error)) }
 {
-    Ok(Asked::Read(read_words(alloc, words)?))
+    Ok(FileQuery::Read(read_words(alloc, words)?))
 }

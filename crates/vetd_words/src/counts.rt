@@ -13,7 +13,7 @@ use vet_files::notices::Notices;
 
 /// How many things a file holds, those of all peers together. Exemptions are entries.
 #[derive(Clone, Copy)]
-pub struct Counts {
+pub struct FileCounts {
     /// Criteria that are defined. No built-in one is among them.
     pub criteria: u64,
     pub entries: u64,
@@ -23,11 +23,11 @@ pub struct Counts {
     pub peers: u64,
 }
 
-impl Counts {
-    pub fn of_audits(content: &AuditsContent) -> Counts
+impl FileCounts {
+    pub fn of_audits(content: &AuditsContent) -> FileCounts
         ensures { result ≡ counts_of_audits content.now }
     {
-        Counts {
+        FileCounts {
             criteria: content.criteria.len() as u64,
             entries: content.entries.len() as u64,
             publishers: 0,
@@ -36,10 +36,10 @@ impl Counts {
         }
     }
 
-    pub fn of_config(content: &ConfigContent) -> Counts
+    pub fn of_config(content: &ConfigContent) -> FileCounts
         ensures { result ≡ counts_of_config content.now }
     {
-        Counts {
+        FileCounts {
             criteria: 0,
             entries: content.exemptions.len() as u64,
             publishers: 0,
@@ -49,11 +49,11 @@ impl Counts {
     }
 
     /// Refused where a count would pass 2^64 - 1, for which no memory holds the file.
-    pub fn of_imports(content: &ImportsContent) -> Result<Counts, AllocError>
+    pub fn of_imports(content: &ImportsContent) -> Result<FileCounts, AllocError>
         ensures { IfOk result (λ counts. counts ≡ counts_of_imports content.now) }
     {
         let (criteria, entries) = peers_totals(content.peers.as_slice())?;
-        Ok(Counts {
+        Ok(FileCounts {
             criteria,
             entries,
             publishers: records_total(content.publishers.as_slice())?,
@@ -74,7 +74,7 @@ impl Counts {
 }
 
 /// What is printed of entries and what they name.
-fn entries_text(alloc: Global, counts: Counts) -> Result<String, AllocError>
+fn entries_text(alloc: Global, counts: FileCounts) -> Result<String, AllocError>
     ensures { IfOk result (λ text. string_bytes text ≡ entries_text counts) }
 {
     let criteria = counts.criteria;
@@ -84,7 +84,7 @@ fn entries_text(alloc: Global, counts: Counts) -> Result<String, AllocError>
 }
 
 /// What is printed of policies and peers.
-fn settings_text(alloc: Global, counts: Counts) -> Result<String, AllocError>
+fn settings_text(alloc: Global, counts: FileCounts) -> Result<String, AllocError>
     ensures { IfOk result (λ text. string_bytes text ≡ settings_text counts) }
 {
     let policies = counts.policies;

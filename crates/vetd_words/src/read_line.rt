@@ -4,7 +4,7 @@ ghost use Rattle.vet_base.specs.Gives.{Gives};
 ghost use Rattle.vetd_words.specs.ReadLine.{audits_line_told, config_line_told, file_line_told};
 ghost use Rattle.vetd_words.specs.ReadLine.{imports_line_told, read_told};
 
-use crate::counts::Counts;
+use crate::counts::FileCounts;
 use std::alloc::Global;
 use vet_base::document::check_length;
 use vet_base::refusal::Refusal;
@@ -37,7 +37,7 @@ fn audits_line(alloc: Global, file: &[u8]) -> Result<String, Refusal>
     ensures { Gives string_bytes (audits_line_told file.now) result }
 {
     let found = read_audits(alloc, file)?;
-    let counts = Counts::of_audits(&found.content);
+    let counts = FileCounts::of_audits(&found.content);
     Ok(counts.line(alloc, found.notices)?)
 }
 
@@ -45,7 +45,7 @@ fn config_line(alloc: Global, file: &[u8]) -> Result<String, Refusal>
     ensures { Gives string_bytes (config_line_told file.now) result }
 {
     let found = read_config(alloc, file)?;
-    let counts = Counts::of_config(&found.content);
+    let counts = FileCounts::of_config(&found.content);
     Ok(counts.line(alloc, found.notices)?)
 }
 
@@ -53,6 +53,6 @@ fn imports_line(alloc: Global, file: &[u8]) -> Result<String, Refusal>
     ensures { Gives string_bytes (imports_line_told file.now) result }
 {
     let found = read_imports(alloc, file)?;
-    let counts = Counts::of_imports(&found.content)?;
+    let counts = FileCounts::of_imports(&found.content)?;
     Ok(counts.line(alloc, found.notices)?)
 }

@@ -9,7 +9,7 @@ ghost use Rattle.vetd_words.specs.Words.{AskForHelp, AskForNoHelp};
 ghost use Rattle.vet_requests.specs.Input.{TakesAtMost, heard};
 
 use crate::answer::{explain, report};
-use crate::asked::{Asked, CommandKind};
+use crate::asked::{CommandKind, FileQuery};
 use clap::Error;
 use clap::error::ErrorKind;
 use std::alloc::Global;
@@ -154,7 +154,7 @@ pub fn read_run<S: AsStr, R: Read, W: Write, E: Write>(
 /// `command_run` takes.
 fn run<R: Read, W: Write, E: Write>(
     alloc: Global,
-    asked: Result<Asked<'_>, Error>,
+    asked: Result<FileQuery<'_>, Error>,
     reader: &mut CountedReader<R>,
     writer: &mut W,
     errors: &mut E,
