@@ -39,11 +39,11 @@ const FAULTED: u8 = 1;
 
 /// Writes a client's reply to another writer.
 #[derive(Drop)]
-struct Reply<W> {
+struct ReplyWriter<W> {
     writer: W,
 }
 
-impl<W: Write> Write for Reply<W> {
+impl<W: Write> Write for ReplyWriter<W> {
     fn write(&mut self, buf: &[u8]) -> io::Result<usize> {
         self.writer.write(buf)
     }
@@ -53,7 +53,7 @@ impl<W: Write> Write for Reply<W> {
     }
 }
 
-impl<W: Write> HangUp for Reply<W> {
+impl<W: Write> HangUp for ReplyWriter<W> {
     fn hang_up(&mut self, _awaited: bool) {}
 }
 
@@ -83,14 +83,14 @@ fn arrival<'a, W: Drop>(
     rt: &HostRuntime,
     word: &'a str,
     writer: W,
-) -> Result<Arrival<&'a [u8], Reply<W>>, Fault> {
+) -> Result<Arrival<&'a [u8], ReplyWriter<W>>, Fault> {
     match word {
         "failed" => Ok(Arrival::Failed),
         "lost" => Ok(Arrival::Lost),
         request => Ok(Arrival::Client(Connection {
             day: Day::parse(DAY)?,
             reader: CountedReader::new(rt.alloc(), request.as_bytes()),
-            writer: Reply { writer },
+            writer: ReplyWriter { writer },
         })),
     }
 }

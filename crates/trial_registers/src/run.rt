@@ -10,7 +10,7 @@ use crate::runs::Runs;
 use crate::setting::{behind_setting, limit_of};
 use std::alloc::Global;
 use std::io;
-use trial_values::ending::{Ending, Given, print_fault, print_refusal, refused};
+use trial_values::ending::{Ending, ItemResult, print_fault, print_refusal, refused};
 use trial_values::fault::Fault;
 use vet_base::day::Day;
 use vet_base::refusal::Refusal;
@@ -114,13 +114,13 @@ pub fn give_all<K: Keeper, R: Runs<K>>(
     let mut list = Vec::new(alloc);
     for numbered in behind_setting(items) {
         match give::<K, R>(rt, alloc, runs, &mut list, numbered.item, how)? {
-            Given::Answered => {}
-            Given::NoMemory => return Ok(Ending::Refused),
-            Given::NotUnderstood => return Ok(Ending::Line(numbered.number)),
+            ItemResult::Answered => {}
+            ItemResult::NoMemory => return Ok(Ending::Refused),
+            ItemResult::NotUnderstood => return Ok(Ending::Line(numbered.number)),
         }
     }
     match give_list::<K, R>(rt, alloc, runs, &mut list)? {
-        Given::Answered => Ok(Ending::Whole),
+        ItemResult::Answered => Ok(Ending::Whole),
         _ => Ok(Ending::Refused),
     }
 }
@@ -132,11 +132,11 @@ fn give<K: Keeper, R: Runs<K>>(
     list: &mut Vec<Command>,
     item: Item<'_>,
     how: How,
-) -> io::Result<Given> {
+) -> io::Result<ItemResult> {
     match item {
         Item::Document(document) => give_document::<K, R>(rt, alloc, runs, list, document, how),
         Item::Line(line) => give_line::<K, R>(rt, alloc, runs, list, line),
-        Item::Unframed => Ok(Given::NotUnderstood),
+        Item::Unframed => Ok(ItemResult::NotUnderstood),
     }
 }
 
@@ -147,7 +147,7 @@ fn give_document<K: Keeper, R: Runs<K>>(
     list: &mut Vec<Command>,
     document: Document<'_>,
     how: How,
-) -> io::Result<Given> {
+) -> io::Result<ItemResult> {
     if how == How::Shown {
         print_contents(rt, runs.shown())?;
     }
@@ -172,10 +172,10 @@ pub fn command_of(alloc: Global, document: Document<'_>) -> Result<Command, Refu
     read_command(alloc, document.bytes, day, member)
 }
 
-fn listed(list: &mut Vec<Command>, command: Command) -> Given {
+fn listed(list: &mut Vec<Command>, command: Command) -> ItemResult {
     match list.push(command) {
-        Ok(()) => Given::Answered,
-        Err(_) => Given::NoMemory,
+        Ok(()) => ItemResult::Answered,
+        Err(_) => ItemResult::NoMemory,
     }
 }
 
@@ -184,12 +184,12 @@ fn give_command<K: Keeper, R: Runs<K>>(
     alloc: Global,
     runs: &mut R,
     command: &Command,
-) -> io::Result<Given> {
+) -> io::Result<ItemResult> {
     match runs.run_command(alloc, command) {
         Ok(outcome) => {
             print_touched(rt, runs.touched())?;
             print_outcome(rt, outcome)?;
-            Ok(Given::Answered)
+            Ok(ItemResult::Answered)
         }
         Err(refusal) => print_fault(rt, &Fault::Refused(refusal)),
     }
@@ -202,9 +202,9 @@ fn give_before<K: Keeper, R: Runs<K>>(
     runs: &mut R,
     list: &mut Vec<Command>,
     fault: &Fault,
-) -> io::Result<Given> {
+) -> io::Result<ItemResult> {
     match give_list::<K, R>(rt, alloc, runs, list)? {
-        Given::Answered => print_fault(rt, fault),
+        ItemResult::Answered => print_fault(rt, fault),
         told => Ok(told),
     }
 }
@@ -215,9 +215,9 @@ fn give_list<K: Keeper, R: Runs<K>>(
     alloc: Global,
     runs: &mut R,
     list: &mut Vec<Command>,
-) -> io::Result<Given> {
+) -> io::Result<ItemResult> {
     if list.is_empty() {
-        return Ok(Given::Answered);
+        return Ok(ItemResult::Answered);
     }
     let answers = runs.run_commands(alloc, list.as_slice());
     list.clear();
@@ -228,14 +228,17 @@ fn give_list<K: Keeper, R: Runs<K>>(
 }
 
 /// Prints the answers to some commands.
-pub fn print_answers(rt: &impl Print, answers: &[Result<Outcome, Refusal>]) -> io::Result<Given> {
+pub fn print_answers(
+    rt: &impl Print,
+    answers: &[Result<Outcome, Refusal>],
+) -> io::Result<ItemResult> {
     for answer in answers {
         match answer {
             Ok(outcome) => print_outcome(rt, *outcome)?,
             Err(refusal) => print_refusal(rt, refusal)?,
         }
     }
-    Ok(Given::Answered)
+    Ok(ItemResult::Answered)
 }
 
 // Gives the list, and then answers the line behind it.
@@ -245,9 +248,9 @@ fn give_line<K: Keeper, R: Runs<K>>(
     runs: &mut R,
     list: &mut Vec<Command>,
     line: &str,
-) -> io::Result<Given> {
+) -> io::Result<ItemResult> {
     match give_list::<K, R>(rt, alloc, runs, list)? {
-        Given::Answered => tell_line(rt, alloc, runs.shown(), line),
+        ItemResult::Answered => tell_line(rt, alloc, runs.shown(), line),
         told => Ok(told),
     }
 }
@@ -257,14 +260,14 @@ fn tell_line<K: Keeper>(
     alloc: Global,
     register: &Register<K>,
     line: &str,
-) -> io::Result<Given> {
+) -> io::Result<ItemResult> {
     if let Some(kind) = report_word(line) {
         return tell_report(rt, alloc, register, kind);
     }
     match line_told(alloc, register, line) {
         Ok(told) => {
             println!(rt; "{told}")?;
-            Ok(Given::Answered)
+            Ok(ItemResult::Answered)
         }
         Err(fault) => print_fault(rt, &fault),
     }
@@ -275,11 +278,11 @@ fn tell_report<K: Keeper>(
     alloc: Global,
     register: &Register<K>,
     kind: &str,
-) -> io::Result<Given> {
+) -> io::Result<ItemResult> {
     match report(alloc, register, kind) {
         Ok(text) => {
             print!(rt; "{text}")?;
-            Ok(Given::Answered)
+            Ok(ItemResult::Answered)
         }
         Err(fault) => print_fault(rt, &fault),
     }

@@ -9,7 +9,7 @@ use vet_base::refusal::Refusal;
 pub enum Ending {
     /// Each item was given.
     Whole,
-    /// Something was refused for want of memory, and nothing was given after it.
+    /// Memory ran out, and nothing was given after that.
     Refused,
     /// The line of this number, counted from 1, was not understood.
     Line(usize),
@@ -21,10 +21,10 @@ pub enum Ending {
 
 /// What came of an item.
 #[derive(Clone, Copy)]
-pub enum Given {
+pub enum ItemResult {
     /// It was answered, or is one of a list that was not given yet.
     Answered,
-    /// Memory was wanting.
+    /// Memory ran out.
     NoMemory,
     /// It was not understood.
     NotUnderstood,
@@ -37,15 +37,15 @@ pub fn refused(rt: &impl Print, fault: &Fault) -> io::Result<Ending> {
 }
 
 /// Prints a refusal; of what is not understood nothing.
-pub fn print_fault(rt: &impl Print, fault: &Fault) -> io::Result<Given> {
+pub fn print_fault(rt: &impl Print, fault: &Fault) -> io::Result<ItemResult> {
     match fault {
-        Fault::NotUnderstood | Fault::Stream => Ok(Given::NotUnderstood),
+        Fault::NotUnderstood | Fault::Stream => Ok(ItemResult::NotUnderstood),
         Fault::Refused(refusal) => {
             print_refusal(rt, refusal)?;
             if let Refusal::NoMemory = refusal {
-                return Ok(Given::NoMemory);
+                return Ok(ItemResult::NoMemory);
             }
-            Ok(Given::Answered)
+            Ok(ItemResult::Answered)
         }
     }
 }

@@ -8,7 +8,7 @@
 //!
 //! Only `demand` and what is refused tell anything.
 
-use crate::ending::{Ending, Given, print_fault, refused};
+use crate::ending::{Ending, ItemResult, print_fault, refused};
 use crate::fault::Fault;
 use crate::known::check_policies;
 use crate::line::{is_remark, one, words_of};
@@ -62,9 +62,9 @@ fn give_all(
     for (place, line) in text.lines().enumerate() {
         if !is_remark(line) {
             match give(rt, alloc, workspace, line)? {
-                Given::Answered => {}
-                Given::NoMemory => return Ok(Ending::Refused),
-                Given::NotUnderstood => return Ok(Ending::Line(place.saturating_add(1))),
+                ItemResult::Answered => {}
+                ItemResult::NoMemory => return Ok(Ending::Refused),
+                ItemResult::NotUnderstood => return Ok(Ending::Line(place.saturating_add(1))),
             }
         }
     }
@@ -76,21 +76,21 @@ fn give(
     alloc: Global,
     workspace: &mut Workspace,
     line: &str,
-) -> io::Result<Given> {
+) -> io::Result<ItemResult> {
     if line == "demand" {
         return give_demand(rt, alloc, workspace);
     }
     match set(alloc, workspace, line) {
-        Ok(()) => Ok(Given::Answered),
+        Ok(()) => Ok(ItemResult::Answered),
         Err(fault) => print_fault(rt, &fault),
     }
 }
 
-fn give_demand(rt: &impl Print, alloc: Global, workspace: &Workspace) -> io::Result<Given> {
+fn give_demand(rt: &impl Print, alloc: Global, workspace: &Workspace) -> io::Result<ItemResult> {
     match workspace.demand(alloc) {
         Ok(demand) => {
             print_demand(rt, &demand)?;
-            Ok(Given::Answered)
+            Ok(ItemResult::Answered)
         }
         Err(fault) => print_fault(rt, &fault),
     }

@@ -57,7 +57,7 @@ use vet_base::refusal::Refusal;
 use vet_graph::keeper::Keeper;
 use vet_graph::plain::PlainKeeper;
 use vet_masks::keeper::MaskKeeper;
-use words::{Asked, KeeperWord, Place, Words, meaning, read_words};
+use words::{InputKind, KeeperWord, Place, Words, meaning, read_words};
 
 /// The status of a run of something that isn't understood.
 const NOT_UNDERSTOOD: u8 = 2;
@@ -85,7 +85,7 @@ fn run_words(rt: &HostRuntime, words: Words<'_>) -> io::Result<ExitCode> {
         Words::Times => Ok(run_times(rt)),
         Words::Exchanges => Ok(run_exchanges(rt)),
         Words::Toml => Ok(read_toml(rt)),
-        Words::Input(asked) => ended(rt, run_input(rt, asked)?),
+        Words::Input(kind) => ended(rt, run_input(rt, kind)?),
         Words::Other => ended(rt, Ending::Words),
     }
 }
@@ -110,20 +110,20 @@ fn ended(rt: &HostRuntime, ending: Ending) -> io::Result<ExitCode> {
     }
 }
 
-fn run_input(rt: &HostRuntime, asked: Asked<'_>) -> io::Result<Ending> {
+fn run_input(rt: &HostRuntime, kind: InputKind<'_>) -> io::Result<Ending> {
     match read_input(rt.alloc(), &mut rt.reader()) {
-        Input::Text(text) => run_text(rt, text.as_str(), asked),
+        Input::Text(text) => run_text(rt, text.as_str(), kind),
         Input::Other => Ok(Ending::Input),
         Input::NoMemory => ended_for_memory(rt),
     }
 }
 
-fn run_text(rt: &HostRuntime, text: &str, asked: Asked<'_>) -> io::Result<Ending> {
-    match asked {
-        Asked::Demand => run_workspace(rt, rt.alloc(), text),
-        Asked::AtOnce => run_at_once(rt, rt.alloc(), text),
-        Asked::Looks(package) => run_looks(rt, rt.alloc(), text, package),
-        Asked::Register(keeper, how, place) => run_register(rt, text, keeper, how, place),
+fn run_text(rt: &HostRuntime, text: &str, kind: InputKind<'_>) -> io::Result<Ending> {
+    match kind {
+        InputKind::Demand => run_workspace(rt, rt.alloc(), text),
+        InputKind::AtOnce => run_at_once(rt, rt.alloc(), text),
+        InputKind::Looks(package) => run_looks(rt, rt.alloc(), text, package),
+        InputKind::Register(keeper, how, place) => run_register(rt, text, keeper, how, place),
     }
 }
 

@@ -39,7 +39,7 @@ pub enum StoppedFile {
 
 /// A stop, and the run that is to meet it.
 #[derive(Clone, Copy)]
-pub struct Stop {
+pub struct DiskStop {
     pub file: StoppedFile,
     /// The first call that fails, counted from 1.
     pub call: u64,
@@ -49,7 +49,7 @@ pub struct Stop {
     pub checkpoint: bool,
 }
 
-impl Stop {
+impl DiskStop {
     // How many calls of each file succeed.
     fn calls(self) -> Calls {
         let before = self.call.saturating_sub(1);
@@ -90,7 +90,7 @@ pub fn run_stopped<K: Keeper>(
     alloc: Global,
     items: &[Numbered<'_>],
     how: How,
-    stop: Stop,
+    stop: DiskStop,
 ) -> io::Result<Ending> {
     let files = empty_files(alloc, stop.calls_of_run());
     let (ending, files) = run_files::<_, K>(rt, alloc, files, items, how, stop)?;
@@ -105,7 +105,7 @@ fn end_run<K: Keeper>(
     alloc: Global,
     files: StoppingFiles,
     items: &[Numbered<'_>],
-    stop: Stop,
+    stop: DiskStop,
 ) -> io::Result<Ending> {
     if !stop.in_open {
         return print_left::<K>(rt, alloc, files, items, stop);

@@ -19,24 +19,24 @@ use vet_register::register::Register;
 use vet_store::refused::{Refused, refusal_of};
 use vet_store::store::Store;
 
-/// How the register in a file is come by.
+/// How the register in a file is opened.
 #[derive(Clone, Copy)]
-pub enum Way {
-    /// It is made.
+pub enum OpenMode {
+    /// It is made there.
     Made,
     /// It is opened.
     Opened,
-    /// It is made, and once all items are given it is closed and opened again.
+    /// It is made there, and closed and opened again after the last item.
     Reopened,
 }
 
 /// A store whose commands a run gives.
 #[derive(Drop)]
-pub struct Stored<S: Alter + Drop, K: Keeper> {
+pub struct StoreRun<S: Alter + Drop, K: Keeper> {
     pub store: Store<S, K>,
 }
 
-impl<S: Alter + Drop, K: Keeper> Runs<K> for Stored<S, K> {
+impl<S: Alter + Drop, K: Keeper> Runs<K> for StoreRun<S, K> {
     fn run_command(&mut self, alloc: Global, command: &Command) -> Result<Outcome, Refusal> {
         self.store.run(alloc, command)
     }
@@ -65,11 +65,11 @@ pub fn run_stored<K: Keeper>(
     path: &str,
     items: &[Numbered<'_>],
     how: How,
-    way: Way,
+    mode: OpenMode,
 ) -> io::Result<Ending> {
     match Connection::open_from(rt, path, false, Wary) {
         Ok(conn) => {
-            let (ending, conn) = run_connected::<_, K>(rt, rt.alloc(), conn, items, how, way)?;
+            let (ending, conn) = run_connected::<_, K>(rt, rt.alloc(), conn, items, how, mode)?;
             match conn {
                 Some(conn) => closed(rt, conn.close(), ending),
                 None => Ok(ending),
@@ -99,12 +99,12 @@ fn run_connected<D: Disk + Drop, K: Keeper>(
     conn: Connection<FileStore<D>>,
     items: &[Numbered<'_>],
     how: How,
-    way: Way,
+    mode: OpenMode,
 ) -> io::Result<(Ending, Option<Connection<FileStore<D>>>)>
     requires { conn.in_transaction ≡ false }
 {
-    match store_of::<FileStore<D>, K>(alloc, conn, items, way) {
-        Ok(store) => run_store::<D, K>(rt, alloc, store, items, how, way),
+    match store_of::<FileStore<D>, K>(alloc, conn, items, mode) {
+        Ok(store) => run_store::<D, K>(rt, alloc, store, items, how, mode),
         Err(refused_store) => {
             let (refusal, _conn) = refused_store.into_parts();
             Ok((refused(rt, &Fault::Refused(refusal))?, None))
@@ -118,11 +118,11 @@ fn run_store<D: Disk + Drop, K: Keeper>(
     store: Store<FileStore<D>, K>,
     items: &[Numbered<'_>],
     how: How,
-    way: Way,
+    mode: OpenMode,
 ) -> io::Result<(Ending, Option<Connection<FileStore<D>>>)> {
-    let mut stored = Stored { store };
-    let ending = give_all::<K, Stored<FileStore<D>, K>>(rt, alloc, &mut stored, items, how)?;
-    match at_the_end::<D, K>(alloc, stored.store, way) {
+    let mut stored = StoreRun { store };
+    let ending = give_all::<K, StoreRun<FileStore<D>, K>>(rt, alloc, &mut stored, items, how)?;
+    match at_the_end::<D, K>(alloc, stored.store, mode) {
         Ok(store) => {
             let ending = print_end(rt, store.register(), true, ending)?;
             Ok((ending, Some(store.close())))
@@ -135,10 +135,10 @@ fn run_store<D: Disk + Drop, K: Keeper>(
 fn at_the_end<D: Disk + Drop, K: Keeper>(
     alloc: Global,
     store: Store<FileStore<D>, K>,
-    way: Way,
+    mode: OpenMode,
 ) -> Result<Store<FileStore<D>, K>, Refusal> {
-    match way {
-        Way::Reopened => reopened::<D, K>(alloc, store),
+    match mode {
+        OpenMode::Reopened => reopened::<D, K>(alloc, store),
         _ => Ok(store),
     }
 }
@@ -178,12 +178,12 @@ fn store_of<S: Alter + Drop, K: Keeper>(
     alloc: Global,
     conn: Connection<S>,
     items: &[Numbered<'_>],
-    way: Way,
+    mode: OpenMode,
 ) -> Result<Store<S, K>, Refused<S>>
     requires { conn.in_transaction ≡ false }
 {
-    match way {
-        Way::Opened => Store::open(alloc, conn),
+    match mode {
+        OpenMode::Opened => Store::open(alloc, conn),
         _ => Store::create(alloc, conn, limit_of(items)),
     }
 }

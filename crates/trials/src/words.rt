@@ -1,7 +1,7 @@
 //! The words of the command line.
 
-use crate::stops::{Stop, StoppedFile};
-use crate::stored::Way;
+use crate::stops::{DiskStop, StoppedFile};
+use crate::stored::OpenMode;
 use std::env::Env;
 use std::{env, io};
 use trial_registers::run::How;
@@ -16,14 +16,14 @@ pub enum Words<'w> {
     /// The reading of a TOML document.
     Toml,
     /// A text on standard input, taken so.
-    Input(Asked<'w>),
+    Input(InputKind<'w>),
     /// Anything else.
     Other,
 }
 
 /// What a text is taken as.
 #[derive(Clone, Copy)]
-pub enum Asked<'w> {
+pub enum InputKind<'w> {
     /// What projects demand.
     Demand,
     /// Commands that are given at once.
@@ -39,10 +39,10 @@ pub enum Asked<'w> {
 pub enum Place<'w> {
     /// In memory.
     Memory,
-    /// In the database file of this path, come by in this way.
-    File(Way, &'w str),
+    /// In the database file of this path, opened in this mode.
+    File(OpenMode, &'w str),
     /// In files in memory of which one stops.
-    Stopping(Stop),
+    Stopping(DiskStop),
 }
 
 /// The keeper of the classes.
@@ -72,8 +72,8 @@ pub fn meaning(words: &[String]) -> Words<'_> {
         "times" => Words::Times,
         "exchanges" => Words::Exchanges,
         "toml" => Words::Toml,
-        "demand" => alone(others, Asked::Demand),
-        "at-once" => alone(others, Asked::AtOnce),
+        "demand" => alone(others, InputKind::Demand),
+        "at-once" => alone(others, InputKind::AtOnce),
         "looks" => of_looks(others),
         word => of_register(word, others),
     }
@@ -90,16 +90,16 @@ pub fn keeper_of(word: &str) -> Option<KeeperWord> {
 }
 
 // What a word asks for behind which nothing stands.
-fn alone<'w>(others: &[String], asked: Asked<'w>) -> Words<'w> {
+fn alone<'w>(others: &[String], kind: InputKind<'w>) -> Words<'w> {
     match others {
-        [] => Words::Input(asked),
+        [] => Words::Input(kind),
         _ => Words::Other,
     }
 }
 
 fn of_looks(others: &[String]) -> Words<'_> {
     match others {
-        [package] => Words::Input(Asked::Looks(package.as_str())),
+        [package] => Words::Input(InputKind::Looks(package.as_str())),
         _ => Words::Other,
     }
 }
@@ -115,7 +115,7 @@ fn of_register<'w>(word: &str, others: &'w [String]) -> Words<'w> {
 fn of_keeper(keeper: KeeperWord, words: &[String]) -> Words<'_> {
     let (how, words) = way_of(words);
     match words {
-        [] => Words::Input(Asked::Register(keeper, how, Place::Memory)),
+        [] => Words::Input(InputKind::Register(keeper, how, Place::Memory)),
         [flag, value, others @ ..] => {
             of_place(keeper, how, place_of(flag.as_str(), value.as_str(), others))
         }
@@ -142,7 +142,7 @@ fn of_place<'w>(keeper: KeeperWord, how: How, place: Option<Place<'w>>) -> Words
         return Words::Other;
     }
     match place {
-        Some(place) => Words::Input(Asked::Register(keeper, how, place)),
+        Some(place) => Words::Input(InputKind::Register(keeper, how, place)),
         None => Words::Other,
     }
 }
@@ -150,18 +150,18 @@ fn of_place<'w>(keeper: KeeperWord, how: How, place: Option<Place<'w>>) -> Words
 // The place that a flag names with its value and the words behind it.
 fn place_of<'w>(flag: &str, value: &'w str, others: &[String]) -> Option<Place<'w>> {
     match flag {
-        "--db" => file_at(Way::Made, value, others),
-        "--db-open" => file_at(Way::Opened, value, others),
-        "--db-reopen" => file_at(Way::Reopened, value, others),
+        "--db" => file_at(OpenMode::Made, value, others),
+        "--db-open" => file_at(OpenMode::Opened, value, others),
+        "--db-reopen" => file_at(OpenMode::Reopened, value, others),
         "--stop-log" => stop_at(StoppedFile::Log, value, others),
         "--stop-db" => stop_at(StoppedFile::Database, value, others),
         _ => None,
     }
 }
 
-fn file_at<'w>(way: Way, path: &'w str, others: &[String]) -> Option<Place<'w>> {
+fn file_at<'w>(mode: OpenMode, path: &'w str, others: &[String]) -> Option<Place<'w>> {
     match others {
-        [] => Some(Place::File(way, path)),
+        [] => Some(Place::File(mode, path)),
         _ => None,
     }
 }
@@ -175,7 +175,7 @@ fn stop_at<'w>(file: StoppedFile, number: &str, others: &[String]) -> Option<Pla
     if call == 0 || !others.is_empty() {
         return None;
     }
-    Some(Place::Stopping(Stop {
+    Some(Place::Stopping(DiskStop {
         file,
         call: call as u64,
         in_open,

@@ -1,7 +1,7 @@
 //! What a stop leaves in the files.
 ghost use Rattle.std.specs.Prelude.{◌≡◌, false};
 
-use crate::stops::Stop;
+use crate::stops::DiskStop;
 use crate::stops::files::{ALL_CALLS, StoppingFile, StoppingFiles, copies_of};
 use crate::stops::run::options;
 use crate::stored::refused_by_database;
@@ -24,7 +24,7 @@ pub fn print_left<K: Keeper>(
     alloc: Global,
     files: StoppingFiles,
     items: &[Numbered<'_>],
-    stop: Stop,
+    stop: DiskStop,
 ) -> io::Result<Ending> {
     print_stop(rt, files.log.calls(), files.db.calls(), stop)?;
     match print_written::<K>(rt, alloc, &files, items)? {
@@ -33,7 +33,7 @@ pub fn print_left<K: Keeper>(
     }
 }
 
-fn print_stop(rt: &impl Print, log: u64, db: u64, stop: Stop) -> io::Result<()> {
+fn print_stop(rt: &impl Print, log: u64, db: u64, stop: DiskStop) -> io::Result<()> {
     if stop.is_met(log, db) {
         println!(rt; "stop met log {log} db {db}")
     } else {

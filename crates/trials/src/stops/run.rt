@@ -1,8 +1,8 @@
 //! The run that a stop is to meet: a register is made in files and given items, or opened.
 ghost use Rattle.std.specs.Prelude.{◌≡◌, false};
 
-use crate::stops::Stop;
-use crate::stored::{Stored, refused_by_database};
+use crate::stops::DiskStop;
+use crate::stored::{StoreRun, refused_by_database};
 use sqlite::{Connection, FileStore, Files, Options};
 use sqlite_disk::Disk;
 use std::alloc::Global;
@@ -35,7 +35,7 @@ pub fn run_files<D: Disk + Drop, K: Keeper>(
     files: Files<D>,
     items: &[Numbered<'_>],
     how: How,
-    stop: Stop,
+    stop: DiskStop,
 ) -> io::Result<(Ending, Files<D>)> {
     if !files.may_be_used() {
         let ending = refused(rt, &Fault::Refused(Refusal::StoreRefused))?;
@@ -56,7 +56,7 @@ fn run_connected<D: Disk + Drop, K: Keeper>(
     conn: Connection<FileStore<D>>,
     items: &[Numbered<'_>],
     how: How,
-    stop: Stop,
+    stop: DiskStop,
 ) -> io::Result<(Ending, Files<D>)>
     requires { conn.in_transaction ≡ false }
 {
@@ -76,10 +76,10 @@ fn run_store<D: Disk + Drop, K: Keeper>(
     store: Store<FileStore<D>, K>,
     items: &[Numbered<'_>],
     how: How,
-    stop: Stop,
+    stop: DiskStop,
 ) -> io::Result<(Ending, Files<D>)> {
-    let mut stored = Stored { store };
-    let ending = give_all::<K, Stored<FileStore<D>, K>>(rt, alloc, &mut stored, items, how)?;
+    let mut stored = StoreRun { store };
+    let ending = give_all::<K, StoreRun<FileStore<D>, K>>(rt, alloc, &mut stored, items, how)?;
     let ending = print_end(rt, stored.shown(), true, ending)?;
     close_run(rt, stored.store.close(), ending, stop)
 }
@@ -89,7 +89,7 @@ fn close_run<D: Disk + Drop>(
     rt: &impl Print,
     conn: Connection<FileStore<D>>,
     ending: Ending,
-    stop: Stop,
+    stop: DiskStop,
 ) -> io::Result<(Ending, Files<D>)> {
     if !stop.checkpoint {
         return Ok((ending, conn.into_store().close()));

@@ -19,7 +19,7 @@ pub enum Task {
     /// So many rounds of finding a demand.
     Demands(usize),
     /// So many rounds of commands to a register in a file.
-    Stored(Stored),
+    Stored(StoreSizes),
     /// The opening of a register in a file.
     Opened,
     /// The parts of that.
@@ -30,7 +30,7 @@ pub enum Task {
 
 /// How much is to be timed of a register in a file.
 #[derive(Clone, Copy)]
-pub struct Stored {
+pub struct StoreSizes {
     /// How many demanded pairs.
     pub demanded: usize,
     /// How many rounds.
@@ -69,7 +69,7 @@ fn task_of(
             rounds: number(second)?,
         })),
         "demand" => Ok(Task::Demands(number(first)?)),
-        "store" => Ok(Task::Stored(Stored {
+        "store" => Ok(Task::Stored(StoreSizes {
             demanded: number(second)?,
             rounds: number(third)?,
         })),

@@ -1,6 +1,6 @@
 //! Commands to a register in a file, whose parts are timed; and the register that is opened again.
 
-use crate::times::input::Stored;
+use crate::times::input::StoreSizes;
 use crate::times::written::run_written;
 use sqlite::{Alter, Connection, FileFrom, FileStore, Wary};
 use std::alloc::Global;
@@ -23,7 +23,7 @@ pub type WaryFile = FileStore<FileFrom<Wary>>;
 /// each command what it is, the nanoseconds of its parts and how many rows it writes.
 pub fn run_stored<K: Keeper>(
     rt: &HostRuntime,
-    sizes: Stored,
+    sizes: StoreSizes,
     path: &str,
     text: &str,
 ) -> Result<(), Fault> {
@@ -75,7 +75,7 @@ fn fault_of<S: Alter + Drop>(refused: Refused<S>) -> Fault {
 fn run_commands<S: Alter, K: Keeper>(
     rt: &HostRuntime,
     conn: &mut Connection<S>,
-    sizes: Stored,
+    sizes: StoreSizes,
     imports: &[Command],
 ) -> Result<(), Fault> {
     let mut register = Register::<K>::new(rt.alloc(), MOST_MOVES)?;

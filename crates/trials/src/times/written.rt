@@ -17,7 +17,7 @@ use vet_store::change::commit_changes;
 /// The nanoseconds of a command's parts: until it is prepared, until the rows are known that change, and until these
 /// are committed; and how many they are.
 #[derive(Clone, Copy)]
-pub struct Parts {
+pub struct PartTimes {
     prepare: u128,
     rows: u128,
     write: u128,
@@ -38,7 +38,7 @@ pub fn run_written<S: Alter, K: Keeper>(
     let begun = Instant::now(rt)?;
     let (outcome, parts) = written(rt, conn, register, command, &begun)?;
     let whole = begun.elapsed(rt)?.as_nanos();
-    let Parts {
+    let PartTimes {
         prepare,
         rows,
         write,
@@ -54,7 +54,7 @@ fn written<S: Alter, K: Keeper>(
     register: &mut Register<K>,
     command: &Command,
     begun: &Instant,
-) -> Result<(Outcome, Parts), Fault>
+) -> Result<(Outcome, PartTimes), Fault>
     requires { conn.old.in_transaction ≡ false }
 {
     match register.prepare(rt.alloc(), command) {
@@ -78,7 +78,7 @@ fn write<S: Alter, K: Keeper>(
     register: &Register<K>,
     change: &Change<K>,
     begun: &Instant,
-) -> Result<Parts, Fault>
+) -> Result<PartTimes, Fault>
     requires prepared { (command : CommandValue) × IsPrepared K.keeping register.now command change.now }
     requires autocommit { conn.old.in_transaction ≡ false }
 {
@@ -88,7 +88,7 @@ fn write<S: Alter, K: Keeper>(
     let rows = begun.elapsed(rt)?.as_nanos();
     let begun = Instant::now(rt)?;
     match commit_changes(rt.alloc(), conn, changes.as_slice()) {
-        Ok(()) => Ok(Parts {
+        Ok(()) => Ok(PartTimes {
             prepare,
             rows,
             write: begun.elapsed(rt)?.as_nanos(),
