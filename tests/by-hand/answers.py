@@ -12,7 +12,7 @@ ERRORS = {
     "IoFault": "{vet_requests}::io_fault::IoFault::NoMemory",
     "InsertError": "matchit::InsertError::OutOfMemory",
     "Unread": "crate::read::unread::Unread::NoMemory",
-    "Stop": f"crate::change::Stop::Before({OUT_OF_MEMORY})",
+    "CommitError": f"crate::change::CommitError::Before({OUT_OF_MEMORY})",
     "Refused": "crate::refused::Refused {{ refusal: {vet_base}::refusal::Refusal::NoMemory, conn: {conn} }}",
     "NotReopened": "crate::store::reopen_files::NotReopened {{ refusal: {vet_base}::refusal::Refusal::NoMemory, "
     "remains: crate::store::reopen_files::Remains::Conn({conn}) }}",

@@ -25,7 +25,7 @@ use vet_demand::policy_key::PolicyKey;
 use vet_files::field::{Field, FromText, day_of, fault, required, value_at};
 
 /// A type whose values are texts of a document: a text that is none of them has a refusal of its own.
-pub(crate) trait Word: FromText {
+pub(crate) trait DocumentWord: FromText {
     /// The refusal of a text that is no value.
     ghost refusal: { Refusal };
 
@@ -33,7 +33,7 @@ pub(crate) trait Word: FromText {
         ensures { result ≡ refusal };
 }
 
-impl Word for Name {
+impl DocumentWord for Name {
     ghost refusal = { BadName };
 
     fn refused() -> Refusal {
@@ -41,7 +41,7 @@ impl Word for Name {
     }
 }
 
-impl Word for PackageName {
+impl DocumentWord for PackageName {
     ghost refusal = { BadName };
 
     fn refused() -> Refusal {
@@ -49,7 +49,7 @@ impl Word for PackageName {
     }
 }
 
-impl Word for VetVersion {
+impl DocumentWord for VetVersion {
     ghost refusal = { BadVersion };
 
     fn refused() -> Refusal {
@@ -57,7 +57,7 @@ impl Word for VetVersion {
     }
 }
 
-impl Word for Req {
+impl DocumentWord for Req {
     ghost refusal = { BadRequirement };
 
     fn refused() -> Refusal {
@@ -65,7 +65,7 @@ impl Word for Req {
     }
 }
 
-impl Word for Delta {
+impl DocumentWord for Delta {
     ghost refusal = { BadDelta };
 
     fn refused() -> Refusal {
@@ -87,7 +87,7 @@ impl<V> Model for Worded<V> {
     ghost inverse = { λ v. record { value = v } };
 }
 
-impl<V: Word> Field for Worded<V> {
+impl<V: DocumentWord> Field for Worded<V> {
     ghost told = { a_word V.reads V.refusal };
 
     ghost written = { λ v. string (V.printed v) };
@@ -108,7 +108,7 @@ impl<V: Word> Field for Worded<V> {
 }
 
 /// The value whose text must stand at a key of the table of a path.
-pub(crate) fn word_at<V: Word>(
+pub(crate) fn word_at<V: DocumentWord>(
     alloc: Global,
     path: &str,
     table: &Table,

@@ -78,16 +78,16 @@ fn read_map(alloc: Global, document: &Table) -> Result<CriteriaMap, Refusal>
 {
     let none = CriteriaMap::new(alloc);
     match table_at(alloc, COMMAND, document, CRITERIA_MAP)? {
-        Some(table) => each_member(alloc, &ReadMapped {}, none, table),
+        Some(table) => each_member(alloc, &ReadCriteriaMap {}, none, table),
         None => Ok(none),
     }
 }
 
 /// Reads what the criteria of a peer are in one's own, one after the other.
 #[derive(Drop)]
-struct ReadMapped {}
+struct ReadCriteriaMap {}
 
-impl ReadMember for ReadMapped {
+impl ReadMember for ReadCriteriaMap {
     type Found = CriteriaMap;
 
     ghost told = { λ r. next_mapped };

@@ -90,16 +90,16 @@ fn read_dependencies(alloc: Global, document: &Table) -> Result<DependencyCriter
 {
     let none = DependencyCriteria::new(alloc);
     match table_at(alloc, COMMAND, document, DEPENDENCY_CRITERIA)? {
-        Some(table) => each_member(alloc, &ReadDependencies {}, none, table),
+        Some(table) => each_member(alloc, &ReadDependencyCriteria {}, none, table),
         None => Ok(none),
     }
 }
 
 /// Reads the criteria along edges to dependencies, one after the other.
 #[derive(Drop)]
-struct ReadDependencies {}
+struct ReadDependencyCriteria {}
 
-impl ReadMember for ReadDependencies {
+impl ReadMember for ReadDependencyCriteria {
     type Found = DependencyCriteria;
 
     ghost told = { λ r. next_dependency };

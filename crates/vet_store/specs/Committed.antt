@@ -6,11 +6,11 @@ use Rattle.sqlite_trees.specs.Tree.{Trees}
 use Rattle.vet_tables.specs.Cells.{RowsValue}
 use Rattle.vet_tables.specs.Contents.{KeepsOthers}
 use Rattle.vet_store.specs.Stands.{Holds, Stands}
-use Rattle.vet_store.specs.declared.change.Stop.{Stop}
-use Rattle.vet_store.specs.declared.change.Stop.TheVariants.{Before, Commit}
+use Rattle.vet_store.specs.declared.change.CommitError.{CommitError}
+use Rattle.vet_store.specs.declared.change.CommitError.TheVariants.{Before, Commit}
 
 -- it stopped before the commit, which a crash then shows nothing of
-abbrev pub IsBefore : Stop → Type 0
+abbrev pub IsBefore : CommitError → Type 0
 IsBefore (Before e) = ⊤
 IsBefore (Commit e) = ⊥
 

@@ -22,7 +22,7 @@ use vet_rows::row_change::RowChange;
 
 /// Where the changes stopped. At `Commit` a crash may leave either state.
 #[derive(Drop)]
-pub enum Stop {
+pub enum CommitError {
     Before(Error),
     Commit(Error),
 }
@@ -33,7 +33,7 @@ pub fn commit_changes<S: Alter>(
     alloc: Global,
     conn: &mut Connection<S>,
     changes: &[RowChange],
-) -> Result<(), Stop>
+) -> Result<(), CommitError>
     requires autocommit { conn.old.in_transaction ≡ false }
     requires fit { (c : Change) → IsIn c changes.now → Fits c }
     ensures autocommit { conn.new.in_transaction ≡ false }
@@ -58,11 +58,11 @@ pub fn commit_changes<S: Alter>(
     let mut tx = conn.transaction();
     if let Err(error) = apply_all(alloc, &mut tx, changes) {
         tx.rollback();
-        return Err(Stop::Before(error));
+        return Err(CommitError::Before(error));
     }
     match tx.commit() {
         Ok(()) => Ok(()),
-        Err(error) => Err(Stop::Commit(error)),
+        Err(error) => Err(CommitError::Commit(error)),
     }
 }
 
@@ -72,7 +72,7 @@ pub fn make_tables<S: Alter>(
     alloc: Global,
     conn: &mut Connection<S>,
     changes: &[RowChange],
-) -> Result<(), Stop>
+) -> Result<(), CommitError>
     requires autocommit { conn.old.in_transaction ≡ false }
     requires fit { (c : Change) → IsIn c changes.now → Fits c }
     ensures autocommit { conn.new.in_transaction ≡ false }
@@ -97,10 +97,10 @@ pub fn make_tables<S: Alter>(
     let mut tx = conn.transaction();
     if let Err(error) = fill(alloc, &mut tx, changes) {
         tx.rollback();
-        return Err(Stop::Before(error));
+        return Err(CommitError::Before(error));
     }
     match tx.commit() {
         Ok(()) => Ok(()),
-        Err(error) => Err(Stop::Commit(error)),
+        Err(error) => Err(CommitError::Commit(error)),
     }
 }

@@ -299,13 +299,13 @@ fn serve_at_port<S: Alter + Drop, K: Keeper, N: Network, W: Write, E: Write>(
         network.close(listener);
         return Err(fault);
     }
-    let sitting = serve_each(alloc, &mut room, store, network, &mut listener, &service);
+    let summary = serve_each(alloc, &mut room, store, network, &mut listener, &service);
     network.close(listener);
     headline_holds(store);
-    if sitting.lost {
+    if summary.lost {
         return tell_network(errors);
     }
-    write_whole(writer, lines.served(sitting.served).as_bytes())?;
+    write_whole(writer, lines.served(summary.served).as_bytes())?;
     Ok(PRINTED)
 }
 

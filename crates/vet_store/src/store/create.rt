@@ -19,7 +19,7 @@ ghost use Rattle.vet_tables.specs.Read.{Rests};
 ghost use Rattle.vet_store.specs.Tied.{IsTied};
 
 use super::Store;
-use crate::change::{Stop, make_tables};
+use crate::change::{CommitError, make_tables};
 use crate::refused::{Refused, refusal_of};
 use sqlite::{Alter, Connection};
 use std::alloc::Global;
@@ -108,8 +108,8 @@ fn write_start<S: Alter, K: Keeper>(
     let changes = start_changes(alloc, register)?;
     match make_tables(alloc, conn, changes.as_slice()) {
         Ok(()) => Ok(()),
-        Err(Stop::Before(error)) => Err(refusal_of(error)),
-        Err(Stop::Commit(error)) => Err(refusal_of(error)),
+        Err(CommitError::Before(error)) => Err(refusal_of(error)),
+        Err(CommitError::Commit(error)) => Err(refusal_of(error)),
     }
 }
 

@@ -10,7 +10,7 @@ ghost use Rattle.vet_store.specs.Runs.{IsOfStore};
 ghost use Rattle.vet_store.specs.Stands.{Stands};
 ghost use Rattle.vet_store.specs.Tied.{IsWritten};
 
-use crate::change::{Stop, commit_changes};
+use crate::change::{CommitError, commit_changes};
 use crate::refused::refusal_of;
 use sqlite::{Alter, Connection};
 use std::alloc::Global;
@@ -58,8 +58,8 @@ pub(crate) fn write_change<S: Alter, K: Keeper>(
     let changes = row_changes(alloc, register, change)?;
     match commit_changes(alloc, conn, changes.as_slice()) {
         Ok(()) => Ok(()),
-        Err(Stop::Before(error)) => Err(refusal_of(error)),
-        Err(Stop::Commit(error)) => {
+        Err(CommitError::Before(error)) => Err(refusal_of(error)),
+        Err(CommitError::Commit(error)) => {
             *shut = true;
             Err(refusal_of(error))
         }

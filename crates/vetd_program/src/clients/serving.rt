@@ -29,7 +29,7 @@ use vet_store::store::Store;
 
 /// What came of serving: how many clients had their whole reply, and whether what listened was lost before the end.
 #[derive(Clone, Copy)]
-pub struct Sitting {
+pub struct ServeSummary {
     pub served: u32,
     pub lost: bool,
 }
@@ -43,7 +43,7 @@ pub fn serve_each<S: Alter, K: Keeper, N: Network>(
     network: &N,
     listener: &mut N::Listener,
     service: &Service,
-) -> Sitting
+) -> ServeSummary
     ensures served { (clients : AreServed
         (clients_of N.may_listen N.may_come N.may_release N.may_close N.Reader.remaining N.Writer.Write.contents)
         service.now.day service.now.connections store.old.register.state listener.old result.lost
@@ -59,10 +59,10 @@ pub fn serve_each<S: Alter, K: Keeper, N: Network>(
     'clients: for _place in 0..service.connections {
         match serve_next(alloc, room, store, network, listener, service.day) {
             Some(replied) => served += replied,
-            None => return Sitting { served, lost: true },
+            None => return ServeSummary { served, lost: true },
         }
     }
-    Sitting {
+    ServeSummary {
         served,
         lost: false,
     }

@@ -48,28 +48,28 @@ returns-in-Err-clause-written g c =
     c.as_bytes.result.now _ _ _ (c.as_bytes.ensures.value ∙ c.in_ok-lines.ensures.listening) refl written.faults
     written.part
 
-pub returns-then-sitting-clause-written : goal.returns-then-sitting-clause-written
-returns-then-sitting-clause-written g c =
+pub returns-then-summary-clause-written : goal.returns-then-summary-clause-written
+returns-then-summary-clause-written g c =
     let clients = clients_of g.N.Network.may_listen g.N.Network.may_come g.N.Network.may_release
     g.N.Network.may_close g.N.Reader.Read.remaining g.N.Writer.Write.contents in
     let first = c.args.store.now in
-    let last = c.serve_each-sitting.new.store in
+    let last = c.serve_each-summary.new.store in
     let held = c.headline_holds-2.ensures in
     let classes = classes_of last.register.state held.classes held.adds_up held.balance in
     let conn = state g.S.Store last.conn in
     let end = last.register.state in
     let network' = c.close-2.new.self in
-    let told = c.tell_network-then-sitting.ensures in
+    let told = c.tell_network-then-summary.ensures in
     let served = subst (λ (lost : Bool). (served : AreServed clients c.args.service.day c.args.service.connections
-    first.register.state c.in-Some.listener lost end c.serve_each-sitting.new.listener)
-    × ((c.serve_each-sitting.result.served ≡ replied served.turns)
-    × LeavesWhereShut first.shut last.shut conn end served.turns)) c.if-sitting.true
-    c.serve_each-sitting.ensures.served in
+    first.register.state c.in-Some.listener lost end c.serve_each-summary.new.listener)
+    × ((c.serve_each-summary.result.served ≡ replied served.turns)
+    × LeavesWhereShut first.shut last.shut conn end served.turns)) c.if-summary.true
+    c.serve_each-summary.ensures.served in
     lost_in_between clients c.args.network.now network' c.args.service
     (LeavesWhereShut first.shut last.shut conn end) first.register.state c.in-Some.listener
-    c.serve_each-sitting.new.listener c.listen.new.self c.in-Some.ensures c.close-2.ensures end classes
+    c.serve_each-summary.new.listener c.listen.new.self c.in-Some.ensures c.close-2.ensures end classes
     ((network' ≡ c.args.network.now) × (last ≡ first)) served.0 served.1.1
-    c.as_bytes.result.now c.tell_network-then-sitting.result _ _ _ _
+    c.as_bytes.result.now c.tell_network-then-summary.result _ _ _ _
     (c.as_bytes.ensures.value ∙ c.in_ok-lines.ensures.listening) c.in_default.ensures.whole told.status told.told
     told.part told.faults
 
@@ -78,21 +78,21 @@ returns-in_err-write_whole-clause-written g c =
     let clients = clients_of g.N.Network.may_listen g.N.Network.may_come g.N.Network.may_release
     g.N.Network.may_close g.N.Reader.Read.remaining g.N.Writer.Write.contents in
     let first = c.args.store.now in
-    let last = c.serve_each-sitting.new.store in
+    let last = c.serve_each-summary.new.store in
     let held = c.headline_holds-2.ensures in
     let classes = classes_of last.register.state held.classes held.adds_up held.balance in
     let conn = state g.S.Store last.conn in
     let end = last.register.state in
     let network' = c.close-2.new.self in
     let served = subst (λ (lost : Bool). (served : AreServed clients c.args.service.day c.args.service.connections
-    first.register.state c.in-Some.listener lost end c.serve_each-sitting.new.listener)
-    × ((c.serve_each-sitting.result.served ≡ replied served.turns)
-    × LeavesWhereShut first.shut last.shut conn end served.turns)) c.if-sitting.false
-    c.serve_each-sitting.ensures.served in
+    first.register.state c.in-Some.listener lost end c.serve_each-summary.new.listener)
+    × ((c.serve_each-summary.result.served ≡ replied served.turns)
+    × LeavesWhereShut first.shut last.shut conn end served.turns)) c.if-summary.false
+    c.serve_each-summary.ensures.served in
     let written = c.in_err-write_whole.ensures in
     sat_in_part clients c.args.network.now network' c.args.service
     (LeavesWhereShut first.shut last.shut conn end) first.register.state c.in-Some.listener
-    c.serve_each-sitting.new.listener c.listen.new.self c.in-Some.ensures c.close-2.ensures end classes
+    c.serve_each-summary.new.listener c.listen.new.self c.in-Some.ensures c.close-2.ensures end classes
     ((network' ≡ c.args.network.now) × (last ≡ first)) served.0 served.1.1
     c.as_bytes.result.now c.as_bytes-2.result.now (c.as_bytes.ensures.value ∙ c.in_ok-lines.ensures.listening)
     (c.as_bytes-2.ensures.value ∙ c.served.ensures ∙ ap served_line served.1.0)
@@ -104,20 +104,20 @@ returns-clause-written g c =
     let clients = clients_of g.N.Network.may_listen g.N.Network.may_come g.N.Network.may_release
     g.N.Network.may_close g.N.Reader.Read.remaining g.N.Writer.Write.contents in
     let first = c.args.store.now in
-    let last = c.serve_each-sitting.new.store in
+    let last = c.serve_each-summary.new.store in
     let held = c.headline_holds-2.ensures in
     let classes = classes_of last.register.state held.classes held.adds_up held.balance in
     let conn = state g.S.Store last.conn in
     let end = last.register.state in
     let network' = c.close-2.new.self in
     let served = subst (λ (lost : Bool). (served : AreServed clients c.args.service.day c.args.service.connections
-    first.register.state c.in-Some.listener lost end c.serve_each-sitting.new.listener)
-    × ((c.serve_each-sitting.result.served ≡ replied served.turns)
-    × LeavesWhereShut first.shut last.shut conn end served.turns)) c.if-sitting.false
-    c.serve_each-sitting.ensures.served in
+    first.register.state c.in-Some.listener lost end c.serve_each-summary.new.listener)
+    × ((c.serve_each-summary.result.served ≡ replied served.turns)
+    × LeavesWhereShut first.shut last.shut conn end served.turns)) c.if-summary.false
+    c.serve_each-summary.ensures.served in
     sat_whole clients c.args.network.now network' c.args.service
     (LeavesWhereShut first.shut last.shut conn end) first.register.state c.in-Some.listener
-    c.serve_each-sitting.new.listener c.listen.new.self c.in-Some.ensures c.close-2.ensures end classes
+    c.serve_each-summary.new.listener c.listen.new.self c.in-Some.ensures c.close-2.ensures end classes
     ((network' ≡ c.args.network.now) × (last ≡ first)) served.0 served.1.1
     c.as_bytes.result.now c.as_bytes-2.result.now (c.as_bytes.ensures.value ∙ c.in_ok-lines.ensures.listening)
     (c.as_bytes-2.ensures.value ∙ c.served.ensures ∙ ap served_line served.1.0) _ _ _ _
