@@ -15,14 +15,14 @@ use Rattle.vet_rows.specs.PackedItems.{as_text}
 use Rattle.vet_rows.specs.ReadBack.{IsWritten}
 use Rattle.vet_rows.specs.ReadMaps.{AreMapItems, IsMapItem, map_column, map_item}
 use Rattle.vet_rows.specs.ReadValues.{dependency_column, dependency_of}
-use Rattle.vet_rows.specs.declared.read.gathered.Filed.{Filed}
+use Rattle.vet_rows.specs.declared.read.gathered.WithKey.{WithKey}
 use Rattle.vet_rows.proofs.Gathering.{all_mapped}
 use Rattle.vet_rows.proofs.ProjectsRead.{map_again, same_itself}
 
 abbrev own : Name → Bytes
 own name = name
 
-abbrev pub filed_of : DependencyItem → Filed Name NameSet
+abbrev pub filed_of : DependencyItem → WithKey Name NameSet
 filed_of item = record { key = item.«package»; item = item.criteria }
 
 unfiled : (items : List DependencyItem) → map dependency_of (map filed_of items) ≡ items
@@ -39,7 +39,7 @@ module _ (items : List DependencyItem) (are : AreDependencies items) where
       → IsWritten (AreMapItems own (as_text read_package_name)) (map_column own) bytes (map filed_of items)
   dependencies_written bytes is = (held, is ∙ sym (ap packed_map (map_again (map_item own) filed_of items)))
 
-  pub dependencies_read : (filed : List (Filed Name NameSet)) → filed ≡ map filed_of items
+  pub dependencies_read : (filed : List (WithKey Name NameSet)) → filed ≡ map filed_of items
       → (deps : List DependencyItem) → deps ≡ all_set R item_name [] (map dependency_of filed) → deps ≡ items
   dependencies_read filed all deps e =
       e ∙ ap (λ fs. all_set R item_name [] (map dependency_of fs)) all ∙ ap (all_set R item_name []) (unfiled items)

@@ -34,7 +34,7 @@ use Rattle.vet_rows.specs.ReadSourced.{of_peers, own_items}
 use Rattle.vet_rows.specs.SettingRows.{all_criteria, criterion_row, peer_criteria, peer_row}
 use Rattle.vet_rows.specs.Values.{IsCriterion, IsHeldEntry, IsPublisher}
 use Rattle.vet_rows.specs.declared.read.criteria.SourcedCriterion.{SourcedCriterion}
-use Rattle.vet_rows.specs.declared.read.gathered.Filed.{Filed}
+use Rattle.vet_rows.specs.declared.read.gathered.WithKey.{WithKey}
 use Rattle.vet_rows.specs.ReadBack.{EachStandsFor, IsWritten}
 use Rattle.vet_rows.proofs.Reading.{AreThose}
 use Rattle.vet_rows.proofs.SetsRead.{items_read, they_stand}
@@ -265,14 +265,14 @@ module _ (facts : Facts) (values : AreFactsValues facts) where
         these_rows (map filed_publisher_row (flat_map filed_records facts.publishers))
         _ shown rows is (publisher_rows_are facts.publishers) same
 
-    pub records_read : (found : List (Filed Name Publisher))
+    pub records_read : (found : List (WithKey Name Publisher))
         → AreThose (IsWritten IsFiledPublisher filed_publisher_row) shown found
         → SameItems found (flat_map filed_records facts.publishers)
     records_read =
         items_read IsFiledPublisher filed_publisher_row shown (flat_map filed_records facts.publishers)
         (all_records_can facts values) records_same
 
-    pub records_stand : (xs : List (Filed Name Publisher))
+    pub records_stand : (xs : List (WithKey Name Publisher))
         × EachStandsFor (IsWritten IsFiledPublisher filed_publisher_row) shown xs
     records_stand =
         they_stand IsFiledPublisher filed_publisher_row shown (flat_map filed_records facts.publishers)

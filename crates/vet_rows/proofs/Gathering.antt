@@ -13,7 +13,7 @@ use Rattle.vet_base.specs.Keyed.{IsByKey, IsPlace, is_of, item_of}
 use Rattle.vet_base.proofs.ItemLemmas.{pairs_head, pairs_none, pairs_tail}
 use Rattle.vet_base.proofs.KeyedLemmas.{above, no_item}
 use Rattle.vet_rows.specs.Gathered.{Gathered, gathered, head_key, is_filed_at, items_at, with_filed}
-use Rattle.vet_rows.specs.declared.read.gathered.Filed.{Filed}
+use Rattle.vet_rows.specs.declared.read.gathered.WithKey.{WithKey}
 
 -- ---- lists of images
 
@@ -36,14 +36,14 @@ module _ {K H T : Type 0} (cmp : K → K → Ordering) (total : IsTotalOrder cmp
 
   -- ---- one item more
 
-  at_key : (f : Filed K T) (g : Gathered H T) → key g.head ≡ f.key → with_filed cmp key f g ≡ pushed g f.item
+  at_key : (f : WithKey K T) (g : Gathered H T) → key g.head ≡ f.key → with_filed cmp key f g ≡ pushed g f.item
   at_key f g same = ap (λ b. cond b (pushed g f.item) g) (ap (λ k. is_eq (cmp k f.key)) same
       ∙ ap is_eq (tied_itself total f.key))
 
-  at_other : (f : Filed K T) (g : Gathered H T) → is_eq (cmp (key g.head) f.key) ≡ false → with_filed cmp key f g ≡ g
+  at_other : (f : WithKey K T) (g : Gathered H T) → is_eq (cmp (key g.head) f.key) ≡ false → with_filed cmp key f g ≡ g
   at_other f g differs = ap (λ b. cond b (pushed g f.item) g) differs
 
-  at_others : (f : Filed K T) (gs : List (Gathered H T)) → All (λ g. is_eq (cmp (key g.head) f.key) ≡ false) gs
+  at_others : (f : WithKey K T) (gs : List (Gathered H T)) → All (λ g. is_eq (cmp (key g.head) f.key) ≡ false) gs
       → map (with_filed cmp key f) gs ≡ gs
   at_others f [] differ = refl
   at_others f (g ∷ gs) differ =
@@ -52,7 +52,7 @@ module _ {K H T : Type 0} (cmp : K → K → Ordering) (total : IsTotalOrder cmp
       λ i. first i ∷ rest i
 
   -- it goes where its key stands
-  pub filed_at : (f : Filed K T) (gs : List (Gathered H T)) (place : ℕ) (g : Gathered H T)
+  pub filed_at : (f : WithKey K T) (gs : List (Gathered H T)) (place : ℕ) (g : Gathered H T)
       → IsByKey cmp (head_key key) gs
       → place < length gs → ((d : Gathered H T) → get_or gs place d ≡ g) → key g.head ≡ f.key
       → set gs place (pushed g f.item) ≡ map (with_filed cmp key f) gs
@@ -75,7 +75,7 @@ module _ {K H T : Type 0} (cmp : K → K → Ordering) (total : IsTotalOrder cmp
       (key b.head) ≡ Less) x gs up) in_rest at same in
       λ i. sym first i ∷ rest i
 
-  none_there : (f : Filed K T) (gs : List (Gathered H T)) → item_of cmp (head_key key) gs f.key ≡ None
+  none_there : (f : WithKey K T) (gs : List (Gathered H T)) → item_of cmp (head_key key) gs f.key ≡ None
       → map (with_filed cmp key f) gs ≡ gs
   none_there f [] none = refl
   none_there f (g ∷ gs) none = by (none_there f gs) (is_eq (cmp (key g.head) f.key)) refl none
@@ -88,29 +88,29 @@ module _ {K H T : Type 0} (cmp : K → K → Ordering) (total : IsTotalOrder cmp
       by more false e h = (let first = at_other f g e in let rest = more h in λ i. first i ∷ rest i)
 
   -- and nowhere if none has its key
-  pub filed_nowhere : (f : Filed K T) (gs : List (Gathered H T)) (place : ℕ)
+  pub filed_nowhere : (f : WithKey K T) (gs : List (Gathered H T)) (place : ℕ)
       → IsPlace cmp (head_key key) gs f.key (Err place)
       → gs ≡ map (with_filed cmp key f) gs
   filed_nowhere f gs place at = sym (none_there f gs (no_item cmp total only (head_key key) gs f.key place at))
 
   -- ---- all items
 
-  more_at : (k : K) (filed : List (Filed K T)) (f : Filed K T) → items_at cmp k (filed ++ f ∷ [])
+  more_at : (k : K) (filed : List (WithKey K T)) (f : WithKey K T) → items_at cmp k (filed ++ f ∷ [])
       ≡ cond (is_filed_at cmp k f) (items_at cmp k filed ++ f.item ∷ []) (items_at cmp k filed)
   more_at k [] f = by (is_filed_at cmp k f)
     where
-      by : (b : Bool) → map (λ (x : Filed K T). x.item) (cond b (f ∷ []) []) ≡ cond b (f.item ∷ []) []
+      by : (b : Bool) → map (λ (x : WithKey K T). x.item) (cond b (f ∷ []) []) ≡ cond b (f.item ∷ []) []
       by true = refl
       by false = refl
   more_at k (x ∷ filed) f = by (is_filed_at cmp k x) (is_filed_at cmp k f) (more_at k filed f)
     where
       by : (a b : Bool) → items_at cmp k (filed ++ f ∷ [])
           ≡ cond b (items_at cmp k filed ++ f.item ∷ []) (items_at cmp k filed)
-          → map (λ (y : Filed K T). y.item) (cond a (x ∷ filter (is_filed_at cmp k) (filed ++ f ∷ []))
+          → map (λ (y : WithKey K T). y.item) (cond a (x ∷ filter (is_filed_at cmp k) (filed ++ f ∷ []))
           (filter (is_filed_at cmp k) (filed ++ f ∷ [])))
-          ≡ cond b (map (λ (y : Filed K T). y.item) (cond a (x ∷ filter (is_filed_at cmp k) filed) (filter
+          ≡ cond b (map (λ (y : WithKey K T). y.item) (cond a (x ∷ filter (is_filed_at cmp k) filed) (filter
           (is_filed_at cmp k) filed)) ++ f.item ∷ [])
-          (map (λ (y : Filed K T). y.item) (cond a (x ∷ filter (is_filed_at cmp k) filed) (filter
+          (map (λ (y : WithKey K T). y.item) (cond a (x ∷ filter (is_filed_at cmp k) filed) (filter
           (is_filed_at cmp k) filed)))
       by true true more = ap (λ xs. x.item ∷ xs) more
       by true false more = ap (λ xs. x.item ∷ xs) more
@@ -120,7 +120,7 @@ module _ {K H T : Type 0} (cmp : K → K → Ordering) (total : IsTotalOrder cmp
   abbrev of_head : H → List T → Gathered H T
   of_head h xs = record { head = h; items = xs }
 
-  more_gathered : (filed : List (Filed K T)) (f : Filed K T) (h : H)
+  more_gathered : (filed : List (WithKey K T)) (f : WithKey K T) (h : H)
       → with_filed cmp key f (gathered cmp key filed h) ≡ gathered cmp key (filed ++ f ∷ []) h
   more_gathered filed f h =
       by (is_filed_at cmp (key h) f) ∙ ap (of_head h) (sym (more_at (key h) filed f))
@@ -131,14 +131,14 @@ module _ {K H T : Type 0} (cmp : K → K → Ordering) (total : IsTotalOrder cmp
       by true = refl
       by false = refl
 
-  pub gathered_more : (filed : List (Filed K T)) (f : Filed K T) (hs : List H)
+  pub gathered_more : (filed : List (WithKey K T)) (f : WithKey K T) (hs : List H)
       → map (with_filed cmp key f) (map (gathered cmp key filed) hs) ≡ map (gathered cmp key (filed ++ f ∷ [])) hs
   gathered_more filed f [] = refl
   gathered_more filed f (h ∷ hs) =
       let first = more_gathered filed f h in let rest = gathered_more filed f hs in λ i. first i ∷ rest i
 
   -- the keys are those of the heads, in order
-  pub gathered_by_key : (filed : List (Filed K T)) (hs : List H) → IsByKey cmp key hs
+  pub gathered_by_key : (filed : List (WithKey K T)) (hs : List H) → IsByKey cmp key hs
       → IsByKey cmp (head_key key) (map (gathered cmp key filed) hs)
   gathered_by_key filed hs up =
       pairs_mapped (gathered cmp key filed) (λ a b. cmp (key a.head) (key b.head) ≡ Less) hs up

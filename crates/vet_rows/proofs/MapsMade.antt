@@ -17,16 +17,16 @@ use Rattle.vet_rows.specs.Columns.{packed_map}
 use Rattle.vet_rows.specs.PackedItems.{as_text}
 use Rattle.vet_rows.specs.ReadFacts.{IsCriteriaMap, IsMapped, criteria_map_column, mapped_criterion}
 use Rattle.vet_rows.specs.ReadMaps.{AreMapItems, IsMapItem, map_column, map_item}
-use Rattle.vet_rows.specs.declared.read.gathered.Filed.{Filed}
+use Rattle.vet_rows.specs.declared.read.gathered.WithKey.{WithKey}
 
 abbrev here : Name → Bytes
 here n = n
 
-abbrev filed : Name × NameSet → Filed Name NameSet
+abbrev filed : Name × NameSet → WithKey Name NameSet
 filed e = record { key = e.0; item = e.1 }
 
 -- the items of a map, as they are filed in its column
-abbrev pub filed_map : NamesByName → List (Filed Name NameSet)
+abbrev pub filed_map : NamesByName → List (WithKey Name NameSet)
 filed_map m = map filed (table.entries m)
 
 items_are : (es : List (Name × NameSet)) → map (map_item here) (map filed es) ≡ es
@@ -70,7 +70,7 @@ rises (e ∷ es) up =
     (below e.0 es (pairs_head (λ a b. R a b ≡ Less) e.0 (map (λ (d : Name × NameSet). d.0) es) up))
     (rises es (pairs_tail (λ a b. R a b ≡ Less) e.0 (map (λ (d : Name × NameSet). d.0) es) up))
 
-pub map_is : (m : NamesByName) (items : List (Filed Name NameSet)) (criteria : List MappedCriterion)
+pub map_is : (m : NamesByName) (items : List (WithKey Name NameSet)) (criteria : List MappedCriterion)
     → items ≡ filed_map m → criteria ≡ map mapped_criterion items
     → table.from_sorted {R = R} (by_name (all_set R mapped_name [] criteria)) ≡ m
 map_is m items criteria same made =

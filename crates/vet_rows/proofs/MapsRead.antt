@@ -10,7 +10,7 @@ use Rattle.vet_base.specs.Words.{Bytes}
 use Rattle.vet_rows.specs.Columns.{packed_names}
 use Rattle.vet_rows.specs.ReadBack.{IsWritten}
 use Rattle.vet_rows.specs.ReadMaps.{AreMapItems, IsMapItem, in_turn}
-use Rattle.vet_rows.specs.declared.read.gathered.Filed.{Filed}
+use Rattle.vet_rows.specs.declared.read.gathered.WithKey.{WithKey}
 
 -- what is lent
 abbrev pub here : Bor Bytes → Bytes
@@ -18,7 +18,7 @@ here item = item.now
 
 module _ {K : Type 0} (bytes_of : K → Bytes) (read : Bytes → Option K) where
   abbrev Item : Type 0
-  Item = Filed K NameSet
+  Item = WithKey K NameSet
 
   abbrev Holds : Item → Type 0
   Holds = IsMapItem bytes_of read

@@ -36,7 +36,7 @@ use Rattle.vet_rows.specs.Gathered.{Gathered, gathered, head_key}
 use Rattle.vet_rows.specs.ReadBack.{EachStandsFor}
 use Rattle.vet_rows.specs.ReadPeers.{ArePartsOf, IsGroupOf, IsHeldPeer, IsPeerTable}
 use Rattle.vet_rows.specs.declared.read.criteria.SourcedCriterion.{SourcedCriterion}
-use Rattle.vet_rows.specs.declared.read.gathered.Filed.{Filed}
+use Rattle.vet_rows.specs.declared.read.gathered.WithKey.{WithKey}
 use Rattle.vet_rows.proofs.Gathering.{pairs_mapped}
 
 -- ---- entries by number
@@ -112,8 +112,8 @@ same_peer {p = p} e made f g =
 
 -- ---- groups
 
-module _ (settings : List PeerSettings) (entries : List (Filed Name HeldEntry))
-    (criteria : List (Filed Name SourcedCriterion)) where
+module _ (settings : List PeerSettings) (entries : List (WithKey Name HeldEntry))
+    (criteria : List (WithKey Name SourcedCriterion)) where
   abbrev settings_of : HeldPeer → PeerSettings
   settings_of p = p.settings
 

@@ -28,8 +28,8 @@ use Rattle.vet_rows.specs.ProjectRows.{edge_rows, node_rows}
 use Rattle.vet_rows.specs.ReadBack.{EachStandsFor, IsWritten}
 use Rattle.vet_rows.specs.ReadProjects.{AreNodesAndEdgesOf, IsEdgeOf, IsFiledEnds, IsFiledNode, TellsGathered, ends_of}
 use Rattle.vet_rows.specs.ReadProjects.{filed_ends, filed_ends_row, filed_node_row, filed_nodes}
-use Rattle.vet_rows.specs.declared.read.gathered.Filed.{Filed}
-use Rattle.vet_rows.specs.declared.read.projects.Ends.{Ends}
+use Rattle.vet_rows.specs.declared.read.gathered.WithKey.{WithKey}
+use Rattle.vet_rows.specs.declared.read.projects.EdgeEnds.{EdgeEnds}
 use Rattle.vet_rows.proofs.Gathering.{pairs_mapped}
 use Rattle.vet_rows.proofs.Reading.{AreThose}
 use Rattle.vet_rows.proofs.SetsRead.{items_read, they_stand}
@@ -75,31 +75,31 @@ same_itself xs = (λ x i. i, λ x i. i)
 
 module _ {K H T : Type 0} (cmp : K → K → Ordering) (total : IsTotalOrder cmp)
     (only : (a b : K) → cmp a b ≡ Equal → a ≡ b) (name : H → K) (of : H → List T) where
-  abbrev pub filed_one : K → T → Filed K T
+  abbrev pub filed_one : K → T → WithKey K T
   filed_one k x = record { key = k; item = x }
 
-  abbrev pub filed_under : H → List (Filed K T)
+  abbrev pub filed_under : H → List (WithKey K T)
   filed_under h = map (filed_one (name h)) (of h)
 
-  filed_is : (f : Filed K T) (k : K) (x : T) → f.key ≡ k → f.item ≡ x → f ≡ filed_one k x
+  filed_is : (f : WithKey K T) (k : K) (x : T) → f.key ≡ k → f.item ≡ x → f ≡ filed_one k x
   filed_is f k x key item = λ i. record { key = key i; item = item i }
 
-  at_in : (k : K) (filed : List (Filed K T)) (x : T) → IsIn x (items_at cmp k filed) → IsIn (filed_one k x) filed
+  at_in : (k : K) (filed : List (WithKey K T)) (x : T) → IsIn x (items_at cmp k filed) → IsIn (filed_one k x) filed
   at_in k filed x among =
-      let found = in_map (λ (f : Filed K T). f.item) (filter (is_filed_at cmp k) filed) x among in
+      let found = in_map (λ (f : WithKey K T). f.item) (filter (is_filed_at cmp k) filed) x among in
       let kept = in_filter (is_filed_at cmp k) filed found.0 found.1.0 in
       let key = sym (only k found.0.key ((Equal-is (cmp k found.0.key)).0 kept.1)) in
       subst (λ f. IsIn f filed) (filed_is found.0 k x key (sym found.1.1)) kept.0
 
-  in_at : (k : K) (filed : List (Filed K T)) (x : T) → IsIn (filed_one k x) filed → IsIn x (items_at cmp k filed)
+  in_at : (k : K) (filed : List (WithKey K T)) (x : T) → IsIn (filed_one k x) filed → IsIn x (items_at cmp k filed)
   in_at k filed x among =
-      map_in (λ (f : Filed K T). f.item) (filter (is_filed_at cmp k) filed) (filed_one k x)
+      map_in (λ (f : WithKey K T). f.item) (filter (is_filed_at cmp k) filed) (filed_one k x)
       (filter_in (is_filed_at cmp k) filed (filed_one k x) among (ap is_eq (tied_itself total k)))
 
-  module _ (hs : List H) (up : IsByKey cmp name hs) (filed : List (Filed K T))
+  module _ (hs : List H) (up : IsByKey cmp name hs) (filed : List (WithKey K T))
       (same : SameItems filed (flat_map filed_under hs)) where
     -- whose it is
-    whose : (f : Filed K T) → IsIn f filed → (h : H) × (IsIn h hs × ((name h ≡ f.key) × IsIn f.item (of h)))
+    whose : (f : WithKey K T) → IsIn f filed → (h : H) × (IsIn h hs × ((name h ≡ f.key) × IsIn f.item (of h)))
     whose f among =
         let under = in_flat filed_under hs f (same.0 f among) in
         let one = in_map (filed_one (name under.0)) (of under.0) f under.1.1 in (
@@ -107,8 +107,8 @@ module _ {K H T : Type 0} (cmp : K → K → Ordering) (total : IsTotalOrder cmp
           (
             under.1.0,
             (
-              sym (ap (λ (g : Filed K T). g.key) one.1.1),
-              subst (λ x. IsIn x (of under.0)) (sym (ap (λ (g : Filed K T). g.item) one.1.1)) one.1.0,
+              sym (ap (λ (g : WithKey K T). g.key) one.1.1),
+              subst (λ x. IsIn x (of under.0)) (sym (ap (λ (g : WithKey K T). g.item) one.1.1)) one.1.0,
             ),
           ),
         )
@@ -133,14 +133,14 @@ module _ {K H T : Type 0} (cmp : K → K → Ordering) (total : IsTotalOrder cmp
     keys_are some = all_set_is cmp total only (λ k. k) (map name hs) (map (λ f. f.key) filed)
         (pairs_mapped name (λ a b. cmp a b ≡ Less) hs up) (
           λ k among.
-              let f = in_map (λ (g : Filed K T). g.key) filed k among in
+              let f = in_map (λ (g : WithKey K T). g.key) filed k among in
               let owner = whose f.0 f.1.0 in
               subst (λ n. IsIn n (map name hs)) (owner.1.1.0 ∙ sym f.1.1) (map_in name hs owner.0 owner.1.0),
           λ k among.
               let h = in_map name hs k among in
               let x = first_of (of h.0) (some h.0 h.1.0) in
               subst (λ n. IsIn n (map (λ f. f.key) filed)) (sym h.1.1)
-              (map_in (λ (g : Filed K T). g.key) filed (filed_one (name h.0) x.0) (is_filed h.0 h.1.0 x.0 x.1)),
+              (map_in (λ (g : WithKey K T). g.key) filed (filed_one (name h.0) x.0) (is_filed h.0 h.1.0 x.0 x.1)),
         )
       where
         first_of : (xs : List T) → 0 < length xs → (x : T) × IsIn x xs
@@ -159,10 +159,10 @@ own name = name
 abbrev nodes_of : NamedProject → List Node
 nodes_of p = p.project.nodes
 
-abbrev ends_in : NamedProject → List Ends
+abbrev ends_in : NamedProject → List EdgeEnds
 ends_in p = map (ends_of p.project.nodes) p.project.edges
 
-module _ (nodes : List (Filed (List ℕ) Node)) (edges : List (Filed (List ℕ) Ends)) (ps : List NamedProject)
+module _ (nodes : List (WithKey (List ℕ) Node)) (edges : List (WithKey (List ℕ) EdgeEnds)) (ps : List NamedProject)
     (of : AreNodesAndEdgesOf nodes edges ps) where
   under : (p : NamedProject) → filed_ends p ≡ filed_under R nat_list_cmp_total only_equal project_name ends_in p
   under p = sym (map_again (filed_one R nat_list_cmp_total only_equal project_name ends_in p.name)
@@ -245,11 +245,11 @@ module _ (ps : List NamedProject) (each : All IsNamedProject ps) where
     of_nodes : SameItems rows (map filed_node_row (flat_map filed_nodes ps))
     of_nodes = subst (SameItems rows) (sym nodes_written) same
 
-    pub nodes_read : (found : List (Filed (List ℕ) Node))
+    pub nodes_read : (found : List (WithKey (List ℕ) Node))
         → AreThose (IsWritten IsFiledNode filed_node_row) rows found → SameItems found (flat_map filed_nodes ps)
     nodes_read = items_read IsFiledNode filed_node_row rows (flat_map filed_nodes ps) nodes_held of_nodes
 
-    pub nodes_stand : (ys : List (Filed (List ℕ) Node))
+    pub nodes_stand : (ys : List (WithKey (List ℕ) Node))
         × EachStandsFor (IsWritten IsFiledNode filed_node_row) rows ys
     nodes_stand = they_stand IsFiledNode filed_node_row rows (flat_map filed_nodes ps) nodes_held of_nodes
 
@@ -257,11 +257,13 @@ module _ (ps : List NamedProject) (each : All IsNamedProject ps) where
     of_ends : SameItems rows (map filed_ends_row (flat_map filed_ends ps))
     of_ends = subst (SameItems rows) (sym ends_written) same
 
-    pub ends_read : (found : List (Filed (List ℕ) Ends)) → AreThose (IsWritten IsFiledEnds filed_ends_row) rows found
+    pub ends_read : (found : List (WithKey (List ℕ) EdgeEnds))
+        → AreThose (IsWritten IsFiledEnds filed_ends_row) rows found
         → SameItems found (flat_map filed_ends ps)
     ends_read = items_read IsFiledEnds filed_ends_row rows (flat_map filed_ends ps) ends_held of_ends
 
-    pub ends_stand : (ys : List (Filed (List ℕ) Ends)) × EachStandsFor (IsWritten IsFiledEnds filed_ends_row) rows ys
+    pub ends_stand : (ys : List (WithKey (List ℕ) EdgeEnds))
+        × EachStandsFor (IsWritten IsFiledEnds filed_ends_row) rows ys
     ends_stand = they_stand IsFiledEnds filed_ends_row rows (flat_map filed_ends ps) ends_held of_ends
 
 -- ---- a project of its parts
@@ -280,7 +282,7 @@ restored p nodes edges is n e (Some q) sound value = ap Some (value ∙ parts_ar
 
 -- ---- the edges of a project
 
-module _ (p : NamedProject) (is : IsProject p.project) (ends : List Ends)
+module _ (p : NamedProject) (is : IsProject p.project) (ends : List EdgeEnds)
     (same : SameItems ends (map (ends_of p.project.nodes) p.project.edges)) where
   abbrev pub Back : List Node → List Edge → Type 0
   Back nodes found =
@@ -302,8 +304,9 @@ module _ (p : NamedProject) (is : IsProject p.project) (ends : List Ends)
 
 -- ---- what is gathered
 
-pub projects_stand : (nodes : List (Filed (List ℕ) Node)) (edges : List (Filed (List ℕ) Ends)) (names : List (List ℕ))
-    (with_nodes : List (Gathered (List ℕ) Node)) (groups : List (Gathered (Gathered (List ℕ) Node) Ends))
+pub projects_stand : (nodes : List (WithKey (List ℕ) Node)) (edges : List (WithKey (List ℕ) EdgeEnds))
+    (names : List (List ℕ)) (with_nodes : List (Gathered (List ℕ) Node))
+    (groups : List (Gathered (Gathered (List ℕ) Node) EdgeEnds))
     → names ≡ all_set R own [] (map (λ f. f.key) nodes) → with_nodes ≡ map (gathered R own nodes) names
     → groups ≡ map (gathered R (head_key own) edges) with_nodes
     → (ps : List NamedProject) → AreNodesAndEdgesOf nodes edges ps → EachStandsFor TellsGathered groups ps

@@ -25,7 +25,7 @@ use Rattle.vet_entries.proofs.SetInOrder.{set_in_order}
 use Rattle.vet_rows.specs.Gathered.{gathered, is_filed_at, items_at}
 use Rattle.vet_rows.specs.ReadBack.{EachStandsFor}
 use Rattle.vet_rows.specs.ReadRecords.{AreRecordsOf, IsGroupOfPackage, filed_records}
-use Rattle.vet_rows.specs.declared.read.gathered.Filed.{Filed}
+use Rattle.vet_rows.specs.declared.read.gathered.WithKey.{WithKey}
 use Rattle.vet_rows.proofs.Gathering.{pairs_mapped}
 use Rattle.vet_rows.proofs.Sourcing.{flat_in, in_flat}
 
@@ -52,10 +52,10 @@ records_are given made held are same up =
 abbrev pub here : Name → Name
 here n = n
 
-module _ (records : List (Filed Name Publisher)) (packages : List PackagePublishers)
+module _ (records : List (WithKey Name Publisher)) (packages : List PackagePublishers)
     (parts : AreRecordsOf records packages) where
   -- whose a record is
-  owner : (f : Filed Name Publisher) → IsIn f records
+  owner : (f : WithKey Name Publisher) → IsIn f records
       → (p : PackagePublishers) × (IsIn p packages × ((f.key ≡ p.«package») × IsIn f.item p.publishers))
   owner f i =
       let p = in_flat filed_records packages f (parts.same.0 f i) in
@@ -64,22 +64,22 @@ module _ (records : List (Filed Name Publisher)) (packages : List PackagePublish
         (
           p.1.0,
           (
-            ap (λ (g : Filed Name Publisher). g.key) x.1.1,
-            subst (λ y. IsIn y p.0.publishers) (sym (ap (λ (g : Filed Name Publisher). g.item) x.1.1)) x.1.0,
+            ap (λ (g : WithKey Name Publisher). g.key) x.1.1,
+            subst (λ y. IsIn y p.0.publishers) (sym (ap (λ (g : WithKey Name Publisher). g.item) x.1.1)) x.1.0,
           ),
         ),
       )
 
   -- a record of a package is among them
   there : (p : PackagePublishers) → IsIn p packages → (x : Publisher) → IsIn x p.publishers
-      → IsIn (let f : Filed Name Publisher = record { key = p.«package»; item = x } in f) records
+      → IsIn (let f : WithKey Name Publisher = record { key = p.«package»; item = x } in f) records
   there p i x j =
-      let f : Filed Name Publisher = record { key = p.«package»; item = x } in
+      let f : WithKey Name Publisher = record { key = p.«package»; item = x } in
       parts.same.1 f (flat_in filed_records packages p f i
       (map_in (λ (y : Publisher). record { key = p.«package»; item = y }) p.publishers x j))
 
   abbrev pub keys : List Name
-  keys = map (λ (f : Filed Name Publisher). f.key) records
+  keys = map (λ (f : WithKey Name Publisher). f.key) records
 
   some : (xs : List Publisher) → 0 < length xs → (x : Publisher) × IsIn x xs
   some [] l = absurd (omega (arith, l))
@@ -87,13 +87,13 @@ module _ (records : List (Filed Name Publisher)) (packages : List PackagePublish
 
   same_names : SameItems keys (map package_of packages)
   same_names = (
-    λ n i. (let f = in_map (λ (f : Filed Name Publisher). f.key) records n i in
+    λ n i. (let f = in_map (λ (f : WithKey Name Publisher). f.key) records n i in
         let p = owner f.0 f.1.0 in
         subst (λ m. IsIn m (map package_of packages)) (sym (f.1.1 ∙ p.1.1.0)) (map_in package_of packages p.0 p.1.0)),
     λ n i. (let p = in_map package_of packages n i in
         let x = some p.0.publishers (in_all HasAny packages parts.by_name.filled p.0 p.1.0) in
         subst (λ m. IsIn m keys) (sym p.1.1)
-        (map_in (λ (f : Filed Name Publisher). f.key) records (record { key = p.0.«package»; item = x.0 })
+        (map_in (λ (f : WithKey Name Publisher). f.key) records (record { key = p.0.«package»; item = x.0 })
         (there p.0 p.1.0 x.0 x.1))),
   )
 
@@ -106,14 +106,14 @@ module _ (records : List (Filed Name Publisher)) (packages : List PackagePublish
   -- what is filed under a package are its records
   group : (p : PackagePublishers) → IsIn p packages → SameItems (items_at R p.«package» records) p.publishers
   group p i = (
-    λ x j. (let f = in_map (λ (f : Filed Name Publisher). f.item) (filter (is_filed_at R p.«package») records) x j in
+    λ x j. (let f = in_map (λ (f : WithKey Name Publisher). f.item) (filter (is_filed_at R p.«package») records) x j in
         let at = in_filter (is_filed_at R p.«package») records f.0 f.1.0 in
         let q = owner f.0 at.0 in
         let same : q.0 ≡ p = of_one_key R nat_list_cmp_total only_equal package_of packages parts.by_name.rising q.0 p
         q.1.0 i (sym q.1.1.0 ∙ sym (only_equal p.«package» f.0.key (equal (R p.«package» f.0.key) at.1))) in
         subst (λ y. IsIn y p.publishers) (sym f.1.1) (subst (λ r. IsIn f.0.item r.publishers) same q.1.1.1)),
-    λ x j. (let f : Filed Name Publisher = record { key = p.«package»; item = x } in
-        map_in (λ (g : Filed Name Publisher). g.item) (filter (is_filed_at R p.«package») records) f
+    λ x j. (let f : WithKey Name Publisher = record { key = p.«package»; item = x } in
+        map_in (λ (g : WithKey Name Publisher). g.item) (filter (is_filed_at R p.«package») records) f
         (filter_in (is_filed_at R p.«package») records f (there p i x j)
         (ap is_eq (tied_itself nat_list_cmp_total p.«package»)))),
   )

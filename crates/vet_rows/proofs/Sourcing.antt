@@ -18,7 +18,7 @@ use Rattle.vet_entries.specs.declared.entry.Source.{Source}
 use Rattle.vet_entries.specs.declared.entry.Source.TheVariants.{Own, Peer}
 use Rattle.vet_rows.specs.Gathered.{is_filed_at, items_at}
 use Rattle.vet_rows.specs.ReadSourced.{filed_of, of_peers, of_peers_one, own_items, own_of, own_one, peer_in}
-use Rattle.vet_rows.specs.declared.read.gathered.Filed.{Filed}
+use Rattle.vet_rows.specs.declared.read.gathered.WithKey.{WithKey}
 
 abbrev R : Name → Name → Ordering
 R = slice_cmp nat_cmp
@@ -68,11 +68,11 @@ module _ {X : Type 0} (source_of : X → Source) where
   own_in xs x among own =
       flat_in (own_one source_of) xs x x among (subst (λ s. IsIn x (own_of (peer_in s) x)) (sym own) (inl refl))
 
-  in_filed_one : (s : Source) (x : X) (f : Filed Name X) → IsIn f (filed_of (peer_in s) x)
+  in_filed_one : (s : Source) (x : X) (f : WithKey Name X) → IsIn f (filed_of (peer_in s) x)
       → (f.item ≡ x) × (s ≡ Peer f.key)
   in_filed_one Own x f none = absurd none
   in_filed_one (Peer n) x f (inl same) =
-      (ap (λ (g : Filed Name X). g.item) same, ap (λ (g : Filed Name X). Peer g.key) (sym same))
+      (ap (λ (g : WithKey Name X). g.item) same, ap (λ (g : WithKey Name X). Peer g.key) (sym same))
   in_filed_one (Peer n) x f (inr none) = absurd none
 
   tied : (a b : Name) → is_eq (R a b) ≡ true → a ≡ b
@@ -82,7 +82,7 @@ module _ {X : Type 0} (source_of : X → Source) where
   pub in_peer : (xs : List X) (n : Name) (x : X) → IsIn x (items_at R n (of_peers source_of xs))
       → IsIn x xs × (source_of x ≡ Peer n)
   in_peer xs n x among =
-      let f = in_map (λ (f : Filed Name X). f.item) (filter (is_filed_at R n) (of_peers source_of xs)) x among in
+      let f = in_map (λ (f : WithKey Name X). f.item) (filter (is_filed_at R n) (of_peers source_of xs)) x among in
       let parts = in_filter (is_filed_at R n) (of_peers source_of xs) f.0 f.1.0 in
       let found = in_flat (of_peers_one source_of) xs f.0 parts.0 in
       let one = in_filed_one (source_of found.0) found.0 f.0 found.1.1 in
@@ -92,11 +92,11 @@ module _ {X : Type 0} (source_of : X → Source) where
   pub peer_in_items : (xs : List X) (n : Name) (x : X) → IsIn x xs → source_of x ≡ Peer n
       → IsIn x (items_at R n (of_peers source_of xs))
   peer_in_items xs n x among of =
-      let filed : Filed Name X = record { key = n; item = x } in
+      let filed : WithKey Name X = record { key = n; item = x } in
       let there : IsIn filed (of_peers source_of xs) =
       flat_in (of_peers_one source_of) xs x filed among
       (subst (λ s. IsIn filed (filed_of (peer_in s) x)) (sym of) (inl refl)) in
-      map_in (λ (f : Filed Name X). f.item) (filter (is_filed_at R n) (of_peers source_of xs)) filed
+      map_in (λ (f : WithKey Name X). f.item) (filter (is_filed_at R n) (of_peers source_of xs)) filed
       (filter_in (is_filed_at R n) (of_peers source_of xs) filed there (ap is_eq (tied_itself nat_list_cmp_total n)))
 
 -- ---- one's own, and those of each of some

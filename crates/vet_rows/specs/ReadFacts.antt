@@ -16,7 +16,7 @@ use Rattle.vet_rows.specs.SettingRows.{criterion_row}
 use Rattle.vet_rows.specs.Values.{AreNames, ArePackages, AreTexts, IsCriterion, IsKind, IsName, IsPackage, IsPublisher}
 use Rattle.vet_rows.specs.Values.{IsSource}
 use Rattle.vet_rows.specs.declared.read.criteria.SourcedCriterion.{SourcedCriterion}
-use Rattle.vet_rows.specs.declared.read.gathered.Filed.{Filed}
+use Rattle.vet_rows.specs.declared.read.gathered.WithKey.{WithKey}
 use Rattle.vet_tables.specs.Cells.{Row}
 
 -- ---- criteria
@@ -35,10 +35,10 @@ IsSaidIn said kind = IsKind kind × ((plain : KindColumns) × (said ≡ with_kin
 
 -- ---- publisher records
 
-abbrev pub IsFiledPublisher : Filed Name Publisher → Type 0
+abbrev pub IsFiledPublisher : WithKey Name Publisher → Type 0
 IsFiledPublisher filed = IsPackage filed.key × IsPublisher filed.item
 
-abbrev pub filed_publisher_row : Filed Name Publisher → Row
+abbrev pub filed_publisher_row : WithKey Name Publisher → Row
 filed_publisher_row filed = publisher_row filed.key filed.item
 
 -- ---- peers
@@ -53,7 +53,7 @@ abbrev pub criteria_map_column : NamesByName → Bytes
 criteria_map_column m = packed_map (map.entries m)
 
 -- what stands under a key, as an item of such a map
-abbrev pub mapped_criterion : Filed Name NameSet → MappedCriterion
+abbrev pub mapped_criterion : WithKey Name NameSet → MappedCriterion
 mapped_criterion filed = record { name = filed.key; criteria = filed.item }
 
 pub record IsPeerSettings (s : PeerSettings) : Type 0 where

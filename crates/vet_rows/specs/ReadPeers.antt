@@ -19,7 +19,7 @@ use Rattle.vet_entries.specs.declared.held_peer.HeldPeer.{HeldPeer}
 use Rattle.vet_entries.specs.declared.peer_settings.PeerSettings.{PeerSettings}
 use Rattle.vet_rows.specs.Gathered.{Gathered, items_at}
 use Rattle.vet_rows.specs.declared.read.criteria.SourcedCriterion.{SourcedCriterion}
-use Rattle.vet_rows.specs.declared.read.gathered.Filed.{Filed}
+use Rattle.vet_rows.specs.declared.read.gathered.WithKey.{WithKey}
 
 abbrev pub criterion_in : SourcedCriterion → Criterion
 criterion_in c = c.criterion
@@ -51,8 +51,8 @@ pub record IsGroupOf (g : PeerGroup) (p : HeldPeer) : Type 0 where
   pub criteria : SameItems (map criterion_in g.items) (further p.content.table)
 
 -- settings, entries and criteria of some peers, in whatever order
-pub record ArePartsOf (settings : List PeerSettings) (entries : List (Filed Name HeldEntry))
-    (criteria : List (Filed Name SourcedCriterion)) (peers : List HeldPeer) : Type 0 where
+pub record ArePartsOf (settings : List PeerSettings) (entries : List (WithKey Name HeldEntry))
+    (criteria : List (WithKey Name SourcedCriterion)) (peers : List HeldPeer) : Type 0 where
   pub by_name : IsByKey (slice_cmp nat_cmp) peer_name peers
   pub held : All IsHeldPeer peers
   pub same_settings : SameItems settings (map (λ (p : HeldPeer). p.settings) peers)

@@ -9,7 +9,7 @@ use Rattle.vet_entries.specs.Publishers.{IsInOrder}
 use Rattle.vet_entries.specs.declared.publisher.Publisher.{Publisher}
 use Rattle.vet_entries.specs.declared.publisher_records.PackagePublishers.{PackagePublishers}
 use Rattle.vet_rows.specs.Gathered.{Gathered}
-use Rattle.vet_rows.specs.declared.read.gathered.Filed.{Filed}
+use Rattle.vet_rows.specs.declared.read.gathered.WithKey.{WithKey}
 
 -- records that are filed under a package are those of the package
 pub record IsGroupOfPackage (g : Gathered Name Publisher) (p : PackagePublishers) : Type 0 where
@@ -18,11 +18,11 @@ pub record IsGroupOfPackage (g : Gathered Name Publisher) (p : PackagePublishers
   pub in_order : IsInOrder p.publishers
 
 -- the records of a package, under its name
-abbrev pub filed_records : PackagePublishers → List (Filed Name Publisher)
+abbrev pub filed_records : PackagePublishers → List (WithKey Name Publisher)
 filed_records p = map (λ record_of. record { key = p.«package»; item = record_of }) p.publishers
 
 -- records of some packages, in whatever order
-pub record AreRecordsOf (records : List (Filed Name Publisher)) (packages : List PackagePublishers) : Type 0 where
+pub record AreRecordsOf (records : List (WithKey Name Publisher)) (packages : List PackagePublishers) : Type 0 where
   pub by_name : IsByName packages
   pub in_order : All (λ p. IsInOrder p.publishers) packages
   pub few : records_total packages ≤ MOST_PUBLISHERS

@@ -7,7 +7,7 @@ use Rattle.vet_rows.specs.Columns.{packed_map}
 use Rattle.vet_rows.specs.HeldValues.{AreSettings}
 use Rattle.vet_rows.specs.SettingRows.{dependency_items}
 use Rattle.vet_rows.specs.declared.meta.Meta.{Meta}
-use Rattle.vet_rows.specs.declared.read.gathered.Filed.{Filed}
+use Rattle.vet_rows.specs.declared.read.gathered.WithKey.{WithKey}
 
 -- what there is one of can be held
 abbrev pub IsMeta : Meta → Type 0
@@ -18,5 +18,5 @@ abbrev pub dependency_column : List DependencyItem → Bytes
 dependency_column items = packed_map (dependency_items items)
 
 -- criteria that are filed under a dependency's name, as an item
-abbrev pub dependency_of : Filed Name NameSet → DependencyItem
+abbrev pub dependency_of : WithKey Name NameSet → DependencyItem
 dependency_of filed = record { «package» = filed.key; criteria = filed.item }

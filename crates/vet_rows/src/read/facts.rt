@@ -30,7 +30,7 @@ use vet_tables::table_name::TableName;
 
 /// What is held of packages, but for publisher records.
 #[derive(Drop)]
-pub(crate) struct Parts {
+pub(crate) struct PackageFacts {
     criteria: CriteriaTable,
     entries: Vec<HeldEntry>,
     peers: Vec<HeldPeer>,
@@ -45,7 +45,7 @@ pub(crate) fn facts_of(alloc: Global, rows: &Rows) -> Result<EntryFacts, Unread>
     let parts = parts_in(alloc, rows)?;
     let records = read_rows(alloc, rows.of(TableName::Publishers))?;
     let publishers = records_of(alloc, records)?;
-    let Parts {
+    let PackageFacts {
         criteria,
         entries,
         peers,
@@ -54,7 +54,7 @@ pub(crate) fn facts_of(alloc: Global, rows: &Rows) -> Result<EntryFacts, Unread>
 }
 
 // The parts that some rows are of.
-fn parts_in(alloc: Global, rows: &Rows) -> Result<Parts, Unread>
+fn parts_in(alloc: Global, rows: &Rows) -> Result<PackageFacts, Unread>
     ensures by_number { IfOk result (λ parts. AreByNumber parts.entries.items) }
     ensures by_name { IfOk result (λ parts. IsByKey (slice_cmp nat_cmp) peer_name parts.peers.items) }
     ensures back { (facts : Facts) → AreInForm facts → AreFactsValues facts → AreRowsOf (rows_in rows.now) facts
@@ -72,7 +72,7 @@ fn parts_of(
     criteria: Vec<SourcedCriterion>,
     entries: Vec<HeldEntry>,
     settings: Vec<PeerSettings>,
-) -> Result<Parts, Unread>
+) -> Result<PackageFacts, Unread>
     ensures by_number { IfOk result (λ parts. AreByNumber parts.entries.items) }
     ensures by_name { IfOk result (λ parts. IsByKey (slice_cmp nat_cmp) peer_name parts.peers.items) }
     ensures back { (facts : Facts) → AreInForm facts → AreItemsOf criteria.items entries.items settings.items facts
@@ -90,7 +90,7 @@ fn with_own(
     criteria: Vec<SourcedCriterion>,
     entries: Vec<HeldEntry>,
     peers: Vec<HeldPeer>,
-) -> Result<Parts, Unread>
+) -> Result<PackageFacts, Unread>
     requires { IsByKey (slice_cmp nat_cmp) peer_name peers.items }
     ensures by_number { IfOk result (λ parts. AreByNumber parts.entries.items) }
     ensures by_name { IfOk result (λ parts. IsByKey (slice_cmp nat_cmp) peer_name parts.peers.items) }
@@ -99,7 +99,7 @@ fn with_own(
         → SameItems entries.items facts.entries → peers.items ≡ facts.peers → AreFound result facts }
 {
     let criteria = table_of(alloc, criteria_in(alloc, criteria)?)?;
-    Ok(Parts {
+    Ok(PackageFacts {
         criteria,
         entries: in_order(alloc, entries)?,
         peers,

@@ -10,7 +10,7 @@ use vet_base::keyed::HasKey;
 
 /// An item, and the key under which it is filed.
 #[derive(Drop)]
-pub(crate) struct Filed<K: Drop, T: Drop> {
+pub(crate) struct WithKey<K: Drop, T: Drop> {
     pub(crate) key: K,
     pub(crate) item: T,
 }
@@ -77,7 +77,7 @@ impl<H: HasKey, T: Drop> HasKey for Group<H, T> {
 pub(crate) fn gather<H: HasKey, T: Drop>(
     alloc: Global,
     heads: Vec<H>,
-    filed: Vec<Filed<H::Key, T>>,
+    filed: Vec<WithKey<H::Key, T>>,
 ) -> Result<Vec<Group<H, T>>, AllocError>
     requires { IsByKey H.Key.cmp H.key_of heads.items }
     ensures { IfOk result (λ groups. groups.items ≡ map (gathered H.Key.cmp H.key_of filed.items) heads.items) }
@@ -106,12 +106,12 @@ fn with_nothing<H: HasKey, T: Drop>(
 // Files an item under its key, if there is one of that key.
 fn file<H: HasKey, T: Drop>(
     groups: &mut Vec<Group<H, T>>,
-    filed: Filed<H::Key, T>,
+    filed: WithKey<H::Key, T>,
 ) -> Result<(), AllocError>
     requires { IsByKey H.Key.cmp (head_key H.key_of) groups.old.items }
     ensures { OnOk result (groups.new.items ≡ map (with_filed H.Key.cmp H.key_of filed) groups.old.items) }
 {
-    let Filed { key, item } = filed;
+    let WithKey { key, item } = filed;
     let Ok(place) = place_of(groups.as_slice(), &key) else {
         return Ok(());
     };

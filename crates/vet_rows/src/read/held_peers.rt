@@ -12,7 +12,7 @@ ghost use Rattle.vet_rows.specs.ReadBack.{EachStandsFor, IsReadBack};
 ghost use Rattle.vet_rows.specs.ReadPeers.{ArePartsOf, IsGroupOf};
 
 use crate::read::criteria::SourcedCriterion;
-use crate::read::gathered::{Filed, Group, gather};
+use crate::read::gathered::{Group, WithKey, gather};
 use crate::read::tables::{criteria_in, definitions_of};
 use crate::read::unread::Unread;
 use std::alloc::{AllocError, Global};
@@ -28,8 +28,8 @@ use vet_entries::peer_settings::PeerSettings;
 pub(crate) fn peers_of(
     alloc: Global,
     settings: Vec<PeerSettings>,
-    entries: Vec<Filed<Name, HeldEntry>>,
-    criteria: Vec<Filed<Name, SourcedCriterion>>,
+    entries: Vec<WithKey<Name, HeldEntry>>,
+    criteria: Vec<WithKey<Name, SourcedCriterion>>,
 ) -> Result<Vec<HeldPeer>, Unread>
     ensures by_name { IfOk result (λ peers. IsByKey (slice_cmp nat_cmp) peer_name peers.items) }
     ensures back { (peers : List PeerValue) → ArePartsOf settings.items entries.items criteria.items peers

@@ -4,12 +4,12 @@ ghost use Rattle.vet_base.specs.Names.{NameSet};
 ghost use Rattle.vet_rows.specs.Columns.{packed_names};
 ghost use Rattle.vet_rows.specs.ReadBack.{IsWritten, Reads};
 ghost use Rattle.vet_rows.specs.ReadMaps.{AreMapItems, IsMapItem, in_turn, map_column};
-ghost use Rattle.vet_rows.specs.declared.read.gathered.Filed.{Filed as FiledValue};
+ghost use Rattle.vet_rows.specs.declared.read.gathered.WithKey.{WithKey as WithKeyValue};
 
 use crate::packed::read_items;
 use crate::packed_item::PackedItem;
 use crate::read::columns::names;
-use crate::read::gathered::Filed;
+use crate::read::gathered::WithKey;
 use crate::read::unread::{Unread, found};
 use std::alloc::Global;
 use vet_base::names::Names;
@@ -18,8 +18,8 @@ use vet_base::names::Names;
 pub(crate) fn map_items<K: PackedItem>(
     alloc: Global,
     bytes: &[u8],
-) -> Result<Vec<Filed<K, Names>>, Unread>
-    ensures { (xs : List (FiledValue K NameSet))
+) -> Result<Vec<WithKey<K, Names>>, Unread>
+    ensures { (xs : List (WithKeyValue K NameSet))
         → IsWritten (AreMapItems K.bytes_of K.read_bytes) (map_column K.bytes_of) bytes.now xs
         → MatchResult result (λ items. items.items ≡ xs) (λ e. e ≡ Unread.NoMemory) }
 {
@@ -28,8 +28,8 @@ pub(crate) fn map_items<K: PackedItem>(
 }
 
 // Those of keys and packed names in turn.
-fn in_turn<K: PackedItem>(alloc: Global, items: &[&[u8]]) -> Result<Vec<Filed<K, Names>>, Unread>
-    ensures { (xs : List (FiledValue K NameSet))
+fn in_turn<K: PackedItem>(alloc: Global, items: &[&[u8]]) -> Result<Vec<WithKey<K, Names>>, Unread>
+    ensures { (xs : List (WithKeyValue K NameSet))
         → IsWritten (AreMapItems K.bytes_of K.read_bytes) (in_turn K.bytes_of) (map (λ item. item.now) items.now) xs
         → MatchResult result (λ items. items.items ≡ xs) (λ e. e ≡ Unread.NoMemory) }
 {
@@ -47,11 +47,11 @@ fn map_item<K: PackedItem>(
     alloc: Global,
     key: &[u8],
     list: &[u8],
-) -> Result<Filed<K, Names>, Unread>
-    ensures { (x : FiledValue K NameSet) → IsMapItem K.bytes_of K.read_bytes x → key.now ≡ K.bytes_of x.key
+) -> Result<WithKey<K, Names>, Unread>
+    ensures { (x : WithKeyValue K NameSet) → IsMapItem K.bytes_of K.read_bytes x → key.now ≡ K.bytes_of x.key
         → list.now ≡ packed_names x.item → Reads result x }
 {
-    Ok(Filed {
+    Ok(WithKey {
         key: found(K::read(alloc, key)?)?,
         item: names(alloc, list)?,
     })

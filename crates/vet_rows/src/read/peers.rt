@@ -6,7 +6,7 @@ ghost use Rattle.vet_rows.specs.SettingRows.{peer_row};
 
 use crate::read::columns::{name, packages, texts};
 use crate::read::from_row::FromRow;
-use crate::read::gathered::Filed;
+use crate::read::gathered::WithKey;
 use crate::read::maps::map_items;
 use crate::read::unread::Unread;
 use std::alloc::{AllocError, Global};
@@ -48,12 +48,15 @@ fn criteria_map(alloc: Global, bytes: &[u8]) -> Result<CriteriaMap, Unread>
 }
 
 // The items as those of such a map.
-fn mapped(alloc: Global, items: Vec<Filed<Name, Names>>) -> Result<Vec<MappedCriterion>, AllocError>
+fn mapped(
+    alloc: Global,
+    items: Vec<WithKey<Name, Names>>,
+) -> Result<Vec<MappedCriterion>, AllocError>
     ensures { IfOk result (λ criteria. criteria.items ≡ map mapped_criterion items.items) }
 {
     let mut criteria = Vec::new(alloc);
     'items: for filed in items {
-        let Filed { key, item } = filed;
+        let WithKey { key, item } = filed;
         criteria.push(MappedCriterion {
             name: key,
             criteria: item,

@@ -8,7 +8,7 @@ ghost use Rattle.vet_rows.specs.SettingRows.{policy_row};
 
 use crate::read::columns::{flag, optional_names, optional_text, policy_key};
 use crate::read::from_row::FromRow;
-use crate::read::gathered::Filed;
+use crate::read::gathered::WithKey;
 use crate::read::maps::map_items;
 use crate::read::unread::Unread;
 use std::alloc::{AllocError, Global};
@@ -69,7 +69,7 @@ fn dependencies(alloc: Global, bytes: &[u8]) -> Result<DependencyCriteria, Unrea
 // Criteria that are filed under a dependency's name, as items.
 fn dependency_items(
     alloc: Global,
-    filed: Vec<Filed<PackageName, Names>>,
+    filed: Vec<WithKey<PackageName, Names>>,
 ) -> Result<Vec<DependencyItem>, AllocError>
     ensures { IfOk result (λ items. items.items ≡ map dependency_of filed.items) }
 {
@@ -81,7 +81,7 @@ fn dependency_items(
 }
 
 // Criteria that are filed under a dependency's name, as an item.
-fn dependency(filed: Filed<PackageName, Names>) -> DependencyItem
+fn dependency(filed: WithKey<PackageName, Names>) -> DependencyItem
     ensures { result ≡ dependency_of filed }
 {
     DependencyItem {

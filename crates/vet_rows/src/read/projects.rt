@@ -23,14 +23,14 @@ ghost use Rattle.vet_rows.specs.ProjectRows.{edge_rows, node_rows};
 ghost use Rattle.vet_rows.specs.ReadBack.{EachStandsFor, IsReadBack, IsWritten, Reads};
 ghost use Rattle.vet_rows.specs.ReadProjects.{AreNodesAndEdgesOf, IsEdgeOf, IsEnd, IsFiledEnds, IsFiledNode};
 ghost use Rattle.vet_rows.specs.ReadProjects.{TellsGathered, TellsProject, end_of, filed_ends_row, filed_node_row};
-ghost use Rattle.vet_rows.specs.declared.read.gathered.Filed.{Filed as FiledValue};
+ghost use Rattle.vet_rows.specs.declared.read.gathered.WithKey.{WithKey as WithKeyValue};
 ghost use Rattle.vet_rows.specs.declared.read.projects.End.{End as EndValue};
-ghost use Rattle.vet_rows.specs.declared.read.projects.Ends.{Ends as EndsValue};
+ghost use Rattle.vet_rows.specs.declared.read.projects.EdgeEnds.{EdgeEnds as EdgeEndsValue};
 ghost use Rattle.vet_tables.specs.declared.cell.Cell.TheVariants.{Text};
 
 use crate::read::columns::{package_name, version};
 use crate::read::from_row::{FromRow, read_rows};
-use crate::read::gathered::{Filed, Group, gather};
+use crate::read::gathered::{Group, WithKey, gather};
 use crate::read::unread::{Unread, found};
 use std::alloc::{AllocError, Global};
 use vet_base::keyed::Keyed;
@@ -57,15 +57,15 @@ impl Drop for End {
 }
 
 /// An edge, by its ends.
-pub(crate) struct Ends {
+pub(crate) struct EdgeEnds {
     pub(crate) from: End,
     pub(crate) to: End,
     pub(crate) kind: EdgeKind,
 }
 
-impl Drop for Ends {
+impl Drop for EdgeEnds {
     fn drop(self) {
-        let Ends {
+        let EdgeEnds {
             from: _,
             to: _,
             kind: _,
@@ -73,14 +73,14 @@ impl Drop for Ends {
     }
 }
 
-impl FromRow for Filed<PackageName, Node> {
+impl FromRow for WithKey<PackageName, Node> {
     ghost stands_for = { IsWritten IsFiledNode filed_node_row };
 
-    fn from_row(alloc: Global, row: &Row) -> Result<Filed<PackageName, Node>, Unread> {
+    fn from_row(alloc: Global, row: &Row) -> Result<WithKey<PackageName, Node>, Unread> {
         let [Cell::Text(project), ..] = row.as_slice() else {
             return Err(Unread::NotARegister);
         };
-        Ok(Filed {
+        Ok(WithKey {
             key: package_name(alloc, project.as_str())?,
             item: node(alloc, row)?,
         })
@@ -89,7 +89,7 @@ impl FromRow for Filed<PackageName, Node> {
 
 // The node of a row.
 fn node(alloc: Global, row: &Row) -> Result<Node, Unread>
-    ensures { (f : FiledValue Name NodeValue) → IsWritten IsFiledNode filed_node_row row.now f → Reads result f.item }
+    ensures { (f : WithKeyValue Name NodeValue) → IsWritten IsFiledNode filed_node_row row.now f → Reads result f.item }
 {
     let [
         _,
@@ -107,14 +107,14 @@ fn node(alloc: Global, row: &Row) -> Result<Node, Unread>
     })
 }
 
-impl FromRow for Filed<PackageName, Ends> {
+impl FromRow for WithKey<PackageName, EdgeEnds> {
     ghost stands_for = { IsWritten IsFiledEnds filed_ends_row };
 
-    fn from_row(alloc: Global, row: &Row) -> Result<Filed<PackageName, Ends>, Unread> {
+    fn from_row(alloc: Global, row: &Row) -> Result<WithKey<PackageName, EdgeEnds>, Unread> {
         let [Cell::Text(project), ..] = row.as_slice() else {
             return Err(Unread::NotARegister);
         };
-        Ok(Filed {
+        Ok(WithKey {
             key: package_name(alloc, project.as_str())?,
             item: edge_ends(alloc, row)?,
         })
@@ -122,8 +122,9 @@ impl FromRow for Filed<PackageName, Ends> {
 }
 
 // The ends of the edge of a row.
-fn edge_ends(alloc: Global, row: &Row) -> Result<Ends, Unread>
-    ensures { (f : FiledValue Name EndsValue) → IsWritten IsFiledEnds filed_ends_row row.now f → Reads result f.item }
+fn edge_ends(alloc: Global, row: &Row) -> Result<EdgeEnds, Unread>
+    ensures { (f : WithKeyValue Name EdgeEndsValue) → IsWritten IsFiledEnds filed_ends_row row.now f
+        → Reads result f.item }
 {
     let [
         _,
@@ -137,7 +138,7 @@ fn edge_ends(alloc: Global, row: &Row) -> Result<Ends, Unread>
         return Err(Unread::NotARegister);
     };
     let kind = kind(*of_kind)?;
-    Ok(Ends {
+    Ok(EdgeEnds {
         from: read_end(alloc, from.as_str(), from_version.as_str())?,
         to: read_end(alloc, to.as_str(), to_version.as_str())?,
         kind,
@@ -197,8 +198,8 @@ pub(crate) fn projects(
 // The projects of these nodes and edges.
 fn projects_of(
     alloc: Global,
-    nodes: Vec<Filed<PackageName, Node>>,
-    edges: Vec<Filed<PackageName, Ends>>,
+    nodes: Vec<WithKey<PackageName, Node>>,
+    edges: Vec<WithKey<PackageName, EdgeEnds>>,
 ) -> Result<Keyed<NamedProject>, Unread>
     ensures { (projects : List ProjectValue) → AreNodesAndEdgesOf nodes.items edges.items projects
         → MatchResult result (λ k. k.items ≡ projects) (λ e. e ≡ Unread.NoMemory) }
@@ -213,7 +214,7 @@ fn projects_of(
 // The names of the projects of which there are nodes.
 fn names_of(
     alloc: Global,
-    nodes: &[Filed<PackageName, Node>],
+    nodes: &[WithKey<PackageName, Node>],
 ) -> Result<Keyed<PackageName>, AllocError>
     ensures { IfOk result (λ k. k.items ≡ all_set (slice_cmp nat_cmp) (λ n. n) [] (map (λ f. f.key) nodes.now)) }
 {
@@ -227,7 +228,7 @@ fn names_of(
 // The projects of which these are the names, nodes and edges.
 fn projects_in(
     alloc: Global,
-    groups: Vec<Group<Group<PackageName, Node>, Ends>>,
+    groups: Vec<Group<Group<PackageName, Node>, EdgeEnds>>,
 ) -> Result<Vec<NamedProject>, Unread>
     ensures { (projects : List ProjectValue) → EachStandsFor TellsGathered groups.items projects
         → MatchResult result (λ v. v.items ≡ projects) (λ e. e ≡ Unread.NoMemory) }
@@ -242,7 +243,7 @@ fn projects_in(
 // The project of which these are the name, nodes and edges.
 fn project_in(
     alloc: Global,
-    group: Group<Group<PackageName, Node>, Ends>,
+    group: Group<Group<PackageName, Node>, EdgeEnds>,
 ) -> Result<NamedProject, Unread>
     ensures { IsReadBack TellsGathered group result }
 {
@@ -256,7 +257,7 @@ fn project(
     alloc: Global,
     name: PackageName,
     nodes: Vec<Node>,
-    ends: &[Ends],
+    ends: &[EdgeEnds],
 ) -> Result<NamedProject, Unread>
     ensures { IsReadBack (TellsProject name nodes.items) ends.now result }
 {
@@ -278,7 +279,7 @@ fn restore(name: PackageName, nodes: Vec<Node>, edges: Vec<Edge>) -> Result<Name
 }
 
 // The edges of these ends, each end by its place among the nodes.
-fn edges_between(alloc: Global, nodes: &[Node], ends: &[Ends]) -> Result<Vec<Edge>, Unread>
+fn edges_between(alloc: Global, nodes: &[Node], ends: &[EdgeEnds]) -> Result<Vec<Edge>, Unread>
     ensures { (edges : List EdgeValue) → AreInNodeOrder nodes.now → EachStandsFor (IsEdgeOf nodes.now) ends.now edges
         → MatchResult result (λ v. v.items ≡ edges) (λ e. e ≡ Unread.NoMemory) }
 {
@@ -290,7 +291,7 @@ fn edges_between(alloc: Global, nodes: &[Node], ends: &[Ends]) -> Result<Vec<Edg
 }
 
 // The edge of these ends. Takes no memory.
-fn edge_between(nodes: &[Node], ends: &Ends) -> Result<Edge, Unread>
+fn edge_between(nodes: &[Node], ends: &EdgeEnds) -> Result<Edge, Unread>
     ensures { (e : EdgeValue) → AreInNodeOrder nodes.now → IsEdgeOf nodes.now ends.now e → result ≡ Ok e }
 {
     Ok(Edge {

@@ -3,11 +3,11 @@ ghost use Rattle.vet_base.specs.Words.{Name};
 ghost use Rattle.vet_entries.specs.declared.publisher.Publisher.{Publisher as PublisherValue};
 ghost use Rattle.vet_rows.specs.ReadBack.{IsWritten, Reads};
 ghost use Rattle.vet_rows.specs.ReadFacts.{IsFiledPublisher, filed_publisher_row};
-ghost use Rattle.vet_rows.specs.declared.read.gathered.Filed.{Filed as FiledValue};
+ghost use Rattle.vet_rows.specs.declared.read.gathered.WithKey.{WithKey as WithKeyValue};
 
 use crate::read::columns::{day, optional_text, package_name, user, version};
 use crate::read::from_row::FromRow;
-use crate::read::gathered::Filed;
+use crate::read::gathered::WithKey;
 use crate::read::unread::Unread;
 use std::alloc::Global;
 use vet_base::name::PackageName;
@@ -15,14 +15,14 @@ use vet_entries::publisher::Publisher;
 use vet_tables::cell::Cell;
 use vet_tables::sequence::Row;
 
-impl FromRow for Filed<PackageName, Publisher> {
+impl FromRow for WithKey<PackageName, Publisher> {
     ghost stands_for = { IsWritten IsFiledPublisher filed_publisher_row };
 
-    fn from_row(alloc: Global, row: &Row) -> Result<Filed<PackageName, Publisher>, Unread> {
+    fn from_row(alloc: Global, row: &Row) -> Result<WithKey<PackageName, Publisher>, Unread> {
         let [Cell::Text(package), ..] = row.as_slice() else {
             return Err(Unread::NotARegister);
         };
-        Ok(Filed {
+        Ok(WithKey {
             key: package_name(alloc, package.as_str())?,
             item: publisher(alloc, row)?,
         })
@@ -31,7 +31,7 @@ impl FromRow for Filed<PackageName, Publisher> {
 
 // The record of a row, of whatever package.
 fn publisher(alloc: Global, row: &Row) -> Result<Publisher, Unread>
-    ensures { (f : FiledValue Name PublisherValue) → IsWritten IsFiledPublisher filed_publisher_row row.now f
+    ensures { (f : WithKeyValue Name PublisherValue) → IsWritten IsFiledPublisher filed_publisher_row row.now f
         → Reads result f.item }
 {
     let [

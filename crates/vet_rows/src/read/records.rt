@@ -7,7 +7,7 @@ ghost use Rattle.vet_entries.specs.declared.publisher_records.PackagePublishers.
 ghost use Rattle.vet_rows.specs.ReadBack.{EachStandsFor, IsReadBack};
 ghost use Rattle.vet_rows.specs.ReadRecords.{AreRecordsOf, IsGroupOfPackage};
 
-use crate::read::gathered::{Filed, Group, gather};
+use crate::read::gathered::{Group, WithKey, gather};
 use crate::read::unread::Unread;
 use std::alloc::{AllocError, Global};
 use vet_base::keyed::Keyed;
@@ -20,7 +20,7 @@ use vet_entries::publishers::Publishers;
 /// These records by their packages; they stand in whatever order and may repeat.
 pub(crate) fn records_of(
     alloc: Global,
-    records: Vec<Filed<PackageName, Publisher>>,
+    records: Vec<WithKey<PackageName, Publisher>>,
 ) -> Result<Vec<PackagePublishers>, Unread>
     ensures by_name { IfOk result (λ packages. IsByName packages.items) }
     ensures few { IfOk result (λ packages. records_total packages.items ≤ MOST_PUBLISHERS) }
@@ -40,7 +40,7 @@ pub(crate) fn records_of(
 // The packages of some records.
 fn names_of(
     alloc: Global,
-    records: &[Filed<PackageName, Publisher>],
+    records: &[WithKey<PackageName, Publisher>],
 ) -> Result<Vec<PackageName>, AllocError>
     ensures { IfOk result (λ names. names.items ≡ map (λ filed. filed.key) records.now) }
 {

@@ -3,7 +3,7 @@ ghost use Rattle.std.specs.Prelude.{◌≡◌, ◌++◌, IfOk, OnOk};
 ghost use Rattle.vet_rows.specs.ReadSourced.{of_peers, of_peers_one, own_items, own_one, peer_in};
 ghost use Rattle.vet_entries.specs.declared.entry.Source.{Source};
 
-use crate::read::gathered::Filed;
+use crate::read::gathered::WithKey;
 use std::alloc::{AllocError, Global};
 use vet_base::name::Name;
 use vet_entries::entry::Source;
@@ -31,7 +31,7 @@ impl Sourced for HeldEntry {
 #[derive(Drop)]
 pub(crate) struct BySource<T: Drop> {
     pub(crate) own: Vec<T>,
-    pub(crate) peers: Vec<Filed<Name, T>>,
+    pub(crate) peers: Vec<WithKey<Name, T>>,
 }
 
 /// What is one's own, and what is of peers. Fails only if memory runs out.
@@ -50,7 +50,7 @@ pub(crate) fn by_source<T: Sourced>(alloc: Global, items: Vec<T>) -> Result<BySo
 // Puts an item behind those of its source.
 fn put<T: Sourced>(
     own: &mut Vec<T>,
-    peers: &mut Vec<Filed<Name, T>>,
+    peers: &mut Vec<WithKey<Name, T>>,
     item: T,
 ) -> Result<(), AllocError>
     ensures own { OnOk result (own.new.items ≡ own.old.items ++ own_one T.source_of item) }
@@ -62,7 +62,7 @@ fn put<T: Sourced>(
             Ok(())
         }
         Some(key) => {
-            peers.push(Filed { key, item })?;
+            peers.push(WithKey { key, item })?;
             Ok(())
         }
     }

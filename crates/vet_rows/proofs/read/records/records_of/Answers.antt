@@ -11,12 +11,12 @@ use Rattle.vet_entries.specs.declared.publisher_records.PackagePublishers.{Packa
 use Rattle.vet_rows.specs.Gathered.{Gathered, gathered}
 use Rattle.vet_rows.specs.ReadBack.{EachStandsFor}
 use Rattle.vet_rows.specs.ReadRecords.{IsGroupOfPackage}
-use Rattle.vet_rows.specs.declared.read.gathered.Filed.{Filed}
+use Rattle.vet_rows.specs.declared.read.gathered.WithKey.{WithKey}
 use Rattle.vet_rows.proofs.Reading.{passed_on}
 use Rattle.vet_rows.proofs.RecordsMade.{groups_stand, here, in_order, names_are}
 use Rattle.vet_rows.proofs.read.records.records_of.Goals as goal
 
-abbrev key_of : Filed Name Publisher → Name
+abbrev key_of : WithKey Name Publisher → Name
 key_of f = f.key
 
 pub returns-in_err-packages_of-clause-back : goal.returns-in_err-packages_of-clause-back
