@@ -11,13 +11,13 @@
 //! For example, a table `peers` whose column `url` takes NULL is none of these tables.
 #![tactic(auto)]
 
+mod by_ref;
 pub mod cell;
 pub mod cells;
 pub mod column;
 pub mod find;
 pub mod form;
 mod has_form;
-mod lent;
 pub mod rows;
 pub mod same_items;
 pub mod same_rows;

@@ -5,7 +5,7 @@ ghost use Rattle.std.specs.Ordering.{eq_by_cmp};
 ghost use Rattle.std.specs.Prelude.{◌≡◌, IfOk, map};
 ghost use Rattle.vet_base.specs.Items.{SameItems};
 
-use crate::lent::Lent;
+use crate::by_ref::ByRef;
 use std::alloc::{AllocError, Global};
 use std::collections::BTreeSet;
 
@@ -29,10 +29,10 @@ fn are_among<T: Exactly>(alloc: Global, xs: &[T], ys: &[T]) -> Result<bool, Allo
 {
     let mut seen = BTreeSet::new(alloc);
     'ys: for y in ys {
-        let _ = seen.insert(Lent::of(y))?;
+        let _ = seen.insert(ByRef::of(y))?;
     }
     'xs: for x in xs {
-        if !seen.contains(&Lent::of(x)) {
+        if !seen.contains(&ByRef::of(x)) {
             return Ok(false);
         }
     }
@@ -46,11 +46,11 @@ pub fn marks_among<T: Exactly>(alloc: Global, xs: &[T], ys: &[T]) -> Result<Vec<
 {
     let mut seen = BTreeSet::new(alloc);
     'ys: for y in ys {
-        let _ = seen.insert(Lent::of(y))?;
+        let _ = seen.insert(ByRef::of(y))?;
     }
     let mut marks = Vec::with_capacity(alloc, xs.len())?;
     'xs: for x in xs {
-        marks.push(seen.contains(&Lent::of(x)))?;
+        marks.push(seen.contains(&ByRef::of(x)))?;
     }
     Ok(marks)
 }

@@ -1,16 +1,16 @@
-//! A lent item, as the key of a set.
+//! An item by reference, as the key of a set.
 ghost use Rattle.std.specs.Prelude.{◌≡◌};
 
 use std::cmp::Ordering;
 use std::marker::Model;
 
-/// A lent item, seen as the item.
+/// A reference to an item, seen as the item.
 #[derive(Drop)]
-pub(crate) struct Lent<'a, T> {
+pub(crate) struct ByRef<'a, T> {
     item: &'a T,
 }
 
-impl<'a, T> Model for Lent<'a, T> {
+impl<'a, T> Model for ByRef<'a, T> {
     ghost Value = { T };
 
     ghost coded = { T.code };
@@ -18,40 +18,40 @@ impl<'a, T> Model for Lent<'a, T> {
     ghost view = { λ l. l.item.now };
 }
 
-impl<'a, T> Lent<'a, T> {
-    /// Lends an item. Costs nothing.
-    pub(crate) fn of(item: &'a T) -> Lent<'a, T>
+impl<'a, T> ByRef<'a, T> {
+    /// A reference to an item. Costs nothing.
+    pub(crate) fn of(item: &'a T) -> ByRef<'a, T>
         ensures { result ≡ item.now }
     {
-        Lent { item }
+        ByRef { item }
     }
 }
 
-impl<'a, T: PartialEq> PartialEq for Lent<'a, T> {
+impl<'a, T: PartialEq> PartialEq for ByRef<'a, T> {
     ghost eq = { T.eq };
 
     ghost laws = { T.PartialEq.laws };
 
-    fn eq(&self, other: &Lent<'a, T>) -> bool {
+    fn eq(&self, other: &ByRef<'a, T>) -> bool {
         self.item == other.item
     }
 }
 
-impl<'a, T: Eq> Eq for Lent<'a, T> {
+impl<'a, T: Eq> Eq for ByRef<'a, T> {
     ghost laws = { T.Eq.laws };
 }
 
-impl<'a, T: PartialOrd> PartialOrd for Lent<'a, T> {
+impl<'a, T: PartialOrd> PartialOrd for ByRef<'a, T> {
     ghost partial_cmp = { T.partial_cmp };
 
     ghost laws = { T.PartialOrd.laws };
 
-    fn partial_cmp(&self, other: &Lent<'a, T>) -> Option<Ordering> {
+    fn partial_cmp(&self, other: &ByRef<'a, T>) -> Option<Ordering> {
         self.item.partial_cmp(other.item)
     }
 }
 
-impl<'a, T: Ord> Ord for Lent<'a, T> {
+impl<'a, T: Ord> Ord for ByRef<'a, T> {
     ghost cmp = { T.cmp };
 
     ghost total = { T.Ord.total };
@@ -60,7 +60,7 @@ impl<'a, T: Ord> Ord for Lent<'a, T> {
 
     ghost matches_eq = { T.Ord.matches_eq };
 
-    fn cmp(&self, other: &Lent<'a, T>) -> Ordering {
+    fn cmp(&self, other: &ByRef<'a, T>) -> Ordering {
         self.item.cmp(other.item)
     }
 }
