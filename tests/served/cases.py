@@ -45,7 +45,7 @@ already
 """
 
 
-class Asked(NamedTuple):
+class HttpExchange(NamedTuple):
     """A request, and its reply."""
 
     method: str
@@ -60,32 +60,32 @@ class Asked(NamedTuple):
 
 # asked in turn of a register that holds nothing, each with the length of the body that is replied
 IN_TURN = [
-    (15, Asked("PUT", "/projects/app", 200, b"done 1 moves 2\n", given=TABLE)),
-    (8, Asked("PUT", "/projects/app", 200, b"already\n", given=TABLE)),
-    (77, Asked("GET", "/projects/app", 200, TABLE, CSV)),
-    (9, Asked("GET", "/class/serde/1.0.1/safe-to-run", 200, b"unvetted\n")),
-    (5, Asked("GET", "/class/serde/1.0.2/safe-to-run", 200, b"none\n")),
-    (10, Asked("GET", "/nowhere", 404, NOT_FOUND)),
-    (19, Asked("DELETE", "/counts", 405, NOT_ALLOWED, allow="GET")),
-    (19, Asked("DELETE", "/projects/app", 405, NOT_ALLOWED, allow="GET, PUT")),
-    (0, Asked("HEAD", "/counts", 501, b"")),
-    (12, Asked("GET", "/counts", 400, b"bad request\n", fields=("Vet-Member: ann", "Vet-Member: ann"))),
+    (15, HttpExchange("PUT", "/projects/app", 200, b"done 1 moves 2\n", given=TABLE)),
+    (8, HttpExchange("PUT", "/projects/app", 200, b"already\n", given=TABLE)),
+    (77, HttpExchange("GET", "/projects/app", 200, TABLE, CSV)),
+    (9, HttpExchange("GET", "/class/serde/1.0.1/safe-to-run", 200, b"unvetted\n")),
+    (5, HttpExchange("GET", "/class/serde/1.0.2/safe-to-run", 200, b"none\n")),
+    (10, HttpExchange("GET", "/nowhere", 404, NOT_FOUND)),
+    (19, HttpExchange("DELETE", "/counts", 405, NOT_ALLOWED, allow="GET")),
+    (19, HttpExchange("DELETE", "/projects/app", 405, NOT_ALLOWED, allow="GET, PUT")),
+    (0, HttpExchange("HEAD", "/counts", 501, b"")),
+    (12, HttpExchange("GET", "/counts", 400, b"bad request\n", fields=("Vet-Member: ann", "Vet-Member: ann"))),
 ]
 
 # what is shown once a pair was demanded and one of its two criteria is met
 SHOWN = [
-    Asked("GET", "/standing", 200, STANDING.encode()),
-    Asked("GET", "/standing/serde", 200, STANDING.encode()),
-    Asked("GET", "/standing/log", 200, b""),
-    Asked("GET", "/standing.csv", 200, STANDING_CSV.encode(), CSV),
-    Asked("GET", "/moves", 200, MOVES),
-    Asked("GET", "/desk", 200, b""),
-    Asked("GET", "/class/serde/1.0.1/safe-to-run", 200, b"full\n"),
-    Asked("GET", "/class/serde/1.0.1/safe-to-deploy", 200, b"unvetted\n"),
-    Asked("GET", "/class/serde/1.0.1/read", 200, b"none\n"),
-    Asked("GET", "/class/log/1.0.1/safe-to-run", 200, b"none\n"),
-    Asked("GET", "/projects/app", 200, TABLE, CSV),
-    Asked("GET", "/projects/zed", 404, NOT_FOUND),
+    HttpExchange("GET", "/standing", 200, STANDING.encode()),
+    HttpExchange("GET", "/standing/serde", 200, STANDING.encode()),
+    HttpExchange("GET", "/standing/log", 200, b""),
+    HttpExchange("GET", "/standing.csv", 200, STANDING_CSV.encode(), CSV),
+    HttpExchange("GET", "/moves", 200, MOVES),
+    HttpExchange("GET", "/desk", 200, b""),
+    HttpExchange("GET", "/class/serde/1.0.1/safe-to-run", 200, b"full\n"),
+    HttpExchange("GET", "/class/serde/1.0.1/safe-to-deploy", 200, b"unvetted\n"),
+    HttpExchange("GET", "/class/serde/1.0.1/read", 200, b"none\n"),
+    HttpExchange("GET", "/class/log/1.0.1/safe-to-run", 200, b"none\n"),
+    HttpExchange("GET", "/projects/app", 200, TABLE, CSV),
+    HttpExchange("GET", "/projects/zed", 404, NOT_FOUND),
 ]
 
 # each route with its methods, as they are told where another is asked
@@ -122,21 +122,21 @@ LONG_NAME = "x" * 65
 BAD_NAME, BAD_VERSION = b"refused 1 BadName\n", b"refused 2 BadVersion\n"
 # parameters that are read as they stand. The first that is bad is told, before the body is looked at
 PARAMETERS = [
-    Asked("GET", "/standing/ser%20de", 400, BAD_NAME),
-    Asked("GET", "/standing/serde?all", 400, BAD_NAME),
-    Asked("GET", "/standing/sérde", 400, BAD_NAME),
-    Asked("GET", f"/standing/{LONG_NAME}", 400, BAD_NAME),
-    Asked("GET", f"/class/a.b/1.0/{LONG_NAME}", 400, BAD_NAME),
-    Asked("GET", f"/class/serde/1.0/{LONG_NAME}", 400, BAD_VERSION),
-    Asked("GET", f"/class/serde/1.0.1/{LONG_NAME}", 400, BAD_NAME),
-    Asked("GET", "/class/serde/1.0.1/safe-to-run?", 200, b"none\n"),
-    Asked("GET", "/class/serde/1.0.1%2B1/safe-to-run", 400, BAD_VERSION),
-    Asked("GET", "/class/serde/1.0.1+1/safe-to-run", 200, b"none\n"),
-    Asked("GET", "/projects/a,b", 400, BAD_NAME),
-    Asked("PUT", "/projects/a,b", 400, BAD_NAME, given=b"a,b\n"),
-    Asked("PUT", "/projects/a,b", 400, BAD_NAME),
-    Asked("PUT", f"/peers/{LONG_NAME}", 400, BAD_NAME, given=b"x =\n"),
-    Asked("PUT", "/peers/é", 400, BAD_NAME, given=b"\xff"),
+    HttpExchange("GET", "/standing/ser%20de", 400, BAD_NAME),
+    HttpExchange("GET", "/standing/serde?all", 400, BAD_NAME),
+    HttpExchange("GET", "/standing/sérde", 400, BAD_NAME),
+    HttpExchange("GET", f"/standing/{LONG_NAME}", 400, BAD_NAME),
+    HttpExchange("GET", f"/class/a.b/1.0/{LONG_NAME}", 400, BAD_NAME),
+    HttpExchange("GET", f"/class/serde/1.0/{LONG_NAME}", 400, BAD_VERSION),
+    HttpExchange("GET", f"/class/serde/1.0.1/{LONG_NAME}", 400, BAD_NAME),
+    HttpExchange("GET", "/class/serde/1.0.1/safe-to-run?", 200, b"none\n"),
+    HttpExchange("GET", "/class/serde/1.0.1%2B1/safe-to-run", 400, BAD_VERSION),
+    HttpExchange("GET", "/class/serde/1.0.1+1/safe-to-run", 200, b"none\n"),
+    HttpExchange("GET", "/projects/a,b", 400, BAD_NAME),
+    HttpExchange("PUT", "/projects/a,b", 400, BAD_NAME, given=b"a,b\n"),
+    HttpExchange("PUT", "/projects/a,b", 400, BAD_NAME),
+    HttpExchange("PUT", f"/peers/{LONG_NAME}", 400, BAD_NAME, given=b"x =\n"),
+    HttpExchange("PUT", "/peers/é", 400, BAD_NAME, given=b"\xff"),
 ]
 
 # bodies, by what they give a command: what is told of each

@@ -29,13 +29,13 @@ pub enum Item<'t> {
 
 /// An item, with the number of its first line, counted from 1.
 #[derive(Clone, Copy)]
-pub struct Numbered<'t> {
+pub struct NumberedItem<'t> {
     pub number: usize,
     pub item: Item<'t>,
 }
 
 /// The items of a text in their order, without the remarks between them. Refused: `NoMemory`.
-pub fn items_of(alloc: Global, text: &str) -> Result<Vec<Numbered<'_>>, Fault> {
+pub fn items_of(alloc: Global, text: &str) -> Result<Vec<NumberedItem<'_>>, Fault> {
     let mut items = Vec::new(alloc);
     let mut begin = 0usize;
     let mut taken = 0usize;
@@ -45,7 +45,7 @@ pub fn items_of(alloc: Global, text: &str) -> Result<Vec<Numbered<'_>>, Fault> {
             let number = place.saturating_add(1);
             let item = item_at(text, line, behind);
             taken = end_of(item, behind);
-            items.push(Numbered { number, item })?;
+            items.push(NumberedItem { number, item })?;
         }
         begin = behind;
     }
@@ -53,7 +53,7 @@ pub fn items_of(alloc: Global, text: &str) -> Result<Vec<Numbered<'_>>, Fault> {
 }
 
 /// Whether there is a document among some items.
-pub fn has_documents(items: &[Numbered<'_>]) -> bool {
+pub fn has_documents(items: &[NumberedItem<'_>]) -> bool {
     for numbered in items {
         if let Item::Document(_) = numbered.item {
             return true;

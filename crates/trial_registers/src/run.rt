@@ -2,7 +2,7 @@
 
 use crate::ahead::AheadRegister;
 use crate::held_texts::line_told;
-use crate::items::{Document, Item, Numbered, has_documents};
+use crate::items::{Document, Item, NumberedItem, has_documents};
 use crate::noting::NotingRegister;
 use crate::print::{print_contents, print_outcome, print_touched};
 use crate::reports::{report, report_word};
@@ -53,7 +53,7 @@ impl How {
 pub fn run_in_memory<K: Keeper>(
     rt: &impl Print,
     alloc: Global,
-    items: &[Numbered<'_>],
+    items: &[NumberedItem<'_>],
     how: How,
 ) -> io::Result<Ending> {
     match Register::<K>::new(alloc, limit_of(items)) {
@@ -66,7 +66,7 @@ fn run_as<K: Keeper>(
     rt: &impl Print,
     alloc: Global,
     register: Register<K>,
-    items: &[Numbered<'_>],
+    items: &[NumberedItem<'_>],
     how: How,
 ) -> io::Result<Ending> {
     match how {
@@ -80,7 +80,7 @@ fn run_by<K: Keeper, R: Runs<K> + Drop>(
     rt: &impl Print,
     alloc: Global,
     mut runs: R,
-    items: &[Numbered<'_>],
+    items: &[NumberedItem<'_>],
     how: How,
 ) -> io::Result<Ending> {
     let ending = give_all::<K, R>(rt, alloc, &mut runs, items, how)?;
@@ -108,7 +108,7 @@ pub fn give_all<K: Keeper, R: Runs<K>>(
     rt: &impl Print,
     alloc: Global,
     runs: &mut R,
-    items: &[Numbered<'_>],
+    items: &[NumberedItem<'_>],
     how: How,
 ) -> io::Result<Ending> {
     let mut list = Vec::new(alloc);

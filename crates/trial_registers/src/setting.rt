@@ -3,11 +3,11 @@
 ghost use Rattle.std.specs.Prelude.{◌<◌, ◌≤◌, IfSome};
 ghost use Rattle.vet_base.specs.declared.limits.TheConstants.{MOST_MOVES};
 
-use crate::items::{Item, Numbered};
+use crate::items::{Item, NumberedItem};
 use vet_base::limits::MOST_MOVES;
 
 /// The items behind a setting, if one stands first.
-pub fn behind_setting<'i, 't>(items: &'i [Numbered<'t>]) -> &'i [Numbered<'t>] {
+pub fn behind_setting<'i, 't>(items: &'i [NumberedItem<'t>]) -> &'i [NumberedItem<'t>] {
     match items {
         [first, others @ ..] => {
             if limit_at(first.item).is_some() {
@@ -21,7 +21,7 @@ pub fn behind_setting<'i, 't>(items: &'i [Numbered<'t>]) -> &'i [Numbered<'t>] {
 }
 
 /// How many moves the register may record that is given some items.
-pub fn limit_of(items: &[Numbered<'_>]) -> usize
+pub fn limit_of(items: &[NumberedItem<'_>]) -> usize
     ensures { (0 < result) × (result ≤ MOST_MOVES) }
 {
     match items {

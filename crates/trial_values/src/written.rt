@@ -24,7 +24,7 @@ use vet_files::listed::Listed;
 use vet_files::notices::Notices;
 
 // A file that was read and written.
-struct Written {
+struct WrittenFile {
     // The text that was written.
     text: String,
     // How much the file held that was read, in words.
@@ -33,9 +33,9 @@ struct Written {
     notices: Notices,
 }
 
-impl Drop for Written {
+impl Drop for WrittenFile {
     fn drop(self) {
-        let Written {
+        let WrittenFile {
             text: _,
             held: _,
             notices: _,
@@ -89,7 +89,7 @@ fn imports_told(alloc: Global, settings: &[PeerSettings], imports: &str) -> Resu
     told(alloc, &first, &second)
 }
 
-fn write_audits_of(alloc: Global, bytes: &[u8]) -> Result<Written, Fault> {
+fn write_audits_of(alloc: Global, bytes: &[u8]) -> Result<WrittenFile, Fault> {
     let found = read_audits(alloc, bytes)?;
     audits_written(alloc, &found.content, found.notices)
 }
@@ -98,17 +98,17 @@ fn audits_written(
     alloc: Global,
     content: &AuditsContent,
     notices: Notices,
-) -> Result<Written, Fault> {
+) -> Result<WrittenFile, Fault> {
     let criteria = content.criteria.len();
     let entries = content.entries.len();
-    Ok(Written {
+    Ok(WrittenFile {
         held: format!(in alloc; "criteria {criteria} entries {entries}")?,
         text: write_audits(alloc, content)?,
         notices,
     })
 }
 
-fn write_config_of(alloc: Global, bytes: &[u8]) -> Result<Written, Fault> {
+fn write_config_of(alloc: Global, bytes: &[u8]) -> Result<WrittenFile, Fault> {
     let mut found = read_config(alloc, bytes)?;
     copied_config_written(alloc, &mut found.content, found.notices)
 }
@@ -119,7 +119,7 @@ fn copied_config_written(
     alloc: Global,
     content: &mut ConfigContent,
     notices: Notices,
-) -> Result<Written, Fault> {
+) -> Result<WrittenFile, Fault> {
     let policies = content.policies.clone()?;
     content.policies = inserted(alloc, &policies)?;
     content.peers = copy_of(alloc, &content.peers)?;
@@ -143,11 +143,11 @@ fn config_written(
     alloc: Global,
     content: &ConfigContent,
     notices: Notices,
-) -> Result<Written, Fault> {
+) -> Result<WrittenFile, Fault> {
     let entries = content.exemptions.len();
     let policies = content.policies.len();
     let peers = content.peers.len();
-    Ok(Written {
+    Ok(WrittenFile {
         held: format!(in alloc; "entries {entries} policies {policies} peers {peers}")?,
         text: write_config(alloc, content)?,
         notices,
@@ -158,7 +158,7 @@ fn write_imports_of(
     alloc: Global,
     settings: &[PeerSettings],
     bytes: &[u8],
-) -> Result<Written, Fault> {
+) -> Result<WrittenFile, Fault> {
     let mut found = read_imports(alloc, bytes)?;
     copied_imports_written(alloc, settings, &mut found.content, found.notices)
 }
@@ -169,9 +169,9 @@ fn copied_imports_written(
     settings: &[PeerSettings],
     content: &mut ImportsContent,
     notices: Notices,
-) -> Result<Written, Fault> {
+) -> Result<WrittenFile, Fault> {
     content.publishers = copy_of(alloc, &content.publishers)?;
-    Ok(Written {
+    Ok(WrittenFile {
         notices,
         held: held_of_imports(alloc, content)?,
         text: write_imports(alloc, settings, content)?,
@@ -198,7 +198,7 @@ fn held_of_imports(alloc: Global, content: &ImportsContent) -> Result<String, Fa
 }
 
 // What a file is told that was written, read and written again.
-fn told(alloc: Global, first: &Written, second: &Written) -> Result<String, Fault> {
+fn told(alloc: Global, first: &WrittenFile, second: &WrittenFile) -> Result<String, Fault> {
     let word = word_of(alloc, first.text.as_str())?;
     let held = second.held.as_str();
     let keys = second.notices.keys;

@@ -6,7 +6,7 @@
 
 use std::alloc::Global;
 use std::io;
-use trial_registers::items::{Item, Numbered, items_of};
+use trial_registers::items::{Item, NumberedItem, items_of};
 use trial_registers::run::{command_of, print_answers, print_end};
 use trial_registers::setting::limit_of;
 use trial_values::ending::{Ending, refused};
@@ -23,14 +23,14 @@ pub fn run_at_once(rt: &impl Print, alloc: Global, text: &str) -> io::Result<End
     }
 }
 
-fn give_items(rt: &impl Print, alloc: Global, items: &[Numbered<'_>]) -> io::Result<Ending> {
+fn give_items(rt: &impl Print, alloc: Global, items: &[NumberedItem<'_>]) -> io::Result<Ending> {
     match commands_of(alloc, items) {
         Ok(commands) => give_commands(rt, alloc, items, commands.as_slice()),
         Err(fault) => refused(rt, &fault),
     }
 }
 
-fn commands_of(alloc: Global, items: &[Numbered<'_>]) -> Result<Vec<Command>, Fault> {
+fn commands_of(alloc: Global, items: &[NumberedItem<'_>]) -> Result<Vec<Command>, Fault> {
     let mut commands = Vec::new(alloc);
     for numbered in items {
         if let Item::Document(document) = numbered.item {
@@ -43,7 +43,7 @@ fn commands_of(alloc: Global, items: &[Numbered<'_>]) -> Result<Vec<Command>, Fa
 fn give_commands(
     rt: &impl Print,
     alloc: Global,
-    items: &[Numbered<'_>],
+    items: &[NumberedItem<'_>],
     commands: &[Command],
 ) -> io::Result<Ending> {
     match run_in_memory::<MaskKeeper>(alloc, limit_of(items), commands) {

@@ -6,7 +6,7 @@
 
 use std::alloc::Global;
 use std::io;
-use trial_registers::items::{Numbered, items_of};
+use trial_registers::items::{NumberedItem, items_of};
 use trial_registers::run::{How, give_all};
 use trial_registers::setting::{behind_setting, limit_of};
 use trial_values::ending::{Ending, refused};
@@ -26,7 +26,7 @@ pub fn run_looks(rt: &impl Print, alloc: Global, text: &str, package: &str) -> i
 fn give_items(
     rt: &impl Print,
     alloc: Global,
-    items: &[Numbered<'_>],
+    items: &[NumberedItem<'_>],
     package: &str,
 ) -> io::Result<Ending> {
     match PackageName::parse(alloc, package) {
@@ -38,7 +38,7 @@ fn give_items(
 fn give_register(
     rt: &impl Print,
     alloc: Global,
-    items: &[Numbered<'_>],
+    items: &[NumberedItem<'_>],
     package: &PackageName,
 ) -> io::Result<Ending> {
     match Register::<MaskKeeper>::new(alloc, limit_of(items)) {
@@ -51,7 +51,7 @@ fn give_each(
     rt: &impl Print,
     alloc: Global,
     register: &mut Register<MaskKeeper>,
-    items: &[Numbered<'_>],
+    items: &[NumberedItem<'_>],
     package: &PackageName,
 ) -> io::Result<Ending> {
     let items = behind_setting(items);

@@ -47,7 +47,7 @@ use stored::run_stored;
 use times::run_times;
 use toml_only::read_toml;
 use trial_registers::input::{Input, read_input};
-use trial_registers::items::{Numbered, items_of};
+use trial_registers::items::{NumberedItem, items_of};
 use trial_registers::relay::RelayKeeper;
 use trial_registers::run::{How, run_in_memory};
 use trial_values::ending::{Ending, refused};
@@ -156,7 +156,7 @@ fn run_kept<K: Keeper>(
 
 fn run_items<K: Keeper>(
     rt: &HostRuntime,
-    items: &[Numbered<'_>],
+    items: &[NumberedItem<'_>],
     how: How,
     place: Place<'_>,
 ) -> io::Result<Ending> {

@@ -19,7 +19,7 @@ use crate::stops::left::print_left;
 use crate::stops::run::{open_files, run_files};
 use std::alloc::Global;
 use std::io;
-use trial_registers::items::Numbered;
+use trial_registers::items::NumberedItem;
 use trial_registers::run::How;
 use trial_values::ending::{Ending, refused};
 use trial_values::fault::Fault;
@@ -88,7 +88,7 @@ impl DiskStop {
 pub fn run_stopped<K: Keeper>(
     rt: &impl Print,
     alloc: Global,
-    items: &[Numbered<'_>],
+    items: &[NumberedItem<'_>],
     how: How,
     stop: DiskStop,
 ) -> io::Result<Ending> {
@@ -104,7 +104,7 @@ fn end_run<K: Keeper>(
     rt: &impl Print,
     alloc: Global,
     files: StoppingFiles,
-    items: &[Numbered<'_>],
+    items: &[NumberedItem<'_>],
     stop: DiskStop,
 ) -> io::Result<Ending> {
     if !stop.in_open {

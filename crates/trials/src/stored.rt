@@ -5,7 +5,7 @@ use sqlite::{Alter, Connection, Error, FileStore, Options, Wary};
 use sqlite_disk::Disk;
 use std::alloc::Global;
 use std::io;
-use trial_registers::items::Numbered;
+use trial_registers::items::NumberedItem;
 use trial_registers::run::{How, give_all, print_end};
 use trial_registers::runs::Runs;
 use trial_registers::setting::limit_of;
@@ -63,7 +63,7 @@ impl<S: Alter + Drop, K: Keeper> Runs<K> for StoreRun<S, K> {
 pub fn run_stored<K: Keeper>(
     rt: &HostRuntime,
     path: &str,
-    items: &[Numbered<'_>],
+    items: &[NumberedItem<'_>],
     how: How,
     mode: OpenMode,
 ) -> io::Result<Ending> {
@@ -97,7 +97,7 @@ fn run_connected<D: Disk + Drop, K: Keeper>(
     rt: &impl Print,
     alloc: Global,
     conn: Connection<FileStore<D>>,
-    items: &[Numbered<'_>],
+    items: &[NumberedItem<'_>],
     how: How,
     mode: OpenMode,
 ) -> io::Result<(Ending, Option<Connection<FileStore<D>>>)>
@@ -116,7 +116,7 @@ fn run_store<D: Disk + Drop, K: Keeper>(
     rt: &impl Print,
     alloc: Global,
     store: Store<FileStore<D>, K>,
-    items: &[Numbered<'_>],
+    items: &[NumberedItem<'_>],
     how: How,
     mode: OpenMode,
 ) -> io::Result<(Ending, Option<Connection<FileStore<D>>>)> {
@@ -177,7 +177,7 @@ fn reopened_files<D: Disk + Drop, K: Keeper>(
 fn store_of<S: Alter + Drop, K: Keeper>(
     alloc: Global,
     conn: Connection<S>,
-    items: &[Numbered<'_>],
+    items: &[NumberedItem<'_>],
     mode: OpenMode,
 ) -> Result<Store<S, K>, Refused<S>>
     requires { conn.in_transaction ≡ false }

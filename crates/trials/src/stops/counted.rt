@@ -6,15 +6,15 @@ use std::io;
 /// A disk, and how many of its calls were lengths, reads, writes, changes of the length or syncs, the failed ones
 /// included.
 #[derive(Drop)]
-pub struct Counted<D: Disk> {
+pub struct CountedDisk<D: Disk> {
     inner: D,
     calls: u64,
 }
 
-impl<D: Disk> Counted<D> {
+impl<D: Disk> CountedDisk<D> {
     /// This disk, before any call.
-    pub fn new(inner: D) -> Counted<D> {
-        Counted { inner, calls: 0 }
+    pub fn new(inner: D) -> CountedDisk<D> {
+        CountedDisk { inner, calls: 0 }
     }
 
     /// How many calls were made.
@@ -28,7 +28,7 @@ impl<D: Disk> Counted<D> {
     }
 }
 
-impl<D: Disk> Disk for Counted<D> {
+impl<D: Disk> Disk for CountedDisk<D> {
     ghost seen = { λ c. D.Disk.seen c.inner };
 
     ghost may_leave = { λ c. D.Disk.may_leave c.inner };
@@ -98,7 +98,7 @@ impl<D: Disk> Disk for Counted<D> {
     }
 }
 
-impl<D: Crash> Crash for Counted<D> {
+impl<D: Crash> Crash for CountedDisk<D> {
     fn crash(&mut self) {
         self.inner.crash();
     }

@@ -1,13 +1,13 @@
 //! Files in memory that stop: from one call on, each call fails and changes nothing.
 
-use crate::stops::counted::Counted;
+use crate::stops::counted::CountedDisk;
 use sqlite::Files;
 use sqlite_disk::{Disk, Fuse, Memory};
 use std::alloc::Global;
 use vet_base::refusal::Refusal;
 
 /// A file in memory that stops.
-pub type StoppingFile = Counted<Fuse<Memory>>;
+pub type StoppingFile = CountedDisk<Fuse<Memory>>;
 
 /// A database file in memory that stops, or whose log does.
 pub type StoppingFiles = Files<StoppingFile>;
@@ -28,8 +28,8 @@ pub const ALL_CALLS: Calls = Calls {
 /// Empty files. Takes no memory.
 pub fn empty_files(alloc: Global, calls: Calls) -> StoppingFiles {
     Files {
-        log: Counted::new(Fuse::new(Memory::new(alloc), calls.log)),
-        db: Counted::new(Fuse::new(Memory::new(alloc), calls.db)),
+        log: CountedDisk::new(Fuse::new(Memory::new(alloc), calls.log)),
+        db: CountedDisk::new(Fuse::new(Memory::new(alloc), calls.db)),
     }
 }
 
@@ -54,5 +54,5 @@ fn copy_of(alloc: Global, file: &StoppingFile, calls: u64) -> Result<StoppingFil
     if memory.sync().is_err() {
         return Err(Refusal::NoMemory);
     }
-    Ok(Counted::new(Fuse::new(memory, calls)))
+    Ok(CountedDisk::new(Fuse::new(memory, calls)))
 }

@@ -9,7 +9,7 @@ use sqlite::{Connection, FileStore, Files};
 use sqlite_disk::{Crash, Disk};
 use std::alloc::Global;
 use std::io;
-use trial_registers::items::Numbered;
+use trial_registers::items::NumberedItem;
 use trial_registers::run::print_end;
 use trial_registers::setting::limit_of;
 use trial_values::ending::{Ending, print_refusal, refused};
@@ -23,7 +23,7 @@ pub fn print_left<K: Keeper>(
     rt: &impl Print,
     alloc: Global,
     files: StoppingFiles,
-    items: &[Numbered<'_>],
+    items: &[NumberedItem<'_>],
     stop: DiskStop,
 ) -> io::Result<Ending> {
     print_stop(rt, files.log.calls(), files.db.calls(), stop)?;
@@ -45,7 +45,7 @@ fn print_written<K: Keeper>(
     rt: &impl Print,
     alloc: Global,
     files: &StoppingFiles,
-    items: &[Numbered<'_>],
+    items: &[NumberedItem<'_>],
 ) -> io::Result<Ending> {
     println!(rt; "as written")?;
     match copies_of(alloc, files, ALL_CALLS) {
@@ -58,7 +58,7 @@ fn print_synced<K: Keeper>(
     rt: &impl Print,
     alloc: Global,
     mut files: StoppingFiles,
-    items: &[Numbered<'_>],
+    items: &[NumberedItem<'_>],
 ) -> io::Result<Ending> {
     println!(rt; "as synced")?;
     files.log.crash();
@@ -71,7 +71,7 @@ fn print_held<D: Disk + Drop, K: Keeper>(
     rt: &impl Print,
     alloc: Global,
     files: Files<D>,
-    items: &[Numbered<'_>],
+    items: &[NumberedItem<'_>],
 ) -> io::Result<Ending> {
     if !files.may_be_used() {
         return refused(rt, &Fault::Refused(Refusal::StoreRefused));
@@ -86,7 +86,7 @@ fn print_opened<D: Disk + Drop, K: Keeper>(
     rt: &impl Print,
     alloc: Global,
     conn: Connection<FileStore<D>>,
-    items: &[Numbered<'_>],
+    items: &[NumberedItem<'_>],
 ) -> io::Result<Ending>
     requires { conn.in_transaction ≡ false }
 {
@@ -107,7 +107,7 @@ fn print_made<D: Disk + Drop, K: Keeper>(
     rt: &impl Print,
     alloc: Global,
     conn: Connection<FileStore<D>>,
-    items: &[Numbered<'_>],
+    items: &[NumberedItem<'_>],
 ) -> io::Result<Ending>
     requires { conn.in_transaction ≡ false }
 {

@@ -7,7 +7,7 @@ use sqlite::{Connection, FileStore, Files, Options};
 use sqlite_disk::Disk;
 use std::alloc::Global;
 use std::io;
-use trial_registers::items::Numbered;
+use trial_registers::items::NumberedItem;
 use trial_registers::run::{How, give_all, print_end};
 use trial_registers::runs::Runs;
 use trial_registers::setting::limit_of;
@@ -33,7 +33,7 @@ pub fn run_files<D: Disk + Drop, K: Keeper>(
     rt: &impl Print,
     alloc: Global,
     files: Files<D>,
-    items: &[Numbered<'_>],
+    items: &[NumberedItem<'_>],
     how: How,
     stop: DiskStop,
 ) -> io::Result<(Ending, Files<D>)> {
@@ -54,7 +54,7 @@ fn run_connected<D: Disk + Drop, K: Keeper>(
     rt: &impl Print,
     alloc: Global,
     conn: Connection<FileStore<D>>,
-    items: &[Numbered<'_>],
+    items: &[NumberedItem<'_>],
     how: How,
     stop: DiskStop,
 ) -> io::Result<(Ending, Files<D>)>
@@ -74,7 +74,7 @@ fn run_store<D: Disk + Drop, K: Keeper>(
     rt: &impl Print,
     alloc: Global,
     store: Store<FileStore<D>, K>,
-    items: &[Numbered<'_>],
+    items: &[NumberedItem<'_>],
     how: How,
     stop: DiskStop,
 ) -> io::Result<(Ending, Files<D>)> {

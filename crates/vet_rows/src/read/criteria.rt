@@ -6,7 +6,7 @@ ghost use Rattle.vet_rows.specs.declared.read.criteria.SourcedCriterion.{Sourced
 
 use crate::read::columns::{name, names, optional_text, source};
 use crate::read::from_row::FromRow;
-use crate::read::sourced::Sourced;
+use crate::read::sourced::HasSource;
 use crate::read::unread::Unread;
 use std::alloc::Global;
 use vet_base::criterion::Criterion;
@@ -42,7 +42,7 @@ impl SourcedCriterion {
     }
 }
 
-impl Sourced for SourcedCriterion {
+impl HasSource for SourcedCriterion {
     ghost source_of = { λ c. c.source };
 
     fn source(&self) -> &Source {

@@ -10,7 +10,7 @@ use vet_entries::entry::Source;
 use vet_entries::facts::HeldEntry;
 
 /// What has a source.
-pub(crate) trait Sourced: Drop {
+pub(crate) trait HasSource: Drop {
     /// Whose it is.
     ghost source_of: { Self → Source };
 
@@ -19,7 +19,7 @@ pub(crate) trait Sourced: Drop {
         ensures { result.now ≡ source_of self.now };
 }
 
-impl Sourced for HeldEntry {
+impl HasSource for HeldEntry {
     ghost source_of = { λ held. held.entry.source };
 
     fn source(&self) -> &Source {
@@ -35,7 +35,10 @@ pub(crate) struct BySource<T: Drop> {
 }
 
 /// What is one's own, and what is of peers. Fails only if memory runs out.
-pub(crate) fn by_source<T: Sourced>(alloc: Global, items: Vec<T>) -> Result<BySource<T>, AllocError>
+pub(crate) fn by_source<T: HasSource>(
+    alloc: Global,
+    items: Vec<T>,
+) -> Result<BySource<T>, AllocError>
     ensures own { IfOk result (λ parts. parts.own.items ≡ own_items T.source_of items.items) }
     ensures peers { IfOk result (λ parts. parts.peers.items ≡ of_peers T.source_of items.items) }
 {
@@ -48,7 +51,7 @@ pub(crate) fn by_source<T: Sourced>(alloc: Global, items: Vec<T>) -> Result<BySo
 }
 
 // Puts an item behind those of its source.
-fn put<T: Sourced>(
+fn put<T: HasSource>(
     own: &mut Vec<T>,
     peers: &mut Vec<WithKey<Name, T>>,
     item: T,

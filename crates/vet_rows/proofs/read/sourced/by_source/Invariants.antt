@@ -5,5 +5,5 @@ use Rattle.vet_rows.proofs.read.sourced.by_source.Given as goal
 
 abbrev pub invariant-items : goal.invariant-items
 invariant-items g l =
-    (l.own.items ≡ own_items g.T.Sourced.source_of l.yielded)
-    × (l.peers.items ≡ of_peers g.T.Sourced.source_of l.yielded)
+    (l.own.items ≡ own_items g.T.HasSource.source_of l.yielded)
+    × (l.peers.items ≡ of_peers g.T.HasSource.source_of l.yielded)
