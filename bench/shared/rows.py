@@ -1,15 +1,13 @@
 """Rows of a register's tables, with their lists unpacked."""
 
-TABLES = (
-    "meta", "criteria", "entries", "publishers", "policies", "peers", "nodes", "edges", "standing", "moves", "members",
-    "reviews",
-)
-PACKED = {
-    "meta": (11, 12), "criteria": (2, 3, 4), "entries": (9, 10, 11), "publishers": (4, 5), "policies": (2, 3, 4, 5),
-    "peers": (1, 2, 3), "reviews": (3,),
-}
+from models.columns import TABLES, TYPES
+
+# the places of the packed lists of each table
+PACKED = {table: [place for place, (_, kind, _) in enumerate(columns) if TYPES[kind] == "BLOB"]
+          for table, columns in TABLES.items()}
 # of these columns each item, or each second one of a map, is a packed list again
-DEEPER = {("meta", 12): 0, ("policies", 2): 0, ("policies", 3): 0, ("policies", 4): 1, ("peers", 3): 1}
+DEEPER = {(table, place): {"option-list": 0, "map": 1}[kind] for table, columns in TABLES.items()
+          for place, (_, kind, _) in enumerate(columns) if kind in ("option-list", "map")}
 CLASSES = ("conflicting", "full", "partial", "exempted", "unvetted")
 
 
@@ -31,7 +29,7 @@ def packed(items):
 def rows_of(conn, table):
     """Every row of a table, with its lists unpacked."""
     rows = []
-    places = PACKED.get(table, ())
+    places = PACKED[table]
     for row in conn.execute(f"SELECT * FROM {table}"):
         row = list(row)
         for place in places:

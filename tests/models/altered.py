@@ -3,6 +3,7 @@ none. That was worked out by hand."""
 
 from typing import NamedTuple
 
+from models.columns import TABLES
 from models.rows import names, optional, packed
 
 # a register with rows in each of the twelve tables: its commands, each with what it is told
@@ -275,18 +276,8 @@ OTHER_STATEMENTS = [
     ("publishers", ", name BLOB NOT NULL", "", ", login, name)", ", login)"),
     ("edges", ", kind INTEGER NOT NULL", "", ", to_version, kind)", ", to_version)"),
 ]
-# the last column of each other table, but of the one that has a single column
-LAST_COLUMNS = {
-    "meta": "default_criteria",
-    "criteria": "implies",
-    "entries": "importable",
-    "policies": "notes",
-    "peers": "map",
-    "nodes": "party",
-    "standing": "class",
-    "moves": "after",
-    "reviews": "entry",
-}
+# the last column of each table that has one beside its key
+LAST_COLUMNS = {table: columns[-1][0] for table, columns in TABLES.items() if not columns[-1][2]}
 
 # what another program may have in the file beside the register
 BESIDE = [

@@ -6,6 +6,8 @@ import datetime
 import sqlite3
 from urllib.parse import unquote_to_bytes
 
+from models.columns import TABLES
+
 BUILT_IN = ("safe-to-deploy", "safe-to-run")
 CLASSES = ("conflicting", "full", "partial", "exempted", "unvetted", "undemanded")
 KINDS = ("full", "delta", "violation", "wildcard", "trusted", "exemption")
@@ -14,20 +16,6 @@ EDGES = ("normal", "build", "dev")
 STATES = ("waiting", "assigned", "finished", "withdrawn")
 FLAGS = {None: -1, "false": 0, "true": 1}
 OPERATORS = ("<", ">", "=", "<=", ">=", "~", "^")
-TABLES = {
-    "meta": 13,
-    "criteria": 5,
-    "entries": 15,
-    "publishers": 6,
-    "policies": 6,
-    "peers": 4,
-    "nodes": 4,
-    "edges": 6,
-    "standing": 4,
-    "moves": 7,
-    "members": 1,
-    "reviews": 8,
-}
 
 
 @contextlib.contextmanager
@@ -131,7 +119,7 @@ class Rows:
         self.tables["meta"].append((*numbers, *said))
 
     def put(self, table, *row):
-        if len(row) != TABLES[table] or row in self.tables[table]:
+        if len(row) != len(TABLES[table]) or row in self.tables[table]:
             raise AssertionError(f"{table}: {row} stands twice, or is no row")
         self.tables[table].append(row)
 
