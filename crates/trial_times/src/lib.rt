@@ -8,7 +8,7 @@ pub mod commands;
 pub mod contents;
 pub mod demand_rounds;
 pub mod desk_rounds;
-mod files;
+pub mod files;
 pub mod import_rounds;
 mod project;
 pub mod replacements;

@@ -24,11 +24,12 @@
 //! are taken, a config file, whose policies are taken, and dependency tables, a line `---` between two. Of each table
 //! a line `read NODES EDGES` is printed, and then of each round `demand NANOSECONDS PAIRS`.
 //!
-//! The word `store`, a path, a number of demanded pairs and one of rounds have a register in a file timed. Standard
-//! input holds audits files of a peer, a line `---` between two. The file is made; each audits file is imported; and in
-//! each round an entry is added and dropped. Of each command a line is printed of what it is, its nanoseconds until it
-//! was prepared, from there until its rows were known, from there until they were committed, and in all, and how many
-//! changes of rows that were.
+//! The word `store`, a path and a number of rounds have a register in a file timed. Standard input holds dependency
+//! tables, a line `===`, and audits files of a peer; a line `---` stands between two tables and between two files. The
+//! file is made; the tables are loaded in turn, all as one project; each audits file is imported; and in each round an
+//! entry is added and dropped. Of each command a line is printed of what it is, its nanoseconds until it was prepared,
+//! from there until its rows were known, from there until they were committed, and in all. Behind these are how many
+//! changes of rows that were, and how many of them were of other tables than `standing` and `moves`.
 //!
 //! The word `open` and a path have that register opened. `open NANOSECONDS NANOSECONDS COUNT` is printed: until the
 //! database was opened, from there until the register was, and how many entries it holds. The word `parts` and a path
@@ -88,9 +89,9 @@ fn run_task<K: Keeper>(rt: &HostRuntime, task: Task) -> Result<(), Fault> {
         Task::Replacements(rounds) => run_replacements::<K>(rt, rounds, text.as_str()),
         Task::Desk(reviews) => run_reviews::<K>(rt, reviews),
         Task::Demands(rounds) => run_demands(rt, rounds, text.as_str()),
-        Task::Stored(sizes) => {
+        Task::Stored(rounds) => {
             let path = read_path(rt)?;
-            run_stored::<K>(rt, sizes, path.as_str(), text.as_str())
+            run_stored::<K>(rt, rounds, path.as_str(), text.as_str())
         }
         Task::Opened => {
             let path = read_path(rt)?;

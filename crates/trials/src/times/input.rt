@@ -19,22 +19,13 @@ pub enum Task {
     /// So many rounds of finding a demand.
     Demands(usize),
     /// So many rounds of commands to a register in a file.
-    Stored(StoreSizes),
+    Stored(usize),
     /// The opening of a register in a file.
     Opened,
     /// The parts of that.
     Parts,
     /// So many rounds of commands to a register in memory.
     Memory(usize),
-}
-
-/// How much is to be timed of a register in a file.
-#[derive(Clone, Copy)]
-pub struct StoreSizes {
-    /// How many demanded pairs.
-    pub demanded: usize,
-    /// How many rounds.
-    pub rounds: usize,
 }
 
 /// What the words behind `times` say: over which keeper of the classes, and what is to be timed.
@@ -48,16 +39,11 @@ pub fn read_task(rt: &HostRuntime) -> Result<(KeeperWord, Task), Fault> {
     let Some(keeper) = keeper_of(keeper.as_str()) else {
         return Err(Fault::NotUnderstood);
     };
-    let (first, second, third) = (words.next(), words.next(), words.next());
-    Ok((keeper, task_of(task.as_str(), &first, &second, &third)?))
+    let (first, second) = (words.next(), words.next());
+    Ok((keeper, task_of(task.as_str(), &first, &second)?))
 }
 
-fn task_of(
-    task: &str,
-    first: &Option<String>,
-    second: &Option<String>,
-    third: &Option<String>,
-) -> Result<Task, Fault> {
+fn task_of(task: &str, first: &Option<String>, second: &Option<String>) -> Result<Task, Fault> {
     match task {
         "imports" => Ok(Task::Imports(Sizes {
             rounds: number(first)?,
@@ -69,10 +55,7 @@ fn task_of(
             rounds: number(second)?,
         })),
         "demand" => Ok(Task::Demands(number(first)?)),
-        "store" => Ok(Task::Stored(StoreSizes {
-            demanded: number(second)?,
-            rounds: number(third)?,
-        })),
+        "store" => Ok(Task::Stored(number(second)?)),
         "open" => Ok(Task::Opened),
         "parts" => Ok(Task::Parts),
         "memory" => Ok(Task::Memory(number(first)?)),

@@ -1,12 +1,12 @@
 //! Commands to a register in a file, whose parts are timed; and the register that is opened again.
 
-use crate::times::input::StoreSizes;
 use crate::times::written::run_written;
 use sqlite::{Alter, Connection, FileFrom, FileStore, Wary};
 use std::alloc::Global;
 use std::time::Instant;
-use trial_times::commands::{add_other, drop_entry, import_peer, load_project, set_peer};
-use trial_times::contents::contents_of;
+use trial_times::commands::{add_other, drop_entry, import_peer, load_table, set_peer};
+use trial_times::contents::{BETWEEN_FILES, contents_of};
+use trial_times::files::tables_before;
 use trial_values::fault::Fault;
 use vet_base::limits::MOST_MOVES;
 use vet_base::refusal::Refusal;
@@ -19,21 +19,36 @@ use vet_store::store::Store;
 /// A file and its log, opened as the product opens them.
 pub type WaryFile = FileStore<FileFrom<Wary>>;
 
-/// Makes a register in a file, imports each file of a text, and adds an entry and drops it in each round. Prints of
-/// each command what it is, the nanoseconds of its parts and how many rows it writes.
+/// Makes a register in a file, loads the tables of a text in turn as one project, imports each of its files, and adds
+/// an entry and drops it in each round. Prints of each command what it is, the nanoseconds of its parts and how many
+/// rows it writes.
 pub fn run_stored<K: Keeper>(
     rt: &HostRuntime,
-    sizes: StoreSizes,
+    rounds: usize,
     path: &str,
     text: &str,
 ) -> Result<(), Fault> {
-    let imports = imports_of(rt.alloc(), text)?;
+    let (tables, files) = tables_before(text)?;
+    let loads = loads_of(rt.alloc(), tables)?;
+    let imports = imports_of(rt.alloc(), files)?;
     let mut conn = made::<_, K>(rt.alloc(), connected(rt, path)?)?;
-    run_commands::<_, K>(rt, &mut conn, sizes, imports.as_slice())?;
+    run_commands::<_, K>(rt, &mut conn, loads.as_slice(), imports.as_slice(), rounds)?;
     match conn.close() {
         Ok(()) => Ok(()),
         Err(_) => Err(Fault::Refused(Refusal::StoreRefused)),
     }
+}
+
+// The commands that load the tables of a text in turn, all as one project. An empty text has none.
+fn loads_of(alloc: Global, text: &str) -> Result<Vec<Command>, Fault> {
+    let mut loads = Vec::new(alloc);
+    if text.is_empty() {
+        return Ok(loads);
+    }
+    for table in text.split(BETWEEN_FILES) {
+        loads.push(load_table(alloc, 0, table)?)?;
+    }
+    Ok(loads)
 }
 
 /// The commands that import the files of a text.
@@ -75,21 +90,31 @@ fn fault_of<S: Alter + Drop>(refused: Refused<S>) -> Fault {
 fn run_commands<S: Alter, K: Keeper>(
     rt: &HostRuntime,
     conn: &mut Connection<S>,
-    sizes: StoreSizes,
+    loads: &[Command],
     imports: &[Command],
+    rounds: usize,
 ) -> Result<(), Fault> {
     let mut register = Register::<K>::new(rt.alloc(), MOST_MOVES)?;
-    if sizes.demanded > 0 {
-        let load = load_project(rt.alloc(), sizes.demanded)?;
-        run_one(rt, conn, &mut register, "load-project", &load)?;
-    }
+    run_each(rt, conn, &mut register, "load-project", loads)?;
     let peer = set_peer(rt.alloc())?;
     run_one(rt, conn, &mut register, "set-peer", &peer)?;
-    for import in imports {
-        run_one(rt, conn, &mut register, "import", import)?;
-    }
-    for round in 0..sizes.rounds {
+    run_each(rt, conn, &mut register, "import", imports)?;
+    for round in 0..rounds {
         run_round(rt, conn, &mut register, round)?;
+    }
+    Ok(())
+}
+
+// Runs some commands of one kind.
+fn run_each<S: Alter, K: Keeper>(
+    rt: &HostRuntime,
+    conn: &mut Connection<S>,
+    register: &mut Register<K>,
+    what: &str,
+    commands: &[Command],
+) -> Result<(), Fault> {
+    for command in commands {
+        run_one(rt, conn, register, what, command)?;
     }
     Ok(())
 }

@@ -11,17 +11,20 @@ use vet_graph::keeper::Keeper;
 use vet_register::change::{Change, Prepared};
 use vet_register::command::{Command, Outcome};
 use vet_register::register::Register;
+use vet_rows::row_change::RowChange;
 use vet_rows::row_changes::row_changes;
 use vet_store::change::commit_changes;
+use vet_tables::table_name::TableName;
 
 /// The nanoseconds of a command's parts: until it is prepared, until the rows are known that change, and until these
-/// are committed; and how many they are.
+/// are committed; how many they are, and how many of them are of neither `standing` nor `moves`.
 #[derive(Clone, Copy)]
 pub struct PartTimes {
     prepare: u128,
     rows: u128,
     write: u128,
     count: usize,
+    others: usize,
 }
 
 /// Runs a command as a store does: it is prepared, its rows are written and then it is installed. Prints what it is,
@@ -43,8 +46,9 @@ pub fn run_written<S: Alter, K: Keeper>(
         rows,
         write,
         count,
+        others,
     } = parts;
-    println!(rt; "{what} {prepare} {rows} {write} {whole} {count}")?;
+    println!(rt; "{what} {prepare} {rows} {write} {whole} {count} {others}")?;
     Ok(outcome)
 }
 
@@ -93,7 +97,36 @@ fn write<S: Alter, K: Keeper>(
             rows,
             write: begun.elapsed(rt)?.as_nanos(),
             count: changes.len(),
+            others: count_others(changes.as_slice()),
         }),
         Err(_) => Err(Fault::Refused(Refusal::StoreRefused)),
+    }
+}
+
+// How many of some changes are of neither `standing` nor `moves`.
+fn count_others(changes: &[RowChange]) -> usize {
+    let mut count = 0usize;
+    for change in changes {
+        if is_of_another(table_of(change)) {
+            count = count.saturating_add(1);
+        }
+    }
+    count
+}
+
+// The table that a change is of.
+fn table_of(change: &RowChange) -> TableName {
+    match change {
+        RowChange::Put(table, _) => *table,
+        RowChange::Drop(table, _) => *table,
+        RowChange::Clear(table) => *table,
+    }
+}
+
+// Whether a table is neither `standing` nor `moves`.
+fn is_of_another(table: TableName) -> bool {
+    match table {
+        TableName::Standing | TableName::Moves => false,
+        _ => true,
     }
 }
