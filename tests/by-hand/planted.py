@@ -45,7 +45,7 @@ LIMITS = {
 }
 # where connections are made: files, texts, and what stands there in a planted program
 FEWER = [
-    ("vet_store/src/memory_file.rt", r"Options::new\(0\)", r"crate::few_pages::fewer(\g<0>)"),
+    ("vet_store/src/memory/file.rt", r"Options::new\(0\)", r"crate::few_pages::fewer(\g<0>)"),
     ("vetd/src/file_databases.rt", r"Connection::open_from\(", "vet_store::few_pages::open_from("),
     ("trials/src/stored.rt", r"Connection::open_from\(", "vet_store::few_pages::open_from("),
 ]

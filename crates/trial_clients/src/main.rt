@@ -20,7 +20,7 @@ use vet_http::serve::Connection;
 use vet_masks::keeper::MaskKeeper;
 use vet_requests::input::CountedReader;
 use vet_requests::io_fault::IoFault;
-use vet_store::memory_file::MemoryFiles;
+use vet_store::memory::file::MemoryFiles;
 use vetd_commands::databases::Databases;
 use vetd_program::clients::arrival::Arrival;
 use vetd_program::clients::memory_network::MemoryNetwork;

@@ -14,7 +14,6 @@ pub mod apply;
 pub mod change;
 pub mod laws;
 pub mod memory;
-pub mod memory_file;
 pub mod read;
 mod read_table;
 pub mod refused;

@@ -16,7 +16,9 @@ ghost use Rattle.vet_store.specs.Repeats.{IsTurnWithRepeats};
 ghost use Rattle.vet_store.specs.Runs.{Each, IsOfDone, IsOfStore, Ran};
 ghost use Rattle.vet_store.specs.Stands.{Stands};
 
-use crate::memory_file::{MemoryFiles, connect_in_memory};
+pub mod file;
+
+use crate::memory::file::{MemoryFiles, connect_in_memory};
 use crate::store::Store;
 use crate::store::first_run::FirstRun;
 use sqlite::{Connection, MemStore};

@@ -35,7 +35,7 @@ use vet_http::serve_room::ServeRoom;
 use vet_requests::io_fault::IoFault;
 use vet_requests::output::write_whole;
 use vet_store::laws::classes_are_of_chains;
-use vet_store::memory_file::{MemoryFiles, connect_in_memory};
+use vet_store::memory::file::{MemoryFiles, connect_in_memory};
 use vet_store::store::Store;
 use vetd_commands::databases::{DatabaseRun, Databases};
 use vetd_words::answer::{PRINTED, REFUSED, explain, report};

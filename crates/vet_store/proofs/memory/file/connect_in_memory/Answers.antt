@@ -1,6 +1,6 @@
 use Rattle.std.proofs.Common.{refl}
 use Rattle.vet_store.proofs.MemoryFiles.{files_are_clean, shows_nothing}
-use Rattle.vet_store.proofs.memory_file.connect_in_memory.Goals as goal
+use Rattle.vet_store.proofs.memory.file.connect_in_memory.Goals as goal
 
 pub returns-in-Ok-clause-empty : goal.returns-in-Ok-clause-empty
 returns-in-Ok-clause-empty c =
