@@ -1,4 +1,4 @@
-//! What there is one of, as the one row of `meta` tells it.
+//! What there is just one of, which the one row of `meta` holds.
 use vet_graph::standing::Counts;
 use vet_register::tool_settings::ToolSettings;
 

@@ -12,7 +12,7 @@ use std::alloc::{AllocError, Global};
 /// The most digits of a length that are read: a slice has fewer than 2^63 bytes.
 const MOST_DIGITS: usize = 19;
 
-/// What stands in front of a packed list.
+/// The first item of a packed list, and the rest of the list.
 #[derive(Clone, Copy)]
 pub struct Front<'a> {
     /// The first item.
@@ -50,7 +50,7 @@ pub fn read_items<'a>(alloc: Global, bytes: &'a [u8]) -> Result<Option<Vec<&'a [
     Ok(Some(items))
 }
 
-/// The first item of a packed list, and what stands behind it. None if the bytes begin with no item: then they are
+/// The first item of a packed list, and what comes after it. None if the bytes begin with no item: then they are
 /// the end of a list if they are empty, and no packed list otherwise. Takes no memory.
 pub fn first_item<'a>(bytes: &'a [u8]) -> Option<Front<'a>>
     ensures some { IfSome result (λ front. bytes.now ≡ packed_item front.item.now ++ front.rest.now) }
@@ -61,7 +61,7 @@ pub fn first_item<'a>(bytes: &'a [u8]) -> Option<Front<'a>>
     item_behind(&bytes[end..], count)
 }
 
-// The item of this length behind a colon, and what stands behind it.
+// The item of this length behind a colon, and what comes after it.
 fn item_behind<'a>(bytes: &'a [u8], count: usize) -> Option<Front<'a>>
     ensures some { IfSome result (λ front. (bytes.now ≡ codes ":" ++ (front.item.now ++ front.rest.now))
         × (length front.item.now ≡ count)) }
@@ -78,7 +78,7 @@ fn item_behind<'a>(bytes: &'a [u8], count: usize) -> Option<Front<'a>>
     })
 }
 
-// How many digits stand in front.
+// How many digits come first.
 fn digits_in_front(bytes: &[u8]) -> usize
     ensures within { result ≤ length bytes.now }
     ensures all { AllDigits 10 (take result bytes.now) }
@@ -91,7 +91,7 @@ fn digits_in_front(bytes: &[u8]) -> usize
     place
 }
 
-// The length that some digits write, as a number is written: no zero stands in front of others.
+// The length that some digits write, as a number is written: no zero comes before other digits.
 fn read_length(digits: &[u8]) -> Option<usize>
     requires { AllDigits 10 digits.now }
     ensures some { IfSome result (λ n. decimal n ≡ digits.now) }

@@ -1,4 +1,4 @@
-//! Values that stand as items of packed lists.
+//! Values that packed lists keep as their items.
 ghost use Rattle.std.specs.Prelude.{◌≡◌, List, Option, IfOk, OnErr, OnOk, map, option_map};
 ghost use Rattle.vet_base.specs.Words.{Bytes};
 ghost use Rattle.vet_rows.specs.Packed.{packed};
@@ -7,7 +7,7 @@ ghost use Rattle.vet_rows.specs.PackedItems.{IsReadAs, all_read};
 use crate::packed::{push_item, read_items};
 use std::alloc::{AllocError, Global};
 
-/// A value that stands as an item of a packed list.
+/// A value that a packed list keeps as an item.
 pub trait PackedItem: Drop {
     /// The bytes that stand for it.
     ghost bytes_of: { Self → Bytes };

@@ -1,4 +1,4 @@
-//! Names and texts as items of packed lists: each stands as its bytes, which are UTF-8.
+//! Names and texts as items of packed lists: each is kept as its bytes, which are UTF-8.
 ghost use Rattle.std.specs.Prelude.{◌≡◌, IfOk};
 ghost use Rattle.vet_base.specs.Name.{read_name, read_package_name};
 ghost use Rattle.vet_base.specs.Text.{read_text};

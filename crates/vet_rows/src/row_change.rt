@@ -6,8 +6,7 @@ use vet_tables::table_name::TableName;
 pub enum RowChange {
     /// Puts a row into a table, in place of the row of its key, if there is one.
     Put(TableName, Row),
-    /// Takes the row of this row's key out of a table, if there is one. What stands in the other columns doesn't
-    /// matter.
+    /// Takes the row of this row's key out of a table, if there is one. The other columns don't matter.
     Drop(TableName, Row),
     /// Takes all rows out of a table.
     Clear(TableName),

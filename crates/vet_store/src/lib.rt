@@ -3,7 +3,7 @@
 //! **After every list of commands the tables have the rows of the machine which keeps alone those that were done. A
 //! change of rows is one transaction: the tables have all of it or none of it, after a crash too.**
 //!
-//! Scope of this crate: statements on the twelve tables and their transactions, what stands in them, and the store,
+//! Scope of this crate: statements on the twelve tables and their transactions, what the tables hold, and the store,
 //! which is made with the tables of a register that holds nothing, or opened from the tables of one, and runs commands.
 //!
 //! For example, a file in which one class in `standing` was changed by hand is refused as 31 NotARegister, and stays

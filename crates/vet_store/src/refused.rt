@@ -6,7 +6,7 @@ ghost use Rattle.vet_store.specs.Runs.{IsOfStore};
 use sqlite::{Alter, Connection, Error, ErrorCode};
 use vet_base::refusal::Refusal;
 
-/// Why no store was made, and the connection that was handed in.
+/// Why no store was made, and the connection that was passed in.
 pub struct Refused<S: Alter> {
     pub refusal: Refusal,
     pub conn: Connection<S>,
@@ -31,7 +31,7 @@ impl<S: Alter + Drop> Refused<S> {
         Refused { refusal, conn }
     }
 
-    /// The connection that was handed in. Takes no memory.
+    /// The connection that was passed in. Takes no memory.
     pub fn into_conn(self) -> Connection<S>
         ensures { result ≡ self.conn }
     {

@@ -1,4 +1,4 @@
-//! A register whose rows stand in the tables of a database.
+//! A register whose rows are in the tables of a database.
 ghost use Rattle.std.specs.Prelude.{◌≡◌, false};
 ghost use Rattle.sqlite.specs.Held.{state};
 ghost use Rattle.vet_rows.specs.RowsOf.{rows_of};
@@ -19,7 +19,7 @@ mod run;
 mod run_all;
 mod write;
 
-/// A register, and a connection to the database in whose tables its rows stand. Once a commit failed it is shut: a
+/// A register, and a connection to the database in whose tables its rows are. Once a commit failed it is shut: a
 /// crash may then leave the rows with the last command or without it, and nothing is run any more.
 pub struct Store<S: Alter, K: Keeper> {
     pub(crate) conn: Connection<S>,

@@ -1,4 +1,4 @@
-//! What stands in a column of a row.
+//! What a row holds in a column.
 ghost use Rattle.sqlite.specs.Values.{bound};
 ghost use Rattle.std.specs.Prelude.{◌≡◌, ◌∷◌, [], IfOk, map};
 ghost use Rattle.vet_tables.specs.Cells.{value_of};
@@ -8,7 +8,7 @@ use crate::same_items::Exactly;
 use sqlite::types::ValueRef;
 use std::alloc::{AllocError, Global};
 
-/// What stands in a column of a row: a number, a text, or bytes. No column of these tables takes NULL.
+/// What a row holds in a column: a number, a text, or bytes. No column of these tables takes NULL.
 #[derive(Drop, PartialOrd, Ord)]
 pub enum Cell {
     Int(i64),

@@ -26,7 +26,7 @@ pub fn has_name_taken(schema: &Schema) -> bool
     false
 }
 
-/// Whether each of the tables stands under its name, whatever else the database has. Each is of its form and has a tree
+/// Whether each of the tables exists under its name, whatever else the database has. Each is of its form and has a tree
 /// of its own. No index but that of its key touches it, and no foreign key.
 pub fn has_tables(schema: &Schema) -> bool
     ensures { Decides result (HasTables schema.now) }

@@ -6,7 +6,7 @@
 //!
 //! Scope of this crate: names, columns, keys and statements of the tables, as data; whether the names of the tables are
 //! free, and whether the tables are there; cells that are put, removed and read; which of some items are among others.
-//! It stands below the register, so that what takes long to prove of SQLite is proved beside it and not after it.
+//! It is below the register, so that what takes long to prove of SQLite is proved beside the register and not after it.
 //!
 //! For example, a table `peers` whose column `url` takes NULL is none of these tables.
 #![tactic(auto)]

@@ -6,7 +6,7 @@ use crate::sequence::{Row, Sequence};
 use crate::table_name::TableName;
 use std::alloc::{AllocError, Global};
 
-/// The rows of tables: a list a table, in the order of the tables. The rows of a table stand in whatever order.
+/// The rows of tables: a list for each table, in the order of the tables. The rows of a table are in whatever order.
 #[derive(Drop)]
 pub struct Rows {
     tables: Vec<Sequence<Row>>,

@@ -66,7 +66,7 @@ fn parts_in(alloc: Global, rows: &Rows) -> Result<PackageFacts, Unread>
     parts_of(alloc, criteria, entries, settings)
 }
 
-// The parts of these criteria, entries and settings, which stand in whatever order.
+// The parts of these criteria, entries and settings, in whatever order they are.
 fn parts_of(
     alloc: Global,
     criteria: Vec<SourcedCriterion>,
@@ -84,7 +84,7 @@ fn parts_of(
     with_own(alloc, criteria.own, entries.own, peers)
 }
 
-// These peers, and one's own criteria and entries, which stand in whatever order.
+// These peers, and one's own criteria and entries, in whatever order they are.
 fn with_own(
     alloc: Global,
     criteria: Vec<SourcedCriterion>,

@@ -12,12 +12,12 @@ pub(crate) trait FromRow: Drop {
     /// A row stands for it.
     ghost stands_for: { RowValue → Self → Type 0 };
 
-    /// The value for which a row stands. What else is answered of other rows is not said.
+    /// The value that a row stands for. It is not said what comes of other rows.
     fn from_row(alloc: Global, row: &Row) -> Result<Self, Unread>
         ensures { IsReadBack stands_for row.now result };
 }
 
-/// The values for which these rows stand, row by row.
+/// The values that these rows stand for, row by row.
 pub(crate) fn read_rows<T: FromRow>(alloc: Global, rows: &[Row]) -> Result<Vec<T>, Unread>
     ensures { (xs : List T) → EachStandsFor T.stands_for rows.now xs
         → MatchResult result (λ values. values.items ≡ xs) (λ e. e ≡ Unread.NoMemory) }

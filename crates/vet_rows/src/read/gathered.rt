@@ -72,8 +72,8 @@ impl<H: HasKey, T: Drop> HasKey for Group<H, T> {
     }
 }
 
-/// Each of these, which stand in the order of their keys, with what is filed under its key, in the order of the items.
-/// What is filed under no key of theirs goes. Fails only if memory runs out.
+/// Each of these, which are in the order of their keys, with what is filed under its key, in the order of the items.
+/// What is filed under no key of theirs is dropped. Fails only if memory runs out.
 pub(crate) fn gather<H: HasKey, T: Drop>(
     alloc: Global,
     heads: Vec<H>,
@@ -119,7 +119,7 @@ fn file<H: HasKey, T: Drop>(
     group.push(item)
 }
 
-// Where the one of a key stands, or belongs.
+// Where the one of a key is, or belongs.
 fn place_of<H: HasKey, T: Drop>(groups: &[Group<H, T>], key: &H::Key) -> Result<usize, usize>
     requires { IsByKey H.Key.cmp (head_key H.key_of) groups.now }
     ensures { IsPlace H.Key.cmp (head_key H.key_of) groups.now key.now result }

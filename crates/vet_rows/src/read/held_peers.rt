@@ -23,7 +23,7 @@ use vet_entries::held_peer::HeldPeer;
 use vet_entries::holding::Holding;
 use vet_entries::peer_settings::PeerSettings;
 
-/// The peers of these settings, entries and criteria, which stand in whatever order and may repeat; in the order of
+/// The peers of these settings, entries and criteria, which are in whatever order and may repeat; in the order of
 /// their names.
 pub(crate) fn peers_of(
     alloc: Global,

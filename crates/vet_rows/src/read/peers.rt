@@ -39,7 +39,7 @@ impl FromRow for PeerSettings {
     }
 }
 
-// For what the peer's criteria stand.
+// What the peer's criteria stand for.
 fn criteria_map(alloc: Global, bytes: &[u8]) -> Result<CriteriaMap, Unread>
     ensures { IsReadBack (IsWritten IsCriteriaMap criteria_map_column) bytes.now result }
 {

@@ -180,7 +180,7 @@ fn kind(column: i64) -> Result<EdgeKind, Unread>
     }
 }
 
-/// The projects of these rows, in whatever order these stand. Takes a time of n log n.
+/// The projects of these rows, in whatever order they are. Takes a time of n log n.
 pub(crate) fn projects(
     alloc: Global,
     nodes: &[Row],
@@ -266,7 +266,7 @@ fn project(
     restore(name, nodes, edges)
 }
 
-// The project of this name, these nodes and these edges, which may stand in whatever order.
+// The project of this name, these nodes and these edges, which may be in whatever order.
 fn restore(name: PackageName, nodes: Vec<Node>, edges: Vec<Edge>) -> Result<NamedProject, Unread>
     ensures { (p : ProjectValue) → IsProject p.project → name ≡ p.name → nodes.items ≡ p.project.nodes
         → SameItems edges.items p.project.edges → Reads result p }

@@ -17,7 +17,7 @@ use vet_entries::publisher::Publisher;
 use vet_entries::publisher_records::PackagePublishers;
 use vet_entries::publishers::Publishers;
 
-/// These records by their packages; they stand in whatever order and may repeat.
+/// These records by their packages; they are in whatever order and may repeat.
 pub(crate) fn records_of(
     alloc: Global,
     records: Vec<WithKey<PackageName, Publisher>>,

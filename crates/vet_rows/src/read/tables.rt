@@ -29,7 +29,7 @@ pub(crate) fn criteria_in(
     Ok(criteria)
 }
 
-/// The table of the built-in criteria and of these, which stand in whatever order and may repeat.
+/// The table of the built-in criteria and of these, which are in whatever order and may repeat.
 pub(crate) fn table_of(alloc: Global, criteria: Vec<Criterion>) -> Result<CriteriaTable, Unread>
     ensures { (table : Criteria) → IsTable table → SameItems criteria.items (further table) → Reads result table }
 {
@@ -37,7 +37,7 @@ pub(crate) fn table_of(alloc: Global, criteria: Vec<Criterion>) -> Result<Criter
     Ok(CriteriaTable::of(alloc, criteria)?)
 }
 
-/// The criteria of a peer: the built-in ones and these, which stand in whatever order and may repeat.
+/// The criteria of a peer: the built-in ones and these, which are in whatever order and may repeat.
 pub(crate) fn definitions_of(alloc: Global, criteria: Vec<Criterion>) -> Result<Definitions, Unread>
     ensures { (table : Criteria) → IsPeerTable table → SameItems criteria.items (further table)
         → Reads result table }

@@ -1,4 +1,4 @@
-//! What stands in columns for values.
+//! What columns hold for values.
 ghost use Rattle.std.specs.Prelude.{◌≡◌, IfOk, [], ◌∷◌, option_map};
 ghost use Rattle.vet_base.specs.Version.{version_text};
 ghost use Rattle.vet_base.specs.Words.{Bytes};

@@ -15,7 +15,7 @@ use vet_tables::column::BlobColumn;
 
 /// An item of a map: a name, and the names at which it leads.
 pub trait MapItem: Drop {
-    /// What stands for it in a map.
+    /// What a map holds for it.
     ghost item_of: { Self → Name × NameSet };
 
     /// The name. Takes no memory.

@@ -16,7 +16,7 @@ use vet_register::register::Register;
 use vet_tables::cell::Cell;
 use vet_tables::sequence::{Row, Sequence};
 
-/// The row of a pair that stands in a class. Fails only if memory runs out.
+/// The row of a pair that has a class. Fails only if memory runs out.
 pub fn standing_row(alloc: Global, pair: &Pair, class: Class) -> Result<Row, AllocError>
     ensures { IfOk result (λ row. row ≡ standing_row (record { pair = pair.now; class = class })) }
 {

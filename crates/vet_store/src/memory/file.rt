@@ -1,6 +1,6 @@
-//! A file in memory, for a database that goes with the program.
+//! A file in memory, for a database that ends with the program.
 //!
-//! **What is written to it stands at once. So a sync does nothing, and a commit costs the same however long the file
+//! **What is written to it is there at once. So a sync does nothing, and a commit costs the same however long the file
 //! is.** A read returns what was written, so that what is said of a connection needs no premise about a disk.
 ghost use Rattle.std.specs.Prelude.{◌≡◌, [], false, is_ok, length, IfErr, IfOk, OnOk, refl, true};
 ghost use Rattle.sqlite.specs.Files.{file_state};
@@ -112,7 +112,7 @@ impl Disk for MemoryFile {
     }
 
     fn sync(&mut self) -> io::Result<()> {
-        // what was written stands
+        // what was written is there
         Ok(())
     }
 }

@@ -42,7 +42,7 @@ impl<S: Alter + Drop, K: Keeper> Drop for FirstRun<S, K> {
 
 impl<S: Alter + Drop, K: Keeper> Store<S, K> {
     /// Makes a store and runs commands on it. Asks for what `create` asks. Refused: what `create` refuses, with the
-    /// database as it was; and `NoMemory` with nothing run, where a register that holds nothing may stand there.
+    /// database as it was; and `NoMemory` with nothing run, where a register that holds nothing may be there.
     pub fn create_and_run(
         alloc: Global,
         conn: Connection<S>,

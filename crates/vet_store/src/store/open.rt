@@ -1,7 +1,7 @@
 //! A store is opened: a register is made of the tables again.
 //!
-//! **It is the sound state whose rows stand in the tables, and only where there is none is the database refused as no
-//! register.** So no table is mended: the rows of the state that was read are compared with the rows that stand there,
+//! **It is the sound state whose rows are in the tables, and only where there is none is the database refused as no
+//! register.** So no table is mended: the rows of the state that was read are compared with the rows that are there,
 //! the classes of `standing` among them.
 ghost use Rattle.std.specs.Prelude.{◌≡◌, ◌⊎◌, false, Err, IfErr, IfOk, IsErrAnd, IsTrue, MatchResult, Ok, OnOk};
 ghost use Rattle.std.specs.Prelude.{if◌then◌else◌};
@@ -36,7 +36,7 @@ use vet_tables::rows::Rows;
 use vet_tables::same_rows::have_same_rows;
 
 impl<S: Alter + Drop, K: Keeper> Store<S, K> {
-    /// Opens the register whose rows stand in the tables, whatever else the database has. Nothing is written. Asks for
+    /// Opens the register whose rows are in the tables, whatever else the database has. Nothing is written. Asks for
     /// a connection outside a transaction. A refusal gives the connection back. Refused: `NotARegister` where the
     /// tables have the rows of no sound state, `NoMemory`, or `StoreRefused`. Without the tables in their form it is
     /// `NotARegister`, and the connection is as it was.
@@ -83,7 +83,7 @@ impl<S: Alter + Drop, K: Keeper> Store<S, K> {
     }
 }
 
-// The register whose rows stand in the tables.
+// The register whose rows are in the tables.
 fn read_register<S: Alter, K: Keeper>(
     alloc: Global,
     conn: &mut Connection<S>,

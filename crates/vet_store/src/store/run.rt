@@ -1,7 +1,7 @@
 //! A command is run: it is judged, its rows are written in one transaction, and then it is installed.
 //!
 //! **The register is installed only once the rows are committed. A crash leaves the rows before the command or those
-//! after it. A commit that fails shuts the store: then nobody can tell which of them.**
+//! after it. A commit that fails shuts the store: then nobody can say which of them.**
 ghost use Rattle.std.specs.Prelude.{◌≡◌, ◌⊎◌, true, false, OnErr, IsTrue};
 ghost use Rattle.sqlite.specs.Held.{state};
 ghost use Rattle.sqlite.specs.State.{HasCleanDisk, Survives};
