@@ -78,7 +78,7 @@ impl Databases<MemoryFiles> for NoDatabases {
     }
 }
 
-/// What comes of a word.
+/// What a word becomes.
 fn arrival<'a, W: Drop>(
     rt: &HostRuntime,
     word: &'a str,

@@ -1,8 +1,8 @@
 //! Commands that are given by the call which makes their register.
 //!
-//! Behind the word `at-once` stands nothing. Of what stands on standard input it takes the limit and the documents, as
-//! behind the word `masks`, and ignores the other lines. A store in memory is made and given all the commands by one
-//! call. It prints the answers and what the register holds in the end, or the refusal of a document.
+//! The word `at-once` takes no other word. From standard input it takes the limit and the documents, as the word
+//! `masks` does, and ignores the other lines. One call makes a store in memory and gives it all the commands. It prints
+//! the answers and what the register holds at the end, or the refusal of a document.
 
 use std::alloc::Global;
 use std::io;

@@ -1,16 +1,16 @@
 //! Requests to a register in memory.
 //!
-//! The word `exchanges` stands first. The word behind it says how the requests are served that the other words are,
-//! each whole. With `slices` one call of `serve_slices` serves all of them. With `loopback` each is sent over a
+//! The first word is `exchanges`. The second says how the requests are served: each of the other words is a whole
+//! request. With `slices` one call of `serve_slices` serves all of them. With `loopback` each is sent over a
 //! connection to this machine, which the same thread accepts and has `serve_one` serve. With `parts` each is read by
-//! `read_request`, its route is found by `find_route`, and it is answered by `answer`. The replies go to standard
-//! output one behind the other, and nothing else.
+//! `read_request`, its route is found by `find_route`, and it is answered by `answer`. Standard output has the replies
+//! one after the other, and nothing else.
 //!
 //! With `streams` each is served by `serve_one` over a reader that gives a byte a read and a writer that takes a byte
 //! a write, and has four words before it. The first says when reads are interrupted: `never`, `before-each` byte or
 //! `always`. Then come the number of the read that fails, 0 if none does, and how many bytes the writer takes. The
 //! fourth says what a write does after these: `fails`, `is-interrupted` or `takes-nothing`. Before what was written of
-//! the reply stands a line `CAME reads R interrupted I writes W`: its status or the fault, and how many calls there
+//! the reply it prints a line `CAME reads R interrupted I writes W`: its status or the fault, and how many calls there
 //! were.
 //!
 //! The status is 2 where a word is none of these, and 1 where something failed.

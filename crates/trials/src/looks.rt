@@ -1,8 +1,8 @@
 //! How many looks at steps the keeper of `vetd` makes.
 //!
-//! Behind the word `looks` stands a package. A register in memory that has this keeper is given what stands on standard
-//! input, as behind the word `masks`. After each answer it prints a line `looks ALL OF`: how many looks were made by
-//! then, and how many at the steps of the package since what was found of it was last found anew.
+//! The word `looks` takes a package. A register in memory that has this keeper is given what is on standard input, as
+//! for the word `masks`. After each answer it prints a line `looks ALL OF`: how many looks were made by then, and how
+//! many at the steps of the package since what was found of it was last found anew.
 
 use std::alloc::Global;
 use std::io;

@@ -5,15 +5,15 @@
 //! line that says its day, how many bytes it has, and its member (`items`). It prints the answers and, where there is a
 //! document, in the end what the register holds. The first line may set a limit (`setting`). The others ask for values
 //! (`values` and the modules that it names), for texts (`reports`) and for files of what is held (`held_texts`).
-//! Behind the keeper may stand `--contents`, which prints also before each document what is held, or `--together`,
-//! which gives the commands as lists. A register in memory takes two flags more. `--touched` prints before each answer
-//! to a command that is done a line of the packages that it touches, or a star for all of them. `--ahead` gives the
-//! commands as lists, and has each prepared before the change of the one before it is installed.
+//! After the keeper it takes `--contents`, which also prints what is held before each document, or `--together`, which
+//! gives the commands as lists. A register in memory takes two more flags. `--touched` prints before each answer to a
+//! command that is done a line of the packages that it touches, or a star for all of them. `--ahead` gives the commands
+//! as lists, and has each prepared before the change of the one before it is installed.
 //!
-//! Last may stand `--db PATH`, for a register that it makes in a database file, or `--db-open PATH`, for the one that
-//! is in such a file. `--db-reopen PATH` makes one and, before it prints what that holds in the end, closes it and
-//! opens it again, first on its connection and then by its files. In their place may stand `--stop-log N` or
-//! `--stop-db N`, for one in files in memory of which one stops at its N-th call (`stops`).
+//! The last words may be `--db PATH`, for a register that it makes in a database file, or `--db-open PATH`, for the one
+//! that is in such a file. `--db-reopen PATH` makes one and, before it prints what that holds at the end, closes it and
+//! opens it again, first on its connection and then by its files. Or they are `--stop-log N` or `--stop-db N`, for one
+//! in files in memory, one of which stops at its N-th call (`stops`).
 //!
 //! `looks PACKAGE` has a register in memory, and prints how many looks at steps its keeper makes (`looks`). `at-once`
 //! gives the commands by the call that makes their register (`at_once`). `demand` has no register, asks what projects
@@ -23,8 +23,8 @@
 //! standard error and returns status 2.
 //!
 //! `times` times commands, `exchanges` serves requests, and `toml` has a TOML document read. The modules `times`,
-//! `exchanges` and `toml_only` tell what they take and print. These are one program, since each loads all libraries
-//! before its first line is proved.
+//! `exchanges` and `toml_only` say what they take and print. These are one program, since each program loads all
+//! libraries before its first line is proved.
 #![tactic(auto)]
 
 mod at_once;
@@ -62,7 +62,7 @@ use words::{InputKind, KeeperWord, Place, Words, meaning, read_words};
 /// The status of a run of something that isn't understood.
 const NOT_UNDERSTOOD: u8 = 2;
 
-/// What is told where the words are not understood.
+/// What is printed if the words are not understood.
 const TAKEN_WORDS: &str = "trials takes the words (plain | masks | relay) \
     [--contents | --together | --touched | --ahead] \
     [(--db | --db-open | --db-reopen) PATH | (--stop-log | --stop-db) N [--stop-open] [--checkpoint]], \

@@ -1,44 +1,43 @@
 //! Times imports into a register, a register in a file, files that replace what is held, commands to a review desk, and
 //! what projects demand, by the clock, for the benches.
 //!
-//! The word `times` stands first, then that of a keeper of the classes, and a word behind it says what is timed. The
-//! word `imports` and two numbers have imports timed. Standard input holds audits files of a peer, each after the one
-//! before it and a line `---` between two. They are read, and a register is made of a project's demand and own entries.
-//! Then in each round the peer is set, each file is imported in turn, another peer is set, an entry is added, and the
-//! peer is dropped. The first number says how many rounds there are; with none the files are read and no register is
-//! made. The second says how many demanded pairs and own entries there are. Of each file `read COUNT` is printed.
+//! The first word is `times`, the second names a keeper of the classes, and the third says what is timed.
 //!
-//! The word `replace` and a number of rounds have replacements timed. Standard input holds parts, a line `===` between
-//! two; within a part a line `---` stands between two texts. The first part is dependency tables, and a register is
-//! made of their projects. Each other part is an audits file, a config file and an imports file. In each round these
-//! are read and replace what is held, part after part, and then a criterion is set. Of each part
-//! `read COUNT NANOSECONDS NANOSECONDS` is printed: its entries, until it was read, and until it was one value.
+//! `imports` and two numbers time imports. Standard input has audits files of a peer, with a line `---` between two.
+//! The program reads them, and makes a register with the demand of a project and with own entries. Then in each round
+//! it sets the peer, imports each file in turn, sets another peer, adds an entry, and drops the peer. The first number
+//! says how many rounds there are; if it is 0, the files are read and no register is made. The second says how many
+//! demanded pairs and own entries there are. For each file it prints `read COUNT`.
 //!
-//! The word `desk`, a number of reviews and one of rounds have commands to the review desk timed. Standard input is not
-//! looked at. A register is made of one demanded pair, a member and reviews of all states. In each round a review is
-//! opened; one is assigned and finished by its version, for which an equal entry is held; another is assigned and
-//! finished by a delta; one is withdrawn; a peer is set; and a criterion is removed. In the end `reviews COUNT` is
-//! printed: how many there are.
+//! `replace` and a number of rounds time replacements. Standard input has parts, with a line `===` between two, and a
+//! part has texts, with a line `---` between two. The first part is dependency tables, and a register is made of their
+//! projects. Each other part is an audits file, a config file and an imports file. In each round the program reads
+//! these and replaces what is held by them, part after part, and then sets a criterion. For each part it prints `read
+//! COUNT NANOSECONDS NANOSECONDS`: its entries, until it was read, and until it was one value.
 //!
-//! The word `demand` and a number of rounds have a demand timed. Standard input holds an audits file, whose criteria
-//! are taken, a config file, whose policies are taken, and dependency tables, a line `---` between two. Of each table
-//! a line `read NODES EDGES` is printed, and then of each round `demand NANOSECONDS PAIRS`.
+//! `desk`, a number of reviews and one of rounds time commands to the review desk. Standard input is ignored. The
+//! register has one demanded pair, a member, and reviews of all states. In each round a review is opened; one is
+//! assigned and finished by its version, for which an equal entry is held; another is assigned and finished by a delta;
+//! one is withdrawn; a peer is set; and a criterion is removed. At the end it prints `reviews COUNT`.
 //!
-//! The word `store`, a path and a number of rounds have a register in a file timed. Standard input holds dependency
-//! tables, a line `===`, and audits files of a peer; a line `---` stands between two tables and between two files. The
-//! file is made; the tables are loaded in turn, all as one project; each audits file is imported; and in each round an
-//! entry is added and dropped. Of each command a line is printed of what it is, its nanoseconds until it was prepared,
-//! from there until its rows were known, from there until they were committed, and in all. Behind these are how many
-//! changes of rows that were, and how many of them were of other tables than `standing` and `moves`.
+//! `demand` and a number of rounds time a demand. Standard input has an audits file, of which the criteria are taken, a
+//! config file, of which the policies are taken, and dependency tables, with a line `---` between two. For each table
+//! it prints `read NODES EDGES`, and then for each round `demand NANOSECONDS PAIRS`.
 //!
-//! The word `open` and a path have that register opened. `open NANOSECONDS NANOSECONDS COUNT` is printed: until the
-//! database was opened, from there until the register was, and how many entries it holds. The word `parts` and a path
-//! have the parts of that timed, and then a command that has the plain keeper find every class anew. The word `memory`
-//! and a number of rounds have commands to a register in memory timed, as those of `store` are with no demand. Of each
-//! part or command `WHAT NANOSECONDS` is printed.
+//! `store`, a path and a number of rounds time a register in a file. Standard input has dependency tables, a line
+//! `===`, and audits files of a peer, with a line `---` between two tables and between two files. The program makes the
+//! file, loads the tables in turn, all as one project, and imports each audits file. Then in each round it adds an
+//! entry and drops it. For each command it prints what it is and its nanoseconds: until it was prepared, from there
+//! until its rows were known, from there until they were committed, and in all. Then it prints how many changes of rows
+//! that were, and how many of them were of other tables than `standing` and `moves`.
 //!
-//! Of each other command of a round a line is printed of what it is, its nanoseconds and its outcome. The status is 1
-//! where anything is refused or fails, and 2 where the words or the parts are not understood.
+//! `open` and a path open that register. It prints `open NANOSECONDS NANOSECONDS COUNT`: until the database was open,
+//! from there until the register was, and how many entries it holds. `parts` and a path time the parts of that, and
+//! then a command for which the plain keeper finds every class anew. `memory` and a number of rounds time commands to a
+//! register in memory, as `store` does without tables. For each part or command it prints `WHAT NANOSECONDS`.
+//!
+//! For each other command of a round it prints what it is, its nanoseconds and its outcome. The status is 1 if anything
+//! is refused or fails, and 2 if the words or the parts are not understood.
 use crate::times::input::{Task, read_path, read_task, read_text};
 use crate::times::memory_rounds::run_memory;
 use crate::times::opened_parts::run_parts;

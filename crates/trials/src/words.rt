@@ -89,7 +89,7 @@ pub fn keeper_of(word: &str) -> Option<KeeperWord> {
     }
 }
 
-// What a word asks for behind which nothing stands.
+// What a word asks for that takes no other word.
 fn alone<'w>(others: &[String], kind: InputKind<'w>) -> Words<'w> {
     match others {
         [] => Words::Input(kind),
@@ -183,7 +183,7 @@ fn stop_at<'w>(file: StoppedFile, number: &str, others: &[String]) -> Option<Pla
     }))
 }
 
-// Whether a flag stands first, and the words behind it.
+// Whether a flag comes first, and the words after it.
 fn behind_flag<'w>(words: &'w [String], flag: &str) -> (bool, &'w [String]) {
     match words {
         [first, others @ ..] => {

@@ -1,4 +1,4 @@
-//! A reader and a writer that give and take a byte a call, and fail where they are told to. Both count their calls.
+//! A reader and a writer that give and take a byte a call, and fail at a given call. Both count their calls.
 ghost use Rattle.std.specs.Prelude.{◌≡◌, IfOk};
 
 use std::alloc::Global;

@@ -34,7 +34,7 @@ pub fn serve_over_loopback<S: Alter, W: Write>(
     Ok(())
 }
 
-// Serves the connection that comes next. What is left of its input is read away, as its client is else told of a reset.
+// Serves the connection that comes next. The rest of its input is read, since its client would see a reset otherwise.
 fn serve_next<S: Alter>(
     rt: &HostRuntime,
     store: &mut Store<S, MaskKeeper>,

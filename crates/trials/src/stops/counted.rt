@@ -1,4 +1,4 @@
-//! A disk that counts its calls, which the kit's disks don't tell.
+//! A disk that counts its calls, since the kit's disks do not.
 
 use sqlite_disk::{Crash, Disk, Tally};
 use std::io;
