@@ -1,7 +1,7 @@
 //! Lines that ask for values of days.
 //!
-//! `day-number DAY` tells the number of a day, and `day-order DAY DAY` how two compare. `day-of-parts YEAR MONTH DAY`
-//! and `plus DAY N` tell a day, or `none`.
+//! `day-number DAY` prints the number of a day, and `day-order DAY DAY` how two compare. `day-of-parts YEAR MONTH DAY`
+//! and `plus DAY N` print a day, or `none`.
 
 use crate::fault::Fault;
 use crate::line::two;

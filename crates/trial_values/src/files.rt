@@ -1,4 +1,4 @@
-//! Lines that ask what a peer's file holds: `peer-file TEXT` tells how much the audits file of a peer holds.
+//! Lines that ask what a peer's file holds: `peer-file TEXT` prints how much the audits file of a peer holds.
 
 use crate::fault::Fault;
 use std::alloc::Global;

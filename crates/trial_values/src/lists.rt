@@ -1,10 +1,10 @@
 //! Lines that ask for lists of names and texts that are made at once, or by edits.
 //!
-//! `names-of [NAME ..]`, `packages-of [NAME ..]` and `texts-of [TEXT ..]` make the set of what stands there in
-//! whatever order, and tell its members, each in brackets. `pairs-of [PACKAGE,VERSION,CRITERION ..]` tells the demand
-//! of such pairs in the same way. `edited [+NAME ..] [-NAME ..]` sets and drops names one by one, each by an edit that
-//! is made, undone and made again, and tells the names that are left. `touched [NAME ..]` tells the packages of a copy
-//! of those touched.
+//! `names-of [NAME ..]`, `packages-of [NAME ..]` and `texts-of [TEXT ..]` make the set of what stands there in whatever
+//! order, and print its members, each in brackets. `pairs-of [PACKAGE,VERSION,CRITERION ..]` prints the demand of such
+//! pairs in the same way. `edited [+NAME ..] [-NAME ..]` sets and drops names one by one, each by an edit that is made,
+//! undone and made again, and prints the names that are left. `touched [NAME ..]` prints the packages of a copy of
+//! those touched.
 
 ghost use Rattle.vet_base.specs.Keyed.{Fits};
 

@@ -1,8 +1,8 @@
 //! Words that write a project, and lines that ask what a dependency table states.
 //!
-//! `NAME TABLE` write a project by its name and the text of its dependency table. The line `project TABLE` tells what a
-//! table states, of any bytes: a line of each node, with its party, and then of each edge, with the names and versions
-//! between which it leads, and its kind.
+//! `NAME TABLE` write a project by its name and the text of its dependency table. The line `project TABLE` prints what
+//! a table states, of any bytes: a line of each node, with its party, and then of each edge, with the names and
+//! versions between which it leads, and its kind.
 
 use crate::fault::Fault;
 use crate::line::{bytes_of, two};

@@ -1,9 +1,9 @@
 //! Lines that ask what a counted search finds among the steps of a package.
 //!
-//! `search PACKAGE SKIP` tells how many looks the search took, and then a line for each step: the version to which it
+//! `search PACKAGE SKIP` prints how many looks the search took, and then a line for each step: the version to which it
 //! leads, and the criteria for which chains lead there, or `-`. SKIP is `nothing`, `exempt`, or a version: the exempt
-//! steps to it are skipped. A version is barred for what condemns it. `extend PACKAGE SKIP` tells the same of an answer
-//! that was extended by one step after the other.
+//! steps to it are skipped. A version is barred for what condemns it. `extend PACKAGE SKIP` prints the same of an
+//! answer that was extended by one step after the other.
 ghost use Rattle.std.specs.Prelude.{◌≡◌, ◌+◌, ◌<◌, IfOk, length, take};
 ghost use Rattle.vet_entries.specs.Step.{steps_of};
 ghost use Rattle.vet_graph.specs.Search.{may_take};

@@ -1,9 +1,9 @@
 //! Lines that ask what the entries say of a package.
 //!
-//! `steps PACKAGE` tells its steps, a line each: where it starts or `-`, where it leads, `exempt` or `-`, and its
-//! criteria in the order of the table. `violations PACKAGE` tells its violations, each in brackets: the requirement,
-//! and the criteria for which it condemns a version, or `-`. `condemned PACKAGE VERSION` tells the criteria for which a
-//! version is condemned. Where there is nothing to tell, each tells `-`.
+//! `steps PACKAGE` prints its steps, a line each: where it starts or `-`, where it leads, `exempt` or `-`, and its
+//! criteria in the order of the table. `violations PACKAGE` prints its violations, each in brackets: the requirement,
+//! and the criteria for which it condemns a version, or `-`. `condemned PACKAGE VERSION` prints the criteria for which
+//! a version is condemned. Where there is nothing to print, each prints `-`.
 
 use crate::fault::Fault;
 use crate::line::{one, two};

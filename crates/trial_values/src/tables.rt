@@ -1,8 +1,8 @@
 //! Lines that ask for tables of criteria, and for the moves between two standings.
 //!
 //! `table-of [NAME=IMPLIED,.. ..]` makes the table of the built-in criteria and of these at once, and
-//! `table [NAME=IMPLIED,.. | -NAME ..]` sets and removes them one by one; each tells the names of the table.
-//! `moves BEFORE AFTER` tells the moves from one standing to the other. Of these each is a list of
+//! `table [NAME=IMPLIED,.. | -NAME ..]` sets and removes them one by one; each prints the names of the table.
+//! `moves BEFORE AFTER` prints the moves from one standing to the other. Of these each is a list of
 //! `PACKAGE,VERSION,CRITERION,CLASS` with a `;` behind each, in the order of the pairs.
 
 use crate::fault::Fault;

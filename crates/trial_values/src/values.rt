@@ -1,8 +1,8 @@
 //! Lines that ask for a value: of names, texts and the closure of criteria.
 //!
 //! `name TEXT`, `package TEXT`, `key TEXT`, `version TEXT`, `delta TEXT`, `requirement TEXT`, `day TEXT` and
-//! `policy-key TEXT` tell the value as it is printed. `texts [TEXT ..]` tells a set of texts, how many it holds and
-//! each in brackets, and `text-of N` how many bytes a text of N letters has. `closure NAME ..` tells the names of the
+//! `policy-key TEXT` print the value. `texts [TEXT ..]` prints a set of texts, how many it holds and
+//! each in brackets, and `text-of N` how many bytes a text of N letters has. `closure NAME ..` prints the names of the
 //! closure in the register's table. Lines of other values stand in the other modules, and of these `steps` and
 //! `searches` ask for what the register holds, too.
 
@@ -32,7 +32,7 @@ use vet_base::version::VetVersion;
 use vet_demand::policy_key::PolicyKey;
 use vet_entries::facts::EntryFacts;
 
-/// What a line is told that asks for a value. Refused: what its texts are refused for, and `NoMemory`.
+/// What is printed for a line that asks for a value. Refused: what its texts are refused for, and `NoMemory`.
 pub fn value(alloc: Global, facts: &EntryFacts, line: &str) -> Result<String, Fault> {
     // a table is of any bytes, and the words of other lines are texts
     if let Some(word) = table_word(line) {
@@ -45,7 +45,7 @@ pub fn value(alloc: Global, facts: &EntryFacts, line: &str) -> Result<String, Fa
     }
 }
 
-// What a line of this word is told.
+// What is printed for a line of this word.
 fn value_of(
     alloc: Global,
     facts: &EntryFacts,
@@ -64,7 +64,7 @@ fn value_of(
     }
 }
 
-// What a line is told that asks for several versions, requirements, days or files.
+// What is printed for a line that asks for several versions, requirements, days or files.
 fn order_value(alloc: Global, word: &str, texts: &[String]) -> Result<String, Fault> {
     match word {
         "order" => order(alloc, texts),
@@ -78,7 +78,7 @@ fn order_value(alloc: Global, word: &str, texts: &[String]) -> Result<String, Fa
     }
 }
 
-// What a line is told that asks for lists, tables or moves.
+// What is printed for a line that asks for lists, tables or moves.
 fn list_value(alloc: Global, word: &str, texts: &[String]) -> Result<String, Fault> {
     match word {
         "names-of" => names_of(alloc, texts),
@@ -94,7 +94,7 @@ fn list_value(alloc: Global, word: &str, texts: &[String]) -> Result<String, Fau
     }
 }
 
-// What a line of one text is told.
+// What is printed for a line of one text.
 fn text_value(alloc: Global, word: &str, text: &str) -> Result<String, Fault> {
     match word {
         "name" => printed(alloc, Name::parse(alloc, text)),
@@ -108,7 +108,7 @@ fn text_value(alloc: Global, word: &str, text: &str) -> Result<String, Fault> {
     }
 }
 
-// What a line of one text is told that asks for what stands in a file, or for a text, a key or a number.
+// What is printed for a line of one text that asks for what a file holds, or for a text, a key or a number.
 fn file_value(alloc: Global, word: &str, text: &str) -> Result<String, Fault> {
     match word {
         "key" => key(alloc, text),

@@ -1,6 +1,6 @@
 //! Lines that compare versions and requirements.
 //!
-//! `order VERSION VERSION` tells how the two compare, `matches REQUIREMENT VERSION` whether the one matches the other,
+//! `order VERSION VERSION` prints how the two compare, `matches REQUIREMENT VERSION` whether the one matches the other,
 //! and `equal REQUIREMENT REQUIREMENT` whether a copy of the one is the other.
 
 use crate::fault::Fault;

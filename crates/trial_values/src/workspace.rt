@@ -3,10 +3,10 @@
 //! - `set-criterion NAME [IMPLIED ..]` sets a criterion, as in a command;
 //! - `set-policy` with the words of a policy sets it, and `drop-policy KEY` drops it;
 //! - `load-project` with the words of a project sets it, and `drop-project NAME` drops it;
-//! - `demand` tells how many pairs are demanded, and each pair, a line each, in the order of reports;
+//! - `demand` prints how many pairs are demanded, and each pair, a line each, in the order of reports;
 //! - `anew` drops all that was set.
 //!
-//! Only `demand` and what is refused tell anything.
+//! Only `demand` and what is refused print anything.
 
 use crate::ending::{Ending, ItemResult, print_fault, refused};
 use crate::fault::Fault;

@@ -1,12 +1,12 @@
 //! Lines that ask what is written of a file.
 //!
-//! `written-audits TEXT` and `written-config TEXT` have the text of a file, and `written-imports CONFIG TEXT` that
-//! of a config file, whose peers give the settings, and of an imports file. Each tells the text that is written of
-//! what the file holds, as the word that writes it; how much that text holds and what is passed over in it; and
-//! `same` where what it holds is written as the same text again, else `other`.
+//! `written-audits TEXT` and `written-config TEXT` have the text of a file, and `written-imports CONFIG TEXT` that of a
+//! config file, whose peers give the settings, and of an imports file. Each prints the text that is written of what the
+//! file holds, as the word that writes it; how much that text holds and what is passed over in it; and `same` where
+//! what it holds is written as the same text again, else `other`.
 //!
-//! `written-project TABLE` has the text of a dependency table, and tells the table that is written of the project which
-//! it states, as the word that writes it, and `same` where that is read as the same project, else `other`.
+//! `written-project TABLE` has the text of a dependency table, and prints the table that is written of the project
+//! which it states, as the word that writes it, and `same` where that is read as the same project, else `other`.
 
 use crate::fault::Fault;
 use crate::line::{two, word_of};

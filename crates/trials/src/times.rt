@@ -12,8 +12,8 @@
 //! `replace` and a number of rounds time replacements. Standard input has parts, with a line `===` between two, and a
 //! part has texts, with a line `---` between two. The first part is dependency tables, and a register is made of their
 //! projects. Each other part is an audits file, a config file and an imports file. In each round the program reads
-//! these and replaces what is held by them, part after part, and then sets a criterion. For each part it prints `read
-//! COUNT NANOSECONDS NANOSECONDS`: its entries, until it was read, and until it was one value.
+//! these and replaces what is held by them, part after part, and then sets a criterion. For each part it prints
+//! `read COUNT NANOSECONDS NANOSECONDS`: its entries, until it was read, and until it was one value.
 //!
 //! `desk`, a number of reviews and one of rounds time commands to the review desk. Standard input is ignored. The
 //! register has one demanded pair, a member, and reviews of all states. In each round a review is opened; one is
