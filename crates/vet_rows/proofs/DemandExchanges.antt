@@ -58,7 +58,7 @@ one_key : (a b : PolicyKey) → read_key (key_text a) ≡ Some a → read_key (k
     → a ≡ b
 one_key a b read_a read_b same = (let e = sym read_a ∙ ap read_key same ∙ read_b in cc e)
 
-policies_keyed : (policies : List KeyedPolicy) → IsByKey policy_key_cmp key_of policies → KeysAreRead policies
+pub policies_keyed : (policies : List KeyedPolicy) → IsByKey policy_key_cmp key_of policies → KeysAreRead policies
     → (r s : Row) → IsIn r (map policy_row policies) → IsIn s (map policy_row policies) → same_policy r s ≡ true
     → r ≡ s
 policies_keyed policies up read r s i j e =

@@ -38,6 +38,7 @@ pub mod Pushed
 pub mod ReadAs
 pub mod Reading
 pub mod RecordsMade
+pub mod RowKeys
 pub mod RowViews
 pub mod RowsChanged
 pub mod SameKeys

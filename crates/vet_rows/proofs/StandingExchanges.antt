@@ -128,7 +128,7 @@ none_is (Some c) t = absurd (false≢true t)
 -- ---- the rows of pairs
 
 -- rows of one key are of one pair, where the versions are read from their texts
-one_pair : (p q : Pair) → IsVersion p.version → IsVersion q.version → p.«package» ≡ q.«package»
+pub one_pair : (p q : Pair) → IsVersion p.version → IsVersion q.version → p.«package» ≡ q.«package»
     → version_text p.version ≡ version_text q.version → p.criterion ≡ q.criterion → p ≡ q
 one_pair p q is_p is_q names texts criteria =
     (let versions = one_version p.version q.version is_p is_q texts in

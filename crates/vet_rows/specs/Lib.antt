@@ -36,6 +36,7 @@ pub mod ReadState
 pub mod ReadValues
 pub mod RowChanges
 pub mod RowExchanges
+pub mod RowKeys
 pub mod RowsOf
 pub mod SettingRows
 pub mod StandingChanges

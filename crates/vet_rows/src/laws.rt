@@ -2,11 +2,15 @@
 ghost use Rattle.std.specs.Prelude.{◌≡◌, IfErr, OnOk};
 ghost use Rattle.vet_rows.specs.HeldState.{AreOfOneState, SameButStanding};
 ghost use Rattle.vet_rows.specs.PackedLaws.{PackedOnce, ValuesAreReadBack};
+ghost use Rattle.vet_rows.specs.RowKeys.{KeysDiffer};
 ghost use Rattle.vet_rows.specs.RowsOf.{rows_of};
 ghost use Rattle.vet_tables.specs.Cells.{rows_in};
 
 use crate::held_register::register_is_held;
 use crate::packed_item::PackedItem;
+use crate::row_changes::key_texts::{
+    keys_are_read, moves_are_read, pairs_are_read, peers_are_named, projects_are_read,
+};
 use crate::rows_of::rows_of;
 use crate::state_of::state_of;
 use std::alloc::Global;
@@ -24,6 +28,18 @@ pub fn packed_lists_are_read_back()
 pub fn values_are_read_back<T: PackedItem>()
     ensures { ValuesAreReadBack T.bytes_of T.read_bytes }
 {}
+
+/// No two rows of a table of a register's state have the same key. Does nothing.
+pub fn keys_differ<K: Keeper>(register: &Register<K>)
+    ensures { KeysDiffer (rows_of register.now.state) }
+{
+    let _ = register.facts();
+    peers_are_named(register.peers());
+    keys_are_read(register.policies());
+    projects_are_read(register.projects());
+    pairs_are_read(register.demand());
+    moves_are_read(register.moves());
+}
 
 /// Rows are those of one sound state at most, as far as there is memory to read them. Refused as `state_of` is.
 pub fn rows_are_of_one_state(alloc: Global, rows: &Rows) -> Result<(), Refusal>

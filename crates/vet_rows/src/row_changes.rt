@@ -36,7 +36,7 @@ mod difference;
 mod exchange;
 mod fact_changes;
 mod held_changes;
-mod key_texts;
+pub(crate) mod key_texts;
 mod keyed_items;
 mod meta_change;
 mod standing_changes;

@@ -73,7 +73,7 @@ pub fn nodes_are_read(named: &NamedProject)
 }
 
 /// The versions of the nodes of some projects. Does nothing.
-fn projects_are_read(projects: &[NamedProject])
+pub fn projects_are_read(projects: &[NamedProject])
     ensures { ProjectsAreRead projects.now }
 {
     'projects: for project in projects {
