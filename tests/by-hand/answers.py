@@ -11,7 +11,7 @@ ERRORS = {
     "AllocError": "std::alloc::AllocError",
     "IoFault": "{vet_requests}::io_fault::IoFault::NoMemory",
     "InsertError": "matchit::InsertError::OutOfMemory",
-    "Unread": "crate::read::unread::Unread::NoMemory",
+    "Unread": "{vet_item_rows}::read::unread::Unread::NoMemory",
     "CommitError": f"crate::change::CommitError::Before({OUT_OF_MEMORY})",
     "Refused": "crate::refused::Refused {{ refusal: {vet_base}::refusal::Refusal::NoMemory, conn: {conn} }}",
     "NotReopened": "crate::store::reopen_files::NotReopened {{ refusal: {vet_base}::refusal::Refusal::NoMemory, "
@@ -49,7 +49,7 @@ def error_of(kind, crate, text, conn=None):
     """The error of this name in a file of a crate."""
     if kind == "Error":
         return OF_LIBRARIES[LIBRARY.search(text)[1]]
-    crates = {name: "crate" if name == crate else name for name in (LOWEST, "vet_requests")}
+    crates = {name: "crate" if name == crate else name for name in (LOWEST, "vet_item_rows", "vet_requests")}
     return ERRORS[kind].format(conn=conn, **crates)
 
 

@@ -8,8 +8,8 @@ use trial_values::line::one;
 use trial_values::lists::{in_brackets, packages, push_in_brackets};
 use trial_values::name_lists::names;
 use vet_base::package_names::PackageNames;
-use vet_rows::packed::{push_item, read_items};
-use vet_rows::packed_names::{pack_names, pack_packages, unpack_names, unpack_packages};
+use vet_item_rows::packed::{push_item, read_items};
+use vet_item_rows::packed_names::{pack_names, pack_packages, unpack_names, unpack_packages};
 
 /// Whether a line asks for a packed list.
 pub fn is_packed(line: &str) -> bool {

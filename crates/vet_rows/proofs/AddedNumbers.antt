@@ -18,6 +18,7 @@ use Rattle.vet_entries.specs.declared.facts.Edit.TheVariants as edit
 use Rattle.vet_entries.specs.declared.held_peer.HeldPeer.{HeldPeer}
 use Rattle.vet_entries.specs.Facts.{Facts, Fits, Room, edited}
 use Rattle.vet_entries.specs.HeldPeer.{peer_of, with_content_of}
+use Rattle.vet_item_rows.specs.Numbers.{EntryFits, PeerFits, ReviewFits}
 use Rattle.vet_register.specs.declared.held.HeldEdit.{HeldEdit}
 use Rattle.vet_register.specs.declared.held.HeldEdit.TheVariants as held
 use Rattle.vet_register.specs.declared.moves.RecordedMove.{RecordedMove}
@@ -27,7 +28,7 @@ use Rattle.vet_register.specs.Changes.{moves_by}
 use Rattle.vet_register.specs.Held as holds
 use Rattle.vet_register.specs.Held.{HeldRoom, HeldValue, held_with}
 use Rattle.vet_rows.specs.AddedNumbers.{AddedEntriesFit, HeldEntriesFit, AddedReviewsFit}
-use Rattle.vet_rows.specs.Numbers.{EntryFits, MoveFits, PeerFits, ReviewFits}
+use Rattle.vet_rows.specs.Numbers.{MoveFits}
 use Rattle.vet_rows.specs.StandingChanges.{recorded_moves}
 use Rattle.vet_rows.proofs.FactsExchanges.{HaveKeys, name_of, peer_edit, put_for}
 use Rattle.vet_rows.proofs.ListEdits.{insert_in, new_in_set}

@@ -24,10 +24,10 @@ use Rattle.vet_demand.specs.declared.policies.KeyedPolicy.{KeyedPolicy}
 use Rattle.vet_demand.specs.declared.policy_key.PolicyKey.{PolicyKey}
 use Rattle.vet_demand.specs.declared.project.NamedProject.{NamedProject}
 use Rattle.vet_demand.specs.declared.project.Node.{Node}
+use Rattle.vet_item_rows.specs.ProjectRows.{edge_row, edge_rows, node_row, node_rows}
+use Rattle.vet_item_rows.specs.SettingRows.{policy_row}
 use Rattle.vet_rows.specs.KeyTexts.{KeysAreRead, NodesAreRead}
 use Rattle.vet_rows.specs.KeyedItems.{added_item, removed_item, rows_if}
-use Rattle.vet_rows.specs.ProjectRows.{edge_row, edge_rows, node_row, node_rows}
-use Rattle.vet_rows.specs.SettingRows.{policy_row}
 use Rattle.vet_rows.specs.DemandRows.{the_policy}
 use Rattle.vet_rows.proofs.Exchanges.{IsExchange, gone_of, of_coming, of_items, whole}
 use Rattle.vet_rows.proofs.KeyedExchanges.{IsOneForOne, edit_is}

@@ -23,8 +23,8 @@ use Rattle.vet_desk.specs.declared.review.ReviewState.TheVariants.{Finished}
 use Rattle.vet_desk.specs.Desk.{DeskState, own_name}
 use Rattle.vet_desk.specs.DeskView.{DeskRoom, FitsDesk, desk_changed, with_state_there}
 use Rattle.vet_desk.specs.Review.{in_state, review_number}
+use Rattle.vet_item_rows.specs.DeskRows.{member_row, review_row}
 use Rattle.vet_rows.specs.DeskChanges.{desk_change_exchanges, the_member, the_review}
-use Rattle.vet_rows.specs.DeskRows.{member_row, review_row}
 use Rattle.vet_rows.specs.KeyedItems.{added_item, removed_item, rows_if}
 use Rattle.vet_rows.proofs.ExchangeParts.{Leads}
 use Rattle.vet_rows.proofs.Exchanges.{IsExchange, of_items, stays}

@@ -21,8 +21,8 @@ use Rattle.vet_entries.specs.declared.held_peer.HeldPeer.{HeldPeer}
 use Rattle.vet_entries.specs.Facts.{Facts, Fits, Room, edited}
 use Rattle.vet_entries.specs.HeldPeer.{holding_or_none, peer_name, peer_of, with_content_of, with_peer}
 use Rattle.vet_entries.specs.PublisherRecords.{package_of}
-use Rattle.vet_rows.specs.Columns.{own_peer}
-use Rattle.vet_rows.specs.EntryRows.{all_entries, entry_row, peer_entries}
+use Rattle.vet_item_rows.specs.Columns.{own_peer}
+use Rattle.vet_item_rows.specs.EntryRows.{all_entries, entry_row, peer_entries}
 use Rattle.vet_rows.specs.FactsRows.{fact_exchanges, own_entry}
 use Rattle.vet_rows.specs.KeyedItems.{added_item, removed_item, rows_if}
 use Rattle.vet_tables.specs.Cells.{Row, same_key}

@@ -3,9 +3,9 @@ use Rattle.std.proofs.lemmas.List.Elements.{All-weaker}
 use Rattle.vet_entries.specs.Facts.{Facts}
 use Rattle.vet_entries.specs.declared.held_peer.HeldPeer.{HeldPeer}
 use Rattle.std.proofs.Common.{ℕ}
+use Rattle.vet_item_rows.specs.ReadHeld.{AreInForm, HasItsEntries}
+use Rattle.vet_item_rows.specs.ReadPeers.{IsHeldPeer}
 use Rattle.vet_register.specs.Sound.{AreSound, IsSoundPeer}
-use Rattle.vet_rows.specs.ReadHeld.{AreInForm, HasItsEntries}
-use Rattle.vet_rows.specs.ReadPeers.{IsHeldPeer}
 
 held_peer : (next : ℕ) (p : HeldPeer) → IsSoundPeer next p → IsHeldPeer p
 held_peer next p sound = record {

@@ -19,6 +19,11 @@ use Rattle.vet_entries.specs.HeldPeer.{peer_of}
 use Rattle.vet_entries.specs.declared.facts.Edit.{Edit}
 use Rattle.vet_entries.specs.declared.facts.Edit.TheVariants as edit
 use Rattle.vet_entries.specs.declared.held_peer.HeldPeer.{HeldPeer}
+use Rattle.vet_item_rows.specs.Columns.{own_peer}
+use Rattle.vet_item_rows.specs.DeskRows.{member_row, review_row}
+use Rattle.vet_item_rows.specs.EntryRows.{package_rows, peer_entries}
+use Rattle.vet_item_rows.specs.ProjectRows.{edge_rows, node_rows}
+use Rattle.vet_item_rows.specs.SettingRows.{peer_criteria, peer_row, policy_row}
 use Rattle.vet_register.specs.Changes.{changed}
 use Rattle.vet_register.specs.Held.{HeldValue}
 use Rattle.vet_register.specs.State.{State}
@@ -36,18 +41,13 @@ use Rattle.vet_rows.proofs.FitRows.{peer_table_fit, peers_fit, policies_fit, pol
 use Rattle.vet_rows.proofs.FitRows.{project_nodes_fit, publishers_fit, review_fits, rows_fit, settings_fit}
 use Rattle.vet_rows.proofs.FitRows.{some_entries_fit, table_fit}
 use Rattle.vet_rows.specs.ChangedRows.{change_exchanges}
-use Rattle.vet_rows.specs.Columns.{own_peer}
 use Rattle.vet_rows.specs.DemandRows.{the_policy}
 use Rattle.vet_rows.specs.DeskChanges.{desk_change_exchanges, desk_exchanges, the_member, the_review, turned_exchange}
-use Rattle.vet_rows.specs.DeskRows.{member_row, review_row}
-use Rattle.vet_rows.specs.EntryRows.{package_rows, peer_entries}
 use Rattle.vet_rows.specs.FactsRows.{fact_exchanges, own_entry, the_peer}
 use Rattle.vet_rows.specs.FitChanges.{Fits}
 use Rattle.vet_rows.specs.HeldChanges.{held_exchanges}
 use Rattle.vet_rows.specs.KeyedItems.{added_item, removed_item}
-use Rattle.vet_rows.specs.ProjectRows.{edge_rows, node_rows}
 use Rattle.vet_rows.specs.RowExchanges.{item_exchange, row_changes_of}
-use Rattle.vet_rows.specs.SettingRows.{peer_criteria, peer_row, policy_row}
 use Rattle.vet_rows.specs.StandingChanges.{clear_moves, leaves, move_exchanges, recorded_moves, stands}
 use Rattle.vet_rows.specs.declared.row_change.RowChange.{RowChange}
 use Rattle.vet_rows.specs.declared.row_changes.exchange.Exchange.{Exchange}

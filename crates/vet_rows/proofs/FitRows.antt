@@ -19,19 +19,21 @@ use Rattle.vet_entries.specs.declared.peer_settings.PeerSettings.{PeerSettings}
 use Rattle.vet_entries.specs.declared.publisher.Publisher.{Publisher}
 use Rattle.vet_entries.specs.declared.publisher_records.PackagePublishers.{PackagePublishers}
 use Rattle.vet_graph.specs.declared.standing.Stand.{Stand}
+use Rattle.vet_item_rows.specs.Columns.{own_peer}
+use Rattle.vet_item_rows.specs.DeskRows.{member_row, review_row}
+use Rattle.vet_item_rows.specs.EntryRows.{all_entries, entry_row, package_rows, peer_entries, publisher_row}
+use Rattle.vet_item_rows.specs.ProjectRows.{edge_row, edge_rows, node_row, node_rows}
+use Rattle.vet_item_rows.specs.SettingRows.{all_criteria, criteria_rows, criterion_row, peer_criteria, peer_row}
+use Rattle.vet_item_rows.specs.SettingRows.{policy_row}
+use Rattle.vet_item_rows.specs.StandingRows.{standing_row}
 use Rattle.vet_register.specs.State.{State, standing}
 use Rattle.vet_register.specs.declared.moves.RecordedMove.{RecordedMove}
 use Rattle.vet_rows.proofs.Exchanges.{rows_if_in}
 use Rattle.vet_rows.proofs.ListEdits.{in_flat}
-use Rattle.vet_rows.specs.Columns.{own_peer}
-use Rattle.vet_rows.specs.DeskRows.{member_row, review_row}
-use Rattle.vet_rows.specs.EntryRows.{all_entries, entry_row, package_rows, peer_entries, publisher_row}
 use Rattle.vet_rows.specs.KeyedItems.{rows_if}
-use Rattle.vet_rows.specs.ProjectRows.{edge_row, edge_rows, node_row, node_rows}
 use Rattle.vet_rows.specs.RowsOf.{rows_of}
-use Rattle.vet_rows.specs.SettingRows.{all_criteria, criteria_rows, criterion_row, peer_criteria, peer_row, policy_row}
 use Rattle.vet_rows.specs.StandingChanges.{moved_row}
-use Rattle.vet_rows.specs.StandingRows.{move_row, standing_row}
+use Rattle.vet_rows.specs.StandingRows.{move_row}
 use Rattle.vet_tables.specs.Cells.{IsRowOf, Row}
 use Rattle.vet_tables.specs.Forms.{form_of}
 use Rattle.vet_tables.specs.declared.table_name.TableName.{TableName}

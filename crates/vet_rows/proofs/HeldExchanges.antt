@@ -9,15 +9,15 @@ use Rattle.vet_base.specs.Keyed.{IsByKey}
 use Rattle.vet_demand.specs.NamedProject.{project_name}
 use Rattle.vet_demand.specs.Policies.{key_of}
 use Rattle.vet_demand.specs.PolicyKey.{policy_key_cmp}
+use Rattle.vet_item_rows.specs.EntryRows.{all_entries, package_rows}
+use Rattle.vet_item_rows.specs.ProjectRows.{edge_rows, node_rows}
+use Rattle.vet_item_rows.specs.SettingRows.{all_criteria, policy_row}
 use Rattle.vet_register.specs.declared.held.HeldEdit.{HeldEdit}
 use Rattle.vet_register.specs.declared.held.HeldEdit.TheVariants as edit
 use Rattle.vet_register.specs.Held.{Fits, HeldRoom, HeldValue, edited, held_with}
-use Rattle.vet_rows.specs.EntryRows.{all_entries, package_rows}
 use Rattle.vet_rows.specs.HeldChanges.{held_exchanges, peer_rows}
 use Rattle.vet_rows.specs.KeyTexts.{KeysAreRead, AddedProjectsAreRead, ProjectsHeldAreRead}
-use Rattle.vet_rows.specs.ProjectRows.{edge_rows, node_rows}
 use Rattle.vet_rows.specs.RowExchanges.{exchange_of, same_row}
-use Rattle.vet_rows.specs.SettingRows.{all_criteria, policy_row}
 use Rattle.vet_rows.specs.declared.row_changes.exchange.Exchange.{Exchange}
 use Rattle.vet_rows.proofs.ChangeParts.{facts_leave}
 use Rattle.vet_rows.proofs.DemandExchanges.{edges_become, edges_keyed, edges_there, nodes_become, nodes_keyed}

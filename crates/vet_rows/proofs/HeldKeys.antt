@@ -13,9 +13,9 @@ use Rattle.vet_entries.specs.declared.held_peer.HeldPeer.{HeldPeer}
 use Rattle.vet_entries.specs.Facts.{Facts}
 use Rattle.vet_entries.specs.HeldPeer.{peer_name}
 use Rattle.vet_entries.specs.Numbered.{AreByNumber, has_number}
+use Rattle.vet_item_rows.specs.Columns.{own_peer}
 use Rattle.vet_register.specs.Sound.{AreSound, IsFrom, IsSoundPeer, ShareNone}
 use Rattle.vet_register.proofs.FurtherCriteria.{named_once}
-use Rattle.vet_rows.specs.Columns.{own_peer}
 use Rattle.vet_rows.proofs.FactsExchanges.{HaveKeys, IsHeldIn}
 use Rattle.vet_rows.proofs.RowViews.{told_once}
 

@@ -6,8 +6,8 @@ use Rattle.vet_graph.specs.Class.{IsClassOfPair}
 use Rattle.vet_graph.specs.StandingOf.{PairClassIsOnly, class_of_pair, standing_of}
 use Rattle.vet_graph.specs.declared.class.Class.{Class}
 use Rattle.vet_graph.specs.declared.standing.Stand.{Stand}
-use Rattle.vet_rows.specs.StandingRows.{standing_row}
-use Rattle.vet_rows.proofs.Listed.{one_further, one_more_row}
+use Rattle.vet_item_rows.specs.StandingRows.{standing_row}
+use Rattle.vet_item_rows.proofs.Listed.{one_further, one_more_row}
 
 -- the pair at a place, with the class that is its own, comes behind those before it
 pub next_stands : (facts : Facts) (demand : List Pair) (i : ℕ) (p : Pair) (class : Class) → i < length demand

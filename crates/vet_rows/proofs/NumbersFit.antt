@@ -18,10 +18,11 @@ use Rattle.vet_graph.specs.Standing.{count_in, same_class}
 use Rattle.vet_graph.specs.StandingOf.{class_of_pair}
 use Rattle.vet_graph.specs.declared.moves.Move.{Move}
 use Rattle.vet_graph.specs.declared.standing.Stand.{Stand}
+use Rattle.vet_item_rows.specs.Numbers.{EntryFits, HasColumn, PeerFits, ReviewFits}
 use Rattle.vet_register.specs.Sound.{IsBy, IsGiven, IsSound, IsSoundPeer}
 use Rattle.vet_register.specs.State.{State, changes_of, demanded, standing}
 use Rattle.vet_register.specs.declared.moves.RecordedMove.{RecordedMove}
-use Rattle.vet_rows.specs.Numbers.{EntryFits, HasColumn, MoveFits, NumbersFit, PeerFits, ReviewFits}
+use Rattle.vet_rows.specs.Numbers.{MoveFits, NumbersFit}
 
 below_last : (n next : ℕ) → n < next → next ≤ LAST_NUMBER + 1 → HasColumn n
 below_last n next given last = omega arith

@@ -15,6 +15,8 @@ use Rattle.vet_demand.specs.declared.pair.Pair.{Pair}
 use Rattle.vet_desk.specs.Review.{review_number}
 use Rattle.vet_graph.specs.StandingOf.{class_of_pair}
 use Rattle.vet_graph.specs.declared.standing.Stand.{Stand}
+use Rattle.vet_item_rows.specs.DeskRows.{review_row}
+use Rattle.vet_item_rows.specs.StandingRows.{standing_row}
 use Rattle.vet_register.specs.Sound.{IsSound}
 use Rattle.vet_register.specs.State.{State, demanded, standing}
 use Rattle.vet_register.specs.declared.moves.RecordedMove.{RecordedMove}
@@ -26,11 +28,10 @@ use Rattle.vet_rows.proofs.RowViews.{told_once}
 use Rattle.vet_rows.proofs.SameKeys.{same_number, same_text, same_whole}
 use Rattle.vet_rows.proofs.SettingExchanges.{criteria_keyed, peers_keyed, publishers_keyed}
 use Rattle.vet_rows.proofs.StandingExchanges.{one_pair}
-use Rattle.vet_rows.specs.DeskRows.{review_row}
 use Rattle.vet_rows.specs.KeyTexts.{ArePeersNamed, KeysAreRead, MovesAreRead, PairsAreRead, ProjectsAreRead}
 use Rattle.vet_rows.specs.RowKeys.{KeysDiffer}
 use Rattle.vet_rows.specs.RowsOf.{meta_row, rows_of}
-use Rattle.vet_rows.specs.StandingRows.{move_row, standing_row}
+use Rattle.vet_rows.specs.StandingRows.{move_row}
 use Rattle.vet_tables.specs.Cells.{Row, same_key}
 use Rattle.vet_tables.specs.Forms.{form_of}
 use Rattle.vet_tables.specs.declared.table_name.TableName.{TableName}

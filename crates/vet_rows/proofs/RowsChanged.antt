@@ -10,6 +10,9 @@ use Rattle.vet_base.specs.Keyed.{IsByKey}
 use Rattle.vet_base.proofs.ItemLemmas.{all_in, in_all, in_append, in_map, map_in, pairs_head, pairs_none, pairs_tail}
 use Rattle.std.proofs.lemmas.List.Kept.{AllPairs-cons}
 use Rattle.vet_desk.specs.Review.{review_number}
+use Rattle.vet_item_rows.specs.Columns.{class_or_none}
+use Rattle.vet_item_rows.specs.DeskRows.{member_row, review_row}
+use Rattle.vet_item_rows.specs.Numbers.{ReviewFits}
 use Rattle.vet_register.specs.declared.command.Action.TheVariants as action
 use Rattle.vet_rows.specs.AddedNumbers.{AddedNumbersFit, ReviewsFit}
 use Rattle.vet_rows.specs.Numbers.{CountsFit}
@@ -44,15 +47,12 @@ use Rattle.vet_register.specs.Sound.{IsSound, IsSoundHeld}
 use Rattle.vet_register.specs.State.{State, changes_of, demanded, standing}
 use Rattle.vet_register.proofs.Soundness.{standing_in_order}
 use Rattle.vet_rows.specs.ChangedRows.{change_exchanges}
-use Rattle.vet_rows.specs.Columns.{class_or_none}
-use Rattle.vet_rows.specs.DeskRows.{member_row, review_row}
 use Rattle.vet_rows.specs.DeskChanges.{desk_exchanges}
 use Rattle.vet_rows.specs.HeldChanges.{held_exchanges}
 use Rattle.vet_rows.specs.KeyTexts.{AreRead, MovesAreRead}
 use Rattle.vet_rows.specs.RowsOf.{meta_row, rows_of}
 use Rattle.vet_rows.specs.StandingChanges.{clear_moves, move_exchanges, moves_added, recorded_moves}
 use Rattle.vet_rows.specs.StandingRows.{move_row}
-use Rattle.vet_rows.specs.Numbers.{ReviewFits}
 use Rattle.vet_rows.specs.StandingChanges.{IsOfMove, IsOfMoves, leaves, moved_row, stands}
 use Rattle.vet_rows.specs.declared.row_change.RowChange.{RowChange}
 use Rattle.vet_rows.specs.declared.row_changes.exchange.Exchange.{Exchange}

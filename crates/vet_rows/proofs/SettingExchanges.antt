@@ -21,11 +21,11 @@ use Rattle.vet_entries.specs.declared.publisher_records.PackagePublishers.{Packa
 use Rattle.vet_entries.specs.Facts.{Facts, Fits, Room, edited}
 use Rattle.vet_entries.specs.HeldPeer.{holding_or_none, peer_name, peer_of, with_content_of, with_peer}
 use Rattle.vet_entries.specs.PublisherRecords.{package_of}
-use Rattle.vet_rows.specs.Columns.{own_peer}
-use Rattle.vet_rows.specs.EntryRows.{package_rows, publisher_row}
+use Rattle.vet_item_rows.specs.Columns.{own_peer}
+use Rattle.vet_item_rows.specs.EntryRows.{package_rows, publisher_row}
+use Rattle.vet_item_rows.specs.SettingRows.{all_criteria, criteria_rows, criterion_row, peer_criteria, peer_row}
 use Rattle.vet_rows.specs.FactsRows.{fact_exchanges, the_peer}
 use Rattle.vet_rows.specs.KeyedItems.{added_item, removed_item, rows_if}
-use Rattle.vet_rows.specs.SettingRows.{all_criteria, criteria_rows, criterion_row, peer_criteria, peer_row}
 use Rattle.vet_rows.proofs.ExchangeParts.{Leads, removed_by}
 use Rattle.vet_rows.proofs.Exchanges.{AreRowsOf, IsExchange, alike, gone_of, of_items, stays}
 use Rattle.vet_rows.proofs.FactsExchanges.{HaveKeys, name_of, peer_edit, put_for}

@@ -2,7 +2,7 @@
 use Rattle.std.proofs.Common.{◌≡◌, ℕ, ◌+◌, ◌<◌, ◌∷◌, List, [], get_or, inl, inr, length, subst, take, sym}
 use Rattle.vet_base.specs.Items.{IsIn}
 use Rattle.vet_base.proofs.ItemLemmas.{in_append}
-use Rattle.vet_rows.proofs.Listed.{one_further}
+use Rattle.vet_item_rows.proofs.Listed.{one_further}
 
 module _ {X : Type 0} (P : X → Type 0) where
   pub one_more : (xs : List X) (i : ℕ) (x : X) → i < length xs → x ≡ get_or xs i x

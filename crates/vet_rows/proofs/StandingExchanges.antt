@@ -19,11 +19,12 @@ use Rattle.vet_graph.specs.declared.moves.Move.{Move}
 use Rattle.vet_graph.specs.declared.standing.Stand.{Stand}
 use Rattle.vet_graph.specs.Moves.{AreMoves}
 use Rattle.vet_graph.specs.Standing.{IsStanding, class_in, pairs_of}
+use Rattle.vet_item_rows.specs.Columns.{class_or_none}
+use Rattle.vet_item_rows.specs.StandingRows.{standing_row}
 use Rattle.vet_register.specs.declared.moves.RecordedMove.{RecordedMove}
 use Rattle.vet_register.specs.State.{changes_of}
-use Rattle.vet_rows.specs.Columns.{class_or_none}
 use Rattle.vet_rows.specs.StandingChanges.{leaves, moved_row, stands}
-use Rattle.vet_rows.specs.StandingRows.{move_row, standing_row}
+use Rattle.vet_rows.specs.StandingRows.{move_row}
 use Rattle.vet_rows.proofs.DemandExchanges.{one_version}
 use Rattle.vet_rows.proofs.Exchanges.{HasKeyOf, IsExchange}
 use Rattle.vet_rows.proofs.RowViews.{told_once}

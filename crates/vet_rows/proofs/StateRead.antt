@@ -6,17 +6,17 @@ use Rattle.vet_demand.specs.declared.policies.KeyedPolicy.{KeyedPolicy}
 use Rattle.vet_demand.specs.declared.project.NamedProject.{NamedProject}
 use Rattle.vet_desk.specs.Desk.{DeskState}
 use Rattle.vet_entries.specs.Facts.{Facts}
+use Rattle.vet_item_rows.specs.ReadBack.{refusal_of}
+use Rattle.vet_item_rows.specs.ReadHeld.{AreRowsOf}
+use Rattle.vet_item_rows.specs.declared.read.unread.Unread.{Unread}
+use Rattle.vet_item_rows.specs.declared.read.unread.Unread.TheVariants as unread
+use Rattle.vet_item_rows.proofs.ProjectsRead.{same_itself}
 use Rattle.vet_register.specs.State.{State}
 use Rattle.vet_register.specs.declared.moves.RecordedMove.{RecordedMove}
 use Rattle.vet_rows.specs.HeldState.{SameButStanding}
-use Rattle.vet_rows.specs.ReadBack.{refusal_of}
-use Rattle.vet_rows.specs.ReadHeld.{AreRowsOf}
 use Rattle.vet_rows.specs.ReadState.{meta_in, state_in}
 use Rattle.vet_rows.specs.RowsOf.{rows_of}
 use Rattle.vet_rows.specs.declared.meta.Meta.{Meta}
-use Rattle.vet_rows.specs.declared.read.unread.Unread.{Unread}
-use Rattle.vet_rows.specs.declared.read.unread.Unread.TheVariants as unread
-use Rattle.vet_rows.proofs.ProjectsRead.{same_itself}
 use Rattle.vet_tables.specs.Cells.{Row, RowsValue}
 use Rattle.vet_tables.specs.Forms.{code}
 use Rattle.vet_tables.specs.declared.table_name.TableName.{TableName}

@@ -2,7 +2,7 @@
 use Rattle.std.proofs.Common.{List, [], ◌∷◌, Option, Some, None}
 use Rattle.std.specs.List.{All, cons_option, filter_map}
 use Rattle.std.proofs.lemmas.List.Elements.{All-nil, All-cons, All-head, All-tail}
-use Rattle.vet_rows.specs.Values.{MayBe}
+use Rattle.vet_item_rows.specs.Values.{MayBe}
 
 module _ {X : Type 0} (P : X → Type 0) where
   one_found : (o : Option X) (xs : List X) → MayBe P o → All P xs → All P (cons_option o xs)

@@ -14,7 +14,7 @@ use Rattle.vet_entries.specs.declared.held_peer.HeldPeer.{HeldPeer}
 use Rattle.vet_entries.specs.Facts as facts
 use Rattle.vet_entries.specs.Facts.{Facts}
 use Rattle.vet_entries.specs.HeldPeer.{holding_or_none, peer_name, peer_of, with_content_of, with_peer}
-use Rattle.vet_rows.specs.Columns.{own_peer}
+use Rattle.vet_item_rows.specs.Columns.{own_peer}
 use Rattle.vet_rows.specs.KeyTexts.{ArePeersNamed, AddedPeerIsNamed}
 use Rattle.vet_rows.specs.KeyedItems.{added_item}
 use Rattle.vet_rows.proofs.KeyedExchanges.{found_in, in_with}

@@ -11,6 +11,7 @@ use Rattle.vet_desk.specs.Review.{in_state}
 use Rattle.vet_entries.specs.declared.facts.Edit.{Edit}
 use Rattle.vet_entries.specs.declared.facts.Edit.TheVariants as edit
 use Rattle.vet_entries.specs.declared.held_peer.HeldPeer.{HeldPeer}
+use Rattle.vet_item_rows.specs.Numbers.{EntryFits, PeerFits, ReviewFits}
 use Rattle.vet_register.specs.declared.held.HeldEdit.{HeldEdit}
 use Rattle.vet_register.specs.declared.held.HeldEdit.TheVariants as held
 use Rattle.vet_register.specs.declared.change.Change.{Change}
@@ -18,7 +19,7 @@ use Rattle.vet_register.specs.declared.change.DeskEdit.{DeskEdit}
 use Rattle.vet_register.specs.Changes.{changed}
 use Rattle.vet_register.specs.State.{State}
 use Rattle.vet_rows.specs.KeyedItems.{added_item}
-use Rattle.vet_rows.specs.Numbers.{CountsFit, EntryFits, MoveFits, NumbersFit, PeerFits, ReviewFits}
+use Rattle.vet_rows.specs.Numbers.{CountsFit, MoveFits, NumbersFit}
 use Rattle.vet_rows.specs.StandingChanges.{recorded_moves}
 
 -- of entries, by an edit of facts, and by one of all that is held

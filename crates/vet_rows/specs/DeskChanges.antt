@@ -9,8 +9,8 @@ use Rattle.vet_desk.specs.declared.review.ReviewState.{ReviewState}
 use Rattle.vet_desk.specs.declared.review.ReviewState.TheVariants.{Finished}
 use Rattle.vet_desk.specs.Desk.{DeskState}
 use Rattle.vet_desk.specs.Review.{in_state}
+use Rattle.vet_item_rows.specs.DeskRows.{member_row, review_row}
 use Rattle.vet_register.specs.declared.change.DeskEdit.{DeskEdit}
-use Rattle.vet_rows.specs.DeskRows.{member_row, review_row}
 use Rattle.vet_rows.specs.KeyedItems.{one_row, rows_if}
 use Rattle.vet_rows.specs.RowExchanges.{exchange_of, item_exchange}
 use Rattle.vet_rows.specs.declared.row_changes.exchange.Exchange.{Exchange}

@@ -7,11 +7,11 @@ use Rattle.vet_entries.specs.declared.facts.HeldEntry.{HeldEntry}
 use Rattle.vet_entries.specs.declared.held_peer.HeldPeer.{HeldPeer}
 use Rattle.vet_entries.specs.Facts.{Facts}
 use Rattle.vet_entries.specs.HeldPeer.{peer_of}
-use Rattle.vet_rows.specs.Columns.{own_peer}
-use Rattle.vet_rows.specs.EntryRows.{entry_row, package_rows, peer_entries}
+use Rattle.vet_item_rows.specs.Columns.{own_peer}
+use Rattle.vet_item_rows.specs.EntryRows.{entry_row, package_rows, peer_entries}
+use Rattle.vet_item_rows.specs.SettingRows.{criteria_rows, peer_criteria, peer_row}
 use Rattle.vet_rows.specs.KeyedItems.{one_row, rows_if}
 use Rattle.vet_rows.specs.RowExchanges.{exchange_of, item_exchange}
-use Rattle.vet_rows.specs.SettingRows.{criteria_rows, peer_criteria, peer_row}
 use Rattle.vet_rows.specs.declared.row_changes.exchange.Exchange.{Exchange}
 use Rattle.vet_tables.specs.Cells.{Row}
 use Rattle.vet_tables.specs.declared.table_name.TableName.TheVariants as table

@@ -2,15 +2,15 @@
 use Rattle.std.specs.Prelude.{List, [], ◌∷◌, map}
 use Rattle.std.specs.List.{flat_map}
 use Rattle.vet_entries.specs.declared.held_peer.HeldPeer.{HeldPeer}
+use Rattle.vet_item_rows.specs.EntryRows.{all_entries, package_rows}
+use Rattle.vet_item_rows.specs.ProjectRows.{edge_rows, node_rows}
+use Rattle.vet_item_rows.specs.SettingRows.{all_criteria, peer_row, policy_row}
 use Rattle.vet_register.specs.declared.held.HeldEdit.{HeldEdit}
 use Rattle.vet_register.specs.declared.held.HeldEdit.TheVariants as edit
 use Rattle.vet_register.specs.Held.{HeldValue}
 use Rattle.vet_rows.specs.DemandRows.{the_policy}
-use Rattle.vet_rows.specs.EntryRows.{all_entries, package_rows}
 use Rattle.vet_rows.specs.FactsRows.{fact_exchanges}
-use Rattle.vet_rows.specs.ProjectRows.{edge_rows, node_rows}
 use Rattle.vet_rows.specs.RowExchanges.{exchange_of, item_exchange}
-use Rattle.vet_rows.specs.SettingRows.{all_criteria, peer_row, policy_row}
 use Rattle.vet_rows.specs.declared.row_changes.exchange.Exchange.{Exchange}
 use Rattle.vet_tables.specs.Cells.{Row}
 use Rattle.vet_tables.specs.declared.table_name.TableName.TheVariants as table

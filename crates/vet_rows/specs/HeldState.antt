@@ -2,12 +2,13 @@
 use Rattle.std.specs.Prelude.{◌≡◌}
 use Rattle.std.specs.List.{All}
 use Rattle.vet_base.specs.Items.{SameItems}
+use Rattle.vet_item_rows.specs.HeldValues.{IsKeyedPolicy, IsNamedProject, IsReview}
+use Rattle.vet_item_rows.specs.ReadHeld.{AreFactsValues}
+use Rattle.vet_item_rows.specs.Values.{IsName}
 use Rattle.vet_register.specs.Sound.{IsSound}
 use Rattle.vet_register.specs.State.{State}
-use Rattle.vet_rows.specs.HeldValues.{AreSettings, IsKeyedPolicy, IsNamedProject, IsRecordedMove, IsReview}
-use Rattle.vet_rows.specs.ReadHeld.{AreFactsValues}
+use Rattle.vet_rows.specs.HeldValues.{AreSettings, IsRecordedMove}
 use Rattle.vet_rows.specs.RowsOf.{rows_of}
-use Rattle.vet_rows.specs.Values.{IsName}
 use Rattle.vet_tables.specs.Cells.{RowsValue}
 use Rattle.vet_tables.specs.Forms.{code}
 use Rattle.vet_tables.specs.declared.table_name.TableName.{TableName}

@@ -12,13 +12,13 @@ use Rattle.vet_entries.specs.declared.facts.Edit.{Edit}
 use Rattle.vet_entries.specs.declared.facts.Edit.TheVariants as facts_edit
 use Rattle.vet_entries.specs.declared.held_peer.HeldPeer.{HeldPeer}
 use Rattle.vet_entries.specs.HeldPeer.{peer_name}
+use Rattle.vet_item_rows.specs.Columns.{own_peer}
 use Rattle.vet_register.specs.declared.held.HeldEdit.{HeldEdit}
 use Rattle.vet_register.specs.declared.held.HeldEdit.TheVariants as edit
 use Rattle.vet_register.specs.declared.moves.RecordedMove.{RecordedMove}
 use Rattle.vet_register.specs.declared.change.Change.{Change}
 use Rattle.vet_register.specs.Held.{edited}
 use Rattle.vet_register.specs.State.{State, demanded}
-use Rattle.vet_rows.specs.Columns.{own_peer}
 use Rattle.vet_rows.specs.KeyedItems.{added_item}
 use Rattle.vet_rows.specs.StandingChanges.{recorded_moves}
 

@@ -1,8 +1,8 @@
 -- The one row of `meta` (ours).
 use Rattle.std.specs.Prelude.{pos, [], ◌∷◌}
-use Rattle.vet_rows.specs.Columns.{packed_names_option}
-use Rattle.vet_rows.specs.Numbers.{HasColumn}
-use Rattle.vet_rows.specs.Packed.{packed_option}
+use Rattle.vet_item_rows.specs.Columns.{packed_names_option}
+use Rattle.vet_item_rows.specs.Numbers.{HasColumn}
+use Rattle.vet_item_rows.specs.Packed.{packed_option}
 use Rattle.vet_rows.specs.declared.meta.Meta.{Meta}
 use Rattle.vet_rows.specs.declared.meta.MetaNumbers.{MetaNumbers}
 use Rattle.vet_tables.specs.Cells.{Row}

@@ -1,31 +1,13 @@
--- Numbers that a column of numbers holds (ours): those below 2^63.
-use Rattle.std.specs.Prelude.{ℕ, ◌<◌, ◌^◌}
+-- The numbers of a state that have columns (ours).
 use Rattle.std.specs.List.{All}
-use Rattle.vet_desk.specs.SoundDesk.{IsEntryGiven}
-use Rattle.vet_desk.specs.declared.review.Review.{Review}
-use Rattle.vet_entries.specs.declared.facts.HeldEntry.{HeldEntry}
-use Rattle.vet_entries.specs.declared.held_peer.HeldPeer.{HeldPeer}
 use Rattle.vet_graph.specs.declared.standing.Counts.{Counts}
+use Rattle.vet_item_rows.specs.Numbers.{EntryFits, HasColumn, PeerFits, ReviewFits}
 use Rattle.vet_register.specs.State.{State}
 use Rattle.vet_register.specs.declared.moves.RecordedMove.{RecordedMove}
 
--- a number has a column
-abbrev pub HasColumn : ℕ → Type 0
-HasColumn n = n < 2 ^ 63
-
--- so have the numbers of an entry, of a move's step, of a review and the entry that finished it
-abbrev pub EntryFits : HeldEntry → Type 0
-EntryFits held = HasColumn held.number
-
+-- the number of a move's step has one
 abbrev pub MoveFits : RecordedMove → Type 0
 MoveFits m = HasColumn m.step
-
-abbrev pub ReviewFits : Review → Type 0
-ReviewFits review = HasColumn review.number × IsEntryGiven (2 ^ 63) review.state
-
--- all entries of a peer
-abbrev pub PeerFits : HeldPeer → Type 0
-PeerFits peer = All EntryFits peer.content.entries
 
 -- five counts
 pub record CountsFit (counts : Counts) : Type 0 where

@@ -1,22 +1,7 @@
--- What rows tell of parts of values (ours).
-use Rattle.std.specs.Prelude.{List}
-use Rattle.vet_base.specs.Names.{NameSet}
-use Rattle.vet_base.specs.Words.{Bytes, Name}
-use Rattle.vet_demand.specs.declared.dependency_criteria.DependencyItem.{DependencyItem}
-use Rattle.vet_rows.specs.Columns.{packed_map}
+-- What a row tells of all of which there is just one (ours).
 use Rattle.vet_rows.specs.HeldValues.{AreSettings}
-use Rattle.vet_rows.specs.SettingRows.{dependency_items}
 use Rattle.vet_rows.specs.declared.meta.Meta.{Meta}
-use Rattle.vet_rows.specs.declared.read.gathered.WithKey.{WithKey}
 
 -- what there is one of can be held
 abbrev pub IsMeta : Meta → Type 0
 IsMeta m = AreSettings m.settings
-
--- criteria for dependencies, as a column
-abbrev pub dependency_column : List DependencyItem → Bytes
-dependency_column items = packed_map (dependency_items items)
-
--- criteria that are filed under a dependency's name, as an item
-abbrev pub dependency_of : WithKey Name NameSet → DependencyItem
-dependency_of filed = record { «package» = filed.key; criteria = filed.item }

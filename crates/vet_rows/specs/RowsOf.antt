@@ -1,14 +1,15 @@
 -- The rows of a state (ours).
 use Rattle.std.specs.Prelude.{[], ◌∷◌, map}
 use Rattle.std.specs.List.{flat_map}
+use Rattle.vet_item_rows.specs.DeskRows.{member_row, review_row}
+use Rattle.vet_item_rows.specs.EntryRows.{all_entries, package_rows}
+use Rattle.vet_item_rows.specs.ProjectRows.{edge_rows, node_rows}
+use Rattle.vet_item_rows.specs.SettingRows.{all_criteria, peer_row, policy_row}
+use Rattle.vet_item_rows.specs.StandingRows.{standing_row}
 use Rattle.vet_register.specs.State.{State, standing}
-use Rattle.vet_rows.specs.DeskRows.{member_row, review_row}
-use Rattle.vet_rows.specs.EntryRows.{all_entries, package_rows}
 use Rattle.vet_rows.specs.MetaRow.{row_of_meta}
-use Rattle.vet_rows.specs.ProjectRows.{edge_rows, node_rows}
 use Rattle.vet_rows.specs.ReadState.{meta_in}
-use Rattle.vet_rows.specs.SettingRows.{all_criteria, peer_row, policy_row}
-use Rattle.vet_rows.specs.StandingRows.{move_row, standing_row}
+use Rattle.vet_rows.specs.StandingRows.{move_row}
 use Rattle.vet_tables.specs.Cells.{Row, RowsValue}
 use Rattle.vet_tables.specs.declared.table_name.TableName.TheVariants as table
 

@@ -3,10 +3,10 @@ use Rattle.std.specs.Prelude.{◌≡◌, Bool, List, [], ◌∷◌, filter, is_n
 use Rattle.vet_base.specs.Items.{IsIn}
 use Rattle.vet_base.specs.Version.{version_text}
 use Rattle.vet_graph.specs.declared.moves.Move.{Move}
+use Rattle.vet_item_rows.specs.Columns.{class_or_none}
 use Rattle.vet_register.specs.declared.moves.RecordedMove.{RecordedMove}
 use Rattle.vet_register.specs.declared.moves.Recording.{Recording}
 use Rattle.vet_register.specs.declared.moves.Recording.TheVariants.{Behind, Anew}
-use Rattle.vet_rows.specs.Columns.{class_or_none}
 use Rattle.vet_rows.specs.RowExchanges.{exchange_of}
 use Rattle.vet_rows.specs.StandingRows.{move_row}
 use Rattle.vet_rows.specs.declared.row_change.RowChange.{RowChange}

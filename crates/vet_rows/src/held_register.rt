@@ -6,8 +6,8 @@
 //! Whoever made such a value has shown that, and its type keeps it. So the functions here do nothing but look at each
 //! thing that is held, down to the names in it. They take no memory and change nothing. What asks for a state that can
 //! be held (`IsHeldState`), as `state_of` does, can be had of each register's.
+ghost use Rattle.vet_item_rows.specs.ReadHeld.{AreFactsValues};
 ghost use Rattle.vet_rows.specs.HeldState.{IsHeldState};
-ghost use Rattle.vet_rows.specs.ReadHeld.{AreFactsValues};
 
 mod can_be_held;
 mod demand;

@@ -1,13 +1,11 @@
 //! Laws of rows. What these functions ensure are facts.
 ghost use Rattle.std.specs.Prelude.{◌≡◌, IfErr, OnOk};
 ghost use Rattle.vet_rows.specs.HeldState.{AreOfOneState, SameButStanding};
-ghost use Rattle.vet_rows.specs.PackedLaws.{PackedOnce, ValuesAreReadBack};
 ghost use Rattle.vet_rows.specs.RowKeys.{KeysDiffer};
 ghost use Rattle.vet_rows.specs.RowsOf.{rows_of};
 ghost use Rattle.vet_tables.specs.Cells.{rows_in};
 
 use crate::held_register::register_is_held;
-use crate::packed_item::PackedItem;
 use crate::row_changes::key_texts::{
     keys_are_read, moves_are_read, pairs_are_read, peers_are_named, projects_are_read,
 };
@@ -18,16 +16,6 @@ use vet_base::refusal::Refusal;
 use vet_graph::keeper::Keeper;
 use vet_register::register::Register;
 use vet_tables::rows::Rows;
-
-/// Two lists of values that a column keeps as the same bytes are the same list. Does nothing.
-pub fn packed_lists_are_read_back()
-    ensures { PackedOnce }
-{}
-
-/// Values of which each is read from its bytes are read from their packed list, and as nothing else. Does nothing.
-pub fn values_are_read_back<T: PackedItem>()
-    ensures { ValuesAreReadBack T.bytes_of T.read_bytes }
-{}
 
 /// No two rows of a table of a register's state have the same key. Does nothing.
 pub fn keys_differ<K: Keeper>(register: &Register<K>)

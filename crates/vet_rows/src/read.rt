@@ -1,23 +1,3 @@
-//! From rows back to values: if a row is that of a value, it is read as that value.
-pub(crate) mod cells;
-pub(crate) mod columns;
-mod criteria;
-pub(crate) mod desk;
-mod entries;
-pub(crate) mod facts;
-pub(crate) mod from_row;
-pub(crate) mod gathered;
-mod held_peers;
-mod kinds;
-pub(crate) mod lists;
-pub(crate) mod maps;
+//! From rows back to values that the register defines. `vet_item_rows` reads all others.
 pub(crate) mod meta;
 pub(crate) mod moves;
-mod peers;
-pub(crate) mod policies;
-pub(crate) mod projects;
-mod publishers;
-mod records;
-pub(crate) mod sourced;
-mod tables;
-pub(crate) mod unread;

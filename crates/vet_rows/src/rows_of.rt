@@ -8,25 +8,23 @@ ghost use Rattle.std.specs.Prelude.{◌≡◌, IfErr, IfOk};
 ghost use Rattle.vet_rows.specs.RowsOf.{rows_of};
 ghost use Rattle.vet_tables.specs.Cells.{rows_in};
 
-pub mod columns;
 pub mod desk_rows;
 pub mod entry_rows;
-pub mod maps;
 pub mod meta_rows;
-pub mod project_rows;
 pub mod setting_rows;
 pub mod standing_rows;
 pub mod to_row;
 
-use crate::rows_of::entry_rows::{all_entries, all_publishers};
+use crate::rows_of::entry_rows::all_entries;
 use crate::rows_of::meta_rows::{meta_row, numbers_fit};
-use crate::rows_of::project_rows::{all_edges, all_nodes};
 use crate::rows_of::setting_rows::all_criteria;
 use crate::rows_of::standing_rows::all_standing;
 use crate::rows_of::to_row::rows_each;
 use std::alloc::{AllocError, Global};
 use vet_base::refusal::Refusal;
 use vet_graph::keeper::Keeper;
+use vet_item_rows::rows_of::entry_rows::all_publishers;
+use vet_item_rows::rows_of::project_rows::{all_edges, all_nodes};
 use vet_register::register::Register;
 use vet_tables::rows::Rows;
 use vet_tables::sequence::Row;

@@ -21,12 +21,12 @@ use Rattle.sqlite_trees.specs.declared.store.Store.{Ghosts}
 use Rattle.vet_base.proofs.BuiltIn.{first_table}
 use Rattle.vet_base.specs.declared.limits.TheConstants.{MOST_MOVES}
 use Rattle.vet_demand.specs.DemandOf.{NothingIsDemanded}
+use Rattle.vet_item_rows.specs.Values.{IsCriterion}
 use Rattle.vet_register.proofs.Beginnings.{start_is_sound}
 use Rattle.vet_register.specs.Sound.{IsSound}
 use Rattle.vet_register.specs.State.{State, start}
 use Rattle.vet_rows.specs.HeldState.{IsHeldState}
 use Rattle.vet_rows.specs.RowsOf.{rows_of}
-use Rattle.vet_rows.specs.Values.{IsCriterion}
 use Rattle.vet_store.proofs.OneRows.{one_rows}
 use Rattle.vet_store.proofs.StartRows.{none_further}
 use Rattle.vet_store.specs.Committed.{AreTreesOf}

@@ -37,24 +37,26 @@ use Rattle.vet_entries.specs.declared.publisher.Publisher.{Publisher}
 use Rattle.vet_graph.specs.StandingOf.{class_of_pair}
 use Rattle.vet_graph.specs.declared.class.Class.{Class}
 use Rattle.vet_graph.specs.declared.standing.Stand.{Stand}
+use Rattle.vet_item_rows.specs.Columns.{own_peer, peer_of_source}
+use Rattle.vet_item_rows.specs.DeskRows.{assigned_member, member_row, review_row}
+use Rattle.vet_item_rows.specs.EntryRows.{all_entries, entry_row, package_rows, peer_entries, publisher_row, row_saying}
+use Rattle.vet_item_rows.specs.EntryRows.{unused, with_kind}
+use Rattle.vet_item_rows.specs.HeldValues.{IsKeyedPolicy, IsNamedProject, IsNode, IsReview, IsReviewState}
+use Rattle.vet_item_rows.specs.KindColumns.{KindColumns}
+use Rattle.vet_item_rows.specs.ProjectRows.{edge_row, edge_rows, node_row, node_rows}
+use Rattle.vet_item_rows.specs.ReadHeld.{AreCriteria, IsPackageValue, IsPeerValue}
+use Rattle.vet_item_rows.specs.SettingRows.{all_criteria, criterion_row, peer_criteria, peer_row, policy_row}
+use Rattle.vet_item_rows.specs.StandingRows.{standing_row}
+use Rattle.vet_item_rows.specs.Values.{IsCriterion, IsHeldEntry, IsKind, IsName, IsPublisher, IsSource}
 use Rattle.vet_register.specs.Sound.{IsSound}
 use Rattle.vet_register.specs.State.{State, demanded, standing}
 use Rattle.vet_register.specs.declared.moves.RecordedMove.{RecordedMove}
 use Rattle.vet_rows.proofs.FitRows.{rows_fit}
 use Rattle.vet_rows.proofs.ListEdits.{in_flat}
-use Rattle.vet_rows.specs.Columns.{own_peer, peer_of_source}
-use Rattle.vet_rows.specs.DeskRows.{assigned_member, member_row, review_row}
-use Rattle.vet_rows.specs.EntryRows.{all_entries, entry_row, package_rows, peer_entries, publisher_row, row_saying}
-use Rattle.vet_rows.specs.EntryRows.{unused, with_kind}
 use Rattle.vet_rows.specs.HeldState.{IsHeldState}
-use Rattle.vet_rows.specs.HeldValues.{IsKeyedPolicy, IsNamedProject, IsNode, IsRecordedMove, IsReview, IsReviewState}
-use Rattle.vet_rows.specs.KindColumns.{KindColumns}
-use Rattle.vet_rows.specs.ProjectRows.{edge_row, edge_rows, node_row, node_rows}
-use Rattle.vet_rows.specs.ReadHeld.{AreCriteria, IsPackageValue, IsPeerValue}
+use Rattle.vet_rows.specs.HeldValues.{IsRecordedMove}
 use Rattle.vet_rows.specs.RowsOf.{rows_of}
-use Rattle.vet_rows.specs.SettingRows.{all_criteria, criterion_row, peer_criteria, peer_row, policy_row}
-use Rattle.vet_rows.specs.StandingRows.{move_row, standing_row}
-use Rattle.vet_rows.specs.Values.{IsCriterion, IsHeldEntry, IsKind, IsName, IsPublisher, IsSource}
+use Rattle.vet_rows.specs.StandingRows.{move_row}
 use Rattle.vet_store.proofs.HeldTexts.{key_is_text, name_text, no_text, package_text, plain_text, req_text}
 use Rattle.vet_store.proofs.HeldTexts.{version_is_text}
 use Rattle.vet_store.specs.Readable.{AreReadable}

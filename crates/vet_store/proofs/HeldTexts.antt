@@ -21,8 +21,8 @@ use Rattle.vet_base.specs.declared.refusal.Refusal.TheVariants.{BadName, BadVers
 use Rattle.vet_demand.proofs.PlainFields.{is_plain, plain_append, plain_name, plain_utf8, plain_version}
 use Rattle.vet_demand.specs.PolicyKey.{is_colon, key_text, key_told, plain_key, read_key, versioned_key}
 use Rattle.vet_demand.specs.declared.policy_key.PolicyKey.{PolicyKey}
-use Rattle.vet_rows.specs.PackedItems.{as_text}
-use Rattle.vet_rows.specs.Values.{IsName, IsPackage}
+use Rattle.vet_item_rows.specs.PackedItems.{as_text}
+use Rattle.vet_item_rows.specs.Values.{IsName, IsPackage}
 use Rattle.vet_store.proofs.ReqTexts.{req_ascii}
 
 -- ---- names

@@ -9,11 +9,11 @@ use Rattle.vet_demand.specs.DemandOf.{NothingIsDemanded}
 use Rattle.vet_demand.specs.declared.pair.Pair.{Pair}
 use Rattle.vet_entries.specs.Facts.{no_facts}
 use Rattle.vet_graph.specs.StandingOf.{standing_of}
+use Rattle.vet_item_rows.specs.Columns.{own_peer}
+use Rattle.vet_item_rows.specs.SettingRows.{criterion_row}
+use Rattle.vet_item_rows.specs.StandingRows.{standing_row}
 use Rattle.vet_register.specs.State.{start}
-use Rattle.vet_rows.specs.Columns.{own_peer}
 use Rattle.vet_rows.specs.RowsOf.{meta_row, rows_of}
-use Rattle.vet_rows.specs.SettingRows.{criterion_row}
-use Rattle.vet_rows.specs.StandingRows.{standing_row}
 use Rattle.vet_tables.proofs.TablePlaces.{each}
 use Rattle.vet_tables.specs.Cells.{no_rows, put}
 use Rattle.vet_tables.specs.declared.table_name.TableName.{TableName}

@@ -1,6 +1,6 @@
 //! Values whose types say that they can be held.
 ghost use Rattle.std.specs.List.{All};
-ghost use Rattle.vet_rows.specs.Values.{MayBe};
+ghost use Rattle.vet_item_rows.specs.Values.{MayBe};
 
 /// A value whose type says that it can be held.
 pub(crate) trait CanBeHeld {

@@ -1,5 +1,5 @@
 //! That policies, projects and pairs can be held.
-ghost use Rattle.vet_rows.specs.HeldValues.{IsDependency, IsKeyedPolicy, IsNamedProject, IsNode, IsPair, IsPolicy};
+ghost use Rattle.vet_item_rows.specs.HeldValues.{IsDependency, IsKeyedPolicy, IsNamedProject, IsNode, IsPair, IsPolicy};
 
 use crate::held_register::can_be_held::{CanBeHeld, are_held};
 use vet_demand::dependency_criteria::DependencyItem;

@@ -1,5 +1,6 @@
 //! That reviews, recorded moves and what is said to the tool alone can be held.
-ghost use Rattle.vet_rows.specs.HeldValues.{AreSettings, IsRecordedMove, IsReview, IsReviewState};
+ghost use Rattle.vet_item_rows.specs.HeldValues.{IsReview, IsReviewState};
+ghost use Rattle.vet_rows.specs.HeldValues.{AreSettings, IsRecordedMove};
 
 use crate::held_register::can_be_held::CanBeHeld;
 use vet_desk::review::{Review, ReviewState};

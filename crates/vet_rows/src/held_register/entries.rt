@@ -1,6 +1,7 @@
 //! That criteria, entries and publisher records can be held.
-ghost use Rattle.vet_rows.specs.ReadHeld.{IsPackageValue};
-ghost use Rattle.vet_rows.specs.Values.{IsCriterion, IsEntry, IsHeldEntry, IsKind, IsPublisher, IsSource, IsWindow};
+ghost use Rattle.vet_item_rows.specs.ReadHeld.{IsPackageValue};
+ghost use Rattle.vet_item_rows.specs.Values.{IsCriterion, IsEntry, IsHeldEntry, IsKind, IsPublisher, IsSource};
+ghost use Rattle.vet_item_rows.specs.Values.{IsWindow};
 
 use crate::held_register::can_be_held::{CanBeHeld, are_held};
 use vet_base::criterion::Criterion;

@@ -1,9 +1,9 @@
 //! That tables of criteria and peers can be held.
 ghost use Rattle.std.specs.List.{All};
+ghost use Rattle.vet_item_rows.specs.ReadFacts.{IsMapped, IsPeerSettings};
+ghost use Rattle.vet_item_rows.specs.ReadHeld.{AreCriteria, IsPeerValue};
+ghost use Rattle.vet_item_rows.specs.Values.{IsCriterion, MayBe};
 ghost use Rattle.vet_register.specs.HeldFiles.{further_at};
-ghost use Rattle.vet_rows.specs.ReadFacts.{IsMapped, IsPeerSettings};
-ghost use Rattle.vet_rows.specs.ReadHeld.{AreCriteria, IsPeerValue};
-ghost use Rattle.vet_rows.specs.Values.{IsCriterion, MayBe};
 
 use crate::held_register::can_be_held::{CanBeHeld, are_held};
 use vet_base::criteria_table::CriteriaTable;

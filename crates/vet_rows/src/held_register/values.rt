@@ -1,6 +1,6 @@
 //! That names, texts, versions, days and users can be held, and sets of names and texts.
 ghost use Rattle.vet_base.specs.Version.{IsVersion};
-ghost use Rattle.vet_rows.specs.Values.{AreNames, ArePackages, AreTexts, IsDay, IsName, IsPackage, IsText, IsUser};
+ghost use Rattle.vet_item_rows.specs.Values.{AreNames, ArePackages, AreTexts, IsDay, IsName, IsPackage, IsText, IsUser};
 
 use crate::held_register::can_be_held::{CanBeHeld, are_held};
 use vet_base::day::Day;

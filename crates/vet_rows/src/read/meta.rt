@@ -1,18 +1,18 @@
 //! The one row of all of which there is just one, read again.
 ghost use Rattle.std.specs.Prelude.{◌≡◌, ◌∷◌, [], Ok};
 ghost use Rattle.vet_base.specs.Items.{SameItems};
+ghost use Rattle.vet_item_rows.specs.ReadBack.{IsWritten, Reads};
 ghost use Rattle.vet_rows.specs.HeldValues.{AreSettings};
 ghost use Rattle.vet_rows.specs.MetaRow.{row_of_meta};
-ghost use Rattle.vet_rows.specs.ReadBack.{IsWritten, Reads};
 ghost use Rattle.vet_rows.specs.ReadValues.{IsMeta};
 ghost use Rattle.vet_rows.specs.declared.meta.Meta.{Meta as MetaValue};
 
 use crate::meta::{Meta, MetaNumbers};
-use crate::read::columns::{number, optional_names, optional_text};
-use crate::read::from_row::FromRow;
-use crate::read::unread::{Unread, found};
 use std::alloc::Global;
 use vet_graph::standing::Counts;
+use vet_item_rows::read::columns::{number, optional_names, optional_text};
+use vet_item_rows::read::from_row::FromRow;
+use vet_item_rows::read::unread::{Unread, found};
 use vet_register::tool_settings::ToolSettings;
 use vet_tables::cell::Cell;
 use vet_tables::sequence::Row;

@@ -9,9 +9,9 @@ ghost use Rattle.vet_rows.specs.StandingChanges.{stands};
 
 use crate::row_change::RowChange;
 use crate::row_changes::exchange::Exchange;
-use crate::rows_of::columns::{class_or_none, version_column};
 use crate::rows_of::to_row::rows_each;
 use std::alloc::{AllocError, Global};
+use vet_item_rows::rows_of::columns::{class_or_none, version_column};
 use vet_register::moves::{RecordedMove, Recording};
 use vet_tables::cell::Cell;
 use vet_tables::sequence::{Row, Sequence};

@@ -5,10 +5,10 @@ ghost use Rattle.vet_rows.specs.Numbers.{CountsFit, NumbersFit};
 ghost use Rattle.vet_rows.specs.RowsOf.{meta_row};
 
 use crate::meta::MetaNumbers;
-use crate::rows_of::columns::{names_or_none, text_or_none};
 use std::alloc::{AllocError, Global};
 use vet_graph::keeper::Keeper;
 use vet_graph::standing::Counts;
+use vet_item_rows::rows_of::columns::{names_or_none, text_or_none};
 use vet_register::register::Register;
 use vet_register::tool_settings::ToolSettings;
 use vet_tables::cell::Cell;

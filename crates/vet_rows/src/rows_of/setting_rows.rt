@@ -1,48 +1,26 @@
 //! The rows of criteria, peers and policies.
-ghost use Rattle.std.specs.Prelude.{◌≡◌, ◌++◌, IfOk, OnOk, filter, map, ⊤};
+ghost use Rattle.std.specs.Prelude.{◌≡◌, ◌++◌, IfOk, OnOk, map, ⊤};
 ghost use Rattle.std.specs.List.{filter_map};
-ghost use Rattle.vet_base.specs.FurtherCriteria.{is_further};
+ghost use Rattle.vet_item_rows.specs.Columns.{own_peer};
+ghost use Rattle.vet_item_rows.specs.SettingRows.{all_criteria, criteria_rows, criterion_row, peer_row, policy_row};
 ghost use Rattle.vet_register.specs.HeldFiles.{further_at};
-ghost use Rattle.vet_rows.specs.Columns.{own_peer};
-ghost use Rattle.vet_rows.specs.SettingRows.{all_criteria, criteria_rows, criterion_row, peer_row, policy_row};
 
-use crate::rows_of::columns::{
-    flag, key_column, names_column, names_or_none, packages_column, text_or_none, texts_column,
-};
-use crate::rows_of::maps::map_column;
 use crate::rows_of::to_row::ToRow;
 use std::alloc::{AllocError, Global};
-use vet_base::criteria_table::{CriteriaTable, is_built_in};
-use vet_base::criterion::Criterion;
+use vet_base::criteria_table::CriteriaTable;
 use vet_base::name::Name;
 use vet_demand::policies::KeyedPolicy;
 use vet_entries::facts::EntryFacts;
 use vet_entries::held_peer::HeldPeer;
 use vet_entries::peer_settings::PeerSettings;
+use vet_item_rows::rows_of::columns::{
+    flag, key_column, names_or_none, packages_column, text_or_none, texts_column,
+};
+use vet_item_rows::rows_of::maps::map_column;
+use vet_item_rows::rows_of::setting_rows::{criterion_row, push_criteria};
 use vet_register::held_files::further_at;
 use vet_tables::cell::Cell;
 use vet_tables::sequence::{Row, Sequence};
-
-/// The row of a criterion of a peer; the name of the peer is empty for one's own. Fails only if memory runs out.
-pub fn criterion_row(alloc: Global, peer: &str, criterion: &Criterion) -> Result<Row, AllocError>
-    ensures { IfOk result (λ row. row ≡ criterion_row peer.now criterion.now) }
-{
-    let cells = vec![in alloc;
-        Cell::text(alloc, peer)?,
-        Cell::text(alloc, criterion.name.as_str())?,
-        Cell::Blob(text_or_none(alloc, &criterion.description)?),
-        Cell::Blob(text_or_none(alloc, &criterion.url)?),
-        Cell::Blob(names_column(alloc, &criterion.implies)?),
-    ]?;
-    Ok(Sequence::of(cells))
-}
-
-/// Whether a criterion has a row: it isn't built in. Takes no memory.
-pub fn is_further(criterion: &Criterion) -> bool
-    ensures { result ≡ is_further criterion.now }
-{
-    !is_built_in(&criterion.name)
-}
 
 /// The rows of all criteria that aren't built in: one's own, then those of each peer. Fails only if memory runs out.
 pub fn all_criteria(alloc: Global, facts: &EntryFacts) -> Result<Vec<Row>, AllocError>
@@ -83,24 +61,6 @@ fn push_own_criteria(
     'names: for name in names {
         if let Some(criterion) = further_at(table, name) {
             rows.push(criterion_row(alloc, "", criterion)?)?;
-        }
-    }
-    Ok(())
-}
-
-// Adds the rows of those of a peer's criteria that aren't built in, behind those of others.
-pub(crate) fn push_criteria(
-    alloc: Global,
-    rows: &mut Vec<Row>,
-    peer: &str,
-    criteria: &[Criterion],
-) -> Result<(), AllocError>
-    ensures { OnOk result (rows.new.items
-        ≡ rows.old.items ++ map (criterion_row peer.now) (filter is_further criteria.now)) }
-{
-    'criteria: for criterion in criteria {
-        if is_further(criterion) {
-            rows.push(criterion_row(alloc, peer, criterion)?)?;
         }
     }
     Ok(())

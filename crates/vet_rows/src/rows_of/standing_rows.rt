@@ -1,33 +1,20 @@
 //! The rows of the standing and of recorded moves.
 ghost use Rattle.std.specs.Prelude.{◌≡◌, IfOk, map};
+ghost use Rattle.vet_item_rows.specs.StandingRows.{standing_row};
 ghost use Rattle.vet_register.specs.State.{standing};
 ghost use Rattle.vet_rows.specs.Numbers.{MoveFits};
-ghost use Rattle.vet_rows.specs.StandingRows.{move_row, standing_row};
+ghost use Rattle.vet_rows.specs.StandingRows.{move_row};
 
-use crate::rows_of::columns::{class_number, class_or_none, version_column};
 use crate::rows_of::to_row::ToRow;
 use std::alloc::{AllocError, Global};
-use vet_demand::pair::Pair;
-use vet_graph::class::Class;
 use vet_graph::keeper::Keeper;
 use vet_graph::laws::each_pair_has_its_class;
+use vet_item_rows::rows_of::columns::{class_or_none, version_column};
+use vet_item_rows::rows_of::standing_rows::standing_row;
 use vet_register::moves::RecordedMove;
 use vet_register::register::Register;
 use vet_tables::cell::Cell;
 use vet_tables::sequence::{Row, Sequence};
-
-/// The row of a pair that has a class. Fails only if memory runs out.
-pub fn standing_row(alloc: Global, pair: &Pair, class: Class) -> Result<Row, AllocError>
-    ensures { IfOk result (λ row. row ≡ standing_row (record { pair = pair.now; class = class })) }
-{
-    let cells = vec![in alloc;
-        Cell::text(alloc, pair.package.as_str())?,
-        Cell::Text(version_column(alloc, &pair.version)?),
-        Cell::text(alloc, pair.criterion.as_str())?,
-        Cell::Int(class_number(class)),
-    ]?;
-    Ok(Sequence::of(cells))
-}
 
 impl ToRow for RecordedMove {
     ghost row_of = { move_row };

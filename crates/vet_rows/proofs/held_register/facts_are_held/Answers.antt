@@ -1,7 +1,7 @@
 use Rattle.std.proofs.Common.{subst}
 use Rattle.std.specs.List.{All}
-use Rattle.vet_rows.specs.ReadHeld.{AreCriteria, IsPackageValue, IsPeerValue}
-use Rattle.vet_rows.specs.Values.{IsHeldEntry}
+use Rattle.vet_item_rows.specs.ReadHeld.{AreCriteria, IsPackageValue, IsPeerValue}
+use Rattle.vet_item_rows.specs.Values.{IsHeldEntry}
 use Rattle.vet_rows.proofs.held_register.facts_are_held.Goals as goal
 
 pub returns : goal.returns

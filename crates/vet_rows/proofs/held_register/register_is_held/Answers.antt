@@ -1,9 +1,10 @@
 use Rattle.std.proofs.Common.{◌∙◌, ap, subst}
 use Rattle.std.specs.List.{All}
 use Rattle.vet_desk.specs.Desk.{DeskState}
-use Rattle.vet_rows.specs.HeldValues.{AreSettings, IsKeyedPolicy, IsNamedProject, IsRecordedMove, IsReview}
-use Rattle.vet_rows.specs.ReadHeld.{AreFactsValues}
-use Rattle.vet_rows.specs.Values.{IsName}
+use Rattle.vet_item_rows.specs.HeldValues.{IsKeyedPolicy, IsNamedProject, IsReview}
+use Rattle.vet_item_rows.specs.ReadHeld.{AreFactsValues}
+use Rattle.vet_item_rows.specs.Values.{IsName}
+use Rattle.vet_rows.specs.HeldValues.{AreSettings, IsRecordedMove}
 use Rattle.vet_rows.proofs.held_register.register_is_held.Goals as goal
 
 pub returns : goal.returns

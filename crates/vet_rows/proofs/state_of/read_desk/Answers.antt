@@ -1,8 +1,8 @@
 use Rattle.std.proofs.Common.{map, refl, subst, sym}
 use Rattle.vet_base.specs.Items.{SameItems}
-use Rattle.vet_rows.specs.DeskRows.{member_row, review_row}
-use Rattle.vet_rows.proofs.DesksRead.{desk_read}
-use Rattle.vet_rows.proofs.Reading.{passed_on}
+use Rattle.vet_item_rows.specs.DeskRows.{member_row, review_row}
+use Rattle.vet_item_rows.proofs.DesksRead.{desk_read}
+use Rattle.vet_item_rows.proofs.Reading.{passed_on}
 use Rattle.vet_rows.proofs.state_of.read_desk.Goals as goal
 
 pub returns-in_err-members : goal.returns-in_err-members

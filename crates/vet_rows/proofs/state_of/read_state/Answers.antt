@@ -1,8 +1,8 @@
 use Rattle.std.proofs.Common.{◌∙◌, ap, refl}
+use Rattle.vet_item_rows.proofs.Reading.{passed_on}
 use Rattle.vet_rows.specs.ReadState.{meta_in}
 use Rattle.vet_rows.specs.declared.meta.Meta.{Meta}
 use Rattle.vet_rows.proofs.FactsInForm.{in_form}
-use Rattle.vet_rows.proofs.Reading.{passed_on}
 use Rattle.vet_rows.proofs.StateRead.{facts_rows, made_is, table_rows}
 use Rattle.vet_rows.proofs.state_of.read_state.Goals as goal
 use Rattle.vet_tables.specs.Cells.{rows_in}

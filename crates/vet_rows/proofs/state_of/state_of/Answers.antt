@@ -2,7 +2,7 @@ use Rattle.std.proofs.Common.{◌≡◌, ◌⊎◌, ◌∙◌, ap, subst, sym}
 use Rattle.std.proofs.lemmas.Result.{err_from_is_err_and}
 use Rattle.vet_base.specs.declared.refusal.Refusal.{Refusal}
 use Rattle.vet_base.specs.declared.refusal.Refusal.TheVariants.{NoMemory, NotARegister}
-use Rattle.vet_rows.specs.ReadBack.{refusal_of}
+use Rattle.vet_item_rows.specs.ReadBack.{refusal_of}
 use Rattle.vet_rows.proofs.StateRead.{refused_as}
 use Rattle.vet_rows.proofs.state_of.state_of.Goals as goal
 

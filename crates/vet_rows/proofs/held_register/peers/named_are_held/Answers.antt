@@ -3,9 +3,9 @@ use Rattle.std.specs.List.{All}
 use Rattle.std.proofs.lemmas.List.{take_all}
 use Rattle.std.proofs.lemmas.List.Elements.{All-append, All-cons, All-nil}
 use Rattle.vet_base.specs.Words.{Name}
+use Rattle.vet_item_rows.specs.Values.{IsCriterion, MayBe}
+use Rattle.vet_item_rows.proofs.Listed.{one_further}
 use Rattle.vet_register.specs.HeldFiles.{further_at}
-use Rattle.vet_rows.specs.Values.{IsCriterion, MayBe}
-use Rattle.vet_rows.proofs.Listed.{one_further}
 use Rattle.vet_rows.proofs.held_register.peers.named_are_held.Goals as goal
 
 pub names-preserved : goal.names-preserved

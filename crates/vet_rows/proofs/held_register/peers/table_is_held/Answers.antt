@@ -2,9 +2,9 @@ use Rattle.std.proofs.Common.{subst}
 use Rattle.std.specs.FinMap as map
 use Rattle.std.specs.List.{All}
 use Rattle.vet_base.specs.Words.{Name}
+use Rattle.vet_item_rows.specs.Values.{IsCriterion, MayBe}
 use Rattle.vet_register.specs.HeldFiles.{further_at}
 use Rattle.vet_register.proofs.FurtherCriteria.{further_is}
-use Rattle.vet_rows.specs.Values.{IsCriterion, MayBe}
 use Rattle.vet_rows.proofs.TablesHeld.{all_found}
 use Rattle.vet_rows.proofs.held_register.peers.table_is_held.Goals as goal
 

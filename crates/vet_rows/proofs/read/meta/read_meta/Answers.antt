@@ -1,8 +1,8 @@
 use Rattle.std.proofs.Common.{◌≡◌, ◌∙◌, ap, inl, refl, sym, ⊎_elim}
 use Rattle.std.specs.Option.{option_copied}
+use Rattle.vet_item_rows.proofs.Reading.{none_found, some_found}
 use Rattle.vet_rows.specs.MetaRow.{row_of_meta}
 use Rattle.vet_rows.proofs.FirstRead.{first_in, none_in}
-use Rattle.vet_rows.proofs.Reading.{none_found, some_found}
 use Rattle.vet_rows.proofs.read.meta.read_meta.Goals as goal
 
 pub returns-in_err-found : goal.returns-in_err-found

@@ -1,9 +1,9 @@
 use Rattle.std.proofs.Common.{◌∙◌, refl}
+use Rattle.vet_item_rows.proofs.Reading.{passed_on}
+use Rattle.vet_item_rows.proofs.SetsRead.{items_read, they_stand}
 use Rattle.vet_rows.specs.HeldValues.{IsRecordedMove}
 use Rattle.vet_rows.specs.StandingRows.{move_row}
 use Rattle.vet_rows.proofs.MovesRead.{ranked_moves}
-use Rattle.vet_rows.proofs.Reading.{passed_on}
-use Rattle.vet_rows.proofs.SetsRead.{items_read, they_stand}
 use Rattle.vet_rows.proofs.read.moves.moves.Goals as goal
 
 pub returns-in_err-moves : goal.returns-in_err-moves

@@ -5,7 +5,7 @@ use Rattle.std.proofs.lemmas.Cmp.{nat_list_cmp_total}
 use Rattle.vet_base.proofs.ItemLemmas.{in_all}
 use Rattle.vet_base.proofs.Rising.{only_equal}
 use Rattle.vet_entries.specs.HeldPeer.{peer_name}
-use Rattle.vet_rows.specs.Numbers.{PeerFits}
+use Rattle.vet_item_rows.specs.Numbers.{PeerFits}
 use Rattle.vet_rows.proofs.KeyedExchanges.{found_in}
 use Rattle.vet_rows.proofs.row_changes.fact_changes.content_exchanges.Goals as goal
 

@@ -2,9 +2,9 @@ use Rattle.std.proofs.Common.{◌≡◌, ◌∷◌, ◌∙◌, [], ap, subst, sy
 use Rattle.std.specs.List.{slice_get}
 use Rattle.std.specs.Prelude.{IfOk}
 use Rattle.vet_base.proofs.ItemLemmas.{in_all}
+use Rattle.vet_item_rows.specs.Numbers.{EntryFits}
 use Rattle.vet_rows.specs.FactsRows.{own_entry}
 use Rattle.vet_rows.specs.KeyedItems.{rows_if}
-use Rattle.vet_rows.specs.Numbers.{EntryFits}
 use Rattle.vet_rows.specs.RowExchanges.{exchange_of}
 use Rattle.vet_rows.proofs.ListEdits.{at_in}
 use Rattle.vet_rows.proofs.row_changes.fact_changes.entry_removed.Goals as goal

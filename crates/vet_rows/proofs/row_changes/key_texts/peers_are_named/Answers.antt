@@ -2,7 +2,7 @@ use Rattle.std.proofs.Common.{◌≡◌, subst}
 use Rattle.std.proofs.lemmas.List.{take_all}
 use Rattle.vet_entries.specs.HeldPeer.{peer_name}
 use Rattle.vet_entries.specs.declared.held_peer.HeldPeer.{HeldPeer}
-use Rattle.vet_rows.specs.Columns.{own_peer}
+use Rattle.vet_item_rows.specs.Columns.{own_peer}
 use Rattle.vet_rows.specs.KeyTexts.{ArePeersNamed}
 use Rattle.vet_rows.proofs.Named.{not_empty}
 use Rattle.vet_rows.proofs.SoFar.{one_more}

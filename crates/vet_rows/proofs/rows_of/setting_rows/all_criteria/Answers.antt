@@ -1,7 +1,7 @@
 use Rattle.std.proofs.Common.{◌∙◌, sym, ap}
 use Rattle.std.proofs.lemmas.List.{append-nil}
-use Rattle.vet_rows.specs.Columns.{own_peer}
-use Rattle.vet_rows.specs.SettingRows.{criteria_rows}
+use Rattle.vet_item_rows.specs.Columns.{own_peer}
+use Rattle.vet_item_rows.specs.SettingRows.{criteria_rows}
 use Rattle.vet_rows.proofs.rows_of.setting_rows.all_criteria.Goals as goal
 
 pub peers-init : goal.peers-init

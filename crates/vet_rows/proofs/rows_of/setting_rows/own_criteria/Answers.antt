@@ -1,10 +1,10 @@
 use Rattle.std.proofs.Common.{◌∙◌, ◌++◌, List, map, ap}
 use Rattle.std.specs.List.{filter_map}
 use Rattle.vet_base.specs.Words.{Name}
+use Rattle.vet_item_rows.specs.Columns.{own_peer}
+use Rattle.vet_item_rows.specs.SettingRows.{criterion_row}
 use Rattle.vet_register.specs.HeldFiles.{further_at}
 use Rattle.vet_register.proofs.FurtherCriteria.{further_is}
-use Rattle.vet_rows.specs.Columns.{own_peer}
-use Rattle.vet_rows.specs.SettingRows.{criterion_row}
 use Rattle.vet_tables.specs.Cells.{Row}
 use Rattle.vet_rows.proofs.rows_of.setting_rows.own_criteria.Goals as goal
 

@@ -2,11 +2,11 @@ use Rattle.std.proofs.Common.{◌∙◌, ◌++◌, [], ◌∷◌, Some, None, ap
 use Rattle.std.specs.List.{filter_map}
 use Rattle.std.specs.Option.{option_copied}
 use Rattle.std.proofs.lemmas.List.{append-nil}
+use Rattle.vet_item_rows.specs.Columns.{own_peer}
+use Rattle.vet_item_rows.specs.SettingRows.{criterion_row}
+use Rattle.vet_item_rows.proofs.Listed.{one_more_row}
 use Rattle.vet_register.specs.HeldFiles.{further_at}
 use Rattle.vet_register.proofs.FurtherCriteria.{found_further}
-use Rattle.vet_rows.specs.Columns.{own_peer}
-use Rattle.vet_rows.specs.SettingRows.{criterion_row}
-use Rattle.vet_rows.proofs.Listed.{one_more_row}
 use Rattle.vet_rows.proofs.rows_of.setting_rows.push_own_criteria.Goals as goal
 use Rattle.vet_rows.proofs.rows_of.setting_rows.push_own_criteria.Goals.{in-Some+in_ok-criterion_row+in_ok-push}
 use Rattle.vet_rows.proofs.rows_of.setting_rows.push_own_criteria.Goals.{in_default}

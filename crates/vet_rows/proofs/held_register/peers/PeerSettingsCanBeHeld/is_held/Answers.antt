@@ -2,7 +2,7 @@ use Rattle.std.proofs.Common.{subst}
 use Rattle.std.specs.List.{All}
 use Rattle.std.proofs.lemmas.List.Elements.{All-map}
 use Rattle.vet_entries.specs.declared.criteria_map.MappedCriterion.{MappedCriterion}
-use Rattle.vet_rows.specs.ReadFacts.{IsMapped}
+use Rattle.vet_item_rows.specs.ReadFacts.{IsMapped}
 use Rattle.vet_rows.proofs.held_register.peers.PeerSettingsCanBeHeld.is_held.Goals as goal
 
 pub returns : goal.returns

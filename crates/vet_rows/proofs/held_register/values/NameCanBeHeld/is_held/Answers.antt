@@ -1,5 +1,5 @@
 use Rattle.vet_base.specs.Name.{is_name}
-use Rattle.vet_rows.proofs.PackedTexts.{read_as_itself}
+use Rattle.vet_item_rows.proofs.PackedTexts.{read_as_itself}
 use Rattle.vet_rows.proofs.held_register.values.NameCanBeHeld.is_held.Goals as goal
 
 pub returns : goal.returns

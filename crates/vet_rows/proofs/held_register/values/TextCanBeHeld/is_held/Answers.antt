@@ -1,7 +1,7 @@
 use Rattle.std.proofs.Common.{length, nat_le}
 use Rattle.std.proofs.lemmas.Bool.{le-leb}
 use Rattle.vet_base.specs.declared.limits.TheConstants.{MOST_TEXT_BYTES}
-use Rattle.vet_rows.proofs.PackedTexts.{read_as_itself}
+use Rattle.vet_item_rows.proofs.PackedTexts.{read_as_itself}
 use Rattle.vet_rows.proofs.held_register.values.TextCanBeHeld.is_held.Goals as goal
 
 pub returns : goal.returns

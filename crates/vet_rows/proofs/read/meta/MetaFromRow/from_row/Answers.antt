@@ -1,5 +1,5 @@
 use Rattle.std.proofs.Common.{◌≡◌, refl}
-use Rattle.vet_rows.proofs.Reading.{passed_on}
+use Rattle.vet_item_rows.proofs.Reading.{passed_on}
 use Rattle.vet_rows.proofs.read.meta.MetaFromRow.from_row.Goals as goal
 
 pub returns-in_err-check_form : goal.returns-in_err-check_form

@@ -1,0 +1,16 @@
+-- For what facts parts stand that were read (ours).
+use Rattle.std.specs.Prelude.{◌≡◌, MatchResult, Result}
+use Rattle.vet_entries.specs.Facts.{Facts}
+use Rattle.vet_item_rows.specs.declared.read.facts.PackageFacts.{PackageFacts}
+use Rattle.vet_item_rows.specs.declared.read.unread.Unread.{Unread}
+use Rattle.vet_item_rows.specs.declared.read.unread.Unread.TheVariants.{NoMemory}
+
+-- all of some facts but the publisher records
+pub record ArePartsOfFacts (parts : PackageFacts) (facts : Facts) : Type 0 where
+  pub criteria : parts.criteria ≡ facts.criteria
+  pub entries : parts.entries.items ≡ facts.entries
+  pub peers : parts.peers.items ≡ facts.peers
+
+-- they are read, unless memory ran out
+abbrev pub AreFound : Result PackageFacts Unread → Facts → Type 0
+AreFound result facts = MatchResult result (λ parts. ArePartsOfFacts parts facts) (λ e. e ≡ NoMemory)

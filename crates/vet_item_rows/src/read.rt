@@ -1,0 +1,21 @@
+//! From rows back to values: if a row is that of a value, it is read as that value.
+pub(crate) mod cells;
+pub mod columns;
+mod criteria;
+pub(crate) mod desk;
+mod entries;
+pub mod facts;
+pub mod from_row;
+pub(crate) mod gathered;
+mod held_peers;
+mod kinds;
+pub mod lists;
+pub(crate) mod maps;
+mod peers;
+pub(crate) mod policies;
+pub mod projects;
+mod publishers;
+mod records;
+pub(crate) mod sourced;
+mod tables;
+pub mod unread;

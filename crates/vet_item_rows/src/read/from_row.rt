@@ -1,0 +1,30 @@
+//! Rows that are read again.
+ghost use Rattle.std.specs.Prelude.{◌≡◌, List, MatchResult};
+ghost use Rattle.vet_item_rows.specs.ReadBack.{EachStandsFor, IsReadBack};
+ghost use Rattle.vet_tables.specs.Cells.{Row as RowValue};
+
+use crate::read::unread::Unread;
+use std::alloc::Global;
+use vet_tables::sequence::Row;
+
+/// What is read again of its row.
+pub trait FromRow: Drop {
+    /// A row stands for it.
+    ghost stands_for: { RowValue → Self → Type 0 };
+
+    /// The value that a row stands for. It is not said what comes of other rows.
+    fn from_row(alloc: Global, row: &Row) -> Result<Self, Unread>
+        ensures { IsReadBack stands_for row.now result };
+}
+
+/// The values that these rows stand for, row by row.
+pub fn read_rows<T: FromRow>(alloc: Global, rows: &[Row]) -> Result<Vec<T>, Unread>
+    ensures { (xs : List T) → EachStandsFor T.stands_for rows.now xs
+        → MatchResult result (λ values. values.items ≡ xs) (λ e. e ≡ Unread.NoMemory) }
+{
+    let mut values = Vec::new(alloc);
+    'rows: for row in rows {
+        values.push(T::from_row(alloc, row)?)?;
+    }
+    Ok(values)
+}

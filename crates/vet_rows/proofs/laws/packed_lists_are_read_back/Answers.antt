@@ -1,5 +1,0 @@
-use Rattle.vet_rows.proofs.PackedLists.{packed_once}
-use Rattle.vet_rows.proofs.laws.packed_lists_are_read_back.Goals as goal
-
-pub returns : goal.returns
-returns c = packed_once
