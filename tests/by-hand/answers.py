@@ -11,10 +11,10 @@ ERRORS = {
     "AllocError": "std::alloc::AllocError",
     "IoFault": "{vet_requests}::io_fault::IoFault::NoMemory",
     "InsertError": "matchit::InsertError::OutOfMemory",
-    "Unread": "{vet_item_rows}::read::unread::Unread::NoMemory",
+    "ReadError": "{vet_item_rows}::read::read_error::ReadError::NoMemory",
     "CommitError": f"crate::change::CommitError::Before({OUT_OF_MEMORY})",
     "Refused": "crate::refused::Refused {{ refusal: {vet_base}::refusal::Refusal::NoMemory, conn: {conn} }}",
-    "NotReopened": "crate::store::reopen_files::NotReopened {{ refusal: {vet_base}::refusal::Refusal::NoMemory, "
+    "ReopenError": "crate::store::reopen_files::ReopenError {{ refusal: {vet_base}::refusal::Refusal::NoMemory, "
     "remains: crate::store::reopen_files::Remains::Conn({conn}) }}",
     "io": "std::io::Error::from(std::io::ErrorKind::OutOfMemory)",
 }
@@ -30,7 +30,7 @@ LIBRARY = re.compile(r"^use (\w+)::(?:\{[^}]*\bError\b[^}]*\}|Error);", re.M)
 # what has the connection, by the signature
 HOLDERS = {r"\bconn: Connection<": "conn", r"\bstore: Store<": "store.close()", r"\(\s*self\b": "self.close()"}
 # errors that give the connection back
-HANDED_BACK = ("Refused", "NotReopened")
+HANDED_BACK = ("Refused", "ReopenError")
 
 
 class Answer(NamedTuple):

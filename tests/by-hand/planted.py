@@ -29,7 +29,7 @@ EXACT = {
     "vet_item_rows::read::projects::party",
     "vet_item_rows::read::projects::kind",
     "vet_item_rows::read::projects::edge_between",
-    "vet_item_rows::read::unread::found",
+    "vet_item_rows::read::read_error::found",
 }
 # not of the product
 PASSED_OVER = ("trials", "trial_clients", "trial_registers", "trial_times", "trial_values")

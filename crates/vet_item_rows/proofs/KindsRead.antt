@@ -15,7 +15,7 @@ use Rattle.vet_item_rows.specs.KindColumns.{KindColumns}
 use Rattle.vet_item_rows.specs.ReadBack.{Reads}
 use Rattle.vet_item_rows.specs.ReadFacts.{IsSaidIn}
 use Rattle.vet_item_rows.specs.Values.{IsWindow}
-use Rattle.vet_item_rows.specs.declared.read.unread.Unread.{Unread}
+use Rattle.vet_item_rows.specs.declared.read.read_error.ReadError.{ReadError}
 
 -- ---- kinds by their numbers
 
@@ -46,7 +46,7 @@ no_other a b t e = differ (a == b) (eq-eqb a b e) t
     differ true h t = t
     differ false h t = cc h
 
-module _ (said : KindColumns) (result : Result Kind Unread) (number : ℕ)
+module _ (said : KindColumns) (result : Result Kind ReadError) (number : ℕ)
     (tells : (n : ℕ) → said.kind ≡ pos n → number ≡ n) where
   abbrev pub IsFound : Kind → Type 0
   IsFound k = IsSaidIn said k → Reads result k
@@ -107,7 +107,7 @@ module _ (said : KindColumns) (result : Result Kind Unread) (number : ℕ)
   found_exemption is one (kind.Trusted w) = another 5 is (kind.Trusted w) tt
   found_exemption is one (kind.Exemption v s) = one v s
 
-module _ (said : KindColumns) (result : Result Kind Unread) where
+module _ (said : KindColumns) (result : Result Kind ReadError) where
   -- a window is found column by column
   pub window_found : ((w : Window) → IsWindow w → said.user ≡ pos w.user → said.day1 ≡ day_number w.first
       → said.day2 ≡ day_number w.last → Reads result (kind.Trusted w))

@@ -2,34 +2,34 @@
 use Rattle.std.specs.Prelude.{◌≡◌, Err, List, [], ◌∷◌, MatchResult, None, Ok, Option, Result, Some}
 use Rattle.vet_base.specs.declared.refusal.Refusal.{Refusal}
 use Rattle.vet_base.specs.declared.refusal.Refusal.TheVariants as refusal
-use Rattle.vet_item_rows.specs.declared.read.unread.Unread.{Unread}
-use Rattle.vet_item_rows.specs.declared.read.unread.Unread.TheVariants.{NoMemory, NotARegister}
+use Rattle.vet_item_rows.specs.declared.read.read_error.ReadError.{ReadError}
+use Rattle.vet_item_rows.specs.declared.read.read_error.ReadError.TheVariants.{NoMemory, NotARegister}
 
 -- ---- what was read
 
 -- this value was read, unless memory ran out
-abbrev pub Reads : {X : Type 0} → Result X Unread → X → Type 0
+abbrev pub Reads : {X : Type 0} → Result X ReadError → X → Type 0
 Reads result x = MatchResult result (λ found. found ≡ x) (λ e. e ≡ NoMemory)
 
 -- a value was read that is seen as this one
-abbrev pub ReadsAs : {T X : Type 0} → (T → X) → Result T Unread → X → Type 0
+abbrev pub ReadsAs : {T X : Type 0} → (T → X) → Result T ReadError → X → Type 0
 ReadsAs view result x = MatchResult result (λ found. view found ≡ x) (λ e. e ≡ NoMemory)
 
 -- if what was read stands for a value, that value is read
-abbrev pub IsReadBack : {A X : Type 0} → (A → X → Type 0) → A → Result X Unread → Type 0
+abbrev pub IsReadBack : {A X : Type 0} → (A → X → Type 0) → A → Result X ReadError → Type 0
 IsReadBack {A} {X} StandsFor a result = (x : X) → StandsFor a x → Reads result x
 
 -- what was found, or that nothing was
-abbrev pub found_or_unread : {X : Type 0} → Option X → Result X Unread
+abbrev pub found_or_unread : {X : Type 0} → Option X → Result X ReadError
 found_or_unread None = Err NotARegister
 found_or_unread (Some x) = Ok x
 
 -- a refusal for want of memory stays one
-abbrev pub unread_of : Refusal → Unread
+abbrev pub unread_of : Refusal → ReadError
 unread_of refusal.NoMemory = NoMemory
 unread_of _ = NotARegister
 
-abbrev pub refusal_of : Unread → Refusal
+abbrev pub refusal_of : ReadError → Refusal
 refusal_of NotARegister = refusal.NotARegister
 refusal_of NoMemory = refusal.NoMemory
 

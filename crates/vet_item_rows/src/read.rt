@@ -15,7 +15,7 @@ mod peers;
 pub(crate) mod policies;
 pub mod projects;
 mod publishers;
+pub mod read_error;
 mod records;
 pub(crate) mod sourced;
 mod tables;
-pub mod unread;

@@ -8,8 +8,8 @@ use Rattle.vet_desk.specs.Desk.{DeskState}
 use Rattle.vet_entries.specs.Facts.{Facts}
 use Rattle.vet_item_rows.specs.ReadBack.{refusal_of}
 use Rattle.vet_item_rows.specs.ReadHeld.{AreRowsOf}
-use Rattle.vet_item_rows.specs.declared.read.unread.Unread.{Unread}
-use Rattle.vet_item_rows.specs.declared.read.unread.Unread.TheVariants as unread
+use Rattle.vet_item_rows.specs.declared.read.read_error.ReadError.{ReadError}
+use Rattle.vet_item_rows.specs.declared.read.read_error.ReadError.TheVariants as read_error
 use Rattle.vet_item_rows.proofs.ProjectsRead.{same_itself}
 use Rattle.vet_register.specs.State.{State}
 use Rattle.vet_register.specs.declared.moves.RecordedMove.{RecordedMove}
@@ -60,6 +60,6 @@ made_is s meta facts policies projects desk moves a f p q d m =
 
 -- ---- refusals
 
-pub refused_as : (e : Unread) → (refusal_of e ≡ refusal.NoMemory) ⊎ (refusal_of e ≡ refusal.NotARegister)
-refused_as unread.NotARegister = inr refl
-refused_as unread.NoMemory = inl refl
+pub refused_as : (e : ReadError) → (refusal_of e ≡ refusal.NoMemory) ⊎ (refusal_of e ≡ refusal.NotARegister)
+refused_as read_error.NotARegister = inr refl
+refused_as read_error.NoMemory = inl refl

@@ -35,7 +35,7 @@ use vet_entries::facts::EntryFacts;
 use vet_item_rows::read::facts::facts_of;
 use vet_item_rows::read::lists::{members, policies, reviews};
 use vet_item_rows::read::projects::projects;
-use vet_item_rows::read::unread::{Unread, found};
+use vet_item_rows::read::read_error::{ReadError, found};
 use vet_register::moves::RecordedMove;
 use vet_register::state::State;
 use vet_tables::rows::Rows;
@@ -59,7 +59,7 @@ pub fn found_register<T>(found: Option<T>) -> Result<T, Refusal>
 }
 
 // The state of which these are the rows.
-fn read_state(alloc: Global, rows: &Rows) -> Result<State, Unread>
+fn read_state(alloc: Global, rows: &Rows) -> Result<State, ReadError>
     ensures { (s : machine.State) → IsSound s → IsHeldState s → SameButStanding (rows_in rows.now) (rows_of s)
         → Reads result s }
 {
@@ -73,11 +73,11 @@ fn read_state(alloc: Global, rows: &Rows) -> Result<State, Unread>
 }
 
 // The desk of which these are the rows.
-fn read_desk(alloc: Global, rows: &Rows, next_review: u64) -> Result<Desk, Unread>
+fn read_desk(alloc: Global, rows: &Rows, next_review: u64) -> Result<Desk, ReadError>
     ensures { (d : DeskState) → IsSoundDesk d → All IsName d.members → All IsReview d.reviews
         → SameItems (rows_in rows.now table.Members) (map member_row d.members)
         → SameItems (rows_in rows.now table.Reviews) (map review_row d.reviews) → next_review ≡ d.next_review
-        → MatchResult result (λ desk. desk.content ≡ d) (λ e. e ≡ Unread.NoMemory) }
+        → MatchResult result (λ desk. desk.content ≡ d) (λ e. e ≡ ReadError.NoMemory) }
 {
     let members = members(alloc, rows.of(TableName::Members))?;
     let reviews = reviews(alloc, rows.of(TableName::Reviews))?;

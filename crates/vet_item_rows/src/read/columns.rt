@@ -15,7 +15,7 @@ ghost use Rattle.vet_item_rows.specs.Values.{IsText, IsUser, MayBe};
 use crate::packed::read_items;
 use crate::packed_item::unpack;
 use crate::packed_names::{unpack_names, unpack_packages, unpack_texts};
-use crate::read::unread::{Unread, found};
+use crate::read::read_error::{ReadError, found};
 use std::alloc::Global;
 use vet_base::day::Day;
 use vet_base::name::{Name, PackageName};
@@ -30,42 +30,42 @@ use vet_entries::entry::Source;
 use vet_entries::user::User;
 
 /// A name.
-pub fn name(alloc: Global, text: &str) -> Result<Name, Unread>
+pub fn name(alloc: Global, text: &str) -> Result<Name, ReadError>
     ensures { IsReadBack (IsWritten IsName (λ n. n)) text.now result }
 {
     found(Name::read(alloc, text)?)
 }
 
 /// A name of a package.
-pub fn package_name(alloc: Global, text: &str) -> Result<PackageName, Unread>
+pub fn package_name(alloc: Global, text: &str) -> Result<PackageName, ReadError>
     ensures { IsReadBack (IsWritten IsPackage (λ n. n)) text.now result }
 {
     found(PackageName::read(alloc, text)?)
 }
 
 /// A version.
-pub fn version(alloc: Global, text: &str) -> Result<VetVersion, Unread>
+pub fn version(alloc: Global, text: &str) -> Result<VetVersion, ReadError>
     ensures { IsReadBack (IsWritten IsVersion version_text) text.now result }
 {
     found(VetVersion::read(alloc, text)?)
 }
 
 /// A requirement of versions.
-pub(crate) fn requirement(alloc: Global, text: &str) -> Result<Req, Unread>
+pub(crate) fn requirement(alloc: Global, text: &str) -> Result<Req, ReadError>
     ensures { IsReadBack (IsWritten IsReq (λ r. r)) text.now result }
 {
     found(Req::read(alloc, text)?)
 }
 
 /// The key of a policy.
-pub(crate) fn policy_key(alloc: Global, text: &str) -> Result<PolicyKey, Unread>
+pub(crate) fn policy_key(alloc: Global, text: &str) -> Result<PolicyKey, ReadError>
     ensures { IsReadBack (IsWritten (λ (k : KeyValue). read_key (key_text k) ≡ Some k) key_text) text.now result }
 {
     found(PolicyKey::read(alloc, text)?)
 }
 
 /// A text that may be missing.
-pub fn optional_text(alloc: Global, bytes: &[u8]) -> Result<Option<Text>, Unread>
+pub fn optional_text(alloc: Global, bytes: &[u8]) -> Result<Option<Text>, ReadError>
     ensures { IsReadBack (IsWritten (MayBe IsText) packed_option) bytes.now result }
 {
     let texts = found(unpack::<Text>(alloc, bytes)?)?;
@@ -73,41 +73,41 @@ pub fn optional_text(alloc: Global, bytes: &[u8]) -> Result<Option<Text>, Unread
 }
 
 // The one of some values, if there is one, where there are not more.
-fn at_most_one<X: Drop>(mut values: Vec<X>) -> Result<Option<X>, Unread>
+fn at_most_one<X: Drop>(mut values: Vec<X>) -> Result<Option<X>, ReadError>
     ensures { (o : Option X) → values.items ≡ in_list o → result ≡ Ok o }
 {
     let Some(last) = values.pop() else {
         return Ok(None);
     };
     if !values.is_empty() {
-        return Err(Unread::NotARegister);
+        return Err(ReadError::NotARegister);
     }
     Ok(Some(last))
 }
 
 /// A set of texts.
-pub(crate) fn texts(alloc: Global, bytes: &[u8]) -> Result<Texts, Unread>
+pub(crate) fn texts(alloc: Global, bytes: &[u8]) -> Result<Texts, ReadError>
     ensures { IsReadBack (IsWritten AreTexts packed_names) bytes.now result }
 {
     found(unpack_texts(alloc, bytes)?)
 }
 
 /// A set of names.
-pub(crate) fn names(alloc: Global, bytes: &[u8]) -> Result<Names, Unread>
+pub(crate) fn names(alloc: Global, bytes: &[u8]) -> Result<Names, ReadError>
     ensures { IsReadBack (IsWritten AreNames packed_names) bytes.now result }
 {
     found(unpack_names(alloc, bytes)?)
 }
 
 /// A set of packages.
-pub(crate) fn packages(alloc: Global, bytes: &[u8]) -> Result<PackageNames, Unread>
+pub(crate) fn packages(alloc: Global, bytes: &[u8]) -> Result<PackageNames, ReadError>
     ensures { IsReadBack (IsWritten ArePackages packed_names) bytes.now result }
 {
     found(unpack_packages(alloc, bytes)?)
 }
 
 /// A set of names that may be missing.
-pub fn optional_names(alloc: Global, bytes: &[u8]) -> Result<Option<Names>, Unread>
+pub fn optional_names(alloc: Global, bytes: &[u8]) -> Result<Option<Names>, ReadError>
     ensures { IsReadBack (IsWritten (MayBe AreNames) packed_names_option) bytes.now result }
 {
     let items = found(read_items(alloc, bytes)?)?;
@@ -115,20 +115,20 @@ pub fn optional_names(alloc: Global, bytes: &[u8]) -> Result<Option<Names>, Unre
 }
 
 // The names in the one of some items, if there is one, where there are not more.
-fn names_in(alloc: Global, items: &[&[u8]]) -> Result<Option<Names>, Unread>
+fn names_in(alloc: Global, items: &[&[u8]]) -> Result<Option<Names>, ReadError>
     ensures { IsReadBack (IsWritten (MayBe AreNames) items_of_names) (map (λ item. item.now) items.now) result }
 {
     if items.is_empty() {
         return Ok(None);
     }
     if items.len() > 1 {
-        return Err(Unread::NotARegister);
+        return Err(ReadError::NotARegister);
     }
     Ok(Some(names(alloc, items[0])?))
 }
 
 /// What may be said or not, and is true or false. Takes no memory.
-pub(crate) fn flag(number: i64) -> Result<Option<bool>, Unread>
+pub(crate) fn flag(number: i64) -> Result<Option<bool>, ReadError>
     ensures { (said : Option Bool) → number ≡ flag said → result ≡ Ok said }
 {
     if number == -1 {
@@ -137,36 +137,36 @@ pub(crate) fn flag(number: i64) -> Result<Option<bool>, Unread>
     match number {
         0 => Ok(Some(false)),
         1 => Ok(Some(true)),
-        _ => Err(Unread::NotARegister),
+        _ => Err(ReadError::NotARegister),
     }
 }
 
 /// A number from 0 on. Takes no memory.
-pub fn number(column: i64) -> Result<u64, Unread>
+pub fn number(column: i64) -> Result<u64, ReadError>
     ensures { (n : ℕ) → column ≡ pos n → result ≡ Ok n }
 {
     if column < 0 {
-        return Err(Unread::NotARegister);
+        return Err(ReadError::NotARegister);
     }
     Ok(column as u64)
 }
 
 /// A user. Takes no memory.
-pub(crate) fn user(column: i64) -> Result<User, Unread>
+pub(crate) fn user(column: i64) -> Result<User, ReadError>
     ensures { (u : ℕ) → column ≡ pos u → IsUser u → result ≡ Ok u }
 {
     found(User::new(number(column)?))
 }
 
 /// A day. Takes no memory.
-pub fn day(column: i64) -> Result<Day, Unread>
+pub fn day(column: i64) -> Result<Day, ReadError>
     ensures { (d : DayValue) → column ≡ day_number d → IsDay d → result ≡ Ok d }
 {
     found(Day::of_number(column))
 }
 
 /// Whose something is.
-pub(crate) fn source(alloc: Global, peer: &str) -> Result<Source, Unread>
+pub(crate) fn source(alloc: Global, peer: &str) -> Result<Source, ReadError>
     ensures { IsReadBack (IsWritten IsSource peer_of_source) peer.now result }
 {
     if peer.is_empty() {

@@ -6,8 +6,8 @@ ghost use Rattle.vet_item_rows.specs.declared.read.criteria.SourcedCriterion.{So
 
 use crate::read::columns::{name, names, optional_text, source};
 use crate::read::from_row::FromRow;
+use crate::read::read_error::ReadError;
 use crate::read::sourced::HasSource;
-use crate::read::unread::Unread;
 use std::alloc::Global;
 use vet_base::criterion::Criterion;
 use vet_entries::entry::Source;
@@ -53,9 +53,9 @@ impl HasSource for SourcedCriterion {
 impl FromRow for SourcedCriterion {
     ghost stands_for = { IsWritten IsSourcedCriterion sourced_criterion_row };
 
-    fn from_row(alloc: Global, row: &Row) -> Result<SourcedCriterion, Unread> {
+    fn from_row(alloc: Global, row: &Row) -> Result<SourcedCriterion, ReadError> {
         let [Cell::Text(peer), ..] = row.as_slice() else {
-            return Err(Unread::NotARegister);
+            return Err(ReadError::NotARegister);
         };
         Ok(SourcedCriterion {
             source: source(alloc, peer.as_str())?,
@@ -65,7 +65,7 @@ impl FromRow for SourcedCriterion {
 }
 
 // The criterion of a row, whosever it is.
-fn criterion(alloc: Global, row: &Row) -> Result<Criterion, Unread>
+fn criterion(alloc: Global, row: &Row) -> Result<Criterion, ReadError>
     ensures { (c : SourcedValue) → IsWritten IsSourcedCriterion sourced_criterion_row row.now c
         → Reads result c.criterion }
 {
@@ -77,7 +77,7 @@ fn criterion(alloc: Global, row: &Row) -> Result<Criterion, Unread>
         Cell::Blob(implied),
     ] = row.as_slice()
     else {
-        return Err(Unread::NotARegister);
+        return Err(ReadError::NotARegister);
     };
     Ok(Criterion {
         name: name(alloc, of_name.as_str())?,

@@ -9,7 +9,7 @@ ghost use Rattle.vet_item_rows.specs.Values.{IsName};
 use crate::read::cells::{int_at, text_at};
 use crate::read::columns::{day, name, names, number, package_name, version};
 use crate::read::from_row::FromRow;
-use crate::read::unread::Unread;
+use crate::read::read_error::ReadError;
 use std::alloc::Global;
 use vet_base::name::Name;
 use vet_desk::review::{Review, ReviewState};
@@ -19,9 +19,9 @@ use vet_tables::sequence::Row;
 impl FromRow for Name {
     ghost stands_for = { IsWritten IsName member_row };
 
-    fn from_row(alloc: Global, row: &Row) -> Result<Name, Unread> {
+    fn from_row(alloc: Global, row: &Row) -> Result<Name, ReadError> {
         let [Cell::Text(member)] = row.as_slice() else {
-            return Err(Unread::NotARegister);
+            return Err(ReadError::NotARegister);
         };
         name(alloc, member.as_str())
     }
@@ -30,7 +30,7 @@ impl FromRow for Name {
 impl FromRow for Review {
     ghost stands_for = { IsWritten IsReview review_row };
 
-    fn from_row(alloc: Global, row: &Row) -> Result<Review, Unread> {
+    fn from_row(alloc: Global, row: &Row) -> Result<Review, ReadError> {
         let [
             Cell::Int(of_number),
             Cell::Text(package),
@@ -40,7 +40,7 @@ impl FromRow for Review {
             ..
         ] = row.as_slice()
         else {
-            return Err(Unread::NotARegister);
+            return Err(ReadError::NotARegister);
         };
         let number = number(*of_number)?;
         let day = day(*on_day)?;
@@ -56,7 +56,7 @@ impl FromRow for Review {
 }
 
 // How far the review of a row has come.
-fn review_state(alloc: Global, row: &Row) -> Result<ReviewState, Unread>
+fn review_state(alloc: Global, row: &Row) -> Result<ReviewState, ReadError>
     ensures { (r : ReviewValue) → IsWritten IsReview review_row row.now r → Reads result r.state }
 {
     let state = number(int_at(row, 5)?)?;
@@ -72,11 +72,11 @@ fn review_state(alloc: Global, row: &Row) -> Result<ReviewState, Unread>
     if state == 3 {
         return Ok(ReviewState::Withdrawn);
     }
-    Err(Unread::NotARegister)
+    Err(ReadError::NotARegister)
 }
 
 // That the review of a row is assigned to somebody.
-fn assigned(alloc: Global, row: &Row) -> Result<ReviewState, Unread>
+fn assigned(alloc: Global, row: &Row) -> Result<ReviewState, ReadError>
     ensures { (r : ReviewValue) → IsWritten IsReview review_row row.now r → state_number r.state ≡ pos 1
         → Reads result r.state }
 {
@@ -84,7 +84,7 @@ fn assigned(alloc: Global, row: &Row) -> Result<ReviewState, Unread>
 }
 
 // That an entry finished the review of a row. Takes no memory.
-fn finished(row: &Row) -> Result<ReviewState, Unread>
+fn finished(row: &Row) -> Result<ReviewState, ReadError>
     ensures { (r : ReviewValue) → row.now ≡ review_row r → state_number r.state ≡ pos 2 → Reads result r.state }
 {
     Ok(ReviewState::Finished(number(int_at(row, 7)?)?))

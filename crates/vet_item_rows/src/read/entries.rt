@@ -8,7 +8,7 @@ use crate::read::cells::{blob_at, int_at, text_at};
 use crate::read::columns::{names, number, optional_text, package_name, source};
 use crate::read::from_row::FromRow;
 use crate::read::kinds::kind;
-use crate::read::unread::Unread;
+use crate::read::read_error::ReadError;
 use std::alloc::Global;
 use vet_entries::entry::Entry;
 use vet_entries::facts::HeldEntry;
@@ -17,7 +17,7 @@ use vet_tables::sequence::Row;
 impl FromRow for HeldEntry {
     ghost stands_for = { IsWritten IsHeldEntry entry_row };
 
-    fn from_row(alloc: Global, row: &Row) -> Result<HeldEntry, Unread> {
+    fn from_row(alloc: Global, row: &Row) -> Result<HeldEntry, ReadError> {
         Ok(HeldEntry {
             number: number(int_at(row, 0)?)?,
             entry: entry(alloc, row)?,
@@ -26,7 +26,7 @@ impl FromRow for HeldEntry {
 }
 
 // The entry of a row.
-fn entry(alloc: Global, row: &Row) -> Result<Entry, Unread>
+fn entry(alloc: Global, row: &Row) -> Result<Entry, ReadError>
     ensures { (held : HeldEntry) → IsWritten IsHeldEntry entry_row row.now held → Reads result held.entry }
 {
     Ok(Entry {

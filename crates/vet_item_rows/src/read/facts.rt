@@ -16,10 +16,10 @@ ghost use Rattle.vet_tables.specs.Cells.{rows_in};
 use crate::read::criteria::SourcedCriterion;
 use crate::read::from_row::read_rows;
 use crate::read::held_peers::{in_order, peers_of};
+use crate::read::read_error::ReadError;
 use crate::read::records::records_of;
 use crate::read::sourced::by_source;
 use crate::read::tables::{criteria_in, table_of};
-use crate::read::unread::Unread;
 use std::alloc::Global;
 use vet_base::criteria_table::CriteriaTable;
 use vet_entries::facts::{EntryFacts, HeldEntry};
@@ -38,9 +38,9 @@ pub(crate) struct PackageFacts {
 
 /// What is held of packages, where the rows of criteria, entries, publishers and peers are those of it, in whatever
 /// order. Takes a time of n log n.
-pub fn facts_of(alloc: Global, rows: &Rows) -> Result<EntryFacts, Unread>
+pub fn facts_of(alloc: Global, rows: &Rows) -> Result<EntryFacts, ReadError>
     ensures { (facts : Facts) → AreInForm facts → AreFactsValues facts → AreRowsOf (rows_in rows.now) facts
-        → MatchResult result (λ held. held.content ≡ facts) (λ e. e ≡ Unread.NoMemory) }
+        → MatchResult result (λ held. held.content ≡ facts) (λ e. e ≡ ReadError.NoMemory) }
 {
     let parts = parts_in(alloc, rows)?;
     let records = read_rows(alloc, rows.of(TableName::Publishers))?;
@@ -54,7 +54,7 @@ pub fn facts_of(alloc: Global, rows: &Rows) -> Result<EntryFacts, Unread>
 }
 
 // The parts that some rows are of.
-fn parts_in(alloc: Global, rows: &Rows) -> Result<PackageFacts, Unread>
+fn parts_in(alloc: Global, rows: &Rows) -> Result<PackageFacts, ReadError>
     ensures by_number { IfOk result (λ parts. AreByNumber parts.entries.items) }
     ensures by_name { IfOk result (λ parts. IsByKey (slice_cmp nat_cmp) peer_name parts.peers.items) }
     ensures back { (facts : Facts) → AreInForm facts → AreFactsValues facts → AreRowsOf (rows_in rows.now) facts
@@ -72,7 +72,7 @@ fn parts_of(
     criteria: Vec<SourcedCriterion>,
     entries: Vec<HeldEntry>,
     settings: Vec<PeerSettings>,
-) -> Result<PackageFacts, Unread>
+) -> Result<PackageFacts, ReadError>
     ensures by_number { IfOk result (λ parts. AreByNumber parts.entries.items) }
     ensures by_name { IfOk result (λ parts. IsByKey (slice_cmp nat_cmp) peer_name parts.peers.items) }
     ensures back { (facts : Facts) → AreInForm facts → AreItemsOf criteria.items entries.items settings.items facts
@@ -90,7 +90,7 @@ fn with_own(
     criteria: Vec<SourcedCriterion>,
     entries: Vec<HeldEntry>,
     peers: Vec<HeldPeer>,
-) -> Result<PackageFacts, Unread>
+) -> Result<PackageFacts, ReadError>
     requires { IsByKey (slice_cmp nat_cmp) peer_name peers.items }
     ensures by_number { IfOk result (λ parts. AreByNumber parts.entries.items) }
     ensures by_name { IfOk result (λ parts. IsByKey (slice_cmp nat_cmp) peer_name parts.peers.items) }

@@ -3,7 +3,7 @@ ghost use Rattle.std.specs.Prelude.{◌≡◌, List, MatchResult};
 ghost use Rattle.vet_item_rows.specs.ReadBack.{EachStandsFor, IsReadBack};
 ghost use Rattle.vet_tables.specs.Cells.{Row as RowValue};
 
-use crate::read::unread::Unread;
+use crate::read::read_error::ReadError;
 use std::alloc::Global;
 use vet_tables::sequence::Row;
 
@@ -13,14 +13,14 @@ pub trait FromRow: Drop {
     ghost stands_for: { RowValue → Self → Type 0 };
 
     /// The value that a row stands for. It is not said what comes of other rows.
-    fn from_row(alloc: Global, row: &Row) -> Result<Self, Unread>
+    fn from_row(alloc: Global, row: &Row) -> Result<Self, ReadError>
         ensures { IsReadBack stands_for row.now result };
 }
 
 /// The values that these rows stand for, row by row.
-pub fn read_rows<T: FromRow>(alloc: Global, rows: &[Row]) -> Result<Vec<T>, Unread>
+pub fn read_rows<T: FromRow>(alloc: Global, rows: &[Row]) -> Result<Vec<T>, ReadError>
     ensures { (xs : List T) → EachStandsFor T.stands_for rows.now xs
-        → MatchResult result (λ values. values.items ≡ xs) (λ e. e ≡ Unread.NoMemory) }
+        → MatchResult result (λ values. values.items ≡ xs) (λ e. e ≡ ReadError.NoMemory) }
 {
     let mut values = Vec::new(alloc);
     'rows: for row in rows {

@@ -13,8 +13,8 @@ ghost use Rattle.vet_item_rows.specs.ReadPeers.{ArePartsOf, IsGroupOf};
 
 use crate::read::criteria::SourcedCriterion;
 use crate::read::gathered::{Group, WithKey, gather};
+use crate::read::read_error::ReadError;
 use crate::read::tables::{criteria_in, definitions_of};
-use crate::read::unread::Unread;
 use std::alloc::{AllocError, Global};
 use vet_base::keyed::Keyed;
 use vet_base::name::Name;
@@ -30,10 +30,10 @@ pub(crate) fn peers_of(
     settings: Vec<PeerSettings>,
     entries: Vec<WithKey<Name, HeldEntry>>,
     criteria: Vec<WithKey<Name, SourcedCriterion>>,
-) -> Result<Vec<HeldPeer>, Unread>
+) -> Result<Vec<HeldPeer>, ReadError>
     ensures by_name { IfOk result (λ peers. IsByKey (slice_cmp nat_cmp) peer_name peers.items) }
     ensures back { (peers : List PeerValue) → ArePartsOf settings.items entries.items criteria.items peers
-        → MatchResult result (λ held. held.items ≡ peers) (λ e. e ≡ Unread.NoMemory) }
+        → MatchResult result (λ held. held.items ≡ peers) (λ e. e ≡ ReadError.NoMemory) }
 {
     let settings = Keyed::of(alloc, settings)?.into_items();
     let groups = gather(alloc, settings, entries)?;
@@ -55,9 +55,9 @@ pub(crate) fn in_order(alloc: Global, entries: Vec<HeldEntry>) -> Result<Vec<Hel
 fn held_peers(
     alloc: Global,
     groups: Vec<Group<Group<PeerSettings, HeldEntry>, SourcedCriterion>>,
-) -> Result<Vec<HeldPeer>, Unread>
+) -> Result<Vec<HeldPeer>, ReadError>
     ensures { (peers : List PeerValue) → EachStandsFor IsGroupOf groups.items peers
-        → MatchResult result (λ held. held.items ≡ peers) (λ e. e ≡ Unread.NoMemory) }
+        → MatchResult result (λ held. held.items ≡ peers) (λ e. e ≡ ReadError.NoMemory) }
 {
     let mut peers = Vec::new(alloc);
     'groups: for group in groups {
@@ -70,7 +70,7 @@ fn held_peers(
 fn held_peer(
     alloc: Global,
     group: Group<Group<PeerSettings, HeldEntry>, SourcedCriterion>,
-) -> Result<HeldPeer, Unread>
+) -> Result<HeldPeer, ReadError>
     ensures { IsReadBack IsGroupOf group result }
 {
     let (group, criteria) = group.into_parts();

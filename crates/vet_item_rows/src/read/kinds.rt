@@ -17,7 +17,7 @@ ghost use Rattle.vet_item_rows.specs.Values.{AreTexts, IsHeldEntry, IsWindow};
 
 use crate::read::cells::{blob_at, int_at, text_at};
 use crate::read::columns::{day, flag, number, requirement, texts, user, version};
-use crate::read::unread::Unread;
+use crate::read::read_error::ReadError;
 use std::alloc::Global;
 use std::marker::Model;
 use vet_base::delta::Delta;
@@ -59,14 +59,14 @@ impl<'a> Model for KindCells<'a> {
 }
 
 /// What the row of an entry says of its package.
-pub(crate) fn kind(alloc: Global, row: &Row) -> Result<Kind, Unread>
+pub(crate) fn kind(alloc: Global, row: &Row) -> Result<Kind, ReadError>
     ensures { (held : HeldEntry) → IsWritten IsHeldEntry entry_row row.now held → Reads result held.entry.kind }
 {
     kind_of(alloc, &kind_cells(row)?)
 }
 
 // Its columns.
-fn kind_cells(row: &Row) -> Result<KindCells<'_>, Unread>
+fn kind_cells(row: &Row) -> Result<KindCells<'_>, ReadError>
     ensures { (held : HeldEntry) → row.now ≡ entry_row held → result ≡ Ok (with_kind held.entry.kind unused) }
 {
     Ok(KindCells {
@@ -84,7 +84,7 @@ fn kind_cells(row: &Row) -> Result<KindCells<'_>, Unread>
 }
 
 // What columns say.
-fn kind_of(alloc: Global, cells: &KindCells<'_>) -> Result<Kind, Unread>
+fn kind_of(alloc: Global, cells: &KindCells<'_>) -> Result<Kind, ReadError>
     ensures { IsReadBack IsSaidIn cells.now result }
 {
     let number = kind_number(cells)?;
@@ -106,18 +106,18 @@ fn kind_of(alloc: Global, cells: &KindCells<'_>) -> Result<Kind, Unread>
     if number == 5 {
         return exemption(alloc, cells);
     }
-    Err(Unread::NotARegister)
+    Err(ReadError::NotARegister)
 }
 
 // The number of the kind. Takes no memory.
-fn kind_number(cells: &KindCells<'_>) -> Result<u64, Unread>
+fn kind_number(cells: &KindCells<'_>) -> Result<u64, ReadError>
     ensures { (n : ℕ) → cells.now.kind ≡ pos n → result ≡ Ok n }
 {
     number(cells.kind)
 }
 
 // That a version was reviewed in full.
-fn full(alloc: Global, cells: &KindCells<'_>) -> Result<Kind, Unread>
+fn full(alloc: Global, cells: &KindCells<'_>) -> Result<Kind, ReadError>
     ensures { (v : VersionValue) (a : Audit) → IsSaidIn cells.now (said.Full v a) → Reads result (said.Full v a) }
 {
     let version = version(alloc, cells.a)?;
@@ -125,7 +125,7 @@ fn full(alloc: Global, cells: &KindCells<'_>) -> Result<Kind, Unread>
 }
 
 // That what changed between two versions was reviewed.
-fn delta(alloc: Global, cells: &KindCells<'_>) -> Result<Kind, Unread>
+fn delta(alloc: Global, cells: &KindCells<'_>) -> Result<Kind, ReadError>
     ensures { (d : Delta) (a : Audit) → IsSaidIn cells.now (said.Delta d a) → Reads result (said.Delta d a) }
 {
     let from = version(alloc, cells.a)?;
@@ -134,7 +134,7 @@ fn delta(alloc: Global, cells: &KindCells<'_>) -> Result<Kind, Unread>
 }
 
 // That versions do not meet the criteria.
-fn violation(alloc: Global, cells: &KindCells<'_>) -> Result<Kind, Unread>
+fn violation(alloc: Global, cells: &KindCells<'_>) -> Result<Kind, ReadError>
     ensures { (r : Text) (a : Audit) → IsSaidIn cells.now (said.Violation r a) → Reads result (said.Violation r a) }
 {
     let requirement = requirement(alloc, cells.a)?;
@@ -142,7 +142,7 @@ fn violation(alloc: Global, cells: &KindCells<'_>) -> Result<Kind, Unread>
 }
 
 // That somebody vouches for what a user publishes.
-fn wildcard(alloc: Global, cells: &KindCells<'_>) -> Result<Kind, Unread>
+fn wildcard(alloc: Global, cells: &KindCells<'_>) -> Result<Kind, ReadError>
     ensures { (w : Window) (g : Grant) → IsSaidIn cells.now (said.Wildcard w g) → Reads result (said.Wildcard w g) }
 {
     let window = window(cells)?;
@@ -150,7 +150,7 @@ fn wildcard(alloc: Global, cells: &KindCells<'_>) -> Result<Kind, Unread>
 }
 
 // That a version is exempted.
-fn exemption(alloc: Global, cells: &KindCells<'_>) -> Result<Kind, Unread>
+fn exemption(alloc: Global, cells: &KindCells<'_>) -> Result<Kind, ReadError>
     ensures { (v : VersionValue) (s : Option Bool) → IsSaidIn cells.now (said.Exemption v s)
         → Reads result (said.Exemption v s) }
 {
@@ -162,7 +162,7 @@ fn exemption(alloc: Global, cells: &KindCells<'_>) -> Result<Kind, Unread>
 }
 
 // Who made an audit, and whether others may import it.
-fn audit(alloc: Global, cells: &KindCells<'_>) -> Result<Audit, Unread>
+fn audit(alloc: Global, cells: &KindCells<'_>) -> Result<Audit, ReadError>
     ensures { (a : Audit) → AreTexts a.who → cells.now.who ≡ packed_names a.who
         → cells.now.importable ≡ flag a.importable → Reads result a }
 {
@@ -173,7 +173,7 @@ fn audit(alloc: Global, cells: &KindCells<'_>) -> Result<Audit, Unread>
 }
 
 // Who vouches, and whether that is to be renewed.
-fn grant(alloc: Global, cells: &KindCells<'_>) -> Result<Grant, Unread>
+fn grant(alloc: Global, cells: &KindCells<'_>) -> Result<Grant, ReadError>
     ensures { (g : Grant) → AreTexts g.who → cells.now.who ≡ packed_names g.who → cells.now.renew ≡ flag g.renew
         → Reads result g }
 {
@@ -184,7 +184,7 @@ fn grant(alloc: Global, cells: &KindCells<'_>) -> Result<Grant, Unread>
 }
 
 // A user, from a first day to a last.
-fn window(cells: &KindCells<'_>) -> Result<Window, Unread>
+fn window(cells: &KindCells<'_>) -> Result<Window, ReadError>
     ensures { (w : Window) → IsWindow w → cells.now.user ≡ pos w.user → cells.now.day1 ≡ day_number w.first
         → cells.now.day2 ≡ day_number w.last → result ≡ Ok w }
 {

@@ -17,7 +17,7 @@ ghost use Rattle.vet_item_rows.specs.SettingRows.{policy_row};
 ghost use Rattle.vet_item_rows.specs.Values.{IsName};
 
 use crate::read::from_row::read_rows;
-use crate::read::unread::Unread;
+use crate::read::read_error::ReadError;
 use std::alloc::Global;
 use vet_base::keyed::Keyed;
 use vet_base::name::Name;
@@ -27,30 +27,30 @@ use vet_desk::review::Review;
 use vet_tables::sequence::Row;
 
 /// The policies of these rows.
-pub fn policies(alloc: Global, rows: &[Row]) -> Result<Keyed<KeyedPolicy>, Unread>
+pub fn policies(alloc: Global, rows: &[Row]) -> Result<Keyed<KeyedPolicy>, ReadError>
     ensures { (list : List KeyedPolicy) → IsInKeyOrder list → All IsKeyedPolicy list
         → SameItems rows.now (map policy_row list)
-        → MatchResult result (λ k. k.items ≡ list) (λ e. e ≡ Unread.NoMemory) }
+        → MatchResult result (λ k. k.items ≡ list) (λ e. e ≡ ReadError.NoMemory) }
 {
     let policies = read_rows(alloc, rows)?;
     Ok(Keyed::of(alloc, policies)?)
 }
 
 /// The members of these rows.
-pub fn members(alloc: Global, rows: &[Row]) -> Result<Keyed<Name>, Unread>
+pub fn members(alloc: Global, rows: &[Row]) -> Result<Keyed<Name>, ReadError>
     ensures { (list : List words.Name) → IsByKey (slice_cmp nat_cmp) own_name list → All IsName list
         → SameItems rows.now (map member_row list)
-        → MatchResult result (λ k. k.items ≡ list) (λ e. e ≡ Unread.NoMemory) }
+        → MatchResult result (λ k. k.items ≡ list) (λ e. e ≡ ReadError.NoMemory) }
 {
     let members = read_rows(alloc, rows)?;
     Ok(Keyed::of(alloc, members)?)
 }
 
 /// The reviews of these rows.
-pub fn reviews(alloc: Global, rows: &[Row]) -> Result<Vec<Review>, Unread>
+pub fn reviews(alloc: Global, rows: &[Row]) -> Result<Vec<Review>, ReadError>
     ensures { (list : List ReviewValue) → IsByKey nat_cmp review_number list → All IsReview list
         → SameItems rows.now (map review_row list)
-        → MatchResult result (λ v. v.items ≡ list) (λ e. e ≡ Unread.NoMemory) }
+        → MatchResult result (λ v. v.items ≡ list) (λ e. e ≡ ReadError.NoMemory) }
 {
     let reviews = read_rows(alloc, rows)?;
     Ok(rank(reviews)?)

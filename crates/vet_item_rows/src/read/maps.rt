@@ -10,7 +10,7 @@ use crate::packed::read_items;
 use crate::packed_item::PackedItem;
 use crate::read::columns::names;
 use crate::read::gathered::WithKey;
-use crate::read::unread::{Unread, found};
+use crate::read::read_error::{ReadError, found};
 use std::alloc::Global;
 use vet_base::names::Names;
 
@@ -18,20 +18,23 @@ use vet_base::names::Names;
 pub(crate) fn map_items<K: PackedItem>(
     alloc: Global,
     bytes: &[u8],
-) -> Result<Vec<WithKey<K, Names>>, Unread>
+) -> Result<Vec<WithKey<K, Names>>, ReadError>
     ensures { (xs : List (WithKeyValue K NameSet))
         → IsWritten (AreMapItems K.bytes_of K.read_bytes) (map_column K.bytes_of) bytes.now xs
-        → MatchResult result (λ items. items.items ≡ xs) (λ e. e ≡ Unread.NoMemory) }
+        → MatchResult result (λ items. items.items ≡ xs) (λ e. e ≡ ReadError.NoMemory) }
 {
     let items = found(read_items(alloc, bytes)?)?;
     in_turn(alloc, items.as_slice())
 }
 
 // Those of keys and packed names in turn.
-fn in_turn<K: PackedItem>(alloc: Global, items: &[&[u8]]) -> Result<Vec<WithKey<K, Names>>, Unread>
+fn in_turn<K: PackedItem>(
+    alloc: Global,
+    items: &[&[u8]],
+) -> Result<Vec<WithKey<K, Names>>, ReadError>
     ensures { (xs : List (WithKeyValue K NameSet))
         → IsWritten (AreMapItems K.bytes_of K.read_bytes) (in_turn K.bytes_of) (map (λ item. item.now) items.now) xs
-        → MatchResult result (λ items. items.items ≡ xs) (λ e. e ≡ Unread.NoMemory) }
+        → MatchResult result (λ items. items.items ≡ xs) (λ e. e ≡ ReadError.NoMemory) }
 {
     let mut found = Vec::new(alloc);
     let mut rest = items;
@@ -47,7 +50,7 @@ fn map_item<K: PackedItem>(
     alloc: Global,
     key: &[u8],
     list: &[u8],
-) -> Result<WithKey<K, Names>, Unread>
+) -> Result<WithKey<K, Names>, ReadError>
     ensures { (x : WithKeyValue K NameSet) → IsMapItem K.bytes_of K.read_bytes x → key.now ≡ K.bytes_of x.key
         → list.now ≡ packed_names x.item → Reads result x }
 {

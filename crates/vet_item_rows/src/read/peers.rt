@@ -8,7 +8,7 @@ use crate::read::columns::{name, packages, texts};
 use crate::read::from_row::FromRow;
 use crate::read::gathered::WithKey;
 use crate::read::maps::map_items;
-use crate::read::unread::Unread;
+use crate::read::read_error::ReadError;
 use std::alloc::{AllocError, Global};
 use vet_base::name::Name;
 use vet_base::names::Names;
@@ -20,7 +20,7 @@ use vet_tables::sequence::Row;
 impl FromRow for PeerSettings {
     ghost stands_for = { IsWritten IsPeerSettings peer_row };
 
-    fn from_row(alloc: Global, row: &Row) -> Result<PeerSettings, Unread> {
+    fn from_row(alloc: Global, row: &Row) -> Result<PeerSettings, ReadError> {
         let [
             Cell::Text(of_name),
             Cell::Blob(urls),
@@ -28,7 +28,7 @@ impl FromRow for PeerSettings {
             Cell::Blob(mapped),
         ] = row.as_slice()
         else {
-            return Err(Unread::NotARegister);
+            return Err(ReadError::NotARegister);
         };
         Ok(PeerSettings {
             name: name(alloc, of_name.as_str())?,
@@ -40,7 +40,7 @@ impl FromRow for PeerSettings {
 }
 
 // What the peer's criteria stand for.
-fn criteria_map(alloc: Global, bytes: &[u8]) -> Result<CriteriaMap, Unread>
+fn criteria_map(alloc: Global, bytes: &[u8]) -> Result<CriteriaMap, ReadError>
     ensures { IsReadBack (IsWritten IsCriteriaMap criteria_map_column) bytes.now result }
 {
     let items = map_items::<Name>(alloc, bytes)?;

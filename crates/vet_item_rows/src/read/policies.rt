@@ -10,7 +10,7 @@ use crate::read::columns::{flag, optional_names, optional_text, policy_key};
 use crate::read::from_row::FromRow;
 use crate::read::gathered::WithKey;
 use crate::read::maps::map_items;
-use crate::read::unread::Unread;
+use crate::read::read_error::ReadError;
 use std::alloc::{AllocError, Global};
 use vet_base::name::PackageName;
 use vet_base::names::Names;
@@ -23,9 +23,9 @@ use vet_tables::sequence::Row;
 impl FromRow for KeyedPolicy {
     ghost stands_for = { IsWritten IsKeyedPolicy policy_row };
 
-    fn from_row(alloc: Global, row: &Row) -> Result<KeyedPolicy, Unread> {
+    fn from_row(alloc: Global, row: &Row) -> Result<KeyedPolicy, ReadError> {
         let [Cell::Text(key), ..] = row.as_slice() else {
-            return Err(Unread::NotARegister);
+            return Err(ReadError::NotARegister);
         };
         Ok(KeyedPolicy {
             key: policy_key(alloc, key.as_str())?,
@@ -35,7 +35,7 @@ impl FromRow for KeyedPolicy {
 }
 
 // What a row says but for its key.
-fn policy(alloc: Global, row: &Row) -> Result<Policy, Unread>
+fn policy(alloc: Global, row: &Row) -> Result<Policy, ReadError>
     ensures { (p : PolicyValue) → IsWritten IsKeyedPolicy policy_row row.now p → Reads result p.policy }
 {
     let [
@@ -47,7 +47,7 @@ fn policy(alloc: Global, row: &Row) -> Result<Policy, Unread>
         Cell::Blob(notes),
     ] = row.as_slice()
     else {
-        return Err(Unread::NotARegister);
+        return Err(ReadError::NotARegister);
     };
     Ok(Policy {
         audit_as_crates_io: flag(*as_crates)?,
@@ -59,7 +59,7 @@ fn policy(alloc: Global, row: &Row) -> Result<Policy, Unread>
 }
 
 // The criteria for dependencies in a column.
-fn dependencies(alloc: Global, bytes: &[u8]) -> Result<DependencyCriteria, Unread>
+fn dependencies(alloc: Global, bytes: &[u8]) -> Result<DependencyCriteria, ReadError>
     ensures { IsReadBack (IsWritten AreDependencies dependency_column) bytes.now result }
 {
     let filed = map_items::<PackageName>(alloc, bytes)?;

@@ -31,7 +31,7 @@ ghost use Rattle.vet_tables.specs.declared.cell.Cell.TheVariants.{Text};
 use crate::read::columns::{package_name, version};
 use crate::read::from_row::{FromRow, read_rows};
 use crate::read::gathered::{Group, WithKey, gather};
-use crate::read::unread::{Unread, found};
+use crate::read::read_error::{ReadError, found};
 use std::alloc::{AllocError, Global};
 use vet_base::keyed::Keyed;
 use vet_base::name::PackageName;
@@ -76,9 +76,9 @@ impl Drop for EdgeEnds {
 impl FromRow for WithKey<PackageName, Node> {
     ghost stands_for = { IsWritten IsFiledNode filed_node_row };
 
-    fn from_row(alloc: Global, row: &Row) -> Result<WithKey<PackageName, Node>, Unread> {
+    fn from_row(alloc: Global, row: &Row) -> Result<WithKey<PackageName, Node>, ReadError> {
         let [Cell::Text(project), ..] = row.as_slice() else {
-            return Err(Unread::NotARegister);
+            return Err(ReadError::NotARegister);
         };
         Ok(WithKey {
             key: package_name(alloc, project.as_str())?,
@@ -88,7 +88,7 @@ impl FromRow for WithKey<PackageName, Node> {
 }
 
 // The node of a row.
-fn node(alloc: Global, row: &Row) -> Result<Node, Unread>
+fn node(alloc: Global, row: &Row) -> Result<Node, ReadError>
     ensures { (f : WithKeyValue Name NodeValue) → IsWritten IsFiledNode filed_node_row row.now f → Reads result f.item }
 {
     let [
@@ -98,7 +98,7 @@ fn node(alloc: Global, row: &Row) -> Result<Node, Unread>
         Cell::Int(of_party),
     ] = row.as_slice()
     else {
-        return Err(Unread::NotARegister);
+        return Err(ReadError::NotARegister);
     };
     Ok(Node {
         package: package_name(alloc, package.as_str())?,
@@ -110,9 +110,9 @@ fn node(alloc: Global, row: &Row) -> Result<Node, Unread>
 impl FromRow for WithKey<PackageName, EdgeEnds> {
     ghost stands_for = { IsWritten IsFiledEnds filed_ends_row };
 
-    fn from_row(alloc: Global, row: &Row) -> Result<WithKey<PackageName, EdgeEnds>, Unread> {
+    fn from_row(alloc: Global, row: &Row) -> Result<WithKey<PackageName, EdgeEnds>, ReadError> {
         let [Cell::Text(project), ..] = row.as_slice() else {
-            return Err(Unread::NotARegister);
+            return Err(ReadError::NotARegister);
         };
         Ok(WithKey {
             key: package_name(alloc, project.as_str())?,
@@ -122,7 +122,7 @@ impl FromRow for WithKey<PackageName, EdgeEnds> {
 }
 
 // The ends of the edge of a row.
-fn edge_ends(alloc: Global, row: &Row) -> Result<EdgeEnds, Unread>
+fn edge_ends(alloc: Global, row: &Row) -> Result<EdgeEnds, ReadError>
     ensures { (f : WithKeyValue Name EdgeEndsValue) → IsWritten IsFiledEnds filed_ends_row row.now f
         → Reads result f.item }
 {
@@ -135,7 +135,7 @@ fn edge_ends(alloc: Global, row: &Row) -> Result<EdgeEnds, Unread>
         Cell::Int(of_kind),
     ] = row.as_slice()
     else {
-        return Err(Unread::NotARegister);
+        return Err(ReadError::NotARegister);
     };
     let kind = kind(*of_kind)?;
     Ok(EdgeEnds {
@@ -146,7 +146,7 @@ fn edge_ends(alloc: Global, row: &Row) -> Result<EdgeEnds, Unread>
 }
 
 // A version of a package.
-fn read_end(alloc: Global, of_package: &str, of_version: &str) -> Result<End, Unread>
+fn read_end(alloc: Global, of_package: &str, of_version: &str) -> Result<End, ReadError>
     ensures { (e : EndValue) → IsEnd e → of_package.now ≡ e.«package» → of_version.now ≡ version_text e.version
         → Reads result e }
 {
@@ -157,35 +157,39 @@ fn read_end(alloc: Global, of_package: &str, of_version: &str) -> Result<End, Un
 }
 
 // Whose a package is. Takes no memory.
-fn party(column: i64) -> Result<Party, Unread>
+fn party(column: i64) -> Result<Party, ReadError>
     ensures { (p : PartyValue) → column ≡ pos (party_place p) → result ≡ Ok p }
 {
     match column {
         0 => Ok(Party::Root),
         1 => Ok(Party::First),
         2 => Ok(Party::Third),
-        _ => Err(Unread::NotARegister),
+        _ => Err(ReadError::NotARegister),
     }
 }
 
 // For what a package depends on another. Takes no memory.
-fn kind(column: i64) -> Result<EdgeKind, Unread>
+fn kind(column: i64) -> Result<EdgeKind, ReadError>
     ensures { (k : KindValue) → column ≡ pos (kind_place k) → result ≡ Ok k }
 {
     match column {
         0 => Ok(EdgeKind::Normal),
         1 => Ok(EdgeKind::Build),
         2 => Ok(EdgeKind::Dev),
-        _ => Err(Unread::NotARegister),
+        _ => Err(ReadError::NotARegister),
     }
 }
 
 /// The projects of these rows, in whatever order they are. Takes a time of n log n.
-pub fn projects(alloc: Global, nodes: &[Row], edges: &[Row]) -> Result<Keyed<NamedProject>, Unread>
+pub fn projects(
+    alloc: Global,
+    nodes: &[Row],
+    edges: &[Row],
+) -> Result<Keyed<NamedProject>, ReadError>
     ensures { (projects : List ProjectValue)
         → IsByKey (slice_cmp nat_cmp) project_name projects → All IsNamedProject projects
         → SameItems nodes.now (flat_map node_rows projects) → SameItems edges.now (flat_map edge_rows projects)
-        → MatchResult result (λ k. k.items ≡ projects) (λ e. e ≡ Unread.NoMemory) }
+        → MatchResult result (λ k. k.items ≡ projects) (λ e. e ≡ ReadError.NoMemory) }
 {
     let nodes = read_rows(alloc, nodes)?;
     projects_of(alloc, nodes, read_rows(alloc, edges)?)
@@ -196,9 +200,9 @@ fn projects_of(
     alloc: Global,
     nodes: Vec<WithKey<PackageName, Node>>,
     edges: Vec<WithKey<PackageName, EdgeEnds>>,
-) -> Result<Keyed<NamedProject>, Unread>
+) -> Result<Keyed<NamedProject>, ReadError>
     ensures { (projects : List ProjectValue) → AreNodesAndEdgesOf nodes.items edges.items projects
-        → MatchResult result (λ k. k.items ≡ projects) (λ e. e ≡ Unread.NoMemory) }
+        → MatchResult result (λ k. k.items ≡ projects) (λ e. e ≡ ReadError.NoMemory) }
 {
     let names = names_of(alloc, nodes.as_slice())?;
     let with_nodes = gather(alloc, names.into_items(), nodes)?;
@@ -225,9 +229,9 @@ fn names_of(
 fn projects_in(
     alloc: Global,
     groups: Vec<Group<Group<PackageName, Node>, EdgeEnds>>,
-) -> Result<Vec<NamedProject>, Unread>
+) -> Result<Vec<NamedProject>, ReadError>
     ensures { (projects : List ProjectValue) → EachStandsFor TellsGathered groups.items projects
-        → MatchResult result (λ v. v.items ≡ projects) (λ e. e ≡ Unread.NoMemory) }
+        → MatchResult result (λ v. v.items ≡ projects) (λ e. e ≡ ReadError.NoMemory) }
 {
     let mut projects = Vec::new(alloc);
     'groups: for group in groups {
@@ -240,7 +244,7 @@ fn projects_in(
 fn project_in(
     alloc: Global,
     group: Group<Group<PackageName, Node>, EdgeEnds>,
-) -> Result<NamedProject, Unread>
+) -> Result<NamedProject, ReadError>
     ensures { IsReadBack TellsGathered group result }
 {
     let (with_nodes, edges) = group.into_parts();
@@ -254,7 +258,7 @@ fn project(
     name: PackageName,
     nodes: Vec<Node>,
     ends: &[EdgeEnds],
-) -> Result<NamedProject, Unread>
+) -> Result<NamedProject, ReadError>
     ensures { IsReadBack (TellsProject name nodes.items) ends.now result }
 {
     let nodes = rank(nodes)?;
@@ -263,7 +267,7 @@ fn project(
 }
 
 // The project of this name, these nodes and these edges, which may be in whatever order.
-fn restore(name: PackageName, nodes: Vec<Node>, edges: Vec<Edge>) -> Result<NamedProject, Unread>
+fn restore(name: PackageName, nodes: Vec<Node>, edges: Vec<Edge>) -> Result<NamedProject, ReadError>
     ensures { (p : ProjectValue) → IsProject p.project → name ≡ p.name → nodes.items ≡ p.project.nodes
         → SameItems edges.items p.project.edges → Reads result p }
 {
@@ -275,9 +279,9 @@ fn restore(name: PackageName, nodes: Vec<Node>, edges: Vec<Edge>) -> Result<Name
 }
 
 // The edges of these ends, each end by its place among the nodes.
-fn edges_between(alloc: Global, nodes: &[Node], ends: &[EdgeEnds]) -> Result<Vec<Edge>, Unread>
+fn edges_between(alloc: Global, nodes: &[Node], ends: &[EdgeEnds]) -> Result<Vec<Edge>, ReadError>
     ensures { (edges : List EdgeValue) → AreInNodeOrder nodes.now → EachStandsFor (IsEdgeOf nodes.now) ends.now edges
-        → MatchResult result (λ v. v.items ≡ edges) (λ e. e ≡ Unread.NoMemory) }
+        → MatchResult result (λ v. v.items ≡ edges) (λ e. e ≡ ReadError.NoMemory) }
 {
     let mut edges = Vec::new(alloc);
     'ends: for pair in ends {
@@ -287,7 +291,7 @@ fn edges_between(alloc: Global, nodes: &[Node], ends: &[EdgeEnds]) -> Result<Vec
 }
 
 // The edge of these ends. Takes no memory.
-fn edge_between(nodes: &[Node], ends: &EdgeEnds) -> Result<Edge, Unread>
+fn edge_between(nodes: &[Node], ends: &EdgeEnds) -> Result<Edge, ReadError>
     ensures { (e : EdgeValue) → AreInNodeOrder nodes.now → IsEdgeOf nodes.now ends.now e → result ≡ Ok e }
 {
     Ok(Edge {

@@ -8,7 +8,7 @@ ghost use Rattle.vet_item_rows.specs.declared.read.gathered.WithKey.{WithKey as 
 use crate::read::columns::{day, optional_text, package_name, user, version};
 use crate::read::from_row::FromRow;
 use crate::read::gathered::WithKey;
-use crate::read::unread::Unread;
+use crate::read::read_error::ReadError;
 use std::alloc::Global;
 use vet_base::name::PackageName;
 use vet_entries::publisher::Publisher;
@@ -18,9 +18,9 @@ use vet_tables::sequence::Row;
 impl FromRow for WithKey<PackageName, Publisher> {
     ghost stands_for = { IsWritten IsFiledPublisher filed_publisher_row };
 
-    fn from_row(alloc: Global, row: &Row) -> Result<WithKey<PackageName, Publisher>, Unread> {
+    fn from_row(alloc: Global, row: &Row) -> Result<WithKey<PackageName, Publisher>, ReadError> {
         let [Cell::Text(package), ..] = row.as_slice() else {
-            return Err(Unread::NotARegister);
+            return Err(ReadError::NotARegister);
         };
         Ok(WithKey {
             key: package_name(alloc, package.as_str())?,
@@ -30,7 +30,7 @@ impl FromRow for WithKey<PackageName, Publisher> {
 }
 
 // The record of a row, of whatever package.
-fn publisher(alloc: Global, row: &Row) -> Result<Publisher, Unread>
+fn publisher(alloc: Global, row: &Row) -> Result<Publisher, ReadError>
     ensures { (f : WithKeyValue Name PublisherValue) → IsWritten IsFiledPublisher filed_publisher_row row.now f
         → Reads result f.item }
 {
@@ -43,7 +43,7 @@ fn publisher(alloc: Global, row: &Row) -> Result<Publisher, Unread>
         Cell::Blob(name),
     ] = row.as_slice()
     else {
-        return Err(Unread::NotARegister);
+        return Err(ReadError::NotARegister);
     };
     let user = user(*of_user)?;
     let day = day(*on_day)?;

@@ -8,7 +8,7 @@ ghost use Rattle.vet_item_rows.specs.ReadBack.{EachStandsFor, IsReadBack};
 ghost use Rattle.vet_item_rows.specs.ReadRecords.{AreRecordsOf, IsGroupOfPackage};
 
 use crate::read::gathered::{Group, WithKey, gather};
-use crate::read::unread::Unread;
+use crate::read::read_error::ReadError;
 use std::alloc::{AllocError, Global};
 use vet_base::keyed::Keyed;
 use vet_base::limits::MOST_PUBLISHERS;
@@ -21,18 +21,18 @@ use vet_entries::publishers::Publishers;
 pub(crate) fn records_of(
     alloc: Global,
     records: Vec<WithKey<PackageName, Publisher>>,
-) -> Result<Vec<PackagePublishers>, Unread>
+) -> Result<Vec<PackagePublishers>, ReadError>
     ensures by_name { IfOk result (λ packages. IsByName packages.items) }
     ensures few { IfOk result (λ packages. records_total packages.items ≤ MOST_PUBLISHERS) }
     ensures back { (packages : List PackageValue) → AreRecordsOf records.items packages
-        → MatchResult result (λ held. held.items ≡ packages) (λ e. e ≡ Unread.NoMemory) }
+        → MatchResult result (λ held. held.items ≡ packages) (λ e. e ≡ ReadError.NoMemory) }
 {
     let names = names_of(alloc, records.as_slice())?;
     let names = Keyed::of(alloc, names)?.into_items();
     let groups = gather(alloc, names, records)?;
     let packages = Keyed::of(alloc, packages_of(alloc, groups)?)?.into_items();
     if !are_held(packages.as_slice()) {
-        return Err(Unread::NotARegister);
+        return Err(ReadError::NotARegister);
     }
     Ok(packages)
 }
@@ -55,9 +55,9 @@ fn names_of(
 fn packages_of(
     alloc: Global,
     groups: Vec<Group<PackageName, Publisher>>,
-) -> Result<Vec<PackagePublishers>, Unread>
+) -> Result<Vec<PackagePublishers>, ReadError>
     ensures { (packages : List PackageValue) → EachStandsFor IsGroupOfPackage groups.items packages
-        → MatchResult result (λ held. held.items ≡ packages) (λ e. e ≡ Unread.NoMemory) }
+        → MatchResult result (λ held. held.items ≡ packages) (λ e. e ≡ ReadError.NoMemory) }
 {
     let mut packages = Vec::new(alloc);
     'groups: for group in groups {
@@ -70,7 +70,7 @@ fn packages_of(
 fn package_of(
     alloc: Global,
     group: Group<PackageName, Publisher>,
-) -> Result<PackagePublishers, Unread>
+) -> Result<PackagePublishers, ReadError>
     ensures { IsReadBack IsGroupOfPackage group result }
 {
     let (package, records) = group.into_parts();

@@ -7,7 +7,7 @@ ghost use Rattle.vet_item_rows.specs.ReadBack.{Reads};
 ghost use Rattle.vet_item_rows.specs.ReadPeers.{IsPeerTable, criterion_in};
 
 use crate::read::criteria::SourcedCriterion;
-use crate::read::unread::Unread;
+use crate::read::read_error::ReadError;
 use std::alloc::{AllocError, Global};
 use vet_base::criteria_table::CriteriaTable;
 use vet_base::criterion::Criterion;
@@ -30,7 +30,7 @@ pub(crate) fn criteria_in(
 }
 
 /// The table of the built-in criteria and of these, which are in whatever order and may repeat.
-pub(crate) fn table_of(alloc: Global, criteria: Vec<Criterion>) -> Result<CriteriaTable, Unread>
+pub(crate) fn table_of(alloc: Global, criteria: Vec<Criterion>) -> Result<CriteriaTable, ReadError>
     ensures { (table : Criteria) → IsTable table → SameItems criteria.items (further table) → Reads result table }
 {
     let criteria = Keyed::of(alloc, criteria)?.into_items();
@@ -38,13 +38,16 @@ pub(crate) fn table_of(alloc: Global, criteria: Vec<Criterion>) -> Result<Criter
 }
 
 /// The criteria of a peer: the built-in ones and these, which are in whatever order and may repeat.
-pub(crate) fn definitions_of(alloc: Global, criteria: Vec<Criterion>) -> Result<Definitions, Unread>
+pub(crate) fn definitions_of(
+    alloc: Global,
+    criteria: Vec<Criterion>,
+) -> Result<Definitions, ReadError>
     ensures { (table : Criteria) → IsPeerTable table → SameItems criteria.items (further table)
         → Reads result table }
 {
     let criteria = Keyed::of(alloc, criteria)?.into_items();
     if criteria.len() > MOST_PEER_CRITERIA {
-        return Err(Unread::NotARegister);
+        return Err(ReadError::NotARegister);
     }
     Ok(Definitions::of(alloc, criteria)?)
 }

@@ -12,7 +12,7 @@ use std::alloc::Global;
 use vet_graph::standing::Counts;
 use vet_item_rows::read::columns::{number, optional_names, optional_text};
 use vet_item_rows::read::from_row::FromRow;
-use vet_item_rows::read::unread::{Unread, found};
+use vet_item_rows::read::read_error::{ReadError, found};
 use vet_register::tool_settings::ToolSettings;
 use vet_tables::cell::Cell;
 use vet_tables::sequence::Row;
@@ -21,7 +21,7 @@ use vet_tables::sequence::Row;
 const FORM: u64 = 1;
 
 /// What the one row says.
-pub(crate) fn read_meta(alloc: Global, rows: &[Row]) -> Result<Meta, Unread>
+pub(crate) fn read_meta(alloc: Global, rows: &[Row]) -> Result<Meta, ReadError>
     ensures { (m : MetaValue) → IsMeta m → SameItems rows.now (row_of_meta m ∷ []) → Reads result m }
 {
     Meta::from_row(alloc, found(rows.first())?)
@@ -30,7 +30,7 @@ pub(crate) fn read_meta(alloc: Global, rows: &[Row]) -> Result<Meta, Unread>
 impl FromRow for Meta {
     ghost stands_for = { IsWritten IsMeta row_of_meta };
 
-    fn from_row(alloc: Global, row: &Row) -> Result<Meta, Unread> {
+    fn from_row(alloc: Global, row: &Row) -> Result<Meta, ReadError> {
         check_form(row)?;
         Ok(Meta {
             numbers: numbers(row)?,
@@ -41,23 +41,23 @@ impl FromRow for Meta {
 }
 
 // Whether the key of a row and the version of the form are those that are written. Takes no memory.
-fn check_form(row: &Row) -> Result<(), Unread>
+fn check_form(row: &Row) -> Result<(), ReadError>
     ensures { (m : MetaValue) → row.now ≡ row_of_meta m → result ≡ Ok tt }
 {
     let [Cell::Int(one), Cell::Int(form), ..] = row.as_slice() else {
-        return Err(Unread::NotARegister);
+        return Err(ReadError::NotARegister);
     };
     if number(*one)? != 1 {
-        return Err(Unread::NotARegister);
+        return Err(ReadError::NotARegister);
     }
     if number(*form)? != FORM {
-        return Err(Unread::NotARegister);
+        return Err(ReadError::NotARegister);
     }
     Ok(())
 }
 
 // The numbers of a row. Takes no memory.
-fn numbers(row: &Row) -> Result<MetaNumbers, Unread>
+fn numbers(row: &Row) -> Result<MetaNumbers, ReadError>
     ensures { (m : MetaValue) → row.now ≡ row_of_meta m → result ≡ Ok m.numbers }
 {
     let [
@@ -70,7 +70,7 @@ fn numbers(row: &Row) -> Result<MetaNumbers, Unread>
         ..
     ] = row.as_slice()
     else {
-        return Err(Unread::NotARegister);
+        return Err(ReadError::NotARegister);
     };
     Ok(MetaNumbers {
         step: number(*step)?,
@@ -81,7 +81,7 @@ fn numbers(row: &Row) -> Result<MetaNumbers, Unread>
 }
 
 // How many pairs stood in each class at first. Takes no memory.
-fn first_counts(row: &Row) -> Result<Counts, Unread>
+fn first_counts(row: &Row) -> Result<Counts, ReadError>
     ensures { (m : MetaValue) → row.now ≡ row_of_meta m → result ≡ Ok m.first }
 {
     let [
@@ -95,7 +95,7 @@ fn first_counts(row: &Row) -> Result<Counts, Unread>
         _,
     ] = row.as_slice()
     else {
-        return Err(Unread::NotARegister);
+        return Err(ReadError::NotARegister);
     };
     Ok(Counts {
         conflicting: number(*conflicting)?,
@@ -107,11 +107,11 @@ fn first_counts(row: &Row) -> Result<Counts, Unread>
 }
 
 // What a config file says to the tool alone.
-fn settings(alloc: Global, row: &Row) -> Result<ToolSettings, Unread>
+fn settings(alloc: Global, row: &Row) -> Result<ToolSettings, ReadError>
     ensures { (m : MetaValue) → AreSettings m.settings → row.now ≡ row_of_meta m → Reads result m.settings }
 {
     let [.., Cell::Blob(of_version), Cell::Blob(criteria)] = row.as_slice() else {
-        return Err(Unread::NotARegister);
+        return Err(ReadError::NotARegister);
     };
     Ok(ToolSettings {
         vet_version: optional_text(alloc, of_version.as_slice())?,

@@ -20,7 +20,7 @@ use vet_graph::class::Class;
 use vet_graph::moves::Move;
 use vet_item_rows::read::columns::{day, name, number, package_name, version};
 use vet_item_rows::read::from_row::{FromRow, read_rows};
-use vet_item_rows::read::unread::Unread;
+use vet_item_rows::read::read_error::ReadError;
 use vet_register::moves::RecordedMove;
 use vet_tables::cell::Cell;
 use vet_tables::sequence::Row;
@@ -71,10 +71,10 @@ impl Ranked for OrderedMove {
 }
 
 /// The moves of these rows, in the order in which they were recorded.
-pub(crate) fn moves(alloc: Global, rows: &[Row]) -> Result<Vec<RecordedMove>, Unread>
+pub(crate) fn moves(alloc: Global, rows: &[Row]) -> Result<Vec<RecordedMove>, ReadError>
     ensures { (list : List RecordedValue) → AllPairs ComesBefore list → All IsRecordedMove list
         → SameItems rows.now (map move_row list)
-        → MatchResult result (λ v. v.items ≡ list) (λ e. e ≡ Unread.NoMemory) }
+        → MatchResult result (λ v. v.items ≡ list) (λ e. e ≡ ReadError.NoMemory) }
 {
     let moves = read_rows::<OrderedMove>(alloc, rows)?;
     Ok(recorded_moves(alloc, rank(moves)?)?)
@@ -94,9 +94,9 @@ fn recorded_moves(alloc: Global, ordered: Vec<OrderedMove>) -> Result<Vec<Record
 impl FromRow for OrderedMove {
     ghost stands_for = { IsWritten IsRecordedMove move_row };
 
-    fn from_row(alloc: Global, row: &Row) -> Result<OrderedMove, Unread> {
+    fn from_row(alloc: Global, row: &Row) -> Result<OrderedMove, ReadError> {
         let [Cell::Int(step), _, _, _, Cell::Int(on_day), ..] = row.as_slice() else {
-            return Err(Unread::NotARegister);
+            return Err(ReadError::NotARegister);
         };
         let recorded = RecordedMove {
             step: number(*step)?,
@@ -108,11 +108,11 @@ impl FromRow for OrderedMove {
 }
 
 // The move of a row.
-fn change(alloc: Global, row: &Row) -> Result<Move, Unread>
+fn change(alloc: Global, row: &Row) -> Result<Move, ReadError>
     ensures { (m : RecordedValue) → IsWritten IsRecordedMove move_row row.now m → Reads result m.change }
 {
     let [_, _, _, _, _, Cell::Int(before), Cell::Int(after)] = row.as_slice() else {
-        return Err(Unread::NotARegister);
+        return Err(ReadError::NotARegister);
     };
     let before = class_or_none(*before)?;
     let after = class_or_none(*after)?;
@@ -124,7 +124,7 @@ fn change(alloc: Global, row: &Row) -> Result<Move, Unread>
 }
 
 // The pair of a row.
-fn pair(alloc: Global, row: &Row) -> Result<Pair, Unread>
+fn pair(alloc: Global, row: &Row) -> Result<Pair, ReadError>
     ensures { (m : RecordedValue) → IsWritten IsRecordedMove move_row row.now m → Reads result m.change.pair }
 {
     let [
@@ -135,7 +135,7 @@ fn pair(alloc: Global, row: &Row) -> Result<Pair, Unread>
         ..
     ] = row.as_slice()
     else {
-        return Err(Unread::NotARegister);
+        return Err(ReadError::NotARegister);
     };
     Ok(Pair {
         package: package_name(alloc, package.as_str())?,
@@ -145,7 +145,7 @@ fn pair(alloc: Global, row: &Row) -> Result<Pair, Unread>
 }
 
 // A class, or none. Takes no memory.
-fn class_or_none(column: i64) -> Result<Option<Class>, Unread>
+fn class_or_none(column: i64) -> Result<Option<Class>, ReadError>
     ensures { (class : Option ClassValue) → column ≡ class_or_none class → result ≡ Ok class }
 {
     match column {
@@ -155,6 +155,6 @@ fn class_or_none(column: i64) -> Result<Option<Class>, Unread>
         3 => Ok(Some(Class::Exempted)),
         4 => Ok(Some(Class::Unvetted)),
         5 => Ok(None),
-        _ => Err(Unread::NotARegister),
+        _ => Err(ReadError::NotARegister),
     }
 }

@@ -46,27 +46,27 @@ impl<D: Disk + Drop> Drop for Remains<D> {
 }
 
 /// Why the files of a store were not opened again, and what remains of it.
-pub struct NotReopened<D: Disk> {
+pub struct ReopenError<D: Disk> {
     pub refusal: Refusal,
     pub remains: Remains<D>,
 }
 
-impl<D: Disk + Drop> Drop for NotReopened<D> {
+impl<D: Disk + Drop> Drop for ReopenError<D> {
     fn drop(self) {
-        let NotReopened {
+        let ReopenError {
             refusal: _,
             remains: _,
         } = self;
     }
 }
 
-impl<D: Disk + Drop> NotReopened<D> {
+impl<D: Disk + Drop> ReopenError<D> {
     /// Why the files were not opened again, and what remains of the store. Takes no memory.
     pub fn into_parts(self) -> (Refusal, Remains<D>)
         ensures refusal { result.0 ≡ self.refusal }
         ensures remains { result.1 ≡ self.remains }
     {
-        let NotReopened { refusal, remains } = self;
+        let ReopenError { refusal, remains } = self;
         (refusal, remains)
     }
 }
@@ -79,7 +79,7 @@ impl<D: Disk + Drop, K: Keeper> Store<FileStore<D>, K> {
         self,
         alloc: Global,
         options: Options,
-    ) -> Result<Store<FileStore<D>, K>, NotReopened<D>>
+    ) -> Result<Store<FileStore<D>, K>, ReopenError<D>>
         ensures same { IfOk result (λ s. HasCleanDisk (file_state s.conn)
             → s.register.state ≡ self.register.state) }
         ensures found { IfOk result (λ s. HasCleanDisk (file_state s.conn)
@@ -123,9 +123,9 @@ impl<D: Disk + Drop, K: Keeper> Store<FileStore<D>, K> {
     }
 }
 
-fn refused<D: Disk>(refusal: Refusal, remains: Remains<D>) -> NotReopened<D>
+fn refused<D: Disk>(refusal: Refusal, remains: Remains<D>) -> ReopenError<D>
     ensures refusal { result.refusal ≡ refusal }
     ensures remains { result.remains ≡ remains }
 {
-    NotReopened { refusal, remains }
+    ReopenError { refusal, remains }
 }

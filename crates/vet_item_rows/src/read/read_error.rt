@@ -7,66 +7,66 @@ use vet_base::refusal::Refusal;
 
 /// Why nothing was read.
 #[derive(Clone, Copy)]
-pub enum Unread {
+pub enum ReadError {
     /// The rows are those of no register.
     NotARegister,
     /// Memory ran out.
     NoMemory,
 }
 
-impl From<AllocError> for Unread {
+impl From<AllocError> for ReadError {
     ghost use Rattle.std.specs.Prelude.{◌≡◌};
-    ghost use Rattle.vet_item_rows.specs.declared.read.unread.Unread.TheVariants.{NoMemory};
+    ghost use Rattle.vet_item_rows.specs.declared.read.read_error.ReadError.TheVariants.{NoMemory};
 
     ghost from_gives = { λ _ e. e ≡ NoMemory };
 
-    fn from(_error: AllocError) -> Unread {
-        Unread::NoMemory
+    fn from(_error: AllocError) -> ReadError {
+        ReadError::NoMemory
     }
 }
 
-impl<T: Drop> From<AllocFailed<T>> for Unread {
+impl<T: Drop> From<AllocFailed<T>> for ReadError {
     ghost use Rattle.std.specs.Prelude.{◌≡◌};
-    ghost use Rattle.vet_item_rows.specs.declared.read.unread.Unread.TheVariants.{NoMemory};
+    ghost use Rattle.vet_item_rows.specs.declared.read.read_error.ReadError.TheVariants.{NoMemory};
 
     ghost from_gives = { λ _ e. e ≡ NoMemory };
 
-    fn from(_error: AllocFailed<T>) -> Unread {
-        Unread::NoMemory
+    fn from(_error: AllocFailed<T>) -> ReadError {
+        ReadError::NoMemory
     }
 }
 
-impl From<Refusal> for Unread {
+impl From<Refusal> for ReadError {
     ghost use Rattle.std.specs.Prelude.{◌≡◌};
     ghost use Rattle.vet_item_rows.specs.ReadBack.{unread_of};
 
     ghost from_gives = { λ refusal e. e ≡ unread_of refusal };
 
-    fn from(refusal: Refusal) -> Unread {
+    fn from(refusal: Refusal) -> ReadError {
         match refusal {
-            Refusal::NoMemory => Unread::NoMemory,
-            _ => Unread::NotARegister,
+            Refusal::NoMemory => ReadError::NoMemory,
+            _ => ReadError::NotARegister,
         }
     }
 }
 
-impl From<Unread> for Refusal {
+impl From<ReadError> for Refusal {
     ghost use Rattle.std.specs.Prelude.{◌≡◌};
     ghost use Rattle.vet_item_rows.specs.ReadBack.{refusal_of};
 
     ghost from_gives = { λ unread e. e ≡ refusal_of unread };
 
-    fn from(unread: Unread) -> Refusal {
+    fn from(unread: ReadError) -> Refusal {
         match unread {
-            Unread::NotARegister => Refusal::NotARegister,
-            Unread::NoMemory => Refusal::NoMemory,
+            ReadError::NotARegister => Refusal::NotARegister,
+            ReadError::NoMemory => Refusal::NoMemory,
         }
     }
 }
 
 /// What was found, if something was. Takes no memory.
-pub fn found<T>(found: Option<T>) -> Result<T, Unread>
+pub fn found<T>(found: Option<T>) -> Result<T, ReadError>
     ensures { result ≡ found_or_unread found }
 {
-    found.ok_or(Unread::NotARegister)
+    found.ok_or(ReadError::NotARegister)
 }
