@@ -67,7 +67,7 @@ pub struct MaskKeeper {
 }
 
 /// What touched packages change to, the moves, the counts after them, the table of criteria if another is to be held,
-/// and what was told is touched.
+/// and the packages that the plan was given as touched.
 #[derive(Drop)]
 pub struct MaskUpdate {
     changes: Changes,
@@ -98,9 +98,9 @@ impl Keeper for MaskKeeper {
     }
 
     /// Finds the steps and the violations of each touched package, goes on with its searches or begins anew, and looks
-    /// at its demanded pairs before and after. What a peer's words stand for is found at most once, and only where a
-    /// touched package has an entry of that peer. Where all are
-    /// touched, these are the packages that have an entry, a demanded pair or something kept. Refused: `NoMemory`.
+    /// at its demanded pairs before and after. What a peer's words stand for is found at most once, and only if a
+    /// touched package has an entry of that peer. If all packages are touched, it looks at those that have an entry, a
+    /// demanded pair or something kept. Refused: `NoMemory`.
     fn plan(
         &mut self,
         alloc: Global,

@@ -9,7 +9,7 @@ end_of_connection accepted = accepted + 30 * 1000000000
 abbrev pub longest_silence : ℕ
 longest_silence = 5 * 1000000000
 
--- so much time is left from now to the end, and not none
+-- this much time is left from now until the end, and it is not zero
 abbrev pub IsLeft : ℕ → ℕ → ℕ → Type 0
 IsLeft now end left = (0 < left) × (now + left ≡ end)
 

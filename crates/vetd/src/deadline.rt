@@ -45,8 +45,8 @@ impl Deadline {
         Some(Deadline { end })
     }
 
-    /// The time that is left, which is never zero: a stream refuses a time-out of zero. Fails with `TimedOut` if no time
-    /// is left.
+    /// The time that is left, which is never zero, since a stream refuses a time-out of zero. Fails with `TimedOut` if
+    /// no time is left.
     pub fn time_left(self, now: Instant) -> io::Result<Duration>
         ensures left { IfOk result (λ left. IsLeft (instant_nanos now) (instant_nanos self.end) (as_nanos left)) }
         ensures none { IfErr result (λ _. instant_nanos self.end ≤ instant_nanos now) }
