@@ -22,6 +22,8 @@ MOST_ALLOCATIONS = 1 << 20
 # how many are refused at the start, where a request is read and its route found, and at the end, where a command is
 # written and answered
 AT_THE_FRONT, AT_THE_END = 10, 12
+# how often a run is tried if it does not meet its refusal
+TRIES = 5
 REFUSED, ENDED = reply_of(503, b"refused 29 NoMemory\n"), b""
 OF_SHUT = reply_of(503, b"refused 30 StoreRefused\n")
 # what the next client of a register in a file posts
@@ -74,6 +76,15 @@ class Sweep:
                 reply, met, wrote, later = unheard.answer, os.path.exists(mark), False, ENDED
             return Run(met, wrote, (reply, later, rows_in(path) if path else None))
 
+    def run_that_meets(self, refused):
+        """A run that has met its refusal by the time of the reply. On a busy machine the program may come to one of the
+        last allocations only after it, so there are a few tries."""
+        for _ in range(TRIES):
+            run = self.run(refused)
+            if run.met:
+                break
+        return run
+
     def own(self):
         """What the request leaves with enough memory."""
         request, run = self.request, self.run(0)
@@ -107,7 +118,7 @@ class Sweep:
             yield REFUSED, OF_SHUT, self.before
 
     def fault_at(self, refused, last, own, unchanged):
-        run = self.run(refused)
+        run = self.run_that_meets(refused)
         if not run.met:
             return f"allocation {refused} was not met"
         # a commit takes memory before it writes, and nothing outside shows that it has begun
