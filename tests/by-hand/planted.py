@@ -32,7 +32,7 @@ EXACT = {
     "vet_item_rows::read::read_error::found",
 }
 # not of the product
-PASSED_OVER = ("trials", "trial_clients", "trial_registers", "trial_times", "trial_values")
+PASSED_OVER = ("trials", "trial_clients", "trial_registers", "trial_stores", "trial_times", "trial_values")
 # a planted program is slow, so that these are reached sooner in it
 LIMITS = {
     "MOST_ENTRIES": 1_000,
@@ -47,7 +47,7 @@ LIMITS = {
 FEWER = [
     ("vet_store/src/memory/file.rt", r"Options::new\(0\)", r"crate::few_pages::fewer(\g<0>)"),
     ("vetd/src/file_databases.rt", r"Connection::open_from\(", "vet_store::few_pages::open_from("),
-    ("trials/src/stored.rt", r"Connection::open_from\(", "vet_store::few_pages::open_from("),
+    ("trials/src/files.rt", r"Connection::open_from\(", "vet_store::few_pages::open_from("),
 ]
 PLANTED = """//! Whether a function is to give up, as C says.
 

@@ -27,29 +27,27 @@
 //! libraries before its first line is proved.
 #![tactic(auto)]
 
-mod at_once;
 mod exchanges;
+mod files;
 mod looks;
-mod stops;
-mod stored;
 mod times;
 mod toml_only;
 mod words;
 
-use at_once::run_at_once;
 use exchanges::run_exchanges;
+use files::run_in_file;
 use looks::run_looks;
 use std::io;
 use std::io::ErrorKind;
 use std::process::ExitCode;
-use stops::run_stopped;
-use stored::run_stored;
 use times::run_times;
 use toml_only::read_toml;
 use trial_registers::input::{Input, read_input};
 use trial_registers::items::{NumberedItem, items_of};
 use trial_registers::relay::RelayKeeper;
 use trial_registers::run::{How, run_in_memory};
+use trial_stores::at_once::run_at_once;
+use trial_stores::stops::run_stopped;
 use trial_values::ending::{Ending, refused};
 use trial_values::fault::Fault;
 use trial_values::workspace::run_workspace;
@@ -162,7 +160,7 @@ fn run_items<K: Keeper>(
 ) -> io::Result<Ending> {
     match place {
         Place::Memory => run_in_memory::<K>(rt, rt.alloc(), items, how),
-        Place::File(way, path) => run_stored::<K>(rt, path, items, how, way),
+        Place::File(way, path) => run_in_file::<K>(rt, path, items, how, way),
         Place::Stopping(stop) => run_stopped::<K>(rt, rt.alloc(), items, how, stop),
     }
 }

@@ -38,13 +38,12 @@
 //!
 //! For each other command of a round it prints what it is, its nanoseconds and its outcome. The status is 1 if anything
 //! is refused or fails, and 2 if the words or the parts are not understood.
+use crate::files::{time_commands, time_opening, time_parts};
 use crate::times::input::{Task, read_path, read_task, read_text};
-use crate::times::memory_rounds::run_memory;
-use crate::times::opened_parts::run_parts;
-use crate::times::stored_rounds::{run_opened, run_stored};
 use crate::words::KeeperWord;
 use std::process::ExitCode;
 use trial_registers::relay::RelayKeeper;
+use trial_stores::memory_rounds::run_memory;
 use trial_times::demand_rounds::run_demands;
 use trial_times::desk_rounds::run_reviews;
 use trial_times::import_rounds::run_imports;
@@ -55,10 +54,6 @@ use vet_graph::plain::PlainKeeper;
 use vet_masks::keeper::MaskKeeper;
 
 mod input;
-mod memory_rounds;
-mod opened_parts;
-mod stored_rounds;
-mod written;
 
 /// The status of a run of words that aren't understood.
 const NOT_UNDERSTOOD: u8 = 2;
@@ -90,15 +85,15 @@ fn run_task<K: Keeper>(rt: &HostRuntime, task: Task) -> Result<(), Fault> {
         Task::Demands(rounds) => run_demands(rt, rounds, text.as_str()),
         Task::Stored(rounds) => {
             let path = read_path(rt)?;
-            run_stored::<K>(rt, rounds, path.as_str(), text.as_str())
+            time_commands::<K>(rt, rounds, path.as_str(), text.as_str())
         }
         Task::Opened => {
             let path = read_path(rt)?;
-            run_opened::<K>(rt, path.as_str())
+            time_opening::<K>(rt, path.as_str())
         }
         Task::Parts => {
             let path = read_path(rt)?;
-            run_parts::<K>(rt, path.as_str())
+            time_parts::<K>(rt, path.as_str())
         }
         Task::Memory(rounds) => run_memory::<K>(rt, rounds, text.as_str()),
     }

@@ -1,10 +1,10 @@
 //! The words of the command line.
 
-use crate::stops::{DiskStop, StoppedFile};
-use crate::stored::OpenMode;
 use std::env::Env;
 use std::{env, io};
 use trial_registers::run::How;
+use trial_stores::stops::{DiskStop, StoppedFile};
+use trial_stores::stored::OpenMode;
 
 /// What the words ask for.
 #[derive(Clone, Copy)]

@@ -1,8 +1,7 @@
 //! The parts of opening a register in a file.
 
-use crate::times::stored_rounds::connected;
 use sqlite::{Alter, Connection};
-use std::time::Instant;
+use std::time::{Clock, Instant};
 use trial_times::commands::set_other_peer;
 use trial_values::fault::Fault;
 use vet_base::refusal::Refusal;
@@ -14,27 +13,34 @@ use vet_store::read::read_rows;
 use vet_tables::find::has_tables;
 use vet_tables::rows::Rows;
 
-/// Opens the register in a file by the calls of which a store's opening consists, except that the rows are not compared
-/// with those that were read. Then it sets another peer, for which the plain keeper finds every class anew. Prints of
-/// each part what it is and its nanoseconds.
-pub fn run_parts<K: Keeper>(rt: &HostRuntime, path: &str) -> Result<(), Fault> {
-    let begun = Instant::now(rt)?;
-    let mut conn = connected(rt, path)?;
-    print_part(rt, "connect", &begun)?;
-    let rows = rows_in(rt, &mut conn)?;
+/// Opens the register in a database by the calls of which a store's opening consists, except that the rows are not
+/// compared with those that were read. Then it sets another peer, for which the plain keeper finds every class anew.
+/// Prints of each part what it is and its nanoseconds.
+pub fn run_parts<S: Alter, K: Keeper>(
+    rt: &(impl Clock + AllocGlobal + Print),
+    conn: &mut Connection<S>,
+) -> Result<(), Fault> {
+    let rows = rows_in(rt, conn)?;
     let mut register = register_of::<K>(rt, &rows)?;
     print_plan(rt, &mut register)
 }
 
-// Prints what a part took.
-fn print_part(rt: &HostRuntime, what: &str, begun: &Instant) -> Result<(), Fault> {
+/// Prints what a part took.
+pub fn print_part(
+    rt: &(impl Clock + AllocGlobal + Print),
+    what: &str,
+    begun: &Instant,
+) -> Result<(), Fault> {
     let nanos = begun.elapsed(rt)?.as_nanos();
     println!(rt; "{what} {nanos}")?;
     Ok(())
 }
 
 // The rows of the tables.
-fn rows_in<S: Alter>(rt: &HostRuntime, conn: &mut Connection<S>) -> Result<Rows, Fault> {
+fn rows_in<S: Alter>(
+    rt: &(impl Clock + AllocGlobal + Print),
+    conn: &mut Connection<S>,
+) -> Result<Rows, Fault> {
     let begun = Instant::now(rt)?;
     if !has_tables(conn.schema()) {
         return Err(Fault::Refused(Refusal::NotARegister));
@@ -50,7 +56,10 @@ fn rows_in<S: Alter>(rt: &HostRuntime, conn: &mut Connection<S>) -> Result<Rows,
 }
 
 // The register of these rows, and its rows again.
-fn register_of<K: Keeper>(rt: &HostRuntime, rows: &Rows) -> Result<Register<K>, Fault> {
+fn register_of<K: Keeper>(
+    rt: &(impl Clock + AllocGlobal + Print),
+    rows: &Rows,
+) -> Result<Register<K>, Fault> {
     let begun = Instant::now(rt)?;
     let state = state_of(rt.alloc(), rows)?;
     print_part(rt, "state", &begun)?;
@@ -64,7 +73,10 @@ fn register_of<K: Keeper>(rt: &HostRuntime, rows: &Rows) -> Result<Register<K>, 
 }
 
 // Prepares the setting of another peer, for which the plain keeper finds every class anew.
-fn print_plan<K: Keeper>(rt: &HostRuntime, register: &mut Register<K>) -> Result<(), Fault> {
+fn print_plan<K: Keeper>(
+    rt: &(impl Clock + AllocGlobal + Print),
+    register: &mut Register<K>,
+) -> Result<(), Fault> {
     let peer = set_other_peer(rt.alloc(), 0, 0)?;
     let begun = Instant::now(rt)?;
     let _change = register.prepare(rt.alloc(), &peer)?;

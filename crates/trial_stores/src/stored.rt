@@ -1,7 +1,7 @@
-//! A run on a register in a database file.
+//! A run on a register in a database.
 ghost use Rattle.std.specs.Prelude.{◌≡◌, false};
 
-use sqlite::{Alter, Connection, Error, FileStore, Options, Wary};
+use sqlite::{Alter, Connection, Error, FileStore, Options};
 use sqlite_disk::Disk;
 use std::alloc::Global;
 use std::io;
@@ -58,28 +58,26 @@ impl<S: Alter + Drop, K: Keeper> Runs<K> for StoreRun<S, K> {
     }
 }
 
-/// Makes or opens a register in the database file of this path, gives it items, prints the answers and what the
-/// register holds in the end, and closes the file. A torn write may leave anything of it, and its pages have no sums.
-pub fn run_stored<K: Keeper>(
-    rt: &HostRuntime,
-    path: &str,
+/// Makes or opens a register in a database, gives it items, prints the answers and what the register holds in the end,
+/// and closes the database.
+pub fn run_stored<D: Disk + Drop, K: Keeper>(
+    rt: &impl Print,
+    alloc: Global,
+    conn: Connection<FileStore<D>>,
     items: &[NumberedItem<'_>],
     how: How,
     mode: OpenMode,
-) -> io::Result<Ending> {
-    match Connection::open_from(rt, path, false, Wary) {
-        Ok(conn) => {
-            let (ending, conn) = run_connected::<_, K>(rt, rt.alloc(), conn, items, how, mode)?;
-            match conn {
-                Some(conn) => closed(rt, conn.close(), ending),
-                None => Ok(ending),
-            }
-        }
-        Err((error, _left)) => refused_by_database(rt, error),
+) -> io::Result<Ending>
+    requires { conn.in_transaction ≡ false }
+{
+    let (ending, conn) = run_connected::<D, K>(rt, alloc, conn, items, how, mode)?;
+    match conn {
+        Some(conn) => closed(rt, conn.close(), ending),
+        None => Ok(ending),
     }
 }
 
-// How a run ends whose file was closed.
+// How a run ends whose database was closed.
 fn closed(rt: &impl Print, closed: Result<(), Error>, ending: Ending) -> io::Result<Ending> {
     match closed {
         Ok(()) => Ok(ending),

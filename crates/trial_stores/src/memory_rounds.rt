@@ -1,8 +1,8 @@
 //! Commands to a register in files in memory.
 
-use crate::times::stored_rounds::{imports_of, number_of};
+use crate::stored_rounds::{imports_of, number_of};
 use sqlite::Alter;
-use std::time::Instant;
+use std::time::{Clock, Instant};
 use trial_times::commands::{add_other, drop_entry, set_peer};
 use trial_values::fault::Fault;
 use vet_base::limits::MOST_MOVES;
@@ -13,14 +13,18 @@ use vet_store::store::Store;
 
 /// Makes a register in files in memory, imports each file of a text, and adds an entry and drops it in each round.
 /// Prints of each command what it is and its nanoseconds.
-pub fn run_memory<K: Keeper>(rt: &HostRuntime, rounds: usize, text: &str) -> Result<(), Fault> {
+pub fn run_memory<K: Keeper>(
+    rt: &(impl Clock + AllocGlobal + Print),
+    rounds: usize,
+    text: &str,
+) -> Result<(), Fault> {
     let imports = imports_of(rt.alloc(), text)?;
     let mut first = run_in_memory_files::<K>(rt.alloc(), MOST_MOVES, &[])?;
     run_rounds(rt, &mut first.store, rounds, imports.as_slice())
 }
 
 fn run_rounds<S: Alter, K: Keeper>(
-    rt: &HostRuntime,
+    rt: &(impl Clock + AllocGlobal + Print),
     store: &mut Store<S, K>,
     rounds: usize,
     imports: &[Command],
@@ -38,7 +42,7 @@ fn run_rounds<S: Alter, K: Keeper>(
 
 // An entry is added and dropped.
 fn run_round<S: Alter, K: Keeper>(
-    rt: &HostRuntime,
+    rt: &(impl Clock + AllocGlobal + Print),
     store: &mut Store<S, K>,
     round: usize,
 ) -> Result<(), Fault> {
@@ -51,7 +55,7 @@ fn run_round<S: Alter, K: Keeper>(
 
 // Runs a command, and prints what it took.
 fn run_one<S: Alter, K: Keeper>(
-    rt: &HostRuntime,
+    rt: &(impl Clock + AllocGlobal + Print),
     store: &mut Store<S, K>,
     what: &str,
     command: &Command,

@@ -4,7 +4,7 @@ ghost use Rattle.vet_register.specs.Machine.{CommandValue};
 ghost use Rattle.vet_register.specs.RegisterView.{IsPrepared};
 
 use sqlite::{Alter, Connection};
-use std::time::Instant;
+use std::time::{Clock, Instant};
 use trial_values::fault::Fault;
 use vet_base::refusal::Refusal;
 use vet_graph::keeper::Keeper;
@@ -30,7 +30,7 @@ pub struct PartTimes {
 /// Runs a command as a store does: it is prepared, its rows are written and then it is installed. Prints what it is,
 /// the nanoseconds of its parts and of all of it, and how many rows it wrote.
 pub fn run_written<S: Alter, K: Keeper>(
-    rt: &HostRuntime,
+    rt: &(impl Clock + AllocGlobal + Print),
     conn: &mut Connection<S>,
     register: &mut Register<K>,
     what: &str,
@@ -53,7 +53,7 @@ pub fn run_written<S: Alter, K: Keeper>(
 }
 
 fn written<S: Alter, K: Keeper>(
-    rt: &HostRuntime,
+    rt: &(impl Clock + AllocGlobal + Print),
     conn: &mut Connection<S>,
     register: &mut Register<K>,
     command: &Command,
@@ -77,7 +77,7 @@ fn written<S: Alter, K: Keeper>(
 
 // Writes the rows of a change that is prepared.
 fn write<S: Alter, K: Keeper>(
-    rt: &HostRuntime,
+    rt: &(impl Clock + AllocGlobal + Print),
     conn: &mut Connection<S>,
     register: &Register<K>,
     change: &Change<K>,

@@ -1,9 +1,10 @@
 //! Commands to a register in a file, whose parts are timed; and the register that is opened again.
 
-use crate::times::written::run_written;
-use sqlite::{Alter, Connection, FileFrom, FileStore, Wary};
+use crate::written::run_written;
+use sqlite::{Alter, Connection, FileStore};
+use sqlite_disk::Disk;
 use std::alloc::Global;
-use std::time::Instant;
+use std::time::{Clock, Instant};
 use trial_times::commands::{add_other, drop_entry, import_peer, load_table, set_peer};
 use trial_times::contents::{BETWEEN_FILES, contents_of};
 use trial_times::files::tables_before;
@@ -16,22 +17,19 @@ use vet_register::register::Register;
 use vet_store::refused::Refused;
 use vet_store::store::Store;
 
-/// A file and its log, opened as the product opens them.
-pub type WaryFile = FileStore<FileFrom<Wary>>;
-
 /// Makes a register in a file, loads the tables of a text in turn as one project, imports each of its files, and adds
 /// an entry and drops it in each round. Prints of each command what it is, the nanoseconds of its parts and how many
 /// rows it writes.
-pub fn run_stored<K: Keeper>(
-    rt: &HostRuntime,
+pub fn run_rounds<D: Disk + Drop, K: Keeper>(
+    rt: &(impl Clock + AllocGlobal + Print),
+    conn: Connection<FileStore<D>>,
     rounds: usize,
-    path: &str,
     text: &str,
 ) -> Result<(), Fault> {
     let (tables, files) = tables_before(text)?;
     let loads = loads_of(rt.alloc(), tables)?;
     let imports = imports_of(rt.alloc(), files)?;
-    let mut conn = made::<_, K>(rt.alloc(), connected(rt, path)?)?;
+    let mut conn = made::<_, K>(rt.alloc(), conn)?;
     run_commands::<_, K>(rt, &mut conn, loads.as_slice(), imports.as_slice(), rounds)?;
     match conn.close() {
         Ok(()) => Ok(()),
@@ -60,14 +58,6 @@ pub fn imports_of(alloc: Global, text: &str) -> Result<Vec<Command>, Fault> {
     Ok(imports)
 }
 
-/// The database in a file, opened as the product opens it.
-pub fn connected(rt: &HostRuntime, path: &str) -> Result<Connection<WaryFile>, Fault> {
-    match Connection::open_from(rt, path, false, Wary) {
-        Ok(conn) => Ok(conn),
-        Err(_) => Err(Fault::Refused(Refusal::StoreRefused)),
-    }
-}
-
 // The tables of a register that holds nothing.
 fn made<S: Alter + Drop, K: Keeper>(
     alloc: Global,
@@ -88,7 +78,7 @@ fn fault_of<S: Alter + Drop>(refused: Refused<S>) -> Fault {
 }
 
 fn run_commands<S: Alter, K: Keeper>(
-    rt: &HostRuntime,
+    rt: &(impl Clock + AllocGlobal + Print),
     conn: &mut Connection<S>,
     loads: &[Command],
     imports: &[Command],
@@ -107,7 +97,7 @@ fn run_commands<S: Alter, K: Keeper>(
 
 // Runs some commands of one kind.
 fn run_each<S: Alter, K: Keeper>(
-    rt: &HostRuntime,
+    rt: &(impl Clock + AllocGlobal + Print),
     conn: &mut Connection<S>,
     register: &mut Register<K>,
     what: &str,
@@ -121,7 +111,7 @@ fn run_each<S: Alter, K: Keeper>(
 
 // An entry is added and dropped.
 fn run_round<S: Alter, K: Keeper>(
-    rt: &HostRuntime,
+    rt: &(impl Clock + AllocGlobal + Print),
     conn: &mut Connection<S>,
     register: &mut Register<K>,
     round: usize,
@@ -146,7 +136,7 @@ pub fn number_of(outcome: Outcome) -> Result<u64, Fault> {
 
 // Runs a command and prints what its parts took.
 fn run_one<S: Alter, K: Keeper>(
-    rt: &HostRuntime,
+    rt: &(impl Clock + AllocGlobal + Print),
     conn: &mut Connection<S>,
     register: &mut Register<K>,
     what: &str,
@@ -158,14 +148,15 @@ fn run_one<S: Alter, K: Keeper>(
     run_written(rt, conn, register, what, command)
 }
 
-/// Opens the register in a file, and prints the nanoseconds until the database was opened, and from there until the
-/// register was, and how many entries it holds.
-pub fn run_opened<K: Keeper>(rt: &HostRuntime, path: &str) -> Result<(), Fault> {
+/// Opens the register in a database that took so many nanoseconds to open. Prints these, the nanoseconds from there
+/// until the register was opened, and how many entries it holds.
+pub fn run_opened<S: Alter + Drop, K: Keeper>(
+    rt: &(impl Clock + AllocGlobal + Print),
+    conn: Connection<S>,
+    connecting: u128,
+) -> Result<(), Fault> {
     let begun = Instant::now(rt)?;
-    let conn = connected(rt, path)?;
-    let connecting = begun.elapsed(rt)?.as_nanos();
-    let begun = Instant::now(rt)?;
-    let store = opened::<_, K>(rt.alloc(), conn)?;
+    let store = opened::<S, K>(rt.alloc(), conn)?;
     let opening = begun.elapsed(rt)?.as_nanos();
     let count = entries_held(store.register());
     println!(rt; "open {connecting} {opening} {count}")?;
