@@ -48,7 +48,7 @@ same_first zero a b = true
 same_first (suc n) (x ∷ a) (y ∷ b) = cell_eq x y && same_first n a b
 same_first (suc n) _ _ = false
 
--- two rows of a table can't stand in it together: they have the same key
+-- two rows of a table can't both be in it: they have the same key
 abbrev pub same_key : TableForm → Row → Row → Bool
 same_key form = same_first form.key
 
@@ -78,7 +78,7 @@ SameRows a b = (table : TableName) → SameItems (a table) (b table)
 abbrev pub added : TableName → Row → RowsValue → RowsValue
 added table row rows name = if code name == code table then row ∷ rows name else rows name
 
--- the row of its key taken out of its table
+-- without the row of this key in its table
 abbrev pub dropped : TableName → Row → RowsValue → RowsValue
 dropped table row rows name =
     if code name == code table then filter (λ other. not (same_key (form_of table) row other)) (rows name)

@@ -1,4 +1,4 @@
--- What stands in the twelve tables, and what a statement changes of it (ours).
+-- What the twelve tables hold, and what a statement changes in them (ours).
 use Rattle.std.specs.Prelude.{◌≡◌, ◌==◌, ◌∷◌, [], IsTrue, List, filter, if◌then◌else◌, map, not}
 use Rattle.sqlite.specs.Effect.{Database, IsDatabase}
 use Rattle.sqlite.specs.State.{State}
@@ -43,7 +43,7 @@ dropped table key contents name =
 abbrev pub cleared : TableName → Contents → Contents
 cleared table contents name = if code name == code table then [] else contents name
 
--- its rows stand in no tree of ours
+-- its rows are in no tree of ours
 abbrev pub IsOther : Schema → Table → Type 0
 IsOther schema t = (name : TableName) (own : Table) → Has schema.tables own → own.name ≡ (form_of name).name
     → t.tree ≡ own.tree → ⊥

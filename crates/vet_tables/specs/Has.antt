@@ -22,8 +22,8 @@ is_apart form tree table = not (table.tree == tree) || bytes_eq table.name form.
 abbrev pub refers_not : Name → Table → Bool
 refers_not name table = list_all (λ (ref : Reference). not (same_name name ref.parent)) table.references
 
--- A table of this form stands somewhere under its name, with a tree of its own. No index but that of its key and no
--- foreign key touch it. A table that a trigger touches is none that SQL here reaches.
+-- A table of this form exists under its name, with a tree of its own. No index but that of its key and no foreign key
+-- touch it. SQL here does not reach a table that a trigger touches.
 pub record HasTable (schema : Schema) (form : TableForm) : Type 0 where
   pub at : ℕ
   pub tree : ℕ

@@ -55,7 +55,7 @@ pub fn are_typed(row: &Row, form: &Form) -> bool
     true
 }
 
-/// The number at a place.
+/// The number at a place, or 0 if something else is there.
 pub fn int_at(row: &Row, at: usize) -> i64
     ensures { IsKind kind.Integer (column row.now at) → column row.now at ≡ Int result }
 {
@@ -65,7 +65,8 @@ pub fn int_at(row: &Row, at: usize) -> i64
     }
 }
 
-/// The cells behind the rowid, where each has the type of its column. Fails only if memory runs out.
+/// The cells after the rowid. A cell of another type than its column is read as 0 or as empty. Fails only if memory
+/// runs out.
 pub fn row_cells(alloc: Global, row: &Row, form: &Form) -> Result<TableRow, AllocError>
     ensures { IfOk result (λ cells. AreTyped (kinds_of form.now) row.now
         → row.now ≡ column row.now 0 ∷ values_of cells) }
@@ -78,7 +79,7 @@ pub fn row_cells(alloc: Global, row: &Row, form: &Form) -> Result<TableRow, Allo
     Ok(Sequence::of(cells))
 }
 
-// The cell at a place, where it is of this type.
+// The cell at a place, if it is of this type; otherwise 0 or empty.
 fn cell_at(alloc: Global, row: &Row, at: usize, kind: Kind) -> Result<Cell, AllocError>
     ensures { IfOk result (λ cell. IsKind kind (column row.now at) → column row.now at ≡ value_of cell) }
 {
@@ -89,7 +90,7 @@ fn cell_at(alloc: Global, row: &Row, at: usize, kind: Kind) -> Result<Cell, Allo
     }
 }
 
-// The text at a place.
+// The text at a place, or an empty one if something else is there.
 fn text_at(alloc: Global, row: &Row, at: usize) -> Result<TextColumn, AllocError>
     ensures { IfOk result (λ text. IsKind kind.Text (column row.now at) → column row.now at ≡ Text text) }
 {
@@ -102,7 +103,7 @@ fn text_at(alloc: Global, row: &Row, at: usize) -> Result<TextColumn, AllocError
     }
 }
 
-// The bytes at a place.
+// The bytes at a place, or none if something else is there.
 fn blob_at(alloc: Global, row: &Row, at: usize) -> Result<BlobColumn, AllocError>
     ensures { IfOk result (λ blob. IsKind kind.Blob (column row.now at) → column row.now at ≡ Blob blob) }
 {

@@ -94,14 +94,14 @@ impl Form {
         self.insert
     }
 
-    /// The statement that takes out the row of a key.
+    /// The statement that removes the row of a key.
     pub fn delete(&self) -> &'static str
         ensures { result.now ≡ delete_text self.now }
     {
         self.delete
     }
 
-    /// The statement that takes out all rows.
+    /// The statement that removes all rows.
     pub fn clear(&self) -> &'static str
         ensures { result.now ≡ clear_text self.now }
     {

@@ -1,14 +1,14 @@
-//! The twelve tables of a register: their forms, what a database has of them, and what statements make of that.
+//! The twelve tables of a register: their forms, whether a database has them, and what statements do to them.
 //!
-//! **A statement makes of the cells in the tables what its form says, and leaves all else as it is. A table passes only
-//! if it is the one that SQLite keeps of its form, in a tree of its own, touched by no other index and by no foreign
-//! key.**
+//! **A statement changes the cells in the tables as its form says, and leaves everything else as it is. A table passes
+//! only if it is the one that SQLite keeps of its form, in a tree of its own, touched by no other index and by no
+//! foreign key.**
 //!
 //! Scope of this crate: names, columns, keys and statements of the tables, as data; whether the names of the tables are
 //! free, and whether the tables are there; cells that are put, removed and read; which of some items are among others.
 //! It is below the register, so that what takes long to prove of SQLite is proved beside the register and not after it.
 //!
-//! For example, a table `peers` whose column `url` takes NULL is none of these tables.
+//! For example, a table `peers` whose column `url` takes NULL is not one of these tables.
 #![tactic(auto)]
 
 mod by_ref;

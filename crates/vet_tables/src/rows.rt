@@ -6,7 +6,7 @@ use crate::sequence::{Row, Sequence};
 use crate::table_name::TableName;
 use std::alloc::{AllocError, Global};
 
-/// The rows of tables: a list for each table, in the order of the tables. The rows of a table are in whatever order.
+/// The rows of tables: a list for each table, in the order of the tables. The rows of a table are in any order.
 #[derive(Drop)]
 pub struct Rows {
     tables: Vec<Sequence<Row>>,
@@ -30,7 +30,7 @@ impl Rows {
         Ok(())
     }
 
-    /// The rows of a table, none where no list was added for it. Takes no memory.
+    /// The rows of a table, or none if no list was added for it. Takes no memory.
     pub fn of(&self, table: TableName) -> &[Row]
         ensures { result.now ≡ rows_in self.now table }
     {

@@ -9,14 +9,14 @@ use crate::by_ref::ByRef;
 use std::alloc::{AllocError, Global};
 use std::collections::BTreeSet;
 
-/// Values of which only one itself is equal to it.
+/// Values that equal only themselves.
 pub trait Exactly: Ord {
     /// Only the value itself is equal to it.
     ghost only_itself: { (a b : Self) → Decides (Self.eq a b) (a ≡ b) };
 }
 
-/// Whether two lists have the same items. Costs two searches for each item among the others,
-/// in their order, and copies none.
+/// Whether two lists have the same items. Costs two searches for each item among the others, in their order, and copies
+/// none. Fails only if memory runs out.
 pub fn have_same_items<T: Exactly>(alloc: Global, xs: &[T], ys: &[T]) -> Result<bool, AllocError>
     ensures { IfOk result (λ same. Decides same (SameItems xs.now ys.now)) }
 {
@@ -39,8 +39,8 @@ fn are_among<T: Exactly>(alloc: Global, xs: &[T], ys: &[T]) -> Result<bool, Allo
     Ok(true)
 }
 
-/// For each of some items whether it is among the others. Costs a search for each item of both in an order, and copies
-/// none.
+/// Whether each of the first items is among the second. Costs a search for each item of both, in their order, and
+/// copies none. Fails only if memory runs out.
 pub fn marks_among<T: Exactly>(alloc: Global, xs: &[T], ys: &[T]) -> Result<Vec<bool>, AllocError>
     ensures { IfOk result (λ marks. marks.items ≡ map (λ x. list_any (T.eq x) ys.now) xs.now) }
 {

@@ -6,7 +6,7 @@ use crate::same_items::Exactly;
 use std::cmp::Ordering;
 use std::marker::Model;
 
-/// A list that two values share if they have the same items in the same order.
+/// A list. Two of them are the same value if they have the same items in the same order.
 #[derive(Drop)]
 pub struct Sequence<T: Drop> {
     items: Vec<T>,
@@ -41,7 +41,7 @@ impl<T: Drop> Sequence<T> {
         self.items.as_slice()
     }
 
-    /// The items, given away. Takes no memory.
+    /// The items, without a copy. Takes no memory.
     pub fn into_items(self) -> Vec<T>
         ensures { result.items ≡ self }
     {

@@ -12,7 +12,8 @@ use crate::table_name::{TABLE_COUNT, TableName, table_at};
 use sqlite::types::ValueRef;
 use sqlite::{Alter, Error, Transaction};
 
-/// Adds a row of cells of the types of the columns, whose key is free.
+/// Adds a row of cells that have the types of their columns. Returns the database's error, if any: also if the key is
+/// taken.
 pub fn insert<S: Alter>(
     tx: &mut Transaction<'_, S>,
     table: TableName,
@@ -30,7 +31,7 @@ pub fn insert<S: Alter>(
     tx.execute(table.form().insert(), cells)
 }
 
-/// Takes out the row of a key, where there is one.
+/// Removes the row of a key, if there is one. Returns the database's error, if any.
 pub fn remove<S: Alter>(
     tx: &mut Transaction<'_, S>,
     table: TableName,
@@ -47,7 +48,7 @@ pub fn remove<S: Alter>(
     tx.execute(table.form().delete(), key)
 }
 
-/// Takes out all rows.
+/// Removes all rows. Returns the database's error, if any.
 pub fn clear<S: Alter>(tx: &mut Transaction<'_, S>, table: TableName) -> Result<usize, Error>
     ensures same_reference { tx.new.conn.ghost_name ≡ tx.old.conn.ghost_name }
     ensures changes { HasCleanDisk (state S.Store tx.new.conn.now) → IsTrue tx.old.conn.now.in_transaction
@@ -59,7 +60,7 @@ pub fn clear<S: Alter>(tx: &mut Transaction<'_, S>, table: TableName) -> Result<
     tx.execute(table.form().clear(), &[])
 }
 
-/// Makes a table, with no row.
+/// Makes a table without rows. Returns the database's error, if any: also if its name is taken.
 pub fn create<S: Alter>(tx: &mut Transaction<'_, S>, table: TableName) -> Result<usize, Error>
     ensures same_reference { tx.new.conn.ghost_name ≡ tx.old.conn.ghost_name }
     ensures makes { HasCleanDisk (state S.Store tx.new.conn.now) → IsTrue tx.old.conn.now.in_transaction
@@ -71,7 +72,7 @@ pub fn create<S: Alter>(tx: &mut Transaction<'_, S>, table: TableName) -> Result
     tx.execute(table.form().create(), &[])
 }
 
-/// Makes the twelve tables, with no rows.
+/// Makes the twelve tables, without rows. Stops at the first that fails, and returns its error.
 pub fn create_all<S: Alter>(tx: &mut Transaction<'_, S>) -> Result<(), Error>
     ensures same_reference { tx.new.conn.ghost_name ≡ tx.old.conn.ghost_name }
     ensures makes { HasCleanDisk (state S.Store tx.new.conn.now) → IsTrue (state S.Store tx.old.conn.now).is_open

@@ -2,9 +2,9 @@
 //!
 //! A column of texts or of names holds their bytes. A column that holds many values holds them as a packed list; one
 //! that may be missing is a packed list of none or one. A map is a packed list of keys and packed lists in turn, in the
-//! order of the keys. A day is its number: how many days it is behind 1970-01-01. What may be said or not, and is true
-//! or false, is -1 where nothing is said, 0 for false, 1 for true. Classes are 0 to 4 in their order: conflicting,
-//! full, partial, exempted, unvetted; 5 means none.
+//! order of the keys. A day is its number: how many days it is after 1970-01-01. A boolean that may be missing is -1 if
+//! it is, 0 for false, 1 for true. Classes are 0 to 4 in their order: conflicting, full, partial, exempted, unvetted; 5
+//! means none.
 ghost use Rattle.std.specs.Prelude.{◌≡◌, ◌<◌};
 ghost use Rattle.vet_tables.specs.Forms.{code, form_of};
 ghost use Rattle.vet_tables.specs.declared.table_name.TableName.TheVariants as table;
@@ -249,7 +249,7 @@ fn policies() -> Form
         columns: &[
             // A package, or a package, a colon and a version.
             ("policy", Kind::Text),
-            // Whether the package is audited as that of its name at crates.io, where that is said.
+            // Whether the package is audited as the one of its name at crates.io, if that is said.
             ("as_crates", Kind::Integer),
             // The packed list of what the package needs, if it is said.
             ("criteria", Kind::Blob),
