@@ -1,7 +1,8 @@
-//! What is found of a package once further steps come to it, from what was found of the first ones.
+//! What searches find of a package to which steps were added, from what they found of its first steps.
 //!
-//! A search goes on from what it reached. What chains of the first steps lead to stays so, while each version that
-//! these name is condemned for the same criteria. A search that wasn't wanted before begins anew, over the same index.
+//! A search goes on from what it reached. What it reached by the first steps stays reached, as long as each version
+//! that these steps name is condemned for the same criteria. A search that wasn't needed before begins from scratch,
+//! over the same index.
 ghost use Rattle.std.specs.Prelude.{◌≡◌, ◌≢◌, ◌+◌, ◌*◌, ◌^◌, ◌<◌, ◌≤◌, ◌∷◌, ℕ, false, IfOk, IfErr, IsTrue, [], Some};
 ghost use Rattle.std.specs.Prelude.{get_or, length, map, take};
 ghost use Rattle.std.specs.BTreeMap.{get};
@@ -61,8 +62,8 @@ impl PackageClasses {
         }
     }
 
-    // The same for these steps, the first of which are those that were searched, where the violations condemn the
-    // versions that these name as they were condemned.
+    // The same for these steps. The first of them are those that were searched, and the violations condemn the versions
+    // that these name as before.
     pub(crate) fn extended(
         &self,
         alloc: Global,
@@ -174,7 +175,7 @@ impl PackageClasses {
         reach(alloc, looks, shared.index, 0, &[], &terms)
     }
 
-    // What a search through any version reaches, where one was begun, or some step leads to a condemned version now.
+    // What a search through any version reaches, if one was begun before or some step leads to a condemned version now.
     fn any_chains(
         &self,
         alloc: Global,

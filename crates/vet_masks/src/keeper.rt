@@ -1,10 +1,10 @@
-//! A keeper of the classes of demanded pairs, which finds those of touched packages alone.
+//! A keeper of the classes of demanded pairs, which searches only touched packages.
 //!
 //! **A plan looks at the steps of the packages that are touched, and at no other's.**
 //!
-//! Of each package it keeps what searches of its steps found. Where steps come behind those that were there, the
-//! searches go on from there; else the package is searched anew. The standing is held by package, so that the pairs of
-//! those that are touched are exchanged, and their moves are the moves.
+//! It keeps what the searches of each package's steps found. If steps were only added after those that it knew, the
+//! searches go on from there; otherwise they begin again. The standing is held by package, so an update exchanges only
+//! the pairs of touched packages, and its moves are those of these packages.
 ghost use Rattle.std.specs.Prelude.{◌≡◌, ◌↔◌, ◌≤◌, ◌+◌, ◌-◌, ◌*◌, ◌^◌, [], IfErr, IfOk, IfSome, IsTrue, List};
 ghost use Rattle.std.specs.Prelude.{OnOk, Some, false, length, map, min, true};
 ghost use Rattle.std.specs.FinSet as set;
@@ -61,7 +61,7 @@ use vet_graph::touched::Touched;
 pub struct MaskKeeper {
     standing: Standing,
     packages: KeptPackages,
-    // That of the last plan that was applied.
+    // The table of the last plan that was applied.
     criteria: Option<CriteriaTable>,
     looks: u128,
 }
@@ -138,7 +138,7 @@ impl Keeper for MaskKeeper {
         &update.touched
     }
 
-    /// Exchanges what stands and what is kept of the packages that change.
+    /// Exchanges the stands of the packages that change, and what is kept of them. Takes no memory.
     fn apply(&mut self, update: MaskUpdate)
         requires { (facts : Facts) × (demand : List PairValue) × IsPlanned self.old update facts demand }
         ensures standing { (facts : Facts) (demand : List PairValue) → IsPlanned self.old update facts demand
@@ -187,16 +187,16 @@ impl Keeper for MaskKeeper {
 }
 
 impl MaskKeeper {
-    /// How many looks at steps were made for all updates that were applied. It stays at its type's end.
+    /// How many looks at steps were made for all updates that were applied. The count stops at `u128::MAX`.
     pub fn looks(&self) -> u128
         ensures { result ≡ self.now.looks }
     {
         self.looks
     }
 
-    /// How many looks were made at the steps of a package, since what was found of it was last found anew; none if
-    /// nothing is kept of it. Where e versions have an exempt step, that is at most e + 3 searches, each of a look at
-    /// each step and one more for each criterion that some step has.
+    /// How many looks were made at the steps of a package since its searches last began again; 0 if nothing is kept of
+    /// it. If e versions have an exempt step, there are at most e + 3 searches. Each looks at a step at most once, and
+    /// once more for each criterion that some step has.
     pub fn package_looks(&self, package: &PackageName) -> u128
         ensures value { result ≡ looks_of (kept_at self.now.packages «package».now) }
         ensures bound { (facts : Facts) (demand : List PairValue) → Holds self.now facts demand
