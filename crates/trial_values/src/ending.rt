@@ -15,11 +15,11 @@ pub enum Ending {
     Line(usize),
     /// The words of the command line were not understood.
     Words,
-    /// The input was no text, or too long.
+    /// The input was not text, or too long.
     Input,
 }
 
-/// What came of an item.
+/// The result of an item.
 #[derive(Clone, Copy)]
 pub enum ItemResult {
     /// It was answered, or is one of a list that was not given yet.
@@ -36,7 +36,7 @@ pub fn refused(rt: &impl Print, fault: &Fault) -> io::Result<Ending> {
     Ok(Ending::Refused)
 }
 
-/// Prints a refusal; of what is not understood nothing.
+/// Prints a refusal, and nothing for an item that is not understood.
 pub fn print_fault(rt: &impl Print, fault: &Fault) -> io::Result<ItemResult> {
     match fault {
         Fault::NotUnderstood | Fault::Stream => Ok(ItemResult::NotUnderstood),
@@ -50,14 +50,14 @@ pub fn print_fault(rt: &impl Print, fault: &Fault) -> io::Result<ItemResult> {
     }
 }
 
-/// Prints a refusal: its number, its name, and what it tells beside.
+/// Prints a refusal: its number, its name, and its details.
 pub fn print_refusal(rt: &impl Print, refusal: &Refusal) -> io::Result<()> {
     print!(rt; "refused {} {}", refusal.number(), refusal.name())?;
     print_details(rt, refusal)?;
     println!(rt; "")
 }
 
-// What a refusal tells beside its number and its name.
+// Prints the details of a refusal, behind its number and its name.
 fn print_details(rt: &impl Print, refusal: &Refusal) -> io::Result<()> {
     match refusal {
         Refusal::UnknownCriterion(criterion) => print!(rt; " {criterion}"),

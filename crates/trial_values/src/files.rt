@@ -6,14 +6,14 @@ use vet_entries::peer_content::PeerContent;
 use vet_files::imports_file::read_peer;
 use vet_files::notices::Notices;
 
-/// How many criteria and entries the audits file of a peer holds, and what was passed over. Refused: what the
-/// file is refused for, and `NoMemory`.
+/// How many criteria and entries the audits file of a peer holds, and what was ignored. Refused: what the file is
+/// refused for, and `NoMemory`.
 pub fn peer_file(alloc: Global, text: &str) -> Result<String, Fault> {
     let found = read_peer(alloc, text.as_bytes())?;
-    told_peer(alloc, &found.content, found.notices)
+    peer_text(alloc, &found.content, found.notices)
 }
 
-fn told_peer(alloc: Global, content: &PeerContent, notices: Notices) -> Result<String, Fault> {
+fn peer_text(alloc: Global, content: &PeerContent, notices: Notices) -> Result<String, Fault> {
     let criteria = content.criteria().len();
     let entries = content.entries().len();
     let keys = notices.keys;

@@ -1,7 +1,7 @@
 //! What the program of tests answers without a register: a line for a value, and what projects demand.
 //!
-//! It is no part of the product. `values` has the lines that ask for a value, `line` how their words are written,
-//! and `workspace` the lines of a run that asks what projects demand.
+//! It is not part of the product. `values` has the lines that ask for a value, `line` says how their words are written,
+//! and `workspace` has the lines of a run that asks what projects demand.
 #![tactic(auto)]
 
 mod days;

@@ -1,7 +1,7 @@
 //! Lines and their words.
 //!
-//! A line's words stand between single spaces. In a word, `%` and two hexadecimal digits write a
-//! byte, and `%` alone writes the empty text.
+//! A line has words with single spaces between them. In a word, `%` and two hexadecimal digits write a byte, and `%`
+//! alone writes the empty text.
 
 ghost use Rattle.std.specs.Prelude.{◌<◌, IfOk};
 
@@ -13,7 +13,7 @@ pub fn is_remark(line: &str) -> bool {
     line.is_empty() || line.starts_with('#')
 }
 
-/// Whether a document is to stand behind a line: it begins with a digit, as the day of a command does.
+/// Whether a document follows a line: the line begins with a digit, as the day of a command does.
 pub fn is_framing(line: &str) -> bool {
     match line.as_bytes().first() {
         Some(byte) => byte.is_ascii_digit(),

@@ -1,7 +1,7 @@
 //! Lines that ask for lists of names and texts that are made at once, or by edits.
 //!
-//! `names-of [NAME ..]`, `packages-of [NAME ..]` and `texts-of [TEXT ..]` make the set of what stands there in whatever
-//! order, and print its members, each in brackets. `pairs-of [PACKAGE,VERSION,CRITERION ..]` prints the demand of such
+//! `names-of [NAME ..]`, `packages-of [NAME ..]` and `texts-of [TEXT ..]` make the set of these, in any order, and
+//! print its members, each in brackets. `pairs-of [PACKAGE,VERSION,CRITERION ..]` prints the demand of such
 //! pairs in the same way. `edited [+NAME ..] [-NAME ..]` sets and drops names one by one, each by an edit that is made,
 //! undone and made again, and prints the names that are left. `touched [NAME ..]` prints the packages of a copy of
 //! those touched.
@@ -52,7 +52,7 @@ pub fn pairs_of(alloc: Global, texts: &[String]) -> Result<String, Fault> {
     for text in texts {
         pairs.push(pair(alloc, text.as_str())?)?;
     }
-    told_pairs(alloc, Demand::of_pairs(alloc, pairs)?.pairs())
+    pairs_text(alloc, Demand::of_pairs(alloc, pairs)?.pairs())
 }
 
 /// The pair that a text `PACKAGE,VERSION,CRITERION` is. Refused: what its parts are refused for, and `NoMemory`.
@@ -106,7 +106,7 @@ pub fn packages(alloc: Global, texts: &[String]) -> Result<Vec<PackageName>, Fau
     Ok(names)
 }
 
-fn told_pairs(alloc: Global, pairs: &[Pair]) -> Result<String, Fault> {
+fn pairs_text(alloc: Global, pairs: &[Pair]) -> Result<String, Fault> {
     let mut told = String::new(alloc);
     for pair in pairs {
         let text = format!(in alloc; "{} {} {}", pair.package, pair.version, pair.criterion)?;

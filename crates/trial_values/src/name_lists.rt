@@ -1,11 +1,11 @@
-//! Sets of names that stand in words, or in a list with commas between them.
+//! Sets of names in words, or in a list with commas between them.
 
 use std::alloc::Global;
 use vet_base::name::Name;
 use vet_base::names::Names;
 use vet_base::refusal::Refusal;
 
-/// The set of the names that some texts are. Refused: `BadName`, and `NoMemory`.
+/// The set of these names. Refused: `BadName`, and `NoMemory`.
 pub fn names(alloc: Global, texts: &[String]) -> Result<Names, Refusal> {
     let mut names = Names::new(alloc);
     for text in texts {
@@ -14,8 +14,7 @@ pub fn names(alloc: Global, texts: &[String]) -> Result<Names, Refusal> {
     Ok(names)
 }
 
-/// The set of the names that stand in a list with commas between them; of an empty list, none. Refused: `BadName`, and
-/// `NoMemory`.
+/// The set of the names in a list with commas between them; an empty list has none. Refused: `BadName`, and `NoMemory`.
 pub fn names_between_commas(alloc: Global, list: &str) -> Result<Names, Refusal> {
     let mut names = Names::new(alloc);
     for name in list.split(',') {

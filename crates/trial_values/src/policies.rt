@@ -1,9 +1,9 @@
 //! Words that write a policy.
 //!
 //! `KEY [criteria=LIST] [dev-criteria=LIST] [dependency-criteria=MAP] [audit-as-crates-io=true|false] [notes=TEXT]`
-//! write the policy of a package or of one version of it. LIST has names with commas between them, and none where
-//! nothing stands behind the equals sign, which differs from no word at all. MAP is a list of `PACKAGE=LIST` with
-//! semicolons between them.
+//! write the policy of a package or of one version of it. LIST has names with commas between them. It is empty if
+//! nothing follows the equals sign, which differs from no word at all. MAP is a list of `PACKAGE=LIST` with semicolons
+//! between them.
 
 use crate::fault::Fault;
 use crate::name_lists::names_between_commas;
@@ -54,7 +54,7 @@ fn set_part(alloc: Global, policy: &mut Policy, part: &str) -> Result<(), Fault>
     }
 }
 
-// Puts what was read in the place of what stands there.
+// Sets a value to what was read.
 fn put<T: Drop>(place: &mut Option<T>, read: Result<T, Refusal>) -> Result<(), Fault> {
     *place = Some(read?);
     Ok(())

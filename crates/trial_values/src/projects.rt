@@ -1,8 +1,8 @@
 //! Words that write a project, and lines that ask what a dependency table states.
 //!
 //! `NAME TABLE` write a project by its name and the text of its dependency table. The line `project TABLE` prints what
-//! a table states, of any bytes: a line of each node, with its party, and then of each edge, with the names and
-//! versions between which it leads, and its kind.
+//! a table of any bytes states: a line for each node, with its party, and then one for each edge, with its two ends and
+//! its kind.
 
 use crate::fault::Fault;
 use crate::line::{bytes_of, two};
@@ -32,10 +32,10 @@ pub fn table_word(line: &str) -> Option<&str> {
 /// The project that the table of a word states. Refused: what the table is refused for, and `NoMemory`.
 pub fn project(alloc: Global, word: &str) -> Result<String, Fault> {
     let table = bytes_of(alloc, word)?;
-    told_project(alloc, &read_project(alloc, table.as_slice())?)
+    project_text(alloc, &read_project(alloc, table.as_slice())?)
 }
 
-fn told_project(alloc: Global, project: &Project) -> Result<String, Fault> {
+fn project_text(alloc: Global, project: &Project) -> Result<String, Fault> {
     let mut told = String::new(alloc);
     for node in project.nodes() {
         push_node(alloc, &mut told, node)?;

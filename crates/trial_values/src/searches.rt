@@ -12,7 +12,7 @@ ghost use Rattle.vet_masks.specs.Vouched.{barred_by};
 
 use crate::fault::Fault;
 use crate::line::two;
-use crate::steps::{or_none, push_behind, told_criteria};
+use crate::steps::{criteria_text, or_none, push_behind};
 use std::alloc::Global;
 use vet_base::criteria_table::CriteriaTable;
 use vet_base::name::PackageName;
@@ -45,16 +45,16 @@ fn found(alloc: Global, facts: &EntryFacts, texts: &[String], way: Way) -> Resul
     let (package, skip) = two(texts)?;
     let package = PackageName::parse(alloc, package)?;
     match skip {
-        "nothing" => told(alloc, facts, &package, &Skip::Nothing, way),
-        "exempt" => told(alloc, facts, &package, &Skip::Exempt, way),
+        "nothing" => search_text(alloc, facts, &package, &Skip::Nothing, way),
+        "exempt" => search_text(alloc, facts, &package, &Skip::Exempt, way),
         text => {
             let version = VetVersion::parse(alloc, text)?;
-            told(alloc, facts, &package, &Skip::ExemptTo(&version), way)
+            search_text(alloc, facts, &package, &Skip::ExemptTo(&version), way)
         }
     }
 }
 
-fn told(
+fn search_text(
     alloc: Global,
     facts: &EntryFacts,
     package: &PackageName,
@@ -69,7 +69,7 @@ fn told(
             step_by_step(alloc, package, facts, barred.as_slice(), skip, steps.len())?
         }
     };
-    told_reached(alloc, facts.criteria(), steps.as_slice(), &reached)
+    reached_text(alloc, facts.criteria(), steps.as_slice(), &reached)
 }
 
 // For what each version is condemned to which steps lead.
@@ -141,7 +141,7 @@ fn with_one_more(
     Ok(extend(alloc, reached, first, &mut looks, barred, skip)?)
 }
 
-fn told_reached(
+fn reached_text(
     alloc: Global,
     table: &CriteriaTable,
     steps: &[Step],
@@ -152,20 +152,20 @@ fn told_reached(
     told.push_str("looks ")?;
     told.push_str(looks.as_str())?;
     for step in steps {
-        let line = told_version(alloc, table, &step.target, reached)?;
+        let line = version_text(alloc, table, &step.target, reached)?;
         push_behind(&mut told, "\n", line.as_str())?;
     }
     Ok(told)
 }
 
-fn told_version(
+fn version_text(
     alloc: Global,
     table: &CriteriaTable,
     version: &VetVersion,
     reached: &Reached,
 ) -> Result<String, Fault> {
     let mut told = version.to_string(alloc)?;
-    let criteria = told_criteria(alloc, table, &reached.at(version))?;
+    let criteria = criteria_text(alloc, table, &reached.at(version))?;
     push_behind(&mut told, " ", or_none(alloc, criteria)?.as_str())?;
     Ok(told)
 }

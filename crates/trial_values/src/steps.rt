@@ -3,7 +3,7 @@
 //! `steps PACKAGE` prints its steps, a line each: where it starts or `-`, where it leads, `exempt` or `-`, and its
 //! criteria in the order of the table. `violations PACKAGE` prints its violations, each in brackets: the requirement,
 //! and the criteria for which it condemns a version, or `-`. `condemned PACKAGE VERSION` prints the criteria for which
-//! a version is condemned. Where there is nothing to print, each prints `-`.
+//! a version is condemned. If there is nothing to print, each prints `-`.
 
 use crate::fault::Fault;
 use crate::line::{one, two};
@@ -21,14 +21,14 @@ use vet_entries::step::{Step, steps_of};
 pub fn steps(alloc: Global, facts: &EntryFacts, texts: &[String]) -> Result<String, Fault> {
     let package = PackageName::parse(alloc, one(texts)?)?;
     let steps = steps_of(alloc, &package, facts)?;
-    told_steps(alloc, facts.criteria(), steps.as_slice())
+    steps_text(alloc, facts.criteria(), steps.as_slice())
 }
 
 /// The violations of a package. Refused: `BadName`, and `NoMemory`.
 pub fn violations(alloc: Global, facts: &EntryFacts, texts: &[String]) -> Result<String, Fault> {
     let package = PackageName::parse(alloc, one(texts)?)?;
     let violations = violations_of(alloc, &package, facts)?;
-    told_violations(alloc, facts.criteria(), violations.as_slice())
+    violations_text(alloc, facts.criteria(), violations.as_slice())
 }
 
 /// The criteria for which a version of a package is condemned. Refused: `BadName`, `BadVersion`, and `NoMemory`.
@@ -41,12 +41,12 @@ pub fn condemned_criteria(
     let package = PackageName::parse(alloc, package)?;
     let version = VetVersion::parse(alloc, version)?;
     let criteria = condemned(&package, &version, facts);
-    let told = told_criteria(alloc, facts.criteria(), &criteria)?;
+    let told = criteria_text(alloc, facts.criteria(), &criteria)?;
     or_none(alloc, told)
 }
 
 /// The names of some criteria in the order of the table, with a space between them. Refused: `NoMemory`.
-pub fn told_criteria(
+pub fn criteria_text(
     alloc: Global,
     table: &CriteriaTable,
     criteria: &CriteriaSet,
@@ -60,40 +60,40 @@ pub fn told_criteria(
     Ok(told)
 }
 
-fn told_steps(alloc: Global, table: &CriteriaTable, steps: &[Step]) -> Result<String, Fault> {
+fn steps_text(alloc: Global, table: &CriteriaTable, steps: &[Step]) -> Result<String, Fault> {
     let mut told = String::new(alloc);
     for step in steps {
-        let line = told_step(alloc, table, step)?;
+        let line = step_text(alloc, table, step)?;
         push_behind(&mut told, "\n", line.as_str())?;
     }
     or_none(alloc, told)
 }
 
-fn told_violations(
+fn violations_text(
     alloc: Global,
     table: &CriteriaTable,
     violations: &[Violation],
 ) -> Result<String, Fault> {
     let mut told = String::new(alloc);
     for violation in violations {
-        let text = told_violation(alloc, table, violation)?;
+        let text = violation_text(alloc, table, violation)?;
         push_in_brackets(&mut told, text.as_str())?;
     }
     or_none(alloc, told)
 }
 
-fn told_violation(
+fn violation_text(
     alloc: Global,
     table: &CriteriaTable,
     violation: &Violation,
 ) -> Result<String, Fault> {
-    let criteria = or_none(alloc, told_criteria(alloc, table, &violation.criteria)?)?;
+    let criteria = or_none(alloc, criteria_text(alloc, table, &violation.criteria)?)?;
     let mut told = violation.requirement.to_string(alloc)?;
     push_behind(&mut told, " ", criteria.as_str())?;
     Ok(told)
 }
 
-fn told_step(alloc: Global, table: &CriteriaTable, step: &Step) -> Result<String, Fault> {
+fn step_text(alloc: Global, table: &CriteriaTable, step: &Step) -> Result<String, Fault> {
     let mut told = origin(alloc, &step.origin)?;
     push_target(alloc, &mut told, step)?;
     push_criteria(alloc, &mut told, table, step)?;
@@ -112,7 +112,7 @@ fn push_criteria(
     table: &CriteriaTable,
     step: &Step,
 ) -> Result<(), Fault> {
-    let criteria = told_criteria(alloc, table, &step.criteria)?;
+    let criteria = criteria_text(alloc, table, &step.criteria)?;
     if criteria.is_empty() {
         return Ok(());
     }
@@ -126,7 +126,7 @@ fn origin(alloc: Global, origin: &Option<VetVersion>) -> Result<String, Fault> {
     }
 }
 
-/// Adds a text, behind a separator where something stands before it. Refused: `NoMemory`.
+/// Adds a text, after a separator if there is something before it. Refused: `NoMemory`.
 pub fn push_behind(told: &mut String, separator: &str, text: &str) -> Result<(), Fault> {
     if !told.is_empty() {
         told.push_str(separator)?;

@@ -2,8 +2,8 @@
 //!
 //! `table-of [NAME=IMPLIED,.. ..]` makes the table of the built-in criteria and of these at once, and
 //! `table [NAME=IMPLIED,.. | -NAME ..]` sets and removes them one by one; each prints the names of the table.
-//! `moves BEFORE AFTER` prints the moves from one standing to the other. Of these each is a list of
-//! `PACKAGE,VERSION,CRITERION,CLASS` with a `;` behind each, in the order of the pairs.
+//! `moves BEFORE AFTER` prints the moves from one standing to the other. Each standing is a list
+//! of `PACKAGE,VERSION,CRITERION,CLASS` with a `;` after each, in the order of the pairs.
 
 use crate::fault::Fault;
 use crate::line::two;
@@ -23,7 +23,7 @@ pub fn table_of(alloc: Global, texts: &[String]) -> Result<String, Fault> {
     for text in texts {
         criteria.push(criterion(alloc, text.as_str())?)?;
     }
-    told_table(alloc, &CriteriaTable::of(alloc, criteria)?)
+    table_text(alloc, &CriteriaTable::of(alloc, criteria)?)
 }
 
 /// A table in which some criteria were set, and others removed. Refused: the first that is refused, and
@@ -33,7 +33,7 @@ pub fn table(alloc: Global, texts: &[String]) -> Result<String, Fault> {
     for text in texts {
         change(alloc, &mut table, text.as_str())?;
     }
-    told_table(alloc, &table)
+    table_text(alloc, &table)
 }
 
 fn change(alloc: Global, table: &mut CriteriaTable, text: &str) -> Result<(), Fault> {
@@ -58,7 +58,7 @@ fn criterion(alloc: Global, text: &str) -> Result<Criterion, Fault> {
     })
 }
 
-fn told_table(alloc: Global, table: &CriteriaTable) -> Result<String, Fault> {
+fn table_text(alloc: Global, table: &CriteriaTable) -> Result<String, Fault> {
     let mut told = String::new(alloc);
     for name in table.names() {
         push_in_brackets(&mut told, name.as_str())?;
@@ -72,7 +72,7 @@ pub fn moves(alloc: Global, texts: &[String]) -> Result<String, Fault> {
     let before = stands(alloc, before)?;
     let after = stands(alloc, after)?;
     let moves = differences(alloc, before.as_slice(), after.as_slice())?;
-    told_moves(alloc, moves.as_slice())
+    moves_text(alloc, moves.as_slice())
 }
 
 fn stands(alloc: Global, text: &str) -> Result<Vec<Stand>, Fault> {
@@ -85,7 +85,7 @@ fn stands(alloc: Global, text: &str) -> Result<Vec<Stand>, Fault> {
     Ok(stands)
 }
 
-// The stand that a text `PACKAGE,VERSION,CRITERION,CLASS` is.
+// The stand that a text `PACKAGE,VERSION,CRITERION,CLASS` writes.
 fn stand(alloc: Global, text: &str) -> Result<Stand, Fault> {
     let Some((text, word)) = text.rsplit_once(',') else {
         return Err(Fault::NotUnderstood);
@@ -109,7 +109,7 @@ pub fn class_of_word(word: &str) -> Result<Class, Fault> {
     }
 }
 
-fn told_moves(alloc: Global, moves: &[Move]) -> Result<String, Fault> {
+fn moves_text(alloc: Global, moves: &[Move]) -> Result<String, Fault> {
     let mut told = String::new(alloc);
     for change in moves {
         let pair = &change.pair;

@@ -3,8 +3,8 @@
 //! `name TEXT`, `package TEXT`, `key TEXT`, `version TEXT`, `delta TEXT`, `requirement TEXT`, `day TEXT` and
 //! `policy-key TEXT` print the value. `texts [TEXT ..]` prints a set of texts, how many it holds and
 //! each in brackets, and `text-of N` how many bytes a text of N letters has. `closure NAME ..` prints the names of the
-//! closure in the register's table. Lines of other values stand in the other modules, and of these `steps` and
-//! `searches` ask for what the register holds, too.
+//! closure in the register's table. The other modules have the lines of other values; those of
+//! `steps` and `searches` also ask for what the register holds.
 
 use crate::days::{day_number, day_of_parts, day_order, plus};
 use crate::fault::Fault;
@@ -14,7 +14,7 @@ use crate::lists::{edited, names_of, packages_of, pairs_of, push_in_brackets, te
 use crate::name_lists::names;
 use crate::projects::{project, table_word};
 use crate::searches::{extended, searched};
-use crate::steps::{condemned_criteria, steps, told_criteria, violations};
+use crate::steps::{condemned_criteria, criteria_text, steps, violations};
 use crate::tables::{moves, table, table_of};
 use crate::versions::{equal, matches, order};
 use crate::written::{written_audits, written_config, written_imports, written_project};
@@ -154,7 +154,7 @@ fn in_brackets(alloc: Global, set: &Texts) -> Result<String, Fault> {
     Ok(told)
 }
 
-// A text of so many letters `a`, of which the bytes are told.
+// How many bytes a text of so many letters `a` has.
 fn text_of(alloc: Global, length: &str) -> Result<String, Fault> {
     let Ok(length) = length.parse::<u32>() else {
         return Err(Fault::NotUnderstood);
@@ -175,5 +175,5 @@ fn add_letters(letters: &mut String, count: u32) -> Result<(), Fault> {
 fn closure(alloc: Global, facts: &EntryFacts, texts: &[String]) -> Result<String, Fault> {
     let table = facts.criteria();
     let closure = table.closure(&names(alloc, texts)?)?;
-    told_criteria(alloc, table, &closure)
+    criteria_text(alloc, table, &closure)
 }

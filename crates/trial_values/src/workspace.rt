@@ -45,7 +45,7 @@ impl Drop for Workspace {
     }
 }
 
-/// Gives the lines in their order, up to one that is refused for want of memory, and prints what they are told.
+/// Gives the lines in their order, up to one for which memory runs out, and prints the answers.
 pub fn run_workspace(rt: &impl Print, alloc: Global, text: &str) -> io::Result<Ending> {
     match Workspace::new(alloc) {
         Ok(mut workspace) => give_all(rt, alloc, &mut workspace, text),

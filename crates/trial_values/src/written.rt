@@ -1,12 +1,12 @@
-//! Lines that ask what is written of a file.
+//! Lines that ask for a file to be read and written again.
 //!
 //! `written-audits TEXT` and `written-config TEXT` have the text of a file, and `written-imports CONFIG TEXT` that of a
-//! config file, whose peers give the settings, and of an imports file. Each prints the text that is written of what the
-//! file holds, as the word that writes it; how much that text holds and what is passed over in it; and `same` where
-//! what it holds is written as the same text again, else `other`.
+//! config file, whose peers give the settings, and of an imports file. Each prints the text that is written for what
+//! the file holds, as the word that writes it; how much that text holds and what is ignored in it; and `same` if what
+//! it holds is written as the same text again, or else `other`.
 //!
-//! `written-project TABLE` has the text of a dependency table, and prints the table that is written of the project
-//! which it states, as the word that writes it, and `same` where that is read as the same project, else `other`.
+//! `written-project TABLE` has the text of a dependency table. It prints the table that is written for the project that
+//! this states, as the word that writes it, and `same` if that is read as the same project, or else `other`.
 
 use crate::fault::Fault;
 use crate::line::{two, word_of};
@@ -29,7 +29,7 @@ struct WrittenFile {
     text: String,
     // How much the file held that was read, in words.
     held: String,
-    // What was passed over where it was read.
+    // What was ignored when it was read.
     notices: Notices,
 }
 
@@ -47,14 +47,14 @@ impl Drop for WrittenFile {
 pub fn written_audits(alloc: Global, text: &str) -> Result<String, Fault> {
     let first = write_audits_of(alloc, text.as_bytes())?;
     let second = write_audits_of(alloc, first.text.as_bytes())?;
-    told(alloc, &first, &second)
+    file_line(alloc, &first, &second)
 }
 
 /// What is written of a config file. Refused: what the file is refused for, and `NoMemory`.
 pub fn written_config(alloc: Global, text: &str) -> Result<String, Fault> {
     let first = write_config_of(alloc, text.as_bytes())?;
     let second = write_config_of(alloc, first.text.as_bytes())?;
-    told(alloc, &first, &second)
+    file_line(alloc, &first, &second)
 }
 
 /// What is written of an imports file by the settings of a config file. Refused: what the files are refused for,
@@ -62,18 +62,18 @@ pub fn written_config(alloc: Global, text: &str) -> Result<String, Fault> {
 pub fn written_imports(alloc: Global, texts: &[String]) -> Result<String, Fault> {
     let (config, imports) = two(texts)?;
     let config = read_config(alloc, config.as_bytes())?;
-    imports_told(alloc, config.content.peers.as_slice(), imports)
+    imports_line(alloc, config.content.peers.as_slice(), imports)
 }
 
 /// What is written of the project of a dependency table. Refused: what the table is refused for, and `NoMemory`.
 pub fn written_project(alloc: Global, text: &str) -> Result<String, Fault> {
     let project = read_project(alloc, text.as_bytes())?;
     let text = write_project(alloc, &project)?;
-    project_told(alloc, &project, text.as_str())
+    project_line(alloc, &project, text.as_str())
 }
 
-// What a project is told that was written as a text.
-fn project_told(alloc: Global, project: &Project, text: &str) -> Result<String, Fault> {
+// The line for a project that was written as a text.
+fn project_line(alloc: Global, project: &Project, text: &str) -> Result<String, Fault> {
     let compared = if read_project(alloc, text.as_bytes())? == *project {
         "same"
     } else {
@@ -83,10 +83,10 @@ fn project_told(alloc: Global, project: &Project, text: &str) -> Result<String, 
     Ok(format!(in alloc; "{word} {compared}")?)
 }
 
-fn imports_told(alloc: Global, settings: &[PeerSettings], imports: &str) -> Result<String, Fault> {
+fn imports_line(alloc: Global, settings: &[PeerSettings], imports: &str) -> Result<String, Fault> {
     let first = write_imports_of(alloc, settings, imports.as_bytes())?;
     let second = write_imports_of(alloc, settings, first.text.as_bytes())?;
-    told(alloc, &first, &second)
+    file_line(alloc, &first, &second)
 }
 
 fn write_audits_of(alloc: Global, bytes: &[u8]) -> Result<WrittenFile, Fault> {
@@ -113,8 +113,8 @@ fn write_config_of(alloc: Global, bytes: &[u8]) -> Result<WrittenFile, Fault> {
     copied_config_written(alloc, &mut found.content, found.notices)
 }
 
-// Writes a content with copies in place of its lists, so that what is written tells of copies too. The policies are
-// added one by one.
+// Writes a content with copies in place of its lists, so that the text shows the copies too. The policies are added one
+// by one.
 fn copied_config_written(
     alloc: Global,
     content: &mut ConfigContent,
@@ -197,8 +197,8 @@ fn held_of_imports(alloc: Global, content: &ImportsContent) -> Result<String, Fa
     Ok(held)
 }
 
-// What a file is told that was written, read and written again.
-fn told(alloc: Global, first: &WrittenFile, second: &WrittenFile) -> Result<String, Fault> {
+// The line for a file that was written, read and written again.
+fn file_line(alloc: Global, first: &WrittenFile, second: &WrittenFile) -> Result<String, Fault> {
     let word = word_of(alloc, first.text.as_str())?;
     let held = second.held.as_str();
     let keys = second.notices.keys;
