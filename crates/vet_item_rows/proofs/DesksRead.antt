@@ -11,7 +11,7 @@ use Rattle.vet_desk.specs.declared.review.ReviewState.{ReviewState}
 use Rattle.vet_desk.specs.declared.review.ReviewState.TheVariants.{Waiting, Assigned, Finished, Withdrawn}
 use Rattle.vet_item_rows.specs.DeskRows.{assigned_member, finishing_entry, state_number}
 use Rattle.vet_item_rows.specs.HeldValues.{IsReviewState}
-use Rattle.vet_item_rows.specs.ReadBack.{ReadsAs, found_or_unread}
+use Rattle.vet_item_rows.specs.ReadBack.{ReadsAs, found_or_no_register}
 use Rattle.vet_item_rows.specs.Values.{IsName}
 use Rattle.vet_item_rows.specs.declared.read.read_error.ReadError.{ReadError}
 use Rattle.vet_item_rows.proofs.KindsRead.{no_other}
@@ -74,7 +74,7 @@ desk_is d members reviews next m r n = λ i. record { members = m i; reviews = r
 
 sound_is : (state d : DeskState) → state ≡ d → IsSoundDesk d → (found : Option DeskView)
     → (IsSome found ↔ IsSoundDesk state) → IfSome found (λ v. v.content ≡ state)
-    → (result : Result DeskView ReadError) → result ≡ found_or_unread found → ReadsAs (λ v. v.content) result d
+    → (result : Result DeskView ReadError) → result ≡ found_or_no_register found → ReadsAs (λ v. v.content) result d
 sound_is state d e sound None is value result found =
     absurd (false≢true (is.1 (subst IsSoundDesk (sym e) sound)))
 sound_is state d e sound (Some v) is value result found = rw found (value ∙ e)
@@ -83,7 +83,7 @@ pub desk_read : (d : DeskState) (members : List (List ℕ)) (reviews : List Revi
     → reviews ≡ d.reviews → next ≡ d.next_review → IsSoundDesk d → (found : Option DeskView)
     → (IsSome found ↔ IsSoundDesk (record { members = members; reviews = reviews; next_review = next }))
     → IfSome found (λ v. v.content ≡ record { members = members; reviews = reviews; next_review = next })
-    → (result : Result DeskView ReadError) → result ≡ found_or_unread found → ReadsAs (λ v. v.content) result d
+    → (result : Result DeskView ReadError) → result ≡ found_or_no_register found → ReadsAs (λ v. v.content) result d
 desk_read d members reviews next m r n sound found is value =
     sound_is (record { members = members; reviews = reviews; next_review = next }) d
     (desk_is d members reviews next m r n) sound found is value

@@ -7,7 +7,7 @@ use Rattle.vet_base.specs.Items.{IsIn, SameItems}
 use Rattle.vet_base.specs.declared.refusal.Refusal.{Refusal}
 use Rattle.vet_base.specs.declared.refusal.Refusal.TheVariants as refusal
 use Rattle.vet_base.proofs.ItemLemmas.{in_all, in_map, map_in}
-use Rattle.vet_item_rows.specs.ReadBack.{EachStandsFor, IsWritten, Reads, found_or_unread, unread_of}
+use Rattle.vet_item_rows.specs.ReadBack.{EachStandsFor, IsWritten, Reads, found_or_no_register, read_error_of}
 use Rattle.vet_item_rows.specs.declared.read.read_error.ReadError.{ReadError}
 use Rattle.vet_item_rows.specs.declared.read.read_error.ReadError.TheVariants.{NoMemory}
 
@@ -20,23 +20,24 @@ passed_on (Ok x) e passed none = absurd passed
 passed_on (Err y) e passed none = ap (λ (u : ReadError). Err u) (passed ∙ none)
 
 -- and so is such a refusal
-pub refused_on : {T : Type 0} (r : Result T ReadError) (e : Refusal) → IsErrAnd r (λ y. y ≡ unread_of e)
+pub refused_on : {T : Type 0} (r : Result T ReadError) (e : Refusal) → IsErrAnd r (λ y. y ≡ read_error_of e)
     → e ≡ refusal.NoMemory → r ≡ Err NoMemory
 refused_on (Ok x) e passed none = absurd passed
-refused_on (Err y) e passed none = ap (λ (u : ReadError). Err u) (passed ∙ ap unread_of none)
+refused_on (Err y) e passed none = ap (λ (u : ReadError). Err u) (passed ∙ ap read_error_of none)
 
 -- ---- what was found
 
 module _ {X : Type 0} where
-  pub some_found : (o : Option X) (x : X) → Ok x ≡ found_or_unread o → o ≡ Some x
+  pub some_found : (o : Option X) (x : X) → Ok x ≡ found_or_no_register o → o ≡ Some x
   some_found None x h = cc h
   some_found (Some y) x h = (let same : x ≡ y = cc h in ap (λ (z : X). Some z) (sym same))
 
-  pub none_found : (o : Option X) (e : ReadError) → Err e ≡ found_or_unread o → o ≡ None
+  pub none_found : (o : Option X) (e : ReadError) → Err e ≡ found_or_no_register o → o ≡ None
   none_found None e h = refl
   none_found (Some y) e h = cc h
 
-  pub reads_found : (o : Option X) (x : X) (r : Result X ReadError) → r ≡ found_or_unread o → o ≡ Some x → Reads r x
+  pub reads_found : (o : Option X) (x : X) (r : Result X ReadError) → r ≡ found_or_no_register o → o ≡ Some x
+      → Reads r x
   reads_found o x r is some = rw (is, some) refl
 
 -- ---- item by item

@@ -20,14 +20,14 @@ abbrev pub IsReadBack : {A X : Type 0} → (A → X → Type 0) → A → Result
 IsReadBack {A} {X} StandsFor a result = (x : X) → StandsFor a x → Reads result x
 
 -- what was found, or that nothing was
-abbrev pub found_or_unread : {X : Type 0} → Option X → Result X ReadError
-found_or_unread None = Err NotARegister
-found_or_unread (Some x) = Ok x
+abbrev pub found_or_no_register : {X : Type 0} → Option X → Result X ReadError
+found_or_no_register None = Err NotARegister
+found_or_no_register (Some x) = Ok x
 
 -- a refusal for want of memory stays one
-abbrev pub unread_of : Refusal → ReadError
-unread_of refusal.NoMemory = NoMemory
-unread_of _ = NotARegister
+abbrev pub read_error_of : Refusal → ReadError
+read_error_of refusal.NoMemory = NoMemory
+read_error_of _ = NotARegister
 
 abbrev pub refusal_of : ReadError → Refusal
 refusal_of NotARegister = refusal.NotARegister

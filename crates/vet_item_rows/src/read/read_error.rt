@@ -1,6 +1,6 @@
 //! Why nothing was read of rows.
 ghost use Rattle.std.specs.Prelude.{◌≡◌};
-ghost use Rattle.vet_item_rows.specs.ReadBack.{found_or_unread};
+ghost use Rattle.vet_item_rows.specs.ReadBack.{found_or_no_register};
 
 use std::alloc::{AllocError, AllocFailed};
 use vet_base::refusal::Refusal;
@@ -38,9 +38,9 @@ impl<T: Drop> From<AllocFailed<T>> for ReadError {
 
 impl From<Refusal> for ReadError {
     ghost use Rattle.std.specs.Prelude.{◌≡◌};
-    ghost use Rattle.vet_item_rows.specs.ReadBack.{unread_of};
+    ghost use Rattle.vet_item_rows.specs.ReadBack.{read_error_of};
 
-    ghost from_gives = { λ refusal e. e ≡ unread_of refusal };
+    ghost from_gives = { λ refusal e. e ≡ read_error_of refusal };
 
     fn from(refusal: Refusal) -> ReadError {
         match refusal {
@@ -54,10 +54,10 @@ impl From<ReadError> for Refusal {
     ghost use Rattle.std.specs.Prelude.{◌≡◌};
     ghost use Rattle.vet_item_rows.specs.ReadBack.{refusal_of};
 
-    ghost from_gives = { λ unread e. e ≡ refusal_of unread };
+    ghost from_gives = { λ error e. e ≡ refusal_of error };
 
-    fn from(unread: ReadError) -> Refusal {
-        match unread {
+    fn from(error: ReadError) -> Refusal {
+        match error {
             ReadError::NotARegister => Refusal::NotARegister,
             ReadError::NoMemory => Refusal::NoMemory,
         }
@@ -66,7 +66,7 @@ impl From<ReadError> for Refusal {
 
 /// What was found, if something was. Takes no memory.
 pub fn found<T>(found: Option<T>) -> Result<T, ReadError>
-    ensures { result ≡ found_or_unread found }
+    ensures { result ≡ found_or_no_register found }
 {
     found.ok_or(ReadError::NotARegister)
 }
