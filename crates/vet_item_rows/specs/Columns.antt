@@ -1,4 +1,4 @@
--- What stands in columns for values (ours).
+-- What columns hold for values (ours).
 use Rattle.std.specs.Prelude.{ℤ, pos, negsuc, Bool, true, false, List, [], ◌∷◌, Option, Some, None, option_map}
 use Rattle.std.specs.List.{flat_map}
 use Rattle.vet_base.specs.Names.{NameSet, members}
@@ -9,7 +9,7 @@ use Rattle.vet_graph.specs.declared.class.Class.{Class}
 use Rattle.vet_graph.specs.declared.class.Class.TheVariants.{Conflicting, Full, Partial, Exempted, Unvetted}
 use Rattle.vet_item_rows.specs.Packed.{packed, packed_option}
 
--- what may be said or not, and is true or false
+-- a boolean that may be missing
 abbrev pub flag : Option Bool → ℤ
 flag None = negsuc 0
 flag (Some false) = pos 0
@@ -30,7 +30,7 @@ key_and_names item = item.0 ∷ packed_names item.1 ∷ []
 abbrev pub packed_map : List (Name × NameSet) → Bytes
 packed_map items = packed (flat_map key_and_names items)
 
--- whose something is: the name of the peer, empty for one's own
+-- whose something is: the name of the peer, or empty for one's own
 abbrev pub own_peer : Name
 own_peer = []
 

@@ -13,19 +13,19 @@ use Rattle.vet_tables.specs.declared.cell.Cell.TheVariants.{Blob, Int, Text}
 abbrev pub member_row : Name → Row
 member_row name = Text name ∷ []
 
--- how far a review has come
+-- the number of a state
 abbrev pub state_number : ReviewState → ℤ
 state_number Waiting = pos 0
 state_number (Assigned member) = pos 1
 state_number (Finished entry) = pos 2
 state_number Withdrawn = pos 3
 
--- to whom it is assigned, where it is
+-- the member to whom it is assigned, if it is
 abbrev pub assigned_member : ReviewState → Name
 assigned_member (Assigned member) = member
 assigned_member _ = []
 
--- the entry that finished it, where one did
+-- the number of the entry that finished it, if one did
 abbrev pub finishing_entry : ReviewState → ℤ
 finishing_entry (Finished entry) = pos entry
 finishing_entry _ = pos 0

@@ -4,7 +4,7 @@ use Rattle.std.specs.Ordering.{is_eq}
 use Rattle.std.specs.declared.cmp.Ordering.{Ordering}
 use Rattle.vet_item_rows.specs.declared.read.gathered.WithKey.{WithKey}
 
--- one under whose key items are filed, and these
+-- a head, and the items that are filed under its key
 pub record Gathered (H T : Type 0) : Type 0 where
   pub head : H
   pub items : List T
@@ -17,11 +17,11 @@ is_filed_at cmp k filed = is_eq (cmp k filed.key)
 abbrev pub items_at : {K T : Type 0} → (K → K → Ordering) → K → List (WithKey K T) → List T
 items_at cmp k filed = map (λ f. f.item) (filter (is_filed_at cmp k) filed)
 
--- one with what is filed under its key
+-- a head with what is filed under its key
 abbrev pub gathered : {K H T : Type 0} → (K → K → Ordering) → (H → K) → List (WithKey K T) → H → Gathered H T
 gathered cmp key filed h = record { head = h; items = items_at cmp (key h) filed }
 
--- the key of one with its items
+-- the key of a head with its items
 abbrev pub head_key : {K H T : Type 0} → (H → K) → Gathered H T → K
 head_key key g = key g.head
 

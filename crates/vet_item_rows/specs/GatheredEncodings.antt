@@ -1,4 +1,4 @@
--- How one is stored under whose key items are filed (ours): as the pair of it and the items.
+-- How a head and its items are stored (ours): as a pair.
 use Rattle.std.specs.Prelude.{List}
 use Rattle.std.specs.Coded.{Coded, code_by, coded×, coded_list}
 use Rattle.std.proofs.Common.{refl}

@@ -20,7 +20,7 @@ abbrev pub IsReadAs : {X : Type 0} → (Bytes → Option X) → Bytes → Option
 IsReadAs read bytes (Some xs) = (items : List Bytes) × ((bytes ≡ packed items) × (all_read read items ≡ Some xs))
 IsReadAs read bytes None = (items : List Bytes) → bytes ≡ packed items → all_read read items ≡ None
 
--- what bytes are read as that are to be a text
+-- a value read from bytes, which must be UTF-8
 abbrev pub as_text : {X : Type 0} → (Text → Option X) → Bytes → Option X
 as_text read bytes = if is_utf8 bytes then read bytes else None
 

@@ -1,4 +1,4 @@
--- What is read again of rows and columns is what was written (ours).
+-- What is read from rows and columns is what was written (ours).
 use Rattle.std.specs.Prelude.{◌≡◌, Err, List, [], ◌∷◌, MatchResult, None, Ok, Option, Result, Some}
 use Rattle.vet_base.specs.declared.refusal.Refusal.{Refusal}
 use Rattle.vet_base.specs.declared.refusal.Refusal.TheVariants as refusal
@@ -15,16 +15,16 @@ Reads result x = MatchResult result (λ found. found ≡ x) (λ e. e ≡ NoMemor
 abbrev pub ReadsAs : {T X : Type 0} → (T → X) → Result T ReadError → X → Type 0
 ReadsAs view result x = MatchResult result (λ found. view found ≡ x) (λ e. e ≡ NoMemory)
 
--- if what was read stands for a value, that value is read
+-- if it stands for a value, that value is read
 abbrev pub IsReadBack : {A X : Type 0} → (A → X → Type 0) → A → Result X ReadError → Type 0
 IsReadBack {A} {X} StandsFor a result = (x : X) → StandsFor a x → Reads result x
 
--- what was found, or that nothing was
+-- what was found, or an error if nothing was
 abbrev pub found_or_no_register : {X : Type 0} → Option X → Result X ReadError
 found_or_no_register None = Err NotARegister
 found_or_no_register (Some x) = Ok x
 
--- a refusal for want of memory stays one
+-- a refusal because memory ran out stays one
 abbrev pub read_error_of : Refusal → ReadError
 read_error_of refusal.NoMemory = NoMemory
 read_error_of _ = NotARegister

@@ -1,4 +1,4 @@
--- For what the rows of criteria, entries, publishers and peers stand (ours).
+-- What rows of criteria, entries, publishers and peers stand for (ours).
 use Rattle.std.specs.Prelude.{◌≡◌}
 use Rattle.std.specs.FinMap as map
 use Rattle.std.specs.List.{All}
@@ -30,7 +30,7 @@ sourced_criterion_row c = criterion_row (peer_of_source c.source) c.criterion
 
 -- ---- entries
 
--- columns say this of a package, whatever stands in those that the kind doesn't use
+-- columns say this of a package, whatever those hold that the kind doesn't use
 abbrev pub IsSaidIn : KindColumns → Kind → Type 0
 IsSaidIn said kind = IsKind kind × ((plain : KindColumns) × (said ≡ with_kind kind plain))
 
@@ -53,7 +53,7 @@ IsCriteriaMap m = All IsMapped (map.entries m)
 abbrev pub criteria_map_column : NamesByName → Bytes
 criteria_map_column m = packed_map (map.entries m)
 
--- what stands under a key, as an item of such a map
+-- names that are filed under a key, as an item of such a map
 abbrev pub mapped_criterion : WithKey Name NameSet → MappedCriterion
 mapped_criterion filed = record { name = filed.key; criteria = filed.item }
 

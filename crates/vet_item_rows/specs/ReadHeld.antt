@@ -1,4 +1,4 @@
--- For what the rows of criteria, entries, publishers and peers stand together (ours).
+-- What the rows of criteria, entries, publishers and peers stand for together (ours).
 use Rattle.std.specs.Prelude.{◌≡◌, ◌≤◌, List, ◌++◌, map}
 use Rattle.std.specs.Cmp.Lexicographic.{slice_cmp}
 use Rattle.std.specs.List.{All, flat_map}
@@ -39,7 +39,7 @@ AreFrom source entries = All (λ h. h.entry.source ≡ source) entries
 abbrev pub HasItsEntries : HeldPeer → Type 0
 HasItsEntries p = AreFrom (Peer p.settings.name) p.content.entries
 
--- criteria are a table; entries, peers and records stand in their order, each entry is of its source, and there are not
+-- criteria are a table; entries, peers and records are in their order, each entry is of its source, and there are not
 -- too many records
 pub record AreInForm (facts : Facts) : Type 0 where
   pub criteria : IsTable facts.criteria

@@ -1,4 +1,4 @@
--- What stands in columns of maps, as items (ours).
+-- What columns of maps hold, as items (ours).
 use Rattle.std.specs.Prelude.{◌≡◌, List, Option, Some, map}
 use Rattle.std.specs.List.{All, flat_map}
 use Rattle.vet_base.specs.Names.{NameSet}

@@ -1,4 +1,4 @@
--- For what facts parts stand that were read (ours).
+-- Which facts the parts that were read are of (ours).
 use Rattle.std.specs.Prelude.{◌≡◌, MatchResult, Result}
 use Rattle.vet_entries.specs.Facts.{Facts}
 use Rattle.vet_item_rows.specs.declared.read.facts.PackageFacts.{PackageFacts}

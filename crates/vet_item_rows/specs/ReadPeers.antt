@@ -1,4 +1,4 @@
--- For what settings, entries and criteria stand that were read of peers (ours).
+-- Which peers the settings, entries and criteria that were read are of (ours).
 use Rattle.std.specs.Prelude.{◌≡◌, ◌≤◌, false, List, length, map}
 use Rattle.std.specs.Cmp.Lexicographic.{slice_cmp}
 use Rattle.std.specs.List.{All}
@@ -24,8 +24,8 @@ use Rattle.vet_item_rows.specs.declared.read.gathered.WithKey.{WithKey}
 abbrev pub criterion_in : SourcedCriterion → Criterion
 criterion_in c = c.criterion
 
--- the table of a peer: what some criteria define of which none is built in, no name stands twice, and there are not
--- too many
+-- the table of a peer: what some criteria define, none of which is built in, with no name twice, and not too many of
+-- them
 pub record IsMadeOf (criteria : List Criterion) (table : Criteria) : Type 0 where
   pub once : NamedOnce (λ (c : Criterion). c.name) criteria
   pub free : All (λ c. is_built_in c.name ≡ false) criteria
@@ -35,7 +35,7 @@ pub record IsMadeOf (criteria : List Criterion) (table : Criteria) : Type 0 wher
 abbrev pub IsPeerTable : Criteria → Type 0
 IsPeerTable table = (criteria : List Criterion) × IsMadeOf criteria table
 
--- the entries of a peer stand in the order of their numbers, and its table is one
+-- the entries of a peer are in the order of their numbers, and its table is that of a peer
 pub record IsHeldPeer (p : HeldPeer) : Type 0 where
   pub table : IsPeerTable p.content.table
   pub by_number : AreByNumber p.content.entries

@@ -1,4 +1,4 @@
--- What the rows of nodes and edges tell (ours).
+-- Which projects the rows of nodes and edges are of (ours).
 use Rattle.std.specs.Prelude.{◌≡◌, List, [], ◌∷◌, map}
 use Rattle.std.specs.List.{All, flat_map}
 use Rattle.std.specs.Ordering.{nat_cmp}

@@ -1,4 +1,4 @@
--- For what publisher records stand that were read of packages (ours).
+-- Which packages the publisher records that were read are of (ours).
 use Rattle.std.specs.Prelude.{◌≡◌, ◌≤◌, List, map}
 use Rattle.std.specs.List.{All, flat_map}
 use Rattle.vet_base.specs.Items.{SameItems}

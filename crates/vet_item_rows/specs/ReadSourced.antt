@@ -1,4 +1,4 @@
--- What is one's own, and what is of peers (ours).
+-- One's own items, and those of peers (ours).
 use Rattle.std.specs.Prelude.{List, [], ◌∷◌, Option, Some, None}
 use Rattle.vet_base.specs.Words.{Name}
 use Rattle.vet_entries.specs.declared.entry.Source.{Source}

@@ -1,4 +1,4 @@
--- What columns tell of criteria for dependencies (ours).
+-- What a column of criteria for dependencies is read as (ours).
 use Rattle.std.specs.Prelude.{List}
 use Rattle.vet_base.specs.Names.{NameSet}
 use Rattle.vet_base.specs.Words.{Bytes, Name}

@@ -18,7 +18,7 @@ use Rattle.vet_item_rows.specs.Packed.{packed_option}
 use Rattle.vet_tables.specs.Cells.{Row}
 use Rattle.vet_tables.specs.declared.cell.Cell.TheVariants.{Blob, Int, Text}
 
--- a criterion of a peer, or of nobody's name for one's own
+-- a criterion of a peer, whose name is empty for one's own
 abbrev pub criterion_row : Name → Criterion → Row
 criterion_row peer c =
     Text peer ∷ Text c.name ∷ Blob (packed_option c.description) ∷ Blob (packed_option c.url)

@@ -1,4 +1,4 @@
--- Which values can be held (ours): each is what its own text is read as, or within its limits.
+-- Which values can be held (ours): each is read back from its own text, or is within its limits.
 use Rattle.std.specs.Prelude.{◌≡◌, ◌≤◌, ℕ, true, Option, Some, None}
 use Rattle.std.specs.List.{All}
 use Rattle.vet_base.specs.Day.{DayValue, is_day}
@@ -40,7 +40,7 @@ AreNames names = All IsName (members names)
 abbrev pub ArePackages : NameSet → Type 0
 ArePackages names = All IsPackage (members names)
 
--- where there is one, it is one that can be held
+-- if there is one, it can be held
 abbrev pub MayBe : {X : Type 0} → (X → Type 0) → Option X → Type 0
 MayBe CanBeHeld None = Unit {0}
 MayBe CanBeHeld (Some x) = CanBeHeld x

@@ -1,4 +1,4 @@
-//! Laws of packed lists. What these functions ensure are facts.
+//! Laws of packed lists: each is a function that does nothing, and what it ensures is a fact.
 ghost use Rattle.vet_item_rows.specs.PackedLaws.{PackedOnce, ValuesAreReadBack};
 
 use crate::packed_item::PackedItem;

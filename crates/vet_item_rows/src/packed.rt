@@ -17,7 +17,7 @@ const MOST_DIGITS: usize = 19;
 pub struct Front<'a> {
     /// The first item.
     pub item: &'a [u8],
-    /// The items behind it, packed.
+    /// The items after it, packed.
     pub rest: &'a [u8],
 }
 
@@ -33,7 +33,7 @@ pub fn push_item(alloc: Global, bytes: &mut Vec<u8>, item: &[u8]) -> Result<(), 
     bytes.extend_from_slice(item)
 }
 
-/// The items of a packed list, or none if the bytes are no packed list. Fails only if memory runs out.
+/// The items of a packed list, or `None` if the bytes are not one. Fails only if memory runs out.
 pub fn read_items<'a>(alloc: Global, bytes: &'a [u8]) -> Result<Option<Vec<&'a [u8]>>, AllocError>
     ensures { IfOk result (λ items.
         IsUnpacked bytes.now (option_map (λ found. map (λ item. item.now) found.items) items)) }
@@ -50,8 +50,8 @@ pub fn read_items<'a>(alloc: Global, bytes: &'a [u8]) -> Result<Option<Vec<&'a [
     Ok(Some(items))
 }
 
-/// The first item of a packed list, and what comes after it. None if the bytes begin with no item: then they are
-/// the end of a list if they are empty, and no packed list otherwise. Takes no memory.
+/// The first item of a packed list, and the bytes after it. `None` if the bytes do not begin with an item: if they are
+/// empty, this is the end of a list, and otherwise they are not a packed list. Takes no memory.
 pub fn first_item<'a>(bytes: &'a [u8]) -> Option<Front<'a>>
     ensures some { IfSome result (λ front. bytes.now ≡ packed_item front.item.now ++ front.rest.now) }
     ensures none { is_none result ≡ true → HasNoItem bytes.now }
@@ -61,7 +61,7 @@ pub fn first_item<'a>(bytes: &'a [u8]) -> Option<Front<'a>>
     item_behind(&bytes[end..], count)
 }
 
-// The item of this length behind a colon, and what comes after it.
+// The item of this length after a colon, and the bytes after it.
 fn item_behind<'a>(bytes: &'a [u8], count: usize) -> Option<Front<'a>>
     ensures some { IfSome result (λ front. (bytes.now ≡ codes ":" ++ (front.item.now ++ front.rest.now))
         × (length front.item.now ≡ count)) }

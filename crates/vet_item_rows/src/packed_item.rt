@@ -1,4 +1,4 @@
-//! Values that packed lists keep as their items.
+//! Values that are kept as the items of packed lists.
 ghost use Rattle.std.specs.Prelude.{◌≡◌, List, Option, IfOk, OnErr, OnOk, map, option_map};
 ghost use Rattle.vet_base.specs.Words.{Bytes};
 ghost use Rattle.vet_item_rows.specs.Packed.{packed};
@@ -35,8 +35,8 @@ pub fn pack<T: PackedItem>(alloc: Global, values: &[T]) -> Result<Vec<u8>, Alloc
     Ok(bytes)
 }
 
-/// The values of a packed list, or none if the bytes are no packed list or an item stands for no value. Fails only if
-/// memory runs out.
+/// The values of a packed list, or `None` if the bytes are not one or an item stands for no value. Fails only if memory
+/// runs out.
 pub fn unpack<T: PackedItem>(alloc: Global, bytes: &[u8]) -> Result<Option<Vec<T>>, AllocError>
     ensures { IfOk result (λ values.
         IsReadAs T.read_bytes bytes.now (option_map (λ found. found.items) values)) }

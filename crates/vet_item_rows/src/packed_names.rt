@@ -21,8 +21,8 @@ pub fn pack_names(alloc: Global, names: &Names) -> Result<Vec<u8>, AllocError>
     pack(alloc, names.as_slice())
 }
 
-/// The set of the names in a packed list, or none if the bytes are no packed list of names. Fails only if memory runs
-/// out.
+/// The set of the names in a packed list, or `None` if the bytes are not a packed list of names. Fails only if memory
+/// runs out.
 pub fn unpack_names(alloc: Global, bytes: &[u8]) -> Result<Option<Names>, AllocError>
     ensures { IfOk result (λ names. IsReadAsSet (as_text read_name) bytes.now names) }
 {
@@ -39,8 +39,8 @@ pub fn pack_packages(alloc: Global, packages: &PackageNames) -> Result<Vec<u8>, 
     pack(alloc, packages.as_slice())
 }
 
-/// The set of the packages in a packed list, or none if the bytes are no packed list of names of packages. Fails only
-/// if memory runs out.
+/// The set of the packages in a packed list, or `None` if the bytes are not a packed list of names of packages. Fails
+/// only if memory runs out.
 pub fn unpack_packages(alloc: Global, bytes: &[u8]) -> Result<Option<PackageNames>, AllocError>
     ensures { IfOk result (λ packages. IsReadAsSet (as_text read_package_name) bytes.now packages) }
 {
@@ -57,8 +57,8 @@ pub fn pack_texts(alloc: Global, texts: &Texts) -> Result<Vec<u8>, AllocError>
     pack(alloc, texts.as_slice())
 }
 
-/// The set of the texts in a packed list, or none if the bytes are no packed list of texts. Fails only if memory runs
-/// out.
+/// The set of the texts in a packed list, or `None` if the bytes are not a packed list of texts. Fails only if memory
+/// runs out.
 pub fn unpack_texts(alloc: Global, bytes: &[u8]) -> Result<Option<Texts>, AllocError>
     ensures { IfOk result (λ texts. IsReadAsSet (as_text read_text) bytes.now texts) }
 {

@@ -1,4 +1,5 @@
-//! From rows back to values: if a row is that of a value, it is read as that value.
+//! From rows back to values: the row of a value is read as that value. Other rows give `NotARegister` or some value,
+//! and no clause says which.
 pub(crate) mod cells;
 pub mod columns;
 mod criteria;

@@ -1,4 +1,4 @@
-//! The cells of a row, by their places.
+//! The cells of a row, by their places. A place without a cell of the type that is asked for gives `NotARegister`.
 ghost use Rattle.std.specs.List.{slice_get};
 ghost use Rattle.std.specs.Prelude.{◌≡◌, ℤ, IsOkAnd, Ok, Some};
 ghost use Rattle.vet_base.specs.Words as words;

@@ -1,4 +1,7 @@
-//! Columns that are read again: what was written of a value is read as that value. What else is answered is not said.
+//! Values read from columns. **What was written of a value is read as that value, unless memory runs out.**
+//!
+//! Any other column gives `NotARegister` or some value, and no clause says which. The functions that take an allocator
+//! may also return `NoMemory`.
 ghost use Rattle.std.specs.Prelude.{◌≡◌, ℕ, Bool, Ok, Option, Some, map, pos};
 ghost use Rattle.vet_base.specs.Day.{DayValue, day_number};
 ghost use Rattle.vet_base.specs.Req.{IsReq};
@@ -72,7 +75,7 @@ pub fn optional_text(alloc: Global, bytes: &[u8]) -> Result<Option<Text>, ReadEr
     at_most_one(texts)
 }
 
-// The one of some values, if there is one, where there are not more.
+// The only one of some values, or none. More than one give `NotARegister`.
 fn at_most_one<X: Drop>(mut values: Vec<X>) -> Result<Option<X>, ReadError>
     ensures { (o : Option X) → values.items ≡ in_list o → result ≡ Ok o }
 {
@@ -114,7 +117,7 @@ pub fn optional_names(alloc: Global, bytes: &[u8]) -> Result<Option<Names>, Read
     names_in(alloc, items.as_slice())
 }
 
-// The names in the one of some items, if there is one, where there are not more.
+// The names in the only one of some items, or none. More than one give `NotARegister`.
 fn names_in(alloc: Global, items: &[&[u8]]) -> Result<Option<Names>, ReadError>
     ensures { IsReadBack (IsWritten (MayBe AreNames) items_of_names) (map (λ item. item.now) items.now) result }
 {
@@ -127,7 +130,7 @@ fn names_in(alloc: Global, items: &[&[u8]]) -> Result<Option<Names>, ReadError>
     Ok(Some(names(alloc, items[0])?))
 }
 
-/// What may be said or not, and is true or false. Takes no memory.
+/// A boolean that may be missing: -1 if it is, otherwise 0 or 1. Takes no memory.
 pub(crate) fn flag(number: i64) -> Result<Option<bool>, ReadError>
     ensures { (said : Option Bool) → number ≡ flag said → result ≡ Ok said }
 {
@@ -141,7 +144,7 @@ pub(crate) fn flag(number: i64) -> Result<Option<bool>, ReadError>
     }
 }
 
-/// A number from 0 on. Takes no memory.
+/// A number, which is not negative. Takes no memory.
 pub fn number(column: i64) -> Result<u64, ReadError>
     ensures { (n : ℕ) → column ≡ pos n → result ≡ Ok n }
 {
@@ -165,7 +168,7 @@ pub fn day(column: i64) -> Result<Day, ReadError>
     found(Day::of_number(column))
 }
 
-/// Whose something is.
+/// Whose something is: a peer's, by its name, or one's own if the name is empty.
 pub(crate) fn source(alloc: Global, peer: &str) -> Result<Source, ReadError>
     ensures { IsReadBack (IsWritten IsSource peer_of_source) peer.now result }
 {

@@ -1,4 +1,4 @@
-//! Rows of criteria, which are read again.
+//! Reading the rows of criteria.
 ghost use Rattle.std.specs.Prelude.{◌≡◌};
 ghost use Rattle.vet_item_rows.specs.ReadBack.{IsWritten, Reads};
 ghost use Rattle.vet_item_rows.specs.ReadFacts.{IsSourcedCriterion, sourced_criterion_row};

@@ -1,4 +1,4 @@
-//! The rows of the review desk, read again.
+//! Reading the rows of the review desk.
 ghost use Rattle.std.specs.Prelude.{◌≡◌, pos};
 ghost use Rattle.vet_desk.specs.declared.review.Review.{Review as ReviewValue};
 ghost use Rattle.vet_item_rows.specs.DeskRows.{member_row, review_row, state_number};
@@ -55,7 +55,7 @@ impl FromRow for Review {
     }
 }
 
-// How far the review of a row has come.
+// The state of the review of a row.
 fn review_state(alloc: Global, row: &Row) -> Result<ReviewState, ReadError>
     ensures { (r : ReviewValue) → IsWritten IsReview review_row row.now r → Reads result r.state }
 {
@@ -75,7 +75,7 @@ fn review_state(alloc: Global, row: &Row) -> Result<ReviewState, ReadError>
     Err(ReadError::NotARegister)
 }
 
-// That the review of a row is assigned to somebody.
+// The state of a review that is assigned to a member.
 fn assigned(alloc: Global, row: &Row) -> Result<ReviewState, ReadError>
     ensures { (r : ReviewValue) → IsWritten IsReview review_row row.now r → state_number r.state ≡ pos 1
         → Reads result r.state }
@@ -83,7 +83,7 @@ fn assigned(alloc: Global, row: &Row) -> Result<ReviewState, ReadError>
     Ok(ReviewState::Assigned(name(alloc, text_at(row, 6)?)?))
 }
 
-// That an entry finished the review of a row. Takes no memory.
+// The state of a review that an entry finished. Takes no memory.
 fn finished(row: &Row) -> Result<ReviewState, ReadError>
     ensures { (r : ReviewValue) → row.now ≡ review_row r → state_number r.state ≡ pos 2 → Reads result r.state }
 {

@@ -1,4 +1,4 @@
-//! Rows of entries, which are read again.
+//! Reading the rows of entries.
 ghost use Rattle.vet_entries.specs.declared.facts.HeldEntry.{HeldEntry};
 ghost use Rattle.vet_item_rows.specs.EntryRows.{entry_row};
 ghost use Rattle.vet_item_rows.specs.ReadBack.{IsWritten, Reads};

@@ -1,4 +1,4 @@
-//! What is held of packages, read again from its rows.
+//! Reading what is held of packages from its rows.
 ghost use Rattle.std.specs.Prelude.{◌≡◌, IfOk, MatchResult, map};
 ghost use Rattle.std.specs.Cmp.Lexicographic.{slice_cmp};
 ghost use Rattle.std.specs.Ordering.{nat_cmp};
@@ -28,7 +28,7 @@ use vet_entries::peer_settings::PeerSettings;
 use vet_tables::rows::Rows;
 use vet_tables::table_name::TableName;
 
-/// What is held of packages, but for publisher records.
+/// What is held of packages, except publisher records.
 #[derive(Drop)]
 pub(crate) struct PackageFacts {
     criteria: CriteriaTable,
@@ -36,8 +36,9 @@ pub(crate) struct PackageFacts {
     peers: Vec<HeldPeer>,
 }
 
-/// What is held of packages, where the rows of criteria, entries, publishers and peers are those of it, in whatever
-/// order. Takes a time of n log n.
+/// The facts of which these are the rows of criteria, entries, publishers and peers, in any order. Rows that are not
+/// those of any facts give `NotARegister` or some facts, and no clause says which. Takes a time of n log n. Refused:
+/// `NotARegister`, or `NoMemory`.
 pub fn facts_of(alloc: Global, rows: &Rows) -> Result<EntryFacts, ReadError>
     ensures { (facts : Facts) → AreInForm facts → AreFactsValues facts → AreRowsOf (rows_in rows.now) facts
         → MatchResult result (λ held. held.content ≡ facts) (λ e. e ≡ ReadError.NoMemory) }
@@ -53,7 +54,7 @@ pub fn facts_of(alloc: Global, rows: &Rows) -> Result<EntryFacts, ReadError>
     Ok(EntryFacts::of_parts(alloc, criteria, entries, peers, publishers)?)
 }
 
-// The parts that some rows are of.
+// The parts of which these are the rows.
 fn parts_in(alloc: Global, rows: &Rows) -> Result<PackageFacts, ReadError>
     ensures by_number { IfOk result (λ parts. AreByNumber parts.entries.items) }
     ensures by_name { IfOk result (λ parts. IsByKey (slice_cmp nat_cmp) peer_name parts.peers.items) }
@@ -66,7 +67,7 @@ fn parts_in(alloc: Global, rows: &Rows) -> Result<PackageFacts, ReadError>
     parts_of(alloc, criteria, entries, settings)
 }
 
-// The parts of these criteria, entries and settings, in whatever order they are.
+// The parts of these criteria, entries and settings, in any order.
 fn parts_of(
     alloc: Global,
     criteria: Vec<SourcedCriterion>,
@@ -84,7 +85,7 @@ fn parts_of(
     with_own(alloc, criteria.own, entries.own, peers)
 }
 
-// These peers, and one's own criteria and entries, in whatever order they are.
+// These peers, and one's own criteria and entries, in any order.
 fn with_own(
     alloc: Global,
     criteria: Vec<SourcedCriterion>,

@@ -15,7 +15,7 @@ pub(crate) struct WithKey<K: Drop, T: Drop> {
     pub(crate) item: T,
 }
 
-/// One under whose key items are filed, and these.
+/// A head, and the items that are filed under its key.
 #[derive(Drop)]
 pub(crate) struct Group<H: HasKey, T: Drop> {
     head: H,
@@ -34,7 +34,7 @@ impl<H: HasKey, T: Drop> Model for Group<H, T> {
 }
 
 impl<H: HasKey, T: Drop> Group<H, T> {
-    // With nothing filed.
+    // A head with nothing filed.
     fn new(alloc: Global, head: H) -> Group<H, T>
         ensures { result ≡ record { head = head; items = [] } }
     {
@@ -52,7 +52,7 @@ impl<H: HasKey, T: Drop> Group<H, T> {
         Ok(())
     }
 
-    /// The two. Takes no memory.
+    /// The head and the items. Takes no memory.
     pub(crate) fn into_parts(self) -> (H, Vec<T>)
         ensures head { result.0 ≡ self.head }
         ensures items { result.1.items ≡ self.items }
@@ -72,8 +72,8 @@ impl<H: HasKey, T: Drop> HasKey for Group<H, T> {
     }
 }
 
-/// Each of these, which are in the order of their keys, with what is filed under its key, in the order of the items.
-/// What is filed under no key of theirs is dropped. Fails only if memory runs out.
+/// Each head with the items that are filed under its key, in the order of the items. Asks that the heads are in the
+/// order of their keys. An item that is filed under no head's key is dropped. Fails only if memory runs out.
 pub(crate) fn gather<H: HasKey, T: Drop>(
     alloc: Global,
     heads: Vec<H>,
@@ -89,7 +89,7 @@ pub(crate) fn gather<H: HasKey, T: Drop>(
     Ok(groups)
 }
 
-// Each of these, with nothing filed.
+// Each head with nothing filed.
 fn with_nothing<H: HasKey, T: Drop>(
     alloc: Global,
     heads: Vec<H>,
@@ -103,7 +103,7 @@ fn with_nothing<H: HasKey, T: Drop>(
     Ok(groups)
 }
 
-// Files an item under its key, if there is one of that key.
+// Files an item under the head of its key, if there is one.
 fn file<H: HasKey, T: Drop>(
     groups: &mut Vec<Group<H, T>>,
     filed: WithKey<H::Key, T>,
@@ -119,7 +119,7 @@ fn file<H: HasKey, T: Drop>(
     group.push(item)
 }
 
-// Where the one of a key is, or belongs.
+// Where the head of a key is, or where it belongs.
 fn place_of<H: HasKey, T: Drop>(groups: &[Group<H, T>], key: &H::Key) -> Result<usize, usize>
     requires { IsByKey H.Key.cmp (head_key H.key_of) groups.now }
     ensures { IsPlace H.Key.cmp (head_key H.key_of) groups.now key.now result }

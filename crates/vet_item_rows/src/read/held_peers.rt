@@ -1,4 +1,4 @@
-//! Peers, made of what was read of them.
+//! Peers, made of their settings, entries and criteria.
 ghost use Rattle.std.specs.Prelude.{◌≡◌, IfOk, List, MatchResult};
 ghost use Rattle.std.specs.Cmp.Lexicographic.{slice_cmp};
 ghost use Rattle.std.specs.Ordering.{nat_cmp};
@@ -23,8 +23,8 @@ use vet_entries::held_peer::HeldPeer;
 use vet_entries::holding::Holding;
 use vet_entries::peer_settings::PeerSettings;
 
-/// The peers of these settings, entries and criteria, which are in whatever order and may repeat; in the order of
-/// their names.
+/// The peers of these settings, entries and criteria, in the order of their names. What is given may be in any order,
+/// and may repeat.
 pub(crate) fn peers_of(
     alloc: Global,
     settings: Vec<PeerSettings>,

@@ -1,4 +1,4 @@
-//! What entries say of their packages, read again from their rows.
+//! Reading what entries say of their packages from their rows.
 ghost use Rattle.std.specs.Prelude.{◌≡◌, ℕ, Bool, Ok, Option, pos};
 ghost use Rattle.vet_base.specs.Day.{day_number};
 ghost use Rattle.vet_base.specs.Version.{VersionValue};

@@ -1,4 +1,7 @@
-//! Tables whose rows are the items of one list, read again in the list's order.
+//! Reading tables whose rows are the items of one list, in the list's order.
+//!
+//! Rows that are not those of such a list give `NotARegister` or some list, and no clause says which. Each function is
+//! refused with `NotARegister` or `NoMemory`.
 ghost use Rattle.std.specs.Prelude.{◌≡◌, List, MatchResult, map};
 ghost use Rattle.std.specs.List.{All};
 ghost use Rattle.std.specs.Cmp.Lexicographic.{slice_cmp};

@@ -1,4 +1,4 @@
-//! Maps in a column, which are read again.
+//! Reading maps from a column.
 ghost use Rattle.std.specs.Prelude.{◌≡◌, List, MatchResult, map};
 ghost use Rattle.vet_base.specs.Names.{NameSet};
 ghost use Rattle.vet_item_rows.specs.Columns.{packed_names};
@@ -27,7 +27,7 @@ pub(crate) fn map_items<K: PackedItem>(
     in_turn(alloc, items.as_slice())
 }
 
-// Those of keys and packed names in turn.
+// The items of keys and packed names in turn.
 fn in_turn<K: PackedItem>(
     alloc: Global,
     items: &[&[u8]],

@@ -1,4 +1,4 @@
-//! Rows of peers, which are read again.
+//! Reading the rows of peers.
 ghost use Rattle.std.specs.Prelude.{◌≡◌, IfOk, map};
 ghost use Rattle.vet_item_rows.specs.ReadBack.{IsReadBack, IsWritten};
 ghost use Rattle.vet_item_rows.specs.ReadFacts.{IsCriteriaMap, IsPeerSettings, criteria_map_column, mapped_criterion};

@@ -1,4 +1,4 @@
-//! The rows of policies, read again.
+//! Reading the rows of policies.
 ghost use Rattle.std.specs.Prelude.{◌≡◌, IfOk, map};
 ghost use Rattle.vet_demand.specs.declared.policies.KeyedPolicy.{KeyedPolicy as PolicyValue};
 ghost use Rattle.vet_item_rows.specs.HeldValues.{AreDependencies, IsKeyedPolicy};
@@ -34,7 +34,7 @@ impl FromRow for KeyedPolicy {
     }
 }
 
-// What a row says but for its key.
+// What a row says except its key.
 fn policy(alloc: Global, row: &Row) -> Result<Policy, ReadError>
     ensures { (p : PolicyValue) → IsWritten IsKeyedPolicy policy_row row.now p → Reads result p.policy }
 {

@@ -1,7 +1,7 @@
-//! The rows of nodes and edges, read again as projects.
+//! Reading projects from the rows of nodes and edges.
 //!
-//! Nodes and edges are filed under the names of their projects. Within a project the nodes are put in their order, so
-//! that the place of each end of an edge is found by halving.
+//! Nodes and edges are filed under the names of their projects. Within a project the nodes are put in order, so that a
+//! binary search finds the place of each end of an edge.
 ghost use Rattle.std.specs.Cmp.Lexicographic.{slice_cmp};
 ghost use Rattle.std.specs.List.{All, flat_map, slice_get};
 ghost use Rattle.std.specs.Ordering.{nat_cmp};
@@ -156,7 +156,7 @@ fn read_end(alloc: Global, of_package: &str, of_version: &str) -> Result<End, Re
     })
 }
 
-// Whose a package is. Takes no memory.
+// The party of a node. Takes no memory.
 fn party(column: i64) -> Result<Party, ReadError>
     ensures { (p : PartyValue) → column ≡ pos (party_place p) → result ≡ Ok p }
 {
@@ -168,7 +168,7 @@ fn party(column: i64) -> Result<Party, ReadError>
     }
 }
 
-// For what a package depends on another. Takes no memory.
+// The kind of an edge. Takes no memory.
 fn kind(column: i64) -> Result<EdgeKind, ReadError>
     ensures { (k : KindValue) → column ≡ pos (kind_place k) → result ≡ Ok k }
 {
@@ -180,7 +180,8 @@ fn kind(column: i64) -> Result<EdgeKind, ReadError>
     }
 }
 
-/// The projects of these rows, in whatever order they are. Takes a time of n log n.
+/// The projects of these rows, in any order. Rows that are not those of projects give `NotARegister` or some projects,
+/// and no clause says which. Takes a time of n log n. Refused: `NotARegister`, or `NoMemory`.
 pub fn projects(
     alloc: Global,
     nodes: &[Row],
@@ -266,7 +267,7 @@ fn project(
     restore(name, nodes, edges)
 }
 
-// The project of this name, these nodes and these edges, which may be in whatever order.
+// The project of this name, these nodes and these edges, which may be in any order.
 fn restore(name: PackageName, nodes: Vec<Node>, edges: Vec<Edge>) -> Result<NamedProject, ReadError>
     ensures { (p : ProjectValue) → IsProject p.project → name ≡ p.name → nodes.items ≡ p.project.nodes
         → SameItems edges.items p.project.edges → Reads result p }

@@ -1,4 +1,4 @@
-//! Rows of publisher records, which are read again.
+//! Reading the rows of publisher records.
 ghost use Rattle.vet_base.specs.Words.{Name};
 ghost use Rattle.vet_entries.specs.declared.publisher.Publisher.{Publisher as PublisherValue};
 ghost use Rattle.vet_item_rows.specs.ReadBack.{IsWritten, Reads};

@@ -1,14 +1,14 @@
-//! Why nothing was read of rows.
+//! Why rows could not be read.
 ghost use Rattle.std.specs.Prelude.{◌≡◌};
 ghost use Rattle.vet_item_rows.specs.ReadBack.{found_or_no_register};
 
 use std::alloc::{AllocError, AllocFailed};
 use vet_base::refusal::Refusal;
 
-/// Why nothing was read.
+/// Why rows could not be read.
 #[derive(Clone, Copy)]
 pub enum ReadError {
-    /// The rows are those of no register.
+    /// The rows do not belong to any register.
     NotARegister,
     /// Memory ran out.
     NoMemory,
@@ -64,7 +64,7 @@ impl From<ReadError> for Refusal {
     }
 }
 
-/// What was found, if something was. Takes no memory.
+/// What was found, or `NotARegister` if nothing was. Takes no memory.
 pub fn found<T>(found: Option<T>) -> Result<T, ReadError>
     ensures { result ≡ found_or_no_register found }
 {

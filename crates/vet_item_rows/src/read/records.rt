@@ -1,4 +1,4 @@
-//! Publisher records by their packages, made of what was read of them.
+//! Publisher records by their packages.
 ghost use Rattle.std.specs.Prelude.{◌≡◌, ◌↔◌, ◌≤◌, IfOk, IsTrue, List, MatchResult, map};
 ghost use Rattle.std.specs.List.{All};
 ghost use Rattle.vet_base.specs.declared.limits.TheConstants.{MOST_PUBLISHERS};
@@ -17,7 +17,7 @@ use vet_entries::publisher::Publisher;
 use vet_entries::publisher_records::PackagePublishers;
 use vet_entries::publishers::Publishers;
 
-/// These records by their packages; they are in whatever order and may repeat.
+/// These records by their packages. They may be in any order, and may repeat.
 pub(crate) fn records_of(
     alloc: Global,
     records: Vec<WithKey<PackageName, Publisher>>,

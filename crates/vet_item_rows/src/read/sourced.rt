@@ -1,4 +1,4 @@
-//! What is one's own, and what is of peers.
+//! One's own items, and those of peers.
 ghost use Rattle.std.specs.Prelude.{◌≡◌, ◌++◌, IfOk, OnOk};
 ghost use Rattle.vet_item_rows.specs.ReadSourced.{of_peers, of_peers_one, own_items, own_one, peer_in};
 ghost use Rattle.vet_entries.specs.declared.entry.Source.{Source};
@@ -27,14 +27,14 @@ impl HasSource for HeldEntry {
     }
 }
 
-/// What is one's own, and what is of peers, under their names; both in the order in which they came.
+/// One's own items, and those of peers under their names, both in the order in which they were given.
 #[derive(Drop)]
 pub(crate) struct BySource<T: Drop> {
     pub(crate) own: Vec<T>,
     pub(crate) peers: Vec<WithKey<Name, T>>,
 }
 
-/// What is one's own, and what is of peers. Fails only if memory runs out.
+/// One's own items and those of peers. Fails only if memory runs out.
 pub(crate) fn by_source<T: HasSource>(
     alloc: Global,
     items: Vec<T>,
@@ -50,7 +50,7 @@ pub(crate) fn by_source<T: HasSource>(
     Ok(BySource { own, peers })
 }
 
-// Puts an item behind those of its source.
+// Adds an item after those of its source.
 fn put<T: HasSource>(
     own: &mut Vec<T>,
     peers: &mut Vec<WithKey<Name, T>>,

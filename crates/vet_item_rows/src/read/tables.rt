@@ -1,4 +1,4 @@
-//! Tables of criteria, made of what was read of them.
+//! Tables of criteria, made of the criteria that were read.
 ghost use Rattle.std.specs.Prelude.{◌≡◌, IfOk, map};
 ghost use Rattle.vet_base.specs.Criteria.{Criteria, IsTable};
 ghost use Rattle.vet_base.specs.FurtherCriteria.{further};
@@ -29,7 +29,7 @@ pub(crate) fn criteria_in(
     Ok(criteria)
 }
 
-/// The table of the built-in criteria and of these, which are in whatever order and may repeat.
+/// The table of the built-in criteria and of these, which may be in any order and may repeat.
 pub(crate) fn table_of(alloc: Global, criteria: Vec<Criterion>) -> Result<CriteriaTable, ReadError>
     ensures { (table : Criteria) → IsTable table → SameItems criteria.items (further table) → Reads result table }
 {
@@ -37,7 +37,7 @@ pub(crate) fn table_of(alloc: Global, criteria: Vec<Criterion>) -> Result<Criter
     Ok(CriteriaTable::of(alloc, criteria)?)
 }
 
-/// The criteria of a peer: the built-in ones and these, which are in whatever order and may repeat.
+/// The criteria of a peer: the built-in ones and these, which may be in any order and may repeat.
 pub(crate) fn definitions_of(
     alloc: Global,
     criteria: Vec<Criterion>,

@@ -36,7 +36,7 @@ pub fn key_column(alloc: Global, key: &PolicyKey) -> Result<TextColumn, AllocErr
     TextColumn::of(alloc, text.as_str())
 }
 
-/// The name of the peer whose an entry is, empty for one's own. Fails only if memory runs out.
+/// The name of the peer that has an entry, empty for one's own. Fails only if memory runs out.
 pub fn source_column(alloc: Global, source: &Source) -> Result<TextColumn, AllocError>
     ensures { IfOk result (λ column. column ≡ peer_of_source source.now) }
 {
@@ -116,7 +116,7 @@ fn one_item(alloc: Global, item: &[u8]) -> Result<BlobColumn, AllocError>
     Ok(BlobColumn::of(bytes))
 }
 
-/// What may be said or not: -1 where nothing is said, 0 for false, 1 for true. Takes no memory.
+/// A boolean that may be missing: -1 if it is, 0 for false, 1 for true. Takes no memory.
 pub fn flag(said: Option<bool>) -> i64
     ensures { result ≡ flag said }
 {

@@ -30,7 +30,7 @@ pub fn turned_row(alloc: Global, review: &Review, state: &ReviewState) -> Result
     Ok(Sequence::of(cells))
 }
 
-// How far a review has come, 0 to 3.
+// The number of a state, 0 to 3.
 fn state_number(state: &ReviewState) -> i64
     ensures { result ≡ state_number state.now }
 {
@@ -42,7 +42,7 @@ fn state_number(state: &ReviewState) -> i64
     }
 }
 
-// The member to whom a review is assigned, else empty.
+// The member to whom a review is assigned, otherwise empty.
 fn member_cell(alloc: Global, state: &ReviewState) -> Result<Cell, AllocError>
     ensures { IfOk result (λ cell. cell ≡ Cell.Text (assigned_member state.now)) }
 {
@@ -52,7 +52,7 @@ fn member_cell(alloc: Global, state: &ReviewState) -> Result<Cell, AllocError>
     }
 }
 
-// The entry that finished a review, else 0.
+// The number of the entry that finished a review, otherwise 0.
 fn finishing_entry(state: &ReviewState) -> i64
     requires { IsEntryGiven (2 ^ 63) state.now }
     ensures { result ≡ finishing_entry state.now }

@@ -79,7 +79,7 @@ pub fn row_saying(alloc: Global, held: &HeldEntry, said: KindColumns) -> Result<
     Ok(Sequence::of(cells))
 }
 
-/// What columns hold that the kind of an entry doesn't use. Fails only if memory runs out.
+/// What columns hold if the kind of an entry doesn't use them. Fails only if memory runs out.
 pub fn unused(alloc: Global) -> Result<KindColumns, AllocError>
     ensures { IfOk result (λ said. said ≡ unused) }
 {
@@ -97,7 +97,7 @@ pub fn unused(alloc: Global) -> Result<KindColumns, AllocError>
     })
 }
 
-/// Puts what an entry says of its package. Fails only if memory runs out.
+/// Sets the columns that this kind uses. Fails only if memory runs out.
 pub fn set_kind(alloc: Global, said: &mut KindColumns, kind: &Kind) -> Result<(), AllocError>
     ensures { OnOk result (said.new ≡ with_kind kind.now said.old) }
 {
@@ -137,7 +137,7 @@ pub fn set_kind(alloc: Global, said: &mut KindColumns, kind: &Kind) -> Result<()
     }
 }
 
-// Puts who made an audit, and whether others may import it.
+// Sets who made an audit, and whether others may import it.
 fn set_audit(alloc: Global, said: &mut KindColumns, audit: &Audit) -> Result<(), AllocError>
     ensures { OnOk result (said.new ≡ with_audit audit.now said.old) }
 {
@@ -146,7 +146,7 @@ fn set_audit(alloc: Global, said: &mut KindColumns, audit: &Audit) -> Result<(),
     Ok(())
 }
 
-// Puts who grants, and whether that is to be renewed.
+// Sets who grants, and whether that is to be renewed.
 fn set_grant(alloc: Global, said: &mut KindColumns, grant: &Grant) -> Result<(), AllocError>
     ensures { OnOk result (said.new ≡ with_grant grant.now said.old) }
 {
@@ -155,7 +155,7 @@ fn set_grant(alloc: Global, said: &mut KindColumns, grant: &Grant) -> Result<(),
     Ok(())
 }
 
-// Puts a window.
+// Sets a user, and a first and a last day.
 fn set_window(said: &mut KindColumns, window: Window)
     ensures { said.new ≡ with_window window said.old }
 {
@@ -194,7 +194,7 @@ pub fn all_publishers(alloc: Global, packages: &[PackagePublishers]) -> Result<V
     Ok(rows)
 }
 
-/// Adds the rows of a package's publisher records behind those of others. Fails only if memory runs out.
+/// Adds the rows of a package's publisher records after those of others. Fails only if memory runs out.
 pub fn push_publishers(
     alloc: Global,
     rows: &mut Vec<Row>,

@@ -13,7 +13,7 @@ use vet_demand::dependency_criteria::DependencyItem;
 use vet_entries::criteria_map::MappedCriterion;
 use vet_tables::column::BlobColumn;
 
-/// An item of a map: a name, and the names at which it leads.
+/// An item of a map: a name, and the names to which it leads.
 pub trait MapItem: Drop {
     /// What a map holds for it.
     ghost item_of: { Self → Name × NameSet };

@@ -81,7 +81,7 @@ pub fn all_nodes(alloc: Global, projects: &[NamedProject]) -> Result<Vec<Row>, A
     Ok(rows)
 }
 
-/// Adds the rows of a project's nodes behind those of others. Fails only if memory runs out.
+/// Adds the rows of a project's nodes after those of others. Fails only if memory runs out.
 pub fn push_nodes(
     alloc: Global,
     rows: &mut Vec<Row>,
@@ -106,7 +106,7 @@ pub fn all_edges(alloc: Global, projects: &[NamedProject]) -> Result<Vec<Row>, A
     Ok(rows)
 }
 
-/// Adds the rows of a project's edges behind those of others. Fails only if memory runs out.
+/// Adds the rows of a project's edges after those of others. Fails only if memory runs out.
 pub fn push_edges(
     alloc: Global,
     rows: &mut Vec<Row>,

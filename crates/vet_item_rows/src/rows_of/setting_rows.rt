@@ -24,15 +24,15 @@ pub fn criterion_row(alloc: Global, peer: &str, criterion: &Criterion) -> Result
     Ok(Sequence::of(cells))
 }
 
-/// Whether a criterion has a row: it isn't built in. Takes no memory.
+/// Whether a criterion is not built in, and so has a row. Takes no memory.
 pub fn is_further(criterion: &Criterion) -> bool
     ensures { result ≡ is_further criterion.now }
 {
     !is_built_in(&criterion.name)
 }
 
-/// Adds the rows of those of a peer's criteria that aren't built in, behind those of others. Fails only if memory
-/// runs out.
+/// Adds the rows of those of a peer's criteria that aren't built in, after those of others. Fails only if memory runs
+/// out.
 pub fn push_criteria(
     alloc: Global,
     rows: &mut Vec<Row>,

@@ -1,4 +1,4 @@
-//! The row of a pair that stands in a class.
+//! The row of a pair that has a class.
 ghost use Rattle.std.specs.Prelude.{◌≡◌, IfOk};
 ghost use Rattle.vet_item_rows.specs.StandingRows.{standing_row};
 
