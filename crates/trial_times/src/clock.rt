@@ -7,7 +7,7 @@ use vet_graph::keeper::Keeper;
 use vet_register::command::{Command, Outcome};
 use vet_register::register::Register;
 
-/// Runs a command that was made for it, and prints how long that took and what came of it.
+/// Runs a command, unless it could not be made, and prints how long that took and its outcome.
 pub fn timed_once<K: Keeper>(
     rt: &(impl Clock + AllocGlobal + Print),
     register: &mut Register<K>,
@@ -17,7 +17,7 @@ pub fn timed_once<K: Keeper>(
     timed(rt, register, what, &made?)
 }
 
-/// Runs a command that was made for it.
+/// Runs a command, unless it could not be made.
 pub fn done<K: Keeper>(
     alloc: Global,
     register: &mut Register<K>,
@@ -27,7 +27,7 @@ pub fn done<K: Keeper>(
     Ok(())
 }
 
-/// Runs a command, and prints how long that took and what came of it.
+/// Runs a command, and prints how long that took and its outcome.
 pub fn timed<K: Keeper>(
     rt: &(impl Clock + AllocGlobal + Print),
     register: &mut Register<K>,

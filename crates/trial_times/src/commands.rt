@@ -30,8 +30,8 @@ const CRITERION: &str = "safe-to-deploy";
 
 const OTHER_CRITERION: &str = "unused";
 
-/// Sets another peer, from which nothing is imported, with a url of its own: all is planned anew by the same demand,
-/// and no more.
+/// Sets another peer, from which nothing is imported, with a url of its own: everything is planned again by the same
+/// demand, and nothing else is done.
 pub fn set_other_peer(alloc: Global, round: usize, place: usize) -> Result<Command, Fault> {
     let url = Text::parse(alloc, format!(in alloc; "{round} {place}")?.as_str())?;
     let mut settings = settings_of(alloc, OTHER_PEER)?;
@@ -74,12 +74,13 @@ pub fn load_table(alloc: Global, place: usize, table: &str) -> Result<Command, F
     command(Action::LoadProject(stated_project(alloc, place, table)?))
 }
 
-/// Puts what files hold in place of what is held.
+/// Replaces what is held by what files hold.
 pub fn replace_files(files: FilesContent) -> Result<Command, Fault> {
     command(Action::ReplaceFiles(files))
 }
 
-/// Sets another criterion, which nothing names: the demand is found and all is planned anew, and no more.
+/// Sets another criterion, which nothing names: the demand is computed and everything is planned again, and nothing
+/// else is done.
 pub fn set_criterion(alloc: Global) -> Result<Command, Fault> {
     command(Action::SetCriterion(Criterion {
         name: Name::parse(alloc, OTHER_CRITERION)?,

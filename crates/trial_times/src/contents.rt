@@ -5,7 +5,7 @@ use trial_values::fault::Fault;
 use vet_entries::peer_content::PeerContent;
 use vet_files::imports_file::read_peer;
 
-/// What stands between two files.
+/// The separator between two files.
 pub const BETWEEN_FILES: &str = "\n---\n";
 
 /// What the files of a text hold, in their order.

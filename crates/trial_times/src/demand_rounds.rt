@@ -1,4 +1,4 @@
-//! The rounds in which what projects demand is found.
+//! Rounds of computing what projects demand.
 
 use crate::workspace::workspace_of;
 use std::time::{Clock, Instant};
@@ -6,7 +6,7 @@ use trial_values::fault::Fault;
 use trial_values::workspace::Workspace;
 use vet_demand::project::NamedProject;
 
-/// Tells how much each project of a text has, and times what they demand.
+/// Prints how much each project of a text has, and times what they demand.
 pub fn run_demands(
     rt: &(impl Clock + AllocGlobal + Print),
     rounds: usize,
@@ -40,7 +40,7 @@ fn print_sizes(
     Ok(())
 }
 
-// Finds what the projects demand, and prints how long that took and how many pairs there are.
+// Computes what the projects demand, and prints how long that took and how many pairs there are.
 fn run_round(rt: &(impl Clock + AllocGlobal + Print), workspace: &Workspace) -> Result<(), Fault> {
     let begun = Instant::now(rt)?;
     let found = workspace.demand(rt.alloc())?;

@@ -1,9 +1,9 @@
 //! The rounds of commands to the review desk.
 //!
-//! Reviews are opened but for one a round, and of four in a row one each is assigned, finished and withdrawn: so every
-//! state is there. A round opens one more, and changes three that wait, far from those of other rounds. So in the last
-//! round there are as many as were asked for. The entry that a round adds is dropped, so that no round has more to plan
-//! than another.
+//! At first all reviews but one for each round are opened. Of each four in a row one is assigned, one finished and one
+//! withdrawn, so there are reviews in every state. A round opens one more, and changes three that wait, far from those
+//! of other rounds. So in the last round there are as many as were asked for. The entry that a round adds is dropped,
+//! so no round has more to plan than another.
 
 use crate::clock::{done, timed_once};
 use crate::commands::{drop_entry, load_project, remove_criterion, set_criterion, set_other_peer};
@@ -32,13 +32,13 @@ const FOR_A_ROUND: usize = 12;
 /// How much is to be timed of the review desk.
 #[derive(Clone, Copy)]
 pub struct Reviews {
-    /// How many reviews there are in the end.
+    /// How many reviews there are at the end.
     pub count: usize,
     /// How many rounds.
     pub rounds: usize,
 }
 
-/// Times the rounds, and tells how many reviews there are in the end.
+/// Times the rounds, and prints how many reviews there are at the end.
 pub fn run_reviews<K: Keeper>(
     rt: &(impl Clock + AllocGlobal + Print),
     reviews: Reviews,
@@ -61,7 +61,7 @@ pub fn run_reviews<K: Keeper>(
     Ok(())
 }
 
-// The place of the first review that a round changes, where so many lie between two rounds.
+// The place of the first review that a round changes, if so many lie between two rounds.
 fn waiting_from(round: usize, apart: usize) -> usize {
     let waiting = round.saturating_mul(apart / IN_A_ROW);
     waiting.saturating_mul(IN_A_ROW)

@@ -10,7 +10,7 @@ use vet_files::config_file::read_config;
 use vet_files::files_content::FilesContent;
 use vet_files::imports_file::read_imports;
 
-/// What stands between the dependency tables and three files, and between three files and the next three.
+/// The separator between the dependency tables and three files, and between three files and the next three.
 const BETWEEN_PARTS: &str = "\n===\n";
 
 /// The texts of an audits file, a config file and an imports file.
@@ -21,7 +21,7 @@ pub struct FileTexts<'t> {
     pub imports: &'t str,
 }
 
-/// The dependency tables of a text, as one text, and behind them what has the files.
+/// The dependency tables of a text, as one text, and then the text with the files after them.
 pub fn tables_before(text: &str) -> Result<(&str, &str), Fault> {
     match text.split_once(BETWEEN_PARTS) {
         Some(parts) => Ok(parts),
@@ -60,7 +60,7 @@ pub fn read_timed(
 ) -> Result<FilesContent, Fault> {
     let alloc = rt.alloc();
     let begun = Instant::now(rt)?;
-    // the largest value comes last, as each that was read is dropped where the next one is refused
+    // the largest value comes last, since each that was read is dropped if the next one is refused
     let audits = read_audits(alloc, texts.audits.as_bytes())?;
     let imports = read_imports(alloc, texts.imports.as_bytes())?;
     let config = read_config(alloc, texts.config.as_bytes())?;

@@ -24,7 +24,7 @@ pub struct Sizes {
     pub own: usize,
 }
 
-/// Tells how much each file of a text holds, and times the rounds of commands.
+/// Prints how much each file of a text holds, and times the rounds of commands.
 pub fn run_imports<K: Keeper>(
     rt: &(impl Clock + AllocGlobal + Print),
     sizes: Sizes,
@@ -107,7 +107,7 @@ fn run_round<K: Keeper>(
     run_beside(rt, register, round)
 }
 
-// The commands of a round behind its imports.
+// The commands of a round after its imports.
 fn run_beside<K: Keeper>(
     rt: &(impl Clock + AllocGlobal + Print),
     register: &mut Register<K>,

@@ -1,6 +1,6 @@
 //! Times of commands to a register in memory, by the clock, for the benches.
 //!
-//! It is no part of the product. The program `trials` has the words that ask for them, and what is printed.
+//! It is not part of the product. The program `trials` has the words that ask for them, and says what is printed.
 #![tactic(auto)]
 
 mod clock;

@@ -26,7 +26,7 @@ pub fn run_replacements<K: Keeper>(
     Ok(())
 }
 
-// A register of the projects that some tables state, and of nothing else.
+// A register that has the projects of some tables, and nothing else.
 fn register_of<K: Keeper>(alloc: Global, tables: &str) -> Result<Register<K>, Fault> {
     let mut register = Register::new(alloc, MOST_MOVES)?;
     for (place, table) in tables.split(BETWEEN_FILES).enumerate() {

@@ -41,7 +41,8 @@ pub fn withdraw_review(alloc: Global, review: u64) -> Result<Command, Fault> {
     command(Action::Desk(DeskCommand::WithdrawReview { review, member }))
 }
 
-/// Finishes a review by its version. The first that is finished so adds an entry, and each other takes its number.
+/// Finishes a review by its version. The first such one adds an entry, and each later one gets the number of that
+/// entry.
 pub fn finish_in_full(alloc: Global, review: u64) -> Result<Command, Fault> {
     let version = VetVersion::parse(alloc, VERSION)?;
     finish_review(alloc, review, Reviewed::Version(version))

@@ -1,4 +1,4 @@
-//! The files that state what a demand is asked of.
+//! The files from which a demand is computed.
 
 use crate::contents::BETWEEN_FILES;
 use crate::project::stated_project;
