@@ -12,7 +12,7 @@ use vet_tables::table_name::TableName;
 
 /// Pushes the changes by which some rows of a table are removed and others added, or those of them that differ. Fails
 /// only if memory runs out.
-pub fn push_rows(
+pub fn push_row_changes(
     alloc: Global,
     changes: &mut Vec<RowChange>,
     table: TableName,
@@ -52,10 +52,10 @@ fn push_difference(
     ensures { OnOk result (changes.new.items ≡ changes.old.items
         ++ drops_then_puts table (less removed.items added.items) (less added.items removed.items)) }
 {
-    let stay = marks_among(alloc, removed.as_slice(), added.as_slice())?;
-    let stand = marks_among(alloc, added.as_slice(), removed.as_slice())?;
-    let removed = unmarked(alloc, removed, stay.as_slice())?;
-    let added = unmarked(alloc, added, stand.as_slice())?;
+    let in_added = marks_among(alloc, removed.as_slice(), added.as_slice())?;
+    let in_removed = marks_among(alloc, added.as_slice(), removed.as_slice())?;
+    let removed = unmarked(alloc, removed, in_added.as_slice())?;
+    let added = unmarked(alloc, added, in_removed.as_slice())?;
     push_drops_then_puts(changes, table, removed, added)
 }
 

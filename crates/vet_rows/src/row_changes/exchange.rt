@@ -6,7 +6,7 @@ ghost use Rattle.vet_rows.specs.KeyedItems.{one_row, rows_if};
 ghost use Rattle.vet_rows.specs.RowExchanges.{exchange_of, row_changes_of};
 
 use crate::row_change::RowChange;
-use crate::row_changes::difference::push_rows;
+use crate::row_changes::difference::push_row_changes;
 use crate::rows_of::to_row::{ToRow, row_if, rows_each};
 use std::alloc::{AllocError, Global};
 use vet_tables::sequence::{Row, Sequence};
@@ -53,7 +53,7 @@ impl Exchange {
         } = self;
         let removed = removed.into_items();
         let added = added.into_items();
-        push_rows(alloc, changes, table, removed, added)
+        push_row_changes(alloc, changes, table, removed, added)
     }
 }
 

@@ -1,6 +1,6 @@
 use Rattle.std.proofs.Common.{◌∙◌, ◌++◌, ap, sym}
 use Rattle.vet_rows.proofs.Pushed.{as_compared, as_whole, where_ok}
-use Rattle.vet_rows.proofs.row_changes.difference.push_rows.Goals as goal
+use Rattle.vet_rows.proofs.row_changes.difference.push_row_changes.Goals as goal
 
 pub returns-then-is_compared : goal.returns-then-is_compared
 returns-then-is_compared c =
