@@ -35,7 +35,7 @@ HeldEntriesFit (held.Files files) =
     All EntryFits files.facts.content.entries × All PeerFits files.facts.content.peers
 HeldEntriesFit _ = Unit {0}
 
--- of the review at a place that comes into a state
+-- of the review at a place, in another state
 abbrev pub TurnedFits : ℕ → ReviewState → DeskState → Type 0
 TurnedFits place state d = (r : Review) → slice_get d.reviews place ≡ Some r → ReviewFits (in_state state r)
 

@@ -24,12 +24,12 @@ the_member = one_row member_row
 abbrev pub the_review : Review → List Row
 the_review = one_row review_row
 
--- a review, if there is one, comes into another state
+-- the row of a review, if there is one, for its row in another state
 abbrev pub turned_exchange : ReviewState → Option Review → Exchange
 turned_exchange state review =
     exchange_of table.Reviews (rows_if the_review review) (rows_if the_review (option_map (in_state state) review))
 
--- a finished review has the entry of a number, where one is given
+-- a review that is finished gets the entry of this number, if one is given
 abbrev pub desk_change_exchanges : DeskChange → Option ℕ → DeskState → List Exchange
 desk_change_exchanges (Join edit) entry d = item_exchange table.Members the_member edit d.members ∷ []
 desk_change_exchanges (Open review) entry d = exchange_of table.Reviews [] (the_review review) ∷ []

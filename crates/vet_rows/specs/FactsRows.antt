@@ -27,7 +27,7 @@ the_peer = one_row (λ (peer : HeldPeer). peer_row peer.settings)
 
 -- ---- what an edit changes
 
--- Where a peer is removed or added, so is all that it has. Where its content is exchanged, all of it is removed.
+-- If a peer is removed or added, so are its criteria and entries. If its content is exchanged, all of them are removed.
 abbrev pub fact_exchanges : Edit → Facts → List Exchange
 fact_exchanges (edit.Criteria criteria) facts =
     exchange_of table.Criteria (criteria_rows own_peer facts.criteria) (criteria_rows own_peer criteria) ∷ []

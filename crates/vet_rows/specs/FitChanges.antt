@@ -4,7 +4,7 @@ use Rattle.vet_rows.specs.declared.row_change.RowChange.TheVariants.{Put, Drop, 
 use Rattle.vet_tables.specs.Cells.{IsRowOf}
 use Rattle.vet_tables.specs.Forms.{form_of}
 
--- the row that a change puts or takes out, if it names one, has a cell of its type for each column
+-- the row that a change puts or removes, if it names one, has a cell of its type for each column
 abbrev pub Fits : RowChange → Type 0
 Fits (Put table row) = IsRowOf (form_of table) row
 Fits (Drop table row) = IsRowOf (form_of table) row

@@ -1,4 +1,4 @@
--- The rows that an edit of all that is held removes and adds (ours).
+-- The rows that an edit of what is held removes and adds (ours).
 use Rattle.std.specs.Prelude.{List, [], ◌∷◌, map}
 use Rattle.std.specs.List.{flat_map}
 use Rattle.vet_entries.specs.declared.held_peer.HeldPeer.{HeldPeer}
@@ -19,7 +19,7 @@ use Rattle.vet_tables.specs.declared.table_name.TableName.TheVariants as table
 abbrev pub peer_rows : List HeldPeer → List Row
 peer_rows peers = map (λ (peer : HeldPeer). peer_row peer.settings) peers
 
--- where all that files hold is exchanged, all rows of it are removed
+-- if all files are replaced, the rows of everything that files hold are removed
 abbrev pub held_exchanges : HeldEdit → HeldValue → List Exchange
 held_exchanges edit.Nothing held = []
 held_exchanges (edit.Facts change) held = fact_exchanges change held.facts

@@ -28,7 +28,7 @@ abbrev pub SameButStanding : RowsValue → RowsValue → Type 0
 SameButStanding a b =
     (name : TableName) → (code name ≡ code table.Standing → ⊥) → SameItems (a name) (b name)
 
--- two sound states that can be held, of which these are the rows but for `standing`, are one
+-- two sound states that can be held, and that have these rows except for `standing`, are the same
 abbrev pub AreOfOneState : RowsValue → Type 0
 AreOfOneState rows = (s t : State) → IsSound s → IsSound t → IsHeldState s → IsHeldState t
     → SameButStanding rows (rows_of s) → SameButStanding rows (rows_of t) → s ≡ t

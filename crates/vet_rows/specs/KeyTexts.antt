@@ -1,4 +1,4 @@
--- Texts of keys that are read as what they are of (ours).
+-- Texts in keys that read back as what they are written for (ours).
 use Rattle.std.specs.Prelude.{◌≡◌, List, Some}
 use Rattle.vet_base.specs.Items.{IsIn}
 use Rattle.vet_base.specs.Version.{IsVersion}
@@ -43,7 +43,7 @@ AddedProjectsAreRead _ = Unit {0}
 abbrev pub ProjectsAreRead : List NamedProject → Type 0
 ProjectsAreRead projects = (p : NamedProject) → IsIn p projects → NodesAreRead p
 
--- of the projects that are held, where one of them changes
+-- of the projects that are held, if one of them changes
 abbrev pub ProjectsHeldAreRead : HeldEdit → List NamedProject → Type 0
 ProjectsHeldAreRead (edit.Projects change) projects = ProjectsAreRead projects
 ProjectsHeldAreRead _ projects = Unit {0}
@@ -56,7 +56,7 @@ MovesAreRead moves = (m : RecordedMove) → IsIn m moves → IsVersion m.change.
 abbrev pub ArePeersNamed : List HeldPeer → Type 0
 ArePeersNamed peers = (p : HeldPeer) → IsIn p peers → peer_name p ≡ own_peer → ⊥
 
--- nor has the one that an edit of facts adds
+-- nor does the one that an edit of facts adds have it
 abbrev pub AddedPeerIsNamed : Edit → Type 0
 AddedPeerIsNamed (facts_edit.Peer change) = (p : HeldPeer) → added_item change ≡ Some p → peer_name p ≡ own_peer → ⊥
 AddedPeerIsNamed (facts_edit.Settings settings) = settings.name ≡ own_peer → ⊥

@@ -1,4 +1,4 @@
--- The items of a list by key that an edit takes out of it and puts into it (ours).
+-- The items that an edit of a list by key removes and adds (ours).
 use Rattle.std.specs.Prelude.{List, [], ◌∷◌, Option, Some, None}
 use Rattle.std.specs.List.{slice_get}
 use Rattle.vet_base.specs.declared.keyed.KeyedEdit.{KeyedEdit}

@@ -1,4 +1,4 @@
--- Of what parts a state is made (ours).
+-- The parts of a state (ours).
 use Rattle.std.specs.Prelude.{List}
 use Rattle.vet_demand.specs.declared.policies.KeyedPolicy.{KeyedPolicy}
 use Rattle.vet_demand.specs.declared.project.NamedProject.{NamedProject}
@@ -8,7 +8,7 @@ use Rattle.vet_register.specs.State.{State}
 use Rattle.vet_register.specs.declared.moves.RecordedMove.{RecordedMove}
 use Rattle.vet_rows.specs.declared.meta.Meta.{Meta}
 
--- all of which a state has just one
+-- everything that a state has only one of
 abbrev pub meta_in : State → Meta
 meta_in s = record {
   numbers = record {

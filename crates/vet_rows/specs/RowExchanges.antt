@@ -47,7 +47,7 @@ is_compared Nodes = true
 is_compared Edges = true
 is_compared _ = false
 
--- So of what is removed for others, or added for them, these are the rows that differ.
+-- so of rows that are exchanged for others, these are the ones that are written
 abbrev pub differing : TableName → List Row → List Row → List Row
 differing name rows others = cond (is_compared name) (less rows others) rows
 
@@ -57,7 +57,7 @@ differing name rows others = cond (is_compared name) (less rows others) rows
 abbrev pub drops_then_puts : TableName → List Row → List Row → List RowChange
 drops_then_puts name removed added = map (λ r. Drop name r) removed ++ map (λ r. Put name r) added
 
--- so are those of an exchange that differ
+-- the same for the rows of an exchange that differ
 abbrev pub row_changes_of : Exchange → List RowChange
 row_changes_of e =
     drops_then_puts e.table (differing e.table e.removed e.added) (differing e.table e.added e.removed)

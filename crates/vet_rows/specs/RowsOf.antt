@@ -13,7 +13,7 @@ use Rattle.vet_rows.specs.StandingRows.{move_row}
 use Rattle.vet_tables.specs.Cells.{Row, RowsValue}
 use Rattle.vet_tables.specs.declared.table_name.TableName.TheVariants as table
 
--- all of which there is just one
+-- the row of `meta`
 abbrev pub meta_row : State → Row
 meta_row s = row_of_meta (meta_in s)
 

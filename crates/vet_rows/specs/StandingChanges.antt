@@ -1,4 +1,4 @@
--- The changes of the rows of the standing and of moves by what is recorded (ours).
+-- The rows of the standing and of moves that are removed and added for what is recorded (ours).
 use Rattle.std.specs.Prelude.{◌≡◌, Bool, List, [], ◌∷◌, filter, is_none, is_some, map}
 use Rattle.vet_base.specs.Items.{IsIn}
 use Rattle.vet_base.specs.Version.{version_text}
@@ -23,13 +23,13 @@ abbrev pub recorded_moves : Recording → List RecordedMove
 recorded_moves (Behind more) = more.items
 recorded_moves (Anew counts) = []
 
--- the row of a pair after a recorded move; where it isn't demanded any more, with the class of none
+-- the row of a pair after a recorded move; if it isn't demanded any more, with the number for no class
 abbrev pub moved_row : RecordedMove → Row
 moved_row m =
     Text m.change.pair.«package» ∷ Text (version_text m.change.pair.version) ∷ Text m.change.pair.criterion
     ∷ Int (class_or_none m.change.after) ∷ []
 
--- a pair isn't demanded any more; a pair stands
+-- a pair isn't demanded any more; a pair has a class
 abbrev pub leaves : RecordedMove → Bool
 leaves m = is_none m.change.after
 
@@ -45,7 +45,7 @@ standing_added recording = map moved_row (filter stands (recorded_moves recordin
 abbrev pub moves_added : Recording → List Row
 moves_added recording = map move_row (recorded_moves recording)
 
--- a move is removed only with all others: where a period begins, none stays
+-- a move is removed only with all others: if a period begins, none stays
 abbrev pub move_exchanges : Recording → List Exchange
 move_exchanges recording =
     exchange_of table.Standing (standing_removed recording) (standing_added recording)
@@ -57,12 +57,12 @@ clear_moves (Anew counts) = Clear table.Moves ∷ []
 
 -- ---- whose rows these are
 
--- a row is that of the pair of one of some moves, in whatever class
+-- a row is that of the pair of one of some moves, in any class
 abbrev pub IsOfMove : List Move → Row → Type 0
 IsOfMove moves r = (m : Move) × (IsIn m moves × ((class : Cell)
     × (r ≡ Text m.pair.«package» ∷ Text (version_text m.pair.version) ∷ Text m.pair.criterion ∷ class ∷ [])))
 
--- a row of the standing is so; of the other tables nothing is asked
+-- a row of the standing is such a row; nothing is asked of the other tables
 abbrev pub RowIsOfMoves : List Move → TableName → Row → Type 0
 RowIsOfMoves moves table.Standing r = IsOfMove moves r
 RowIsOfMoves moves _ r = Unit {0}
@@ -72,7 +72,7 @@ abbrev pub IsOther : TableName → Type 0
 IsOther table.Standing = ⊥
 IsOther _ = Unit {0}
 
--- so is the row that a change puts or takes out
+-- so is the row that a change puts or removes
 abbrev pub IsOfMoves : List Move → RowChange → Type 0
 IsOfMoves moves (Put table r) = RowIsOfMoves moves table r
 IsOfMoves moves (Drop table r) = RowIsOfMoves moves table r

@@ -1,11 +1,11 @@
-//! That the state of a register can be held.
+//! The state of a register can be held.
 //!
-//! **Each name, version, text and day in a register's state is what its own bytes are read as**, whatever entry, peer,
-//! policy, project, review or move it stands in.
+//! **Each name, version, text and day in a register's state reads back from its own bytes**, in every entry, peer,
+//! policy, project, review and move.
 //!
-//! Whoever made such a value has shown that, and its type keeps it. So the functions here do nothing but look at each
-//! thing that is held, down to the names in it. They take no memory and change nothing. What asks for a state that can
-//! be held (`IsHeldState`), as `state_of` does, can be had of each register's.
+//! The types of these values ensure it. So the functions here only look at each thing that is held, down to the names
+//! in it. They take no memory and change nothing. A contract that speaks of states that can be held (`IsHeldState`),
+//! such as that of `state_of`, therefore applies to the state of each register.
 ghost use Rattle.vet_item_rows.specs.ReadHeld.{AreFactsValues};
 ghost use Rattle.vet_rows.specs.HeldState.{IsHeldState};
 
@@ -22,7 +22,7 @@ use vet_entries::facts::EntryFacts;
 use vet_graph::keeper::Keeper;
 use vet_register::register::Register;
 
-/// The state of a register can be held. Does nothing but look at each thing in it.
+/// The state of a register can be held. Only looks at each thing in it.
 pub fn register_is_held<K: Keeper>(register: &Register<K>)
     ensures { IsHeldState register.now.state }
 {
@@ -35,7 +35,7 @@ pub fn register_is_held<K: Keeper>(register: &Register<K>)
     are_held(register.moves());
 }
 
-// All that is held of packages can be held. Does nothing but look at each thing in it.
+// The facts of packages can be held. Only looks at each thing in them.
 fn facts_are_held(facts: &EntryFacts)
     ensures { AreFactsValues facts.now.content }
 {

@@ -1,4 +1,4 @@
-//! Laws of rows. What these functions ensure are facts.
+//! Laws of rows: what each function ensures is a fact.
 ghost use Rattle.std.specs.Prelude.{◌≡◌, IfErr, OnOk};
 ghost use Rattle.vet_rows.specs.HeldState.{AreOfOneState, SameButStanding};
 ghost use Rattle.vet_rows.specs.RowKeys.{KeysDiffer};
@@ -29,7 +29,8 @@ pub fn keys_differ<K: Keeper>(register: &Register<K>)
     moves_are_read(register.moves());
 }
 
-/// Rows are those of one sound state at most, as far as there is memory to read them. Refused as `state_of` is.
+/// Rows are those of at most one sound state, as far as there is memory to read them. Refused as `state_of` is:
+/// `NotARegister` or `NoMemory`.
 pub fn rows_are_of_one_state(alloc: Global, rows: &Rows) -> Result<(), Refusal>
     ensures { OnOk result (AreOfOneState (rows_in rows.now)) }
 {
@@ -39,8 +40,8 @@ pub fn rows_are_of_one_state(alloc: Global, rows: &Rows) -> Result<(), Refusal>
     }
 }
 
-/// Registers whose states differ have different rows, those of `standing` aside, as far as there is memory to read them
-/// again. Refused: `NoMemory`.
+/// Registers whose states differ have different rows, also without those of `standing`, as far as there is memory to
+/// read them. Refused: `NoMemory`.
 pub fn registers_differ_in_rows<K: Keeper, L: Keeper>(
     alloc: Global,
     register: &Register<K>,

@@ -1,15 +1,16 @@
 //! The rows of a register's tables.
 //!
-//! **`rows_of` gives the rows of a register's state: of each thing that is held its one row. `row_changes` leads from
-//! these to the rows of the state after a change. `state_of` gives the state again of its rows, in whatever order.**
+//! **`rows_of` returns the rows of a register's state, one for each thing that is held. `row_changes` returns the
+//! changes that lead from these to the rows of the state after a command. `state_of` returns the state of such rows, in
+//! any order.**
 //!
-//! Scope of this crate: what changes of a row each make of the twelve tables, the rows of a state, the changes of rows
-//! that a prepared change of the register makes, and the state of rows; that a register's state can be held in rows.
-//! The rows of single things are in `vet_item_rows`. The traits `ToRow` and `CanBeHeld` are here, since types of
-//! the register have them too, and an `impl` is in the crate of its trait or of its type.
+//! Scope of this crate: what a change of rows makes of the twelve tables, the rows of a state, the changes of rows that
+//! a prepared change of the register makes, and the state of rows; that a register's state can be held in rows. The
+//! rows of single things are in `vet_item_rows`. The traits `ToRow` and `CanBeHeld` are here, since types of the
+//! register have them too, and an `impl` is in the crate of its trait or of its type.
 //!
 //! For example, the rows of a state with one demanded pair have one row in `standing`. Rows with another class there
-//! are those of no state.
+//! belong to no state.
 #![tactic(auto)]
 
 pub mod held_register;

@@ -1,8 +1,8 @@
-//! What there is just one of, which the one row of `meta` holds.
+//! What a register has only one of. The one row of `meta` holds it.
 use vet_graph::standing::Counts;
 use vet_register::tool_settings::ToolSettings;
 
-/// Numbers of which a register has one each.
+/// The numbers that a register has once.
 #[derive(Clone, Copy)]
 pub(crate) struct MetaNumbers {
     pub(crate) step: u64,
@@ -11,7 +11,7 @@ pub(crate) struct MetaNumbers {
     pub(crate) moves_limit: usize,
 }
 
-/// All of which a register has just one.
+/// Everything that a register has only one of.
 #[derive(Drop)]
 pub(crate) struct Meta {
     pub(crate) numbers: MetaNumbers,

@@ -6,9 +6,9 @@ use vet_tables::table_name::TableName;
 pub enum RowChange {
     /// Puts a row into a table, in place of the row of its key, if there is one.
     Put(TableName, Row),
-    /// Takes the row of this row's key out of a table, if there is one. The other columns don't matter.
+    /// Removes the row that has this row's key from a table, if there is one. The other columns don't matter.
     Drop(TableName, Row),
-    /// Takes all rows out of a table.
+    /// Removes all rows of a table.
     Clear(TableName),
 }
 

@@ -1,4 +1,4 @@
-//! What a prepared change makes of the rows of the tables.
+//! What a prepared change does to the rows of the tables.
 //!
 //! **Made in their order on the rows of the state, the changes lead to the rows of the state after it.**
 //!
@@ -6,13 +6,13 @@
 //! exchange for each table that it touches (`fact_changes`, `held_changes`, `desk_changes`). So has what is recorded
 //! (`standing_changes`), and the row of `meta` (`meta_change`).
 //!
-//! Where a period begins, all moves are removed at once. Then of each exchange some rows are removed, each by its key,
-//! and some are added. Where one thing is exchanged for another, the rows of the one are removed and those of the other
-//! added. Of entries, publisher records and projects, of which there may be thousands, these are only the rows that
-//! differ, and of the standing the pairs of the change's moves alone.
+//! If a period begins, all moves are removed at once. Then each exchange removes some rows, each by its key, and adds
+//! others. If one thing is exchanged for another, the rows of the one are removed and those of the other are added.
+//! There may be thousands of entries, publisher records, nodes and edges, so of these only the rows that differ are
+//! written. Of the standing, only the rows of the pairs in the change's moves are.
 //!
-//! Two rows of a state never have the same key. That rests on their texts: what a key's text is read as is what it is
-//! of, and no peer has the empty name, which stands for oneself (`key_texts`).
+//! No two rows of a table have the same key. This follows from the texts in their keys: each reads back as the value
+//! that it is written for, and no peer has the empty name, which stands for oneself (`key_texts`).
 ghost use Rattle.std.specs.List.{flat_map};
 ghost use Rattle.std.specs.Prelude.{◌≡◌, ◌++◌, IfErr, IfOk, OnOk};
 ghost use Rattle.vet_base.specs.Items.{IsIn};
@@ -60,8 +60,8 @@ use vet_graph::laws::moves_are_differences;
 use vet_register::change::Change;
 use vet_register::register::Register;
 
-/// The changes of rows that a change makes which this register prepared on this state. Costs a look at each row that
-/// is removed or added, and at each demanded pair, policy and peer. Refused: `NoMemory`.
+/// The changes of rows for a change that this register prepared in its present state. Costs a look at each row that is
+/// removed or added, and at each demanded pair, policy and peer. Refused: `NoMemory`.
 pub fn row_changes<K: Keeper>(
     alloc: Global,
     register: &Register<K>,
@@ -90,7 +90,7 @@ pub fn row_changes<K: Keeper>(
     }
 }
 
-// The texts of keys before and after a change are read as what they are of. Does nothing.
+// The texts of keys before and after a change read back as what they are written for. Does nothing.
 fn texts_are_read<K: Keeper>(register: &Register<K>, change: &Change<K>)
     requires { (command : CommandValue) × IsPrepared K.keeping register.now command change.now }
     ensures { AreRead register.now.state change.now }
@@ -115,7 +115,7 @@ fn counts_fit_after<K: Keeper>(register: &Register<K>, change: &Change<K>)
     let _ = register.demand();
 }
 
-// All changes: where a period begins, that of all moves, and then those of each exchange.
+// All changes: if a period begins, the one that removes all moves, and then those of each exchange.
 fn all_changes<K: Keeper>(
     alloc: Global,
     register: &Register<K>,
@@ -152,7 +152,7 @@ fn change_exchanges<K: Keeper>(
     Ok(exchanges)
 }
 
-// Pushes the changes of some exchanges, one after the other, behind others.
+// Adds the changes of some exchanges, one after the other, after others.
 fn push_exchanges(
     alloc: Global,
     changes: &mut Vec<RowChange>,

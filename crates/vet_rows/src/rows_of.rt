@@ -2,8 +2,8 @@
 //!
 //! **`rows_of` gives the rows of a register's state, each once.**
 //!
-//! Each thing that is held has its row (`ToRow`), and each table its list of rows. A column of numbers holds those
-//! below 2^63, and the numbers of a sound state are (`numbers_fit`, `counts_fit`).
+//! Each thing that is held has its row (`ToRow`), and each table its list of rows. A column of numbers holds numbers
+//! below 2^63, and all numbers of a sound state are below it (`numbers_fit`, `counts_fit`).
 ghost use Rattle.std.specs.Prelude.{◌≡◌, IfErr, IfOk};
 ghost use Rattle.vet_rows.specs.RowsOf.{rows_of};
 ghost use Rattle.vet_tables.specs.Cells.{rows_in};
@@ -30,8 +30,8 @@ use vet_tables::rows::Rows;
 use vet_tables::sequence::Row;
 use vet_tables::table_name::{TABLE_COUNT, TableName, table_at};
 
-/// The rows of a register's state: a list a table, each row once. Costs a look at each thing that is held, and a binary
-/// search for each demanded pair. Refused: `NoMemory`.
+/// The rows of a register's state: a list for each table, each row once. Costs a look at each thing that is held, and a
+/// binary search for each demanded pair. Refused: `NoMemory`.
 pub fn rows_of<K: Keeper>(alloc: Global, register: &Register<K>) -> Result<Rows, Refusal>
     ensures ok { IfOk result (λ rows. rows_in rows ≡ rows_of register.now.state) }
     ensures memory { IfErr result (λ e. e ≡ Refusal.NoMemory) }
@@ -43,7 +43,7 @@ pub fn rows_of<K: Keeper>(alloc: Global, register: &Register<K>) -> Result<Rows,
     Ok(rows)
 }
 
-/// The rows of a table. Fails only if memory runs out.
+/// The rows of one table. Fails only if memory runs out.
 pub fn rows_in<K: Keeper>(
     alloc: Global,
     register: &Register<K>,

@@ -1,9 +1,9 @@
-//! The state to which rows lead back.
+//! The state of rows.
 //!
-//! **Rows of a sound state, in whatever order, give that state.**
+//! **Rows of a sound state, in any order, give that state.**
 //!
-//! What else may be given of other rows is not said: whoever has to know compares the rows of what was given. The rows
-//! of `standing` aren't looked at, as the facts say what they are to be.
+//! Other rows give `NotARegister` or some state, and no clause says which. A caller that has to know compares the rows
+//! of that state with those that it passed in. The rows of `standing` are ignored, since they follow from the others.
 ghost use Rattle.std.specs.Prelude.{◌≡◌, ◌⊎◌, IfErr, MatchResult, map};
 ghost use Rattle.std.specs.List.{All};
 ghost use Rattle.vet_base.specs.Gives.{found_or};
@@ -41,8 +41,8 @@ use vet_register::state::State;
 use vet_tables::rows::Rows;
 use vet_tables::table_name::TableName;
 
-/// The state of which these are the rows, in whatever order; those of `standing` aren't looked at. Takes a time of
-/// n log n. Refused: `NotARegister`, only where they are the rows of no sound state; and `NoMemory`.
+/// The state of which these are the rows, in any order; those of `standing` are ignored. Takes a time of n log n.
+/// Refused: `NotARegister`, only if they are the rows of no sound state, and `NoMemory`.
 pub fn state_of(alloc: Global, rows: &Rows) -> Result<State, Refusal>
     ensures back { (s : machine.State) → IsSound s → IsHeldState s → SameButStanding (rows_in rows.now) (rows_of s)
         → MatchResult result (λ found. found ≡ s) (λ e. e ≡ Refusal.NoMemory) }
@@ -51,7 +51,7 @@ pub fn state_of(alloc: Global, rows: &Rows) -> Result<State, Refusal>
     Ok(read_state(alloc, rows)?)
 }
 
-/// What was found of a register in its tables, or `NotARegister` where nothing was. Takes no memory.
+/// What was found of a register in its tables, or `NotARegister` if nothing was. Takes no memory.
 pub fn found_register<T>(found: Option<T>) -> Result<T, Refusal>
     ensures { result ≡ found_or Refusal.NotARegister found }
 {

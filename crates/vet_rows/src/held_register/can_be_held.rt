@@ -7,12 +7,12 @@ pub(crate) trait CanBeHeld {
     /// A value can be held.
     ghost can_be_held: { Self → Type 0 };
 
-    /// It can be. Does nothing but look at it.
+    /// The value can be held. Only looks at it.
     fn is_held(&self)
         ensures { can_be_held self.now };
 }
 
-/// Each of some values can be held. Does nothing but look at each.
+/// Each of some values can be held. Only looks at each.
 pub(crate) fn are_held<T: CanBeHeld>(values: &[T])
     ensures { All T.can_be_held values.now }
 {

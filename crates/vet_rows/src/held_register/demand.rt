@@ -1,4 +1,4 @@
-//! That policies, projects and pairs can be held.
+//! Policies, projects and pairs can be held.
 ghost use Rattle.vet_item_rows.specs.HeldValues.{IsDependency, IsKeyedPolicy, IsNamedProject, IsNode, IsPair, IsPolicy};
 
 use crate::held_register::can_be_held::{CanBeHeld, are_held};

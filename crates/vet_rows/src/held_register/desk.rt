@@ -1,4 +1,4 @@
-//! That reviews, recorded moves and what is said to the tool alone can be held.
+//! Reviews, recorded moves and the settings of the tool can be held.
 ghost use Rattle.vet_item_rows.specs.HeldValues.{IsReview, IsReviewState};
 ghost use Rattle.vet_rows.specs.HeldValues.{AreSettings, IsRecordedMove};
 

@@ -1,4 +1,4 @@
-//! That criteria, entries and publisher records can be held.
+//! Criteria, entries and publisher records can be held.
 ghost use Rattle.vet_item_rows.specs.ReadHeld.{IsPackageValue};
 ghost use Rattle.vet_item_rows.specs.Values.{IsCriterion, IsEntry, IsHeldEntry, IsKind, IsPublisher, IsSource};
 ghost use Rattle.vet_item_rows.specs.Values.{IsWindow};

@@ -1,4 +1,4 @@
-//! That tables of criteria and peers can be held.
+//! Tables of criteria, and peers, can be held.
 ghost use Rattle.std.specs.List.{All};
 ghost use Rattle.vet_item_rows.specs.ReadFacts.{IsMapped, IsPeerSettings};
 ghost use Rattle.vet_item_rows.specs.ReadHeld.{AreCriteria, IsPeerValue};
@@ -52,14 +52,14 @@ impl CanBeHeld for Definitions {
     }
 }
 
-/// The criteria of a table that aren't built in can be held. Does nothing but look up each.
+/// The criteria of a table that aren't built in can be held. Only looks up each.
 pub(crate) fn table_is_held(table: &CriteriaTable)
     ensures { AreCriteria table.now }
 {
     named_are_held(table, table.names());
 }
 
-// Those of some names.
+// The criteria of some names.
 fn named_are_held(table: &CriteriaTable, names: &[Name])
     ensures { All (λ n. MayBe IsCriterion (further_at table.now n)) names.now }
 {
@@ -68,7 +68,7 @@ fn named_are_held(table: &CriteriaTable, names: &[Name])
     }
 }
 
-// That of a name, if there is one.
+// The criterion of a name, if there is one.
 fn named_is_held(table: &CriteriaTable, name: &Name)
     ensures { MayBe IsCriterion (further_at table.now name.now) }
 {

@@ -1,4 +1,4 @@
-//! That names, texts, versions, days and users can be held, and sets of names and texts.
+//! Names, texts, versions, days and users can be held, and sets of names and texts.
 ghost use Rattle.vet_base.specs.Version.{IsVersion};
 ghost use Rattle.vet_item_rows.specs.Values.{AreNames, ArePackages, AreTexts, IsDay, IsName, IsPackage, IsText, IsUser};
 

@@ -1,4 +1,4 @@
-//! The one row of all of which there is just one, read again.
+//! Reading the one row of `meta`.
 ghost use Rattle.std.specs.Prelude.{◌≡◌, ◌∷◌, [], Ok};
 ghost use Rattle.vet_base.specs.Items.{SameItems};
 ghost use Rattle.vet_item_rows.specs.ReadBack.{IsWritten, Reads};
@@ -20,7 +20,8 @@ use vet_tables::sequence::Row;
 /// The version of the form of the tables.
 const FORM: u64 = 1;
 
-/// What the one row says.
+/// What the row of `meta` says. Rows other than one such row give `NotARegister` or some value, and no clause says
+/// which.
 pub(crate) fn read_meta(alloc: Global, rows: &[Row]) -> Result<Meta, ReadError>
     ensures { (m : MetaValue) → IsMeta m → SameItems rows.now (row_of_meta m ∷ []) → Reads result m }
 {
@@ -40,7 +41,7 @@ impl FromRow for Meta {
     }
 }
 
-// Whether the key of a row and the version of the form are those that are written. Takes no memory.
+// Refuses a row with another key, or another version of the form, than those that are written. Takes no memory.
 fn check_form(row: &Row) -> Result<(), ReadError>
     ensures { (m : MetaValue) → row.now ≡ row_of_meta m → result ≡ Ok tt }
 {
@@ -80,7 +81,7 @@ fn numbers(row: &Row) -> Result<MetaNumbers, ReadError>
     })
 }
 
-// How many pairs stood in each class at first. Takes no memory.
+// How many pairs of each class there were at first. Takes no memory.
 fn first_counts(row: &Row) -> Result<Counts, ReadError>
     ensures { (m : MetaValue) → row.now ≡ row_of_meta m → result ≡ Ok m.first }
 {
@@ -106,7 +107,7 @@ fn first_counts(row: &Row) -> Result<Counts, ReadError>
     })
 }
 
-// What a config file says to the tool alone.
+// What a config file says only to the tool.
 fn settings(alloc: Global, row: &Row) -> Result<ToolSettings, ReadError>
     ensures { (m : MetaValue) → AreSettings m.settings → row.now ≡ row_of_meta m → Reads result m.settings }
 {

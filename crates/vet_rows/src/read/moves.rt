@@ -1,4 +1,4 @@
-//! The rows of moves, read again.
+//! Reading the rows of moves.
 ghost use Rattle.std.specs.Prelude.{◌≡◌, IfOk, List, MatchResult, Ok, Option, map};
 ghost use Rattle.std.specs.List.{All, AllPairs};
 ghost use Rattle.vet_base.specs.Items.{SameItems};
@@ -80,7 +80,7 @@ pub(crate) fn moves(alloc: Global, rows: &[Row]) -> Result<Vec<RecordedMove>, Re
     Ok(recorded_moves(alloc, rank(moves)?)?)
 }
 
-// The moves themselves.
+// The recorded moves, in this order.
 fn recorded_moves(alloc: Global, ordered: Vec<OrderedMove>) -> Result<Vec<RecordedMove>, AllocError>
     ensures { IfOk result (λ moves. moves.items ≡ ordered.items) }
 {
@@ -144,7 +144,7 @@ fn pair(alloc: Global, row: &Row) -> Result<Pair, ReadError>
     })
 }
 
-// A class, or none. Takes no memory.
+// A class by its number, or no class for 5. Takes no memory.
 fn class_or_none(column: i64) -> Result<Option<Class>, ReadError>
     ensures { (class : Option ClassValue) → column ≡ class_or_none class → result ≡ Ok class }
 {

@@ -21,8 +21,8 @@ use vet_register::change::DeskEdit;
 use vet_tables::sequence::Row;
 use vet_tables::table_name::TableName;
 
-/// The rows that an edit of the desk removes and adds, if there is one. Asks that the numbers of reviews have columns.
-/// Fails only if memory runs out.
+/// The rows that an edit of the desk removes and adds, if there is one. Asks that the numbers of reviews, before and
+/// after it, are below 2^63. Fails only if memory runs out.
 pub fn desk_exchanges(
     alloc: Global,
     edit: Option<&DeskEdit>,
@@ -39,7 +39,7 @@ pub fn desk_exchanges(
     }
 }
 
-// The rows that a change of the desk removes and adds, where a finished review has the entry of this number.
+// The rows that a change of the desk removes and adds. A review that it finishes gets the entry of this number.
 fn desk_change_exchanges(
     alloc: Global,
     change: &DeskChange,
@@ -70,7 +70,7 @@ fn desk_change_exchanges(
     }
 }
 
-// A review is put into another state, if there is one.
+// The exchange of the row of a review, if there is one, for its row in another state.
 fn review_turned(
     alloc: Global,
     review: Option<&Review>,

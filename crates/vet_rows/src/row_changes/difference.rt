@@ -1,4 +1,4 @@
-//! The changes of an exchange of rows: in a table that may have thousands of rows, only of those that differ.
+//! The changes of an exchange of rows. A table that may have thousands of rows gets only those that differ.
 ghost use Rattle.std.specs.Prelude.{◌≡◌, ◌++◌, ◌∷◌, [], IfOk, OnOk, cond, length, map};
 ghost use Rattle.vet_rows.specs.RowExchanges.{drops_then_puts, exchange_of, is_compared, less, row_changes_of};
 ghost use Rattle.vet_rows.specs.RowExchanges.{unmarked};
@@ -10,8 +10,8 @@ use vet_tables::same_items::marks_among;
 use vet_tables::sequence::Row;
 use vet_tables::table_name::TableName;
 
-/// Pushes the changes by which some rows of a table are removed and others added, or those of them that differ. Fails
-/// only if memory runs out.
+/// Adds the changes that remove some rows of a table and add others. If the table may have thousands of rows, these are
+/// only the rows that differ. Fails only if memory runs out.
 pub fn push_row_changes(
     alloc: Global,
     changes: &mut Vec<RowChange>,
@@ -28,7 +28,7 @@ pub fn push_row_changes(
     push_drops_then_puts(changes, table, removed, added)
 }
 
-// Pushes the changes by which some rows of a table are removed, and then others added.
+// Adds the changes that remove some rows of a table, and then those that add others.
 fn push_drops_then_puts(
     changes: &mut Vec<RowChange>,
     table: TableName,
@@ -41,7 +41,7 @@ fn push_drops_then_puts(
     push_puts(changes, table, added)
 }
 
-// The same, but rows that would be removed and added again stay. Costs a search for each row among the others.
+// The same, except that rows that would be removed and added again stay. Costs a search for each row among the others.
 fn push_difference(
     alloc: Global,
     changes: &mut Vec<RowChange>,
@@ -110,7 +110,7 @@ fn push_puts(
     Ok(())
 }
 
-// Whether rows of a table stay that would be removed and added again: for tables that may have thousands of rows.
+// Whether only the rows of a table that differ are written: those tables that may have thousands of rows.
 fn is_compared(table: TableName) -> bool
     ensures { result ≡ is_compared table }
 {

@@ -30,7 +30,7 @@ impl Drop for Exchange {
 }
 
 impl Exchange {
-    /// Some rows of a table for others. Takes no memory.
+    /// The exchange of some rows of a table for others. Takes no memory.
     pub fn of(table: TableName, removed: Vec<Row>, added: Vec<Row>) -> Exchange
         ensures { result ≡ exchange_of table removed.items added.items }
     {
@@ -41,8 +41,8 @@ impl Exchange {
         }
     }
 
-    /// Pushes its changes behind others. Costs a search for each row among the others, if only the rows that differ
-    /// are written. Fails only if memory runs out.
+    /// Adds its changes after others. Costs a search for each row among the others, if only the rows that differ are
+    /// written. Fails only if memory runs out.
     pub fn push_changes(self, alloc: Global, changes: &mut Vec<RowChange>) -> Result<(), AllocError>
         ensures { OnOk result (changes.new.items ≡ changes.old.items ++ row_changes_of self) }
     {
@@ -57,8 +57,8 @@ impl Exchange {
     }
 }
 
-/// The row of one thing for that of another, where either may be missing. Asks that their numbers are below 2^63. Fails
-/// only if memory runs out.
+/// The exchange of the row of one thing for that of another. Either may be missing. Asks that their numbers are below
+/// 2^63. Fails only if memory runs out.
 pub fn row_exchange<T: ToRow>(
     alloc: Global,
     table: TableName,
@@ -75,7 +75,7 @@ pub fn row_exchange<T: ToRow>(
     Ok(Exchange::of(table, removed, added))
 }
 
-/// The same, where nothing else is exchanged.
+/// The same, as the only exchange.
 pub fn only_row_exchange<T: ToRow>(
     alloc: Global,
     table: TableName,
@@ -92,7 +92,8 @@ pub fn only_row_exchange<T: ToRow>(
     Ok(vec![in alloc; exchange]?)
 }
 
-/// The rows of some things for those of others. Asks that their numbers are below 2^63. Fails only if memory runs out.
+/// The exchange of the rows of some things for those of others. Asks that their numbers are below 2^63. Fails only if
+/// memory runs out.
 pub fn rows_exchange<T: ToRow>(
     alloc: Global,
     table: TableName,

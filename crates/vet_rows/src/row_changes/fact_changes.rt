@@ -1,6 +1,6 @@
 //! The rows that an edit of the facts of packages removes and adds.
 //!
-//! Of a peer whose content is exchanged, all criteria and entries are removed, and then those of the new content added.
+//! If the content of a peer is exchanged, its criteria and entries are exchanged for those of the new content.
 ghost use Rattle.std.specs.List.{All, slice_get};
 ghost use Rattle.std.specs.Option.{option_copied};
 ghost use Rattle.std.specs.Prelude.{◌≡◌, IfOk, Some};
@@ -31,8 +31,8 @@ use vet_item_rows::rows_of::setting_rows::push_criteria;
 use vet_tables::sequence::Row;
 use vet_tables::table_name::TableName;
 
-/// The rows that an edit of facts removes and adds. Asks that the numbers of entries have columns. Fails only if memory
-/// runs out.
+/// The rows that an edit of facts removes and adds. Asks that the numbers of entries, before and after it, are below
+/// 2^63. Fails only if memory runs out.
 pub fn fact_exchanges(
     alloc: Global,
     edit: &Edit,
@@ -54,7 +54,7 @@ pub fn fact_exchanges(
     }
 }
 
-// One's own criteria, for those of another table.
+// The exchange of one's own criteria for those of another table.
 fn criteria_exchange(
     alloc: Global,
     facts: &EntryFacts,
@@ -69,7 +69,7 @@ fn criteria_exchange(
     Ok(vec![in alloc; criteria]?)
 }
 
-// The own entry at a place is removed.
+// The exchange that removes one's own entry at a place.
 fn entry_removed(
     alloc: Global,
     facts: &EntryFacts,
@@ -93,7 +93,7 @@ fn entry_at(entries: &[HeldEntry], place: usize) -> Option<&HeldEntry>
     entries.get(place)
 }
 
-// A peer is removed, or exchanged for another, with all that it has; or one is added.
+// The exchanges that remove, exchange or add a peer, with its criteria and entries.
 fn peer_exchanges(
     alloc: Global,
     facts: &EntryFacts,
@@ -119,7 +119,7 @@ fn peer_exchanges(
     Ok(vec![in alloc; criteria, entries, peers]?)
 }
 
-// The settings of a held peer, for others.
+// The exchange of the settings of a held peer for others.
 fn settings_exchange(
     alloc: Global,
     facts: &EntryFacts,
@@ -134,7 +134,7 @@ fn settings_exchange(
     Ok(vec![in alloc; peers]?)
 }
 
-// The content of a held peer, for another.
+// The exchanges of the content of a held peer for another.
 fn content_exchanges(
     alloc: Global,
     facts: &EntryFacts,
@@ -160,7 +160,7 @@ fn content_exchanges(
     Ok(vec![in alloc; criteria, entries]?)
 }
 
-// The publisher records of a package, for others.
+// The exchange of the publisher records of a package for others.
 fn publishers_exchange(
     alloc: Global,
     facts: &EntryFacts,
@@ -187,7 +187,7 @@ fn criteria_of_peer(alloc: Global, peer: Option<&HeldPeer>) -> Result<Vec<Row>, 
     }
 }
 
-// The rows of the criteria of a peer of a name.
+// The rows of the criteria of a peer with this name.
 fn criteria_of(
     alloc: Global,
     name: &Name,

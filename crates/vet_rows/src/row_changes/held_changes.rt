@@ -1,6 +1,6 @@
-//! The rows that an edit of all that is held removes and adds.
+//! The rows that an edit of what is held removes and adds.
 //!
-//! Where all that files hold is exchanged, all rows of it are removed, and then those of the new files added.
+//! If all files are replaced, the rows of everything that files hold are exchanged for those of the new files.
 ghost use Rattle.std.specs.List.{All, flat_map};
 ghost use Rattle.std.specs.Option.{option_copied};
 ghost use Rattle.std.specs.Prelude.{◌≡◌, IfOk, map};
@@ -32,8 +32,8 @@ use vet_register::register::Register;
 use vet_tables::sequence::Row;
 use vet_tables::table_name::TableName;
 
-/// The rows that an edit of all that is held removes and adds. Asks that the numbers of entries that are added have
-/// columns. Fails only if memory runs out.
+/// The rows that an edit of what is held removes and adds. Asks that the numbers of entries that it adds are below
+/// 2^63. Fails only if memory runs out.
 pub fn held_exchanges<K: Keeper>(
     alloc: Global,
     edit: &HeldEdit,
@@ -52,7 +52,7 @@ pub fn held_exchanges<K: Keeper>(
     }
 }
 
-// A policy is removed, or exchanged for another, or one is added.
+// The exchange that removes, exchanges or adds a policy.
 fn policy_exchange<K: Keeper>(
     alloc: Global,
     register: &Register<K>,
@@ -65,7 +65,7 @@ fn policy_exchange<K: Keeper>(
     only_row_exchange(alloc, TableName::Policies, removed, added_item(change))
 }
 
-// A project is removed, or exchanged for another, with its nodes and edges; or one is added.
+// The exchanges that remove, exchange or add a project, with its nodes and edges.
 fn project_exchanges<K: Keeper>(
     alloc: Global,
     register: &Register<K>,
@@ -89,7 +89,7 @@ fn project_exchanges<K: Keeper>(
     Ok(vec![in alloc; nodes, edges]?)
 }
 
-// All that files hold, for what other files hold.
+// The exchanges of all that files hold for what other files hold.
 fn files_exchanges<K: Keeper>(
     alloc: Global,
     register: &Register<K>,
@@ -111,7 +111,7 @@ fn files_exchanges<K: Keeper>(
     Ok(vec![in alloc; criteria, entries, publishers, policies, peers]?)
 }
 
-// All criteria, for others.
+// The exchange of all criteria for others.
 fn criteria_replaced(
     alloc: Global,
     held: &EntryFacts,
@@ -125,7 +125,7 @@ fn criteria_replaced(
     Ok(Exchange::of(TableName::Criteria, removed, added))
 }
 
-// All entries, for others.
+// The exchange of all entries for others.
 fn entries_replaced(
     alloc: Global,
     held: &EntryFacts,
@@ -143,7 +143,7 @@ fn entries_replaced(
     Ok(Exchange::of(TableName::Entries, removed, added))
 }
 
-// All publisher records, for others.
+// The exchange of all publisher records for others.
 fn publishers_replaced(
     alloc: Global,
     held: &EntryFacts,
@@ -158,7 +158,7 @@ fn publishers_replaced(
     Ok(Exchange::of(TableName::Publishers, removed, added))
 }
 
-// All policies, for others.
+// The exchange of all policies for others.
 fn policies_replaced<K: Keeper>(
     alloc: Global,
     register: &Register<K>,

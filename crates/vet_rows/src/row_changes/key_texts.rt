@@ -1,4 +1,5 @@
-//! That the texts in keys of rows are read as what they are of. Each function here does nothing but find that out.
+//! The texts in the keys of rows read back as the values that they are written for. What each function ensures is such
+//! a fact.
 ghost use Rattle.std.specs.Prelude.{◌≡◌, Some};
 ghost use Rattle.vet_demand.specs.PolicyKey.{key_text, read_key};
 ghost use Rattle.vet_demand.specs.declared.policies.KeyedPolicy.{KeyedPolicy};
@@ -26,7 +27,7 @@ use vet_register::held::HeldEdit;
 use vet_register::moves::RecordedMove;
 use vet_register::register::Register;
 
-/// The keys of policies. Does nothing.
+/// The keys of policies read back. Does nothing.
 pub fn keys_are_read(policies: &[KeyedPolicy])
     ensures { KeysAreRead policies.now }
 {
@@ -35,7 +36,7 @@ pub fn keys_are_read(policies: &[KeyedPolicy])
     }
 }
 
-/// The versions of pairs. Does nothing.
+/// The versions of pairs read back. Does nothing.
 pub fn pairs_are_read(pairs: &[Pair])
     ensures { PairsAreRead pairs.now }
 {
@@ -44,7 +45,7 @@ pub fn pairs_are_read(pairs: &[Pair])
     }
 }
 
-/// The versions of the pairs of moves. Does nothing.
+/// The versions of the pairs of moves read back. Does nothing.
 pub fn moves_are_read(moves: &[RecordedMove])
     ensures { MovesAreRead moves.now }
 {
@@ -53,7 +54,7 @@ pub fn moves_are_read(moves: &[RecordedMove])
     }
 }
 
-/// The names of peers: none is empty. Does nothing.
+/// No peer has an empty name. Does nothing.
 pub fn peers_are_named(peers: &[HeldPeer])
     ensures { ArePeersNamed peers.now }
 {
@@ -62,7 +63,7 @@ pub fn peers_are_named(peers: &[HeldPeer])
     }
 }
 
-/// The versions of a project's nodes. Does nothing.
+/// The versions of a project's nodes read back. Does nothing.
 pub fn nodes_are_read(named: &NamedProject)
     ensures { NodesAreRead named.now }
 {
@@ -72,7 +73,7 @@ pub fn nodes_are_read(named: &NamedProject)
     }
 }
 
-/// The versions of the nodes of some projects. Does nothing.
+/// The versions of the nodes of some projects read back. Does nothing.
 pub fn projects_are_read(projects: &[NamedProject])
     ensures { ProjectsAreRead projects.now }
 {
@@ -81,7 +82,7 @@ pub fn projects_are_read(projects: &[NamedProject])
     }
 }
 
-/// Those of the projects that are held, where an edit is of one of them. Does nothing.
+/// The versions of the nodes of held projects read back, if an edit is of one of these. Does nothing.
 pub fn projects_held_are_read(projects: &[NamedProject], edit: &HeldEdit)
     ensures { ProjectsHeldAreRead edit.now projects.now }
 {
@@ -90,7 +91,7 @@ pub fn projects_held_are_read(projects: &[NamedProject], edit: &HeldEdit)
     }
 }
 
-/// Those of the project that an edit adds. Does nothing.
+/// The versions of the nodes of a project that an edit adds read back. Does nothing.
 pub fn projects_added_are_read(edit: &HeldEdit)
     ensures { AddedProjectsAreRead edit.now }
 {
@@ -107,7 +108,7 @@ fn project_added_is_read(change: &KeyedEdit<NamedProject>)
     }
 }
 
-/// The keys of policies after an edit. Does nothing.
+/// The keys of policies after an edit read back. Does nothing.
 pub fn keys_after_are_read<K: Keeper>(register: &Register<K>, edit: &HeldEdit)
     ensures { KeysAreRead (edited edit.now register.now.state.held).policies }
 {
@@ -127,7 +128,7 @@ fn key_added_is_read(change: &KeyedEdit<KeyedPolicy>)
     }
 }
 
-/// The names of peers after an edit. Does nothing.
+/// No peer has an empty name after an edit. Does nothing.
 pub fn peers_after_are_named<K: Keeper>(register: &Register<K>, edit: &HeldEdit)
     ensures { ArePeersNamed (edited edit.now register.now.state.held).facts.peers }
 {

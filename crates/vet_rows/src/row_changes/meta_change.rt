@@ -1,4 +1,4 @@
-//! The one row of `meta`, which a change puts in place of the one that is there.
+//! The row of `meta` that a change puts in place of the old one.
 ghost use Rattle.std.specs.Option.{option_copied};
 ghost use Rattle.std.specs.Prelude.{◌≡◌, ◌<◌, ◌^◌, IfOk};
 ghost use Rattle.vet_register.specs.Changes.{changed, desk_edited, first_by};
@@ -23,7 +23,7 @@ use vet_register::tool_settings::ToolSettings;
 use vet_tables::sequence::Row;
 use vet_tables::table_name::TableName;
 
-/// The row of `meta` that a change adds. Asks that its numbers have columns. Fails only if memory runs out.
+/// The row of `meta` that a change adds. Asks that its numbers are below 2^63. Fails only if memory runs out.
 pub fn meta_exchange<K: Keeper>(
     alloc: Global,
     register: &Register<K>,
@@ -37,7 +37,7 @@ pub fn meta_exchange<K: Keeper>(
     Ok(Exchange::of(TableName::Meta, Vec::new(alloc), added))
 }
 
-// The row of `meta` after a change. Asks that its numbers have columns.
+// The row of `meta` after a change. Asks that its numbers are below 2^63.
 fn meta_row_after<K: Keeper>(
     alloc: Global,
     register: &Register<K>,
@@ -62,7 +62,7 @@ fn meta_row_after<K: Keeper>(
     )
 }
 
-// The counts at first after what is recorded.
+// The counts at the beginning of the period, after what is recorded.
 fn first_after<K: Keeper>(register: &Register<K>, recording: &Recording) -> Counts
     ensures { result ≡ first_by recording.now register.now.state.first }
 {
@@ -72,7 +72,7 @@ fn first_after<K: Keeper>(register: &Register<K>, recording: &Recording) -> Coun
     }
 }
 
-// What a config file says to the tool alone, after an edit.
+// What a config file says only to the tool, after an edit.
 fn settings_after<'a, K: Keeper>(register: &'a Register<K>, edit: &'a HeldEdit) -> &'a ToolSettings
     ensures { result.now ≡ (edited edit.now register.now.state.held).settings }
 {

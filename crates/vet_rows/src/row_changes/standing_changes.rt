@@ -1,6 +1,6 @@
-//! The rows of the standing and of moves that are removed and added by what is recorded.
+//! The rows of the standing and of moves that are removed and added for the moves that a change records.
 //!
-//! **Rows of the standing are those of the pairs that move, and of no others.**
+//! **These are the standing's rows of the pairs that move, and no others.**
 ghost use Rattle.std.specs.List.{All};
 ghost use Rattle.std.specs.Prelude.{◌≡◌, IfOk, filter, map};
 ghost use Rattle.vet_rows.specs.Numbers.{MoveFits};
@@ -27,8 +27,8 @@ pub fn recorded_moves(recording: &Recording) -> &[RecordedMove]
     }
 }
 
-/// The rows of the standing and of moves that are removed and added by what is recorded. Asks that the steps of moves
-/// have columns. Fails only if memory runs out.
+/// The rows of the standing and of moves that are removed and added for what is recorded. Asks that the steps of moves
+/// are below 2^63. Fails only if memory runs out.
 pub fn move_exchanges(alloc: Global, recording: &Recording) -> Result<Vec<Exchange>, AllocError>
     requires { All MoveFits (recorded_moves recording.now) }
     ensures { IfOk result (λ exchanges. exchanges.items ≡ move_exchanges recording.now) }
@@ -55,7 +55,7 @@ fn standing_removed(alloc: Global, moves: &[RecordedMove]) -> Result<Vec<Row>, A
     Ok(rows)
 }
 
-// The rows of the pairs that come to a class.
+// The rows of the pairs that get a class.
 fn standing_added(alloc: Global, moves: &[RecordedMove]) -> Result<Vec<Row>, AllocError>
     ensures { IfOk result (λ rows. rows.items ≡ map moved_row (filter stands moves.now)) }
 {
@@ -82,7 +82,7 @@ fn moved_row(alloc: Global, recorded: &RecordedMove) -> Result<Row, AllocError>
     Ok(Sequence::of(cells))
 }
 
-/// Where a period begins, the change that takes out all moves. Fails only if memory runs out.
+/// If a period begins, the change that removes all moves. Fails only if memory runs out.
 pub fn clear_moves(alloc: Global, recording: &Recording) -> Result<Vec<RowChange>, AllocError>
     ensures { IfOk result (λ changes. changes.items ≡ clear_moves recording.now) }
 {

@@ -1,4 +1,4 @@
-//! The row of all of which there is just one.
+//! The row of `meta`.
 ghost use Rattle.std.specs.Prelude.{◌≡◌, IfOk};
 ghost use Rattle.vet_rows.specs.MetaRow.{MetaFits, row_of_meta};
 ghost use Rattle.vet_rows.specs.Numbers.{CountsFit, NumbersFit};
@@ -60,14 +60,15 @@ pub(crate) fn row_of_meta(
     Ok(Sequence::of(cells))
 }
 
-/// The numbers of a register's state have columns. Does nothing.
+/// The numbers of a register's state are below 2^63. Does nothing.
 pub fn numbers_fit<K: Keeper>(register: &Register<K>)
     ensures { NumbersFit register.now.state }
 {
     let _ = register.facts();
 }
 
-/// The counts at first have columns: they are within the pairs that are demanded and the moves since. Does nothing.
+/// The counts at the beginning of the period are below 2^63: they are within the demanded pairs and the moves since.
+/// Does nothing.
 pub fn counts_fit<K: Keeper>(register: &Register<K>)
     ensures { CountsFit register.now.state.first }
 {

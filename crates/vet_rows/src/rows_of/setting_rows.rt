@@ -48,7 +48,7 @@ pub(crate) fn own_criteria(alloc: Global, table: &CriteriaTable) -> Result<Vec<R
     Ok(rows)
 }
 
-// Adds the rows of those of one's own criteria of these names that aren't built in, behind those of others.
+// Adds the rows of one's own criteria of these names that aren't built in, after those of others.
 fn push_own_criteria(
     alloc: Global,
     rows: &mut Vec<Row>,

@@ -1,4 +1,4 @@
-//! Things that have a row each in a table.
+//! Things that have one row each in a table.
 ghost use Rattle.std.specs.List.{All};
 ghost use Rattle.std.specs.Option.{option_copied};
 ghost use Rattle.std.specs.Prelude.{◌≡◌, ◌++◌, IfOk, OnOk, Some, map};
@@ -8,12 +8,12 @@ ghost use Rattle.vet_tables.specs.Cells.{Row as RowValue};
 use std::alloc::{AllocError, Global};
 use vet_tables::sequence::Row;
 
-/// What has one row in a table.
+/// A thing that has one row in a table.
 pub trait ToRow: Drop {
     /// Its row.
     ghost row_of: { Self → RowValue };
 
-    /// Its numbers have columns.
+    /// Its numbers are below 2^63.
     ghost fits: { Self → Type 0 };
 
     /// Its row. Asks that its numbers are below 2^63. Fails only if memory runs out.
@@ -32,7 +32,7 @@ pub fn rows_each<T: ToRow>(alloc: Global, things: &[T]) -> Result<Vec<Row>, Allo
     Ok(rows)
 }
 
-/// Adds the rows of some things behind those of others.
+/// Adds the rows of some things after those of others.
 pub(crate) fn push_rows<T: ToRow>(
     alloc: Global,
     rows: &mut Vec<Row>,
