@@ -9,7 +9,7 @@ use Rattle.vet_store.specs.Stands.{Holds, Stands}
 use Rattle.vet_store.specs.declared.change.CommitError.{CommitError}
 use Rattle.vet_store.specs.declared.change.CommitError.TheVariants.{Before, Commit}
 
--- it stopped before the commit, which a crash then shows nothing of
+-- it stopped before the commit, so a crash shows nothing of it
 abbrev pub IsBefore : CommitError → Type 0
 IsBefore (Before e) = ⊤
 IsBefore (Commit e) = ⊥
@@ -18,11 +18,11 @@ IsBefore (Commit e) = ⊥
 abbrev pub AreTreesOf : RowsValue → Trees → Type 0
 AreTreesOf rows trees = (db : Database) × (trees ≡ db.trees) × Holds db rows
 
--- the same, and all else in it is as in the database before
+-- the same, and everything else in it is as in the database before
 abbrev pub AreTreesBeside : Database → RowsValue → Trees → Type 0
 AreTreesBeside before rows trees = (db : Database) × (trees ≡ db.trees) × Holds db rows × KeepsOthers before db
 
--- the trees of a database that has the rows after the change, and all else as before
+-- the trees of a database that has the rows after the change, and everything else as before
 abbrev pub IsAfter : State → (RowsValue → RowsValue) → Trees → Type 0
 IsAfter s change trees = (db : Database) × (trees ≡ db.trees)
     × ((rows : RowsValue) → Stands s rows → Holds db (change rows) × KeepsOthers s.now db)

@@ -19,8 +19,8 @@ abbrev pub LeavesEither : sqlite.State → State → Command → Type 0
 LeavesEither c s command =
     (trees : Trees) → c.may_leave trees → AreTreesOf (rows_of s) trees ⊎ AreTreesOf (rows_of (after s command)) trees
 
--- the commit of one command failed, which would be done: those before it ran and left the last state, each told exactly
--- what it is, and each behind it was refused
+-- the commit of one command failed, which would be done: those before it ran and left the last state, each with its
+-- exact answer, and each after it was refused
 pub record EndsShut (s : State) (commands : List Command) (answers : List (Told Outcome)) (last : State) : Type 0 where
   pub front : List Command
   pub command : Command

@@ -1,5 +1,5 @@
--- What the next open finds after a crash (ours). SQLite's model tells which trees a crash leaves; here a database has
--- them.
+-- What the next open finds after a crash (ours). SQLite's model says which trees a crash leaves; these are laws about
+-- databases with such trees.
 use Rattle.std.specs.Prelude.{◌≡◌, ◌⊎◌, ◌<◌, ◌≤◌, ℕ, IsTrue, false}
 use Rattle.sqlite.specs.Effect.{Database, IsDatabase}
 use Rattle.sqlite.specs.Held.{Held, state}
@@ -31,7 +31,7 @@ pub record IsLeft (c : Connected) (db : Database) : Type 0 where
   pub sound : IsDatabase db
   pub left : c.may_leave db.trees
 
--- no state is stored, the names of a register's tables are free, and all is as in the database before
+-- no state is stored, the names of a register's tables are free, and the database is the one before
 pub record HasNone (before db : Database) : Type 0 where
   pub none : (s : State) → IsStored db s → ⊥
   pub free : AreFree db.schema
@@ -53,8 +53,8 @@ pub record IsState (s : State) : Type 0 where
   pub held : IsHeldState s
 
 module _ {S : Type 0} (g : Ghosts S) where
-  -- after `create`, where all names were free: no state, and `create` may be called again; or the first state. All else
-  -- is as it was
+  -- after `create`, if all names were free: no state, and `create` may be called again; or the first state. Everything
+  -- else is as it was
   abbrev pub CreateLeaves : Type 0
   CreateLeaves =
       (old new : Held S) (limit : ℕ) (db : Database) → (0 < limit) × (limit ≤ MOST_MOVES)
@@ -78,7 +78,8 @@ module _ {S : Type 0} (g : Ghosts S) where
       → LeavesEither (state g new) s command → IsLeft (state g new) db
       → IsStored db s ⊎ IsStored db (after s command)
 
-  -- of a store that is not shut: the state of its register, in the database that its connection shows while it serves
+  -- after anything that leaves a store that is not shut: the state of its register. As long as the connection serves,
+  -- it is the database that this shows
   abbrev pub TiedLeaves : Type 0
   TiedLeaves =
       (c : Held S) (s : State) (db : Database) → IsState s → IsTied (state g c) false (rows_of s)

@@ -1,8 +1,8 @@
--- Which refusals may come in place of what a command is told (ours).
+-- Which refusals may replace the verdict of a command (ours).
 --
--- Of a store that is not shut. What is judged of a command before its moves are known is answered: that its content is
--- held, or a refusal. The register may be out of memory in its place only as it copies an unknown name, or compares
--- content with what is held (wants_memory). The store refuses only what would be done.
+-- This is about a store that is not shut. A verdict that is known before the command's moves is returned: that its
+-- content is held, or a refusal. Running out of memory may replace it only while an unknown name is copied, or content
+-- is compared with what is held (wants_memory). The store refuses only a command that would be done.
 use Rattle.std.specs.Prelude.{◌≡◌, ◌⊎◌, Bool, true, false, IsTrue, Ok, Err, ⊤}
 use Rattle.vet_base.specs.Gives.{Refuses, Told}
 use Rattle.vet_base.specs.declared.refusal.Refusal.TheVariants.{NoMemory}
@@ -16,13 +16,13 @@ use Rattle.vet_register.specs.State.{State}
 use Rattle.vet_register.specs.Verdict.{judged, wants_memory}
 use Rattle.vet_store.specs.Runs.{IsTurn, is_done}
 
--- the answer is what is judged, where that is no acceptance
+-- the answer is the verdict, if that is not an acceptance
 abbrev pub AnswersJudged : Told Answer → Told Outcome → Type 0
 AnswersJudged (Err e) answer = Refuses e answer
 AnswersJudged (Ok (Already number)) answer = answer ≡ Ok (outcome.Already number)
 AnswersJudged (Ok Accepted) answer = ⊤
 
--- or there was no memory, where a comparison takes it
+-- or memory ran out, if a comparison takes it
 abbrev pub AnswersBy : Bool → Told Answer → Told Outcome → Type 0
 AnswersBy false judgement answer = AnswersJudged judgement answer
 AnswersBy true judgement answer = (answer ≡ Err NoMemory) ⊎ AnswersJudged judgement answer
@@ -31,7 +31,7 @@ AnswersBy true judgement answer = (answer ≡ Err NoMemory) ⊎ AnswersJudged ju
 abbrev pub WouldBeDone : State → Command → Type 0
 WouldBeDone s c = IsTrue (is_done (told s c))
 
--- nothing comes in place of what a command is told but what may
+-- the answer is the verdict, or what may replace it
 pub record IsExact (s : State) (c : Command) (answer : Told Outcome) : Type 0 where
   pub judgement : AnswersBy (wants_memory s c.action) (judged s c.day c.action) answer
   pub verdict : is_done (told s c) ≡ false → (answer ≡ told s c) ⊎ (answer ≡ Err NoMemory)

@@ -9,15 +9,15 @@ use Rattle.vet_store.specs.Classes.{AddsUp, HasClassesOfChains}
 use Rattle.vet_store.specs.Repeats.{IsTurnWithRepeats}
 use Rattle.vet_store.specs.Runs.{Each, IsOfDone}
 
--- each pair that the least demand asks for is in the class that chains of entries give it, the five classes add up to
--- the demand, and each has what it had at first, with what came and without what went
+-- each pair of the least demand has the class that chains of entries give it, the five classes add up to the demand,
+-- and each has what it had at first, plus arrivals, minus departures
 pub record HasClasses (s : State) : Type 0 where
   pub classes : HasClassesOfChains s
   pub adds_up : AddsUp s
   pub balance : IsBalanced s
 
--- commands with these answers led from one state to another: the last state is that of the machine over the commands
--- alone that were done, with the same outcomes; it has its classes; and what is held in its turn changed nothing
+-- commands with these answers led from one state to another: the last state is that of the machine after only the
+-- commands that were done, with the same outcomes; it has its classes; and what is held in its turn changed nothing
 pub record HasHeadline (s : State) (commands : List Command) (answers : List (Told Outcome)) (last : State) : Type 0
   where
     pub machine : IsOfDone s commands answers last

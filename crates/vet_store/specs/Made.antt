@@ -10,16 +10,16 @@ use Rattle.vet_store.specs.Tied.{Leaves}
 use Rattle.vet_tables.specs.Extends.{SparesOthers}
 use Rattle.vet_tables.specs.Free.{AreFree}
 
--- the trees of a database that has these rows, where the connection was at rest
+-- the trees of a database that has these rows, if the connection was at rest and no name was taken
 abbrev pub IsMade : State → RowsValue → Trees → Type 0
 IsMade s rows trees = (db : Database) × (trees ≡ db.trees)
     × (Rests s → AreFree s.now.schema → Holds db rows × SparesOthers s.now db)
 
--- no table was made: the connection rests, and shows what it did
+-- no table was made: the connection rests, and shows what it showed before
 abbrev pub IsAsBefore : State → State → Type 0
 IsAsBefore old new = Rests new × (new.now ≡ old.now)
 
--- the tables were made: they have these rows, a crash leaves them, and all else is as it was
+-- the tables were made: they have these rows, a crash leaves them, and everything else is as it was
 pub record HasMade (old new : State) (rows : RowsValue) : Type 0 where
   pub stands : Stands new rows
   pub leaves : Leaves new rows

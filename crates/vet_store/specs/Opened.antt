@@ -1,4 +1,4 @@
--- What the tables of a database tell of a register (ours).
+-- The state that the tables of a database have (ours).
 use Rattle.sqlite.specs.Effect.{Database}
 use Rattle.vet_register.specs.Sound.{IsSound}
 use Rattle.vet_register.specs.State.{State}
@@ -7,13 +7,13 @@ use Rattle.vet_tables.specs.Cells.{RowsValue, SameRows}
 use Rattle.vet_rows.specs.RowsOf.{rows_of}
 use Rattle.vet_store.specs.Stands.{Holds}
 
--- a sound state that can be held, of which these are the rows, in whatever order
+-- a sound state that can be held, whose rows these are, in any order
 pub record IsToldBy (rows : RowsValue) (s : State) : Type 0 where
   pub sound : IsSound s
   pub held : IsHeldState s
   pub same : SameRows rows (rows_of s)
 
--- a sound state that can be held, whose rows stand in the tables
+-- a sound state that can be held, whose rows are in the tables
 pub record IsStored (db : Database) (s : State) : Type 0 where
   pub sound : IsSound s
   pub held : IsHeldState s

@@ -1,4 +1,4 @@
--- Where no rows stand in a table (ours).
+-- Tables whose rows cannot be read (ours).
 use Rattle.sqlite.specs.Effect.{Database}
 use Rattle.vet_store.specs.Readable.{AreReadable}
 use Rattle.vet_tables.specs.Cells.{RowsValue, contents_of}
@@ -7,7 +7,7 @@ use Rattle.vet_tables.specs.Forms.{form_of}
 use Rattle.vet_tables.specs.Has.{HasTable}
 use Rattle.vet_tables.specs.declared.table_name.TableName.{TableName}
 
--- no rows stand in the table
+-- there are no rows that the table has
 abbrev pub IsUnread : Database → TableName → Type 0
 IsUnread db name =
     (has : HasTable db.schema (form_of name)) (rows : RowsValue) → AreReadable rows

@@ -1,4 +1,4 @@
--- What an error of the database is told as (ours).
+-- The refusal for an error of the database (ours).
 use Rattle.sqlite.specs.declared.error.Error.{Error}
 use Rattle.sqlite.specs.declared.error.Error.TheVariants.{SqliteFailure}
 use Rattle.sqlite.specs.declared.error.ErrorCode.TheVariants.{OutOfMemory}

@@ -1,4 +1,4 @@
--- What a store that was closed is opened with again, and what remains of it where it is not (ours).
+-- A store that was closed and opened again, and what remains of it if it could not be opened (ours).
 use Rattle.std.specs.Prelude.{◌≡◌, false, IsTrue, ⊤}
 use Rattle.sqlite.specs.Closing.{IsCopied}
 use Rattle.sqlite.specs.Files.{IsCleanLeft, IsClosed, LeavesFiles, file_state}
@@ -22,19 +22,19 @@ use Rattle.vet_store.specs.Tied.{IsTied}
 use Rattle.vet_store.specs.declared.store.reopen_files.Remains.{Remains}
 use Rattle.vet_store.specs.declared.store.reopen_files.Remains.TheVariants as remains
 
--- ---- a connection that comes after the one of a store
+-- ---- a new connection, in place of the old one of a store
 
--- it shows what that did, which served on a clean disk
+-- it shows what the old one showed, which served on a clean disk
 pub record ShowsAgain (old new : sqlite.State) : Type 0 where
   pub was_clean : HasCleanDisk old
   pub was_open : IsTrue old.is_open
   pub as_before : IsAsBefore old new
 
--- a crash leaves what that showed
+-- a crash leaves what the old one showed
 abbrev pub LeavesAgain : sqlite.State → sqlite.State → Type 0
 LeavesAgain old new = HasCleanDisk new → (trees : Trees) → new.may_leave trees → trees ≡ old.now.trees
 
--- its tables are those of the state that was closed, also after a crash
+-- its tables have the rows of the state that was closed, also after a crash
 pub record LosesNothing (new : sqlite.State) (s : State) : Type 0 where
   pub sound : IsSound s
   pub held : IsHeldState s
@@ -42,20 +42,21 @@ pub record LosesNothing (new : sqlite.State) (s : State) : Type 0 where
 
 -- ---- what remains of a store whose files were not opened again
 
--- Memory was wanting or the store refused, whatever the disk did, where the files were closed or opened. So it is where
--- the register was read, if the connection serves on a clean disk
+-- The refusal is 29 or 30. If the register could not be read, this holds as long as the connection serves on a clean
+-- disk, and otherwise whatever the disk did
 abbrev pub RefusesAgain : {D : Type 0} {g : Ghosts D} → Remains D g → Refusal → Type 0
 RefusesAgain (remains.Store store) e = IsOfStore e
 RefusesAgain (remains.Files left) e = IsOfStore e
 RefusesAgain (remains.Conn conn) e = HasCleanDisk (file_state conn) → IsTrue (file_state conn).is_open → IsOfStore e
 
--- this holds of a connection that remains
+-- this holds of the connection, if one remains
 abbrev pub OfConn : {D : Type 0} {g : Ghosts D} → Remains D g → (Held (FileStore D g) → Type 0) → Type 0
 OfConn (remains.Store store) Holds = ⊤
 OfConn (remains.Files left) Holds = ⊤
 OfConn (remains.Conn conn) Holds = Holds conn
 
--- a close put the last commit into the files, as they read and after a crash; and what an open that failed left of them
+-- a close put the last commit into the files, as they are read and after a crash, and an open that failed left of them
+-- what `sqlite` says
 pub record KeepsFiles {D : Type 0} {g : Ghosts D} (old : Held (FileStore D g)) (left : Leftover D g) : Type 0 where
   pub last : FileStore D g
   pub closed : IsClosed old last
@@ -64,8 +65,8 @@ pub record KeepsFiles {D : Type 0} {g : Ghosts D} (old : Held (FileStore D g)) (
   pub copied : IsTrue (g.is_clean files.log) → IsTrue (g.is_clean files.db) → IsCopied old files
   pub kept : IsCleanLeft left → LeavesFiles files left
 
--- A crash leaves of a store that was not closed only what it could before. Files that were closed have the last commit,
--- and a connection has the state
+-- A crash leaves of a store that could not be closed only what it could leave before. Files that were closed have the
+-- last commit, and a connection has the state
 abbrev pub NothingIsLost : {D : Type 0} {g : Ghosts D} → Held (FileStore D g) → State → Remains D g → Type 0
 NothingIsLost old s (remains.Store store) = IsClosed old store
 NothingIsLost old s (remains.Files left) = KeepsFiles old left

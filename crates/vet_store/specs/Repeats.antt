@@ -18,21 +18,21 @@ use Rattle.vet_register.specs.RepeatedFiles.{SayWhatIsHeld}
 use Rattle.vet_register.specs.State.{State}
 use Rattle.vet_store.specs.Runs.{Fails, IsTurn}
 
--- a content says what is held of the peer of a name: the same criteria and the same entries, in whatever order
+-- a content is the one that is held of the peer with this name: the same criteria and the same entries, in any order
 pub record IsHeldOf (peers : List HeldPeer) (name : Name) (content : PeerContentValue) : Type 0 where
   pub peer : HeldPeer
   pub found : peer_of peers name ≡ Some peer
   pub criteria : SameItems content.criteria (further peer.content.table)
   pub entries : SameItems (as_peers name content.entries) (entries_of peer.content.entries)
 
--- a command imports what is held of its peer, or puts files in place that say what is held
+-- a command imports what is held of its peer, or replaces the files by what is held
 abbrev pub Repeats : State → Action → Type 0
 Repeats s (ImportPeer name content) = IsHeldOf s.held.facts.peers name content
 Repeats s (ReplaceFiles files) = SayWhatIsHeld s.held files
 Repeats s _ = ⊥
 
--- such a command is told that its content is held already, unless it fails; and the state stays, with its numbers and
--- its moves
+-- the answer to such a command is that its content is held already, unless it fails; and the state stays, with its
+-- numbers and its moves
 abbrev pub RepeatsStay : State → Command → Told Outcome → State → Type 0
 RepeatsStay s c answer end = Repeats s c.action → ((answer ≡ Ok (Already None)) ⊎ Fails answer) × (end ≡ s)
 
@@ -40,7 +40,7 @@ RepeatsStay s c answer end = Repeats s c.action → ((answer ≡ Ok (Already Non
 abbrev pub IsTurnWithRepeats : State → Command → Told Outcome → State → Type 0
 IsTurnWithRepeats s c answer end = IsTurn s c answer end × RepeatsStay s c answer end
 
--- what a command imports, or puts in place, is what files can hold
+-- the content that a command imports, or puts in place of files, is what files can hold
 abbrev pub IsReadable : Action → Type 0
 IsReadable (ImportPeer name content) = IsPeerContent content.criteria content.entries
 IsReadable (ReplaceFiles files) = IsFiles files

@@ -1,4 +1,4 @@
--- What holds of runs, one after the other (ours).
+-- Laws of runs (ours).
 use Rattle.std.specs.Prelude.{List, ◌++◌}
 use Rattle.vet_base.specs.Gives.{Told}
 use Rattle.vet_register.specs.declared.command.Command.{Command}
@@ -12,7 +12,7 @@ TwoRunsAreOne =
     (s mid last : State) (xs ys : List Command) (answers more : List (Told Outcome))
     → Ran s xs answers mid → Ran mid ys more last → Ran s (xs ++ ys) (answers ++ more) last
 
--- each run leaves the state of the machine over the commands alone that were done
+-- each run leaves the state of the machine after only the commands that were done
 abbrev pub RunsKeepDone : Type 0
 RunsKeepDone =
     (s last : State) (commands : List Command) (answers : List (Told Outcome))

@@ -1,4 +1,4 @@
--- What commands make of a stored register, one after the other (ours).
+-- Commands that are run on a stored register, one after the other (ours).
 use Rattle.std.specs.Prelude.{◌≡◌, ◌⊎◌, Bool, true, false, List, [], ◌∷◌, Ok, Err, filter, if◌then◌else◌}
 use Rattle.std.specs.List.{AllByRecursion}
 use Rattle.vet_base.specs.Gives.{Told}
@@ -10,21 +10,21 @@ use Rattle.vet_register.specs.declared.command.Outcome.TheVariants.{Done}
 use Rattle.vet_register.specs.Runs.{after, told}
 use Rattle.vet_register.specs.State.{State}
 
--- memory was wanting, or the store refused
+-- memory ran out, or the store refused
 abbrev pub IsOfStore : Refusal → Type 0
 IsOfStore e = (e ≡ NoMemory) ⊎ (e ≡ StoreRefused)
 
--- a command failed by that, which no verdict tells
+-- a command failed for one of these reasons, which no verdict gives
 abbrev pub Fails : Told Outcome → Type 0
 Fails answer = (answer ≡ Err NoMemory) ⊎ (answer ≡ Err StoreRefused)
 
--- a shut store answered each so
+-- a shut store refused each
 abbrev pub AreRefused : List (Told Outcome) → Type 0
 AreRefused = AllByRecursion (λ answer. answer ≡ Err StoreRefused)
 
--- commands ran from a state, had these answers and left the last state. None leaves the state; or the verdict of the
--- state is the answer to the first, and the rest ran from the state after it; or the first failed, and the rest ran
--- from the same state
+-- commands ran from a state, had these answers and left the last state. No command leaves the state as it is. Otherwise
+-- the answer to the first is its verdict in the state, and the rest ran from the state after it; or the first failed,
+-- and the rest ran from the same state
 abbrev pub Ran : State → List Command → List (Told Outcome) → State → Type 0
 Ran s [] [] last = last ≡ s
 Ran s (c ∷ commands) (answer ∷ answers) last =
@@ -48,13 +48,13 @@ abbrev pub is_done : Told Outcome → Bool
 is_done (Ok (Done step number moves)) = true
 is_done _ = false
 
--- the commands that were answered so
+-- the commands that were done, by their answers
 abbrev pub done_of : List Command → List (Told Outcome) → List Command
 done_of (c ∷ commands) (answer ∷ answers) =
     if is_done answer then c ∷ done_of commands answers else done_of commands answers
 done_of _ _ = []
 
--- the state that commands lead the machine to, and what it tells each in its turn
+-- the state to which commands lead the machine, and its answer to each in its turn
 abbrev pub machine : State → List Command → State
 machine s [] = s
 machine s (c ∷ commands) = machine (after s c) commands
@@ -63,7 +63,7 @@ abbrev pub told_each : State → List Command → List (Told Outcome)
 told_each s [] = []
 told_each s (c ∷ commands) = told s c ∷ told_each (after s c) commands
 
--- the last state is that of the machine over the commands alone that were done, with the same outcomes
+-- the last state is that of the machine after only the commands that were done, with the same outcomes
 pub record IsOfDone (s : State) (commands : List Command) (answers : List (Told Outcome)) (last : State) : Type 0 where
   pub state : last ≡ machine s (done_of commands answers)
   pub outcomes : filter is_done answers ≡ told_each s (done_of commands answers)

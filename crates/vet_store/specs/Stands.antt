@@ -1,4 +1,4 @@
--- What stands in the tables of a database (ours).
+-- What the tables of a database hold (ours).
 use Rattle.sqlite.specs.Effect.{Database}
 use Rattle.sqlite.specs.State.{State}
 use Rattle.vet_tables.specs.Cells.{RowsValue, contents_of}

@@ -1,11 +1,11 @@
--- What a store is seen as (ours).
+-- The value of a store (ours).
 use Rattle.std.specs.Prelude.{Bool}
 use Rattle.std.specs.Coded.{Coded, code_by, coded×, coded_bool}
 use Rattle.std.proofs.Common.{refl}
 use Rattle.sqlite.specs.Held.{Held}
 use Rattle.vet_register.specs.RegisterView.{RegisterView}
 
--- a connection, the register whose rows stand in its tables, and whether it is shut
+-- a connection, the register whose rows are in its tables, and whether it is shut
 pub record StoreView (S K : Type 0) : Type 0 where
   pub conn : Held S
   pub register : RegisterView K

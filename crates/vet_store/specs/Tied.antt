@@ -1,4 +1,4 @@
--- What the tables have to do with the register (ours).
+-- How the tables belong to the register (ours).
 use Rattle.std.specs.Prelude.{◌≡◌, Bool, false, IsTrue}
 use Rattle.sqlite_trees.specs.Tree.{Trees}
 use Rattle.sqlite.specs.Effect.{Database}
@@ -20,7 +20,7 @@ pub record IsTied (c : sqlite.State) (shut : Bool) (rows : RowsValue) : Type 0 w
   pub stands : HasCleanDisk c → IsTrue c.is_open → Stands c rows
   pub leaves : HasCleanDisk c → shut ≡ false → Leaves c rows
 
--- what a commit of some rows in place of others may leave, if those stood
+-- what a commit of some rows in place of others may leave, if the tables had these others
 abbrev pub IsWritten : sqlite.State → RowsValue → RowsValue → Trees → Type 0
 IsWritten c rows next trees = (db : Database) × (trees ≡ db.trees)
     × (Stands c rows → Holds db next × KeepsOthers c.now db)

@@ -37,7 +37,8 @@ fn apply<S: Alter>(
     }
 }
 
-/// Makes the changes in their order. Asks that their rows have the columns of their tables.
+/// Makes the changes in their order. Asks that their rows have the columns of their tables. Stops at the first that
+/// fails, and returns its error.
 pub fn apply_all<S: Alter>(
     alloc: Global,
     tx: &mut Transaction<'_, S>,
@@ -61,7 +62,8 @@ pub fn apply_all<S: Alter>(
     Ok(())
 }
 
-/// Makes the twelve tables, and then the changes. Asks that their rows have the columns of their tables.
+/// Makes the twelve tables, and then the changes. Asks that their rows have the columns of their tables. Stops at the
+/// first call that fails, and returns its error.
 pub fn fill<S: Alter>(
     alloc: Global,
     tx: &mut Transaction<'_, S>,

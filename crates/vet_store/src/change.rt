@@ -20,15 +20,17 @@ use sqlite::{Alter, Connection, Error};
 use std::alloc::Global;
 use vet_rows::row_change::RowChange;
 
-/// Where the changes stopped. At `Commit` a crash may leave either state.
+/// Why changes were not made: `Before` the commit nothing was changed. If the `Commit` itself failed, a crash may leave
+/// either state.
 #[derive(Drop)]
 pub enum CommitError {
     Before(Error),
     Commit(Error),
 }
 
-/// Makes the changes in one transaction, in their order. All else that the database has stays. Asks that the rows of
-/// the changes have the columns of their tables.
+/// Makes the changes in one transaction, in their order. Everything else in the database stays. Asks for a connection
+/// outside a transaction, and that the rows of the changes have the columns of their tables. After an error the tables
+/// still have the old rows, as long as the connection serves.
 pub fn commit_changes<S: Alter>(
     alloc: Global,
     conn: &mut Connection<S>,
@@ -66,8 +68,10 @@ pub fn commit_changes<S: Alter>(
     }
 }
 
-/// Makes the twelve tables and then the changes, all in one transaction. Other tables stay as they are. It stops
-/// where a name of a table is taken. Asks that the rows of the changes have the columns of their tables.
+/// Makes the twelve tables and then the changes, all in one transaction. Other tables stay as they are. Asks for a
+/// connection outside a transaction, and that the rows of the changes have the columns of their tables. Fails if a
+/// table, an index or a view has one of their names. After an error the database is as it was, as long as the
+/// connection serves.
 pub fn make_tables<S: Alter>(
     alloc: Global,
     conn: &mut Connection<S>,

@@ -1,9 +1,9 @@
-//! What holds of registers and of runs, for callers to cite: each law is a function that does nothing.
+//! Laws of registers and of runs, for callers to cite: each law is a function that does nothing.
 //!
-//! **Whatever a register holds, each demanded pair stands in the class that chains give it. Two runs one after the
-//! other are one run of the commands of both. Each leaves what the machine makes alone of the commands that were
-//! done. After a crash the next open finds the state before the command or after it; and of a store that is not shut,
-//! the state of its register.**
+//! **Whatever a register holds, each demanded pair has the class that chains give it. Two runs one after the other are
+//! one run of the commands of both. Each leaves the state of the machine after only the commands that were done. After
+//! a crash the next open finds the state before the command or after it, and the state of the register if the store was
+//! not shut.**
 ghost use Rattle.vet_register.specs.Sound.{IsBalanced};
 ghost use Rattle.vet_store.specs.Classes.{AddsUp, HasClassesOfChains};
 ghost use Rattle.vet_store.specs.CrashLaws.{CreateLeaves, OpenLeaves, RunLeaves, TiedLeaves};
@@ -27,27 +27,27 @@ pub fn classes_are_of_chains<K: Keeper>(register: &Register<K>)
     let _ = register.counts();
 }
 
-/// A run, and another from the state that it left, are one run of the commands of both.
+/// A run, and another from the state that it left, are one run of the commands of both. Does nothing.
 pub fn two_runs_are_one()
     ensures { TwoRunsAreOne }
 {}
 
-/// A run leaves the state of the machine over the commands alone that were done, with the same outcomes.
+/// A run leaves the state of the machine after only the commands that were done, with the same outcomes. Does nothing.
 pub fn runs_keep_done()
     ensures { RunsKeepDone }
 {}
 
-/// After `Store::create`, where all names were free, a crash leaves the database as it was, in which `create` may be
-/// called again, or one that has the first state beside all that was there. Asks that a crash left what the connection
-/// showed as `create` began. Does nothing.
+/// After `Store::create`, if no name of a table was taken, a crash leaves the database as it was, so that `create` may
+/// be called again, or one that has the first state beside all that was there. This holds if, when `create` began, a
+/// crash would have left what the connection showed. Does nothing.
 pub fn create_leaves_nothing_or_the_first_state<S: Alter>()
     ensures { CreateLeaves S.Store }
 {
     nothing_is_demanded();
 }
 
-/// After `Store::open` a crash leaves the same database, with the same state as before, or none as before. Asks that a
-/// crash left what the connection showed as `open` began. Does nothing.
+/// After `Store::open` a crash leaves the same database, with the same state as before, or none if there was none. This
+/// holds if, when `open` began, a crash would have left what the connection showed. Does nothing.
 pub fn open_leaves_the_same_state<S: Alter>()
     ensures { OpenLeaves S.Store }
 {}
@@ -58,8 +58,8 @@ pub fn run_leaves_the_state_before_or_after<S: Alter>()
     ensures { RunLeaves S.Store }
 {}
 
-/// While a store is not shut, a crash leaves a database that has the state of its register, and no state whose rows are
-/// others. As long as its connection serves, it is the database that this shows. Does nothing.
+/// While a store is not shut, a crash leaves a database that has the state of its register, and no state with other
+/// rows. As long as the connection serves, it is the database that the connection shows. Does nothing.
 pub fn a_crash_leaves_the_registers_state<S: Alter>()
     ensures { TiedLeaves S.Store }
 {}

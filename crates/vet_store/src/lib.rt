@@ -1,12 +1,12 @@
 //! A register in the tables of a database.
 //!
-//! **After every list of commands the tables have the rows of the machine which keeps alone those that were done. A
+//! **After every list of commands the tables have the rows of the machine after only the commands that were done. A
 //! change of rows is one transaction: the tables have all of it or none of it, after a crash too.**
 //!
-//! Scope of this crate: statements on the twelve tables and their transactions, what the tables hold, and the store,
-//! which is made with the tables of a register that holds nothing, or opened from the tables of one, and runs commands.
+//! Scope of this crate: statements on the twelve tables and their transactions, what the tables hold, and the store. A
+//! store is made with the tables of an empty register, or opened from the tables of a register, and runs commands.
 //!
-//! For example, a file in which one class in `standing` was changed by hand is refused as 31 NotARegister, and stays
+//! For example, a file in which one class in `standing` was changed by hand is refused with 31 NotARegister, and stays
 //! as it is.
 #![tactic(auto)]
 

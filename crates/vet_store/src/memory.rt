@@ -1,9 +1,9 @@
 //! A store in memory: **the headline over commands, with no premise about a disk**.
 //!
-//! What is kept in memory is what was written. So the tables have the register's rows after each command, whatever
-//! becomes of it. Over the kit's own store in memory the connection always serves, but a commit takes the longer the
-//! more is held. Over files in memory a commit costs the same however much that is. There the connection may end if
-//! memory runs out, and then nobody can ask what its tables have.
+//! Memory keeps what was written. So the tables have the register's rows after each command, whatever its outcome. Over
+//! the kit's own store in memory the connection always serves, but a commit takes longer the more the register holds.
+//! Over files in memory a commit always costs the same. But there the connection may end if memory runs out, and then
+//! nobody can ask what its tables have.
 ghost use Rattle.std.specs.Prelude.{◌≡◌, ◌<◌, ◌≤◌, IfErr, IfOk, IsTrue, length};
 ghost use Rattle.sqlite.specs.Files.{file_state};
 ghost use Rattle.sqlite.specs.Held.{state};
@@ -28,8 +28,8 @@ use vet_base::refusal::Refusal;
 use vet_graph::keeper::Keeper;
 use vet_register::command::Command;
 
-/// Makes a store in memory and runs commands on it. Asks for a limit of 1 to 1,000,000 moves. Refused: `NoMemory` or
-/// `StoreRefused`, where no store was made or nothing was run.
+/// Makes a store in memory and runs commands on it. Asks for a limit of 1 to 1,000,000 moves. Refused, with nothing
+/// run: `NoMemory` or `StoreRefused`.
 pub fn run_in_memory<K: Keeper>(
     alloc: Global,
     moves_limit: usize,
@@ -65,8 +65,8 @@ pub fn tables_in_memory<K: Keeper>(store: &Store<MemStore, K>)
     store.tables_are_of_register();
 }
 
-/// Makes a store over files in memory and runs commands on it. Asks for a limit of 1 to 1,000,000 moves. Refused:
-/// `NoMemory` or `StoreRefused`, where no store was made or nothing was run.
+/// Makes a store over files in memory and runs commands on it. Asks for a limit of 1 to 1,000,000 moves. Refused, with
+/// nothing run: `NoMemory` or `StoreRefused`.
 pub fn run_in_memory_files<K: Keeper>(
     alloc: Global,
     moves_limit: usize,

@@ -14,7 +14,8 @@ use std::alloc::Global;
 use vet_tables::rows::Rows;
 use vet_tables::table_name::{TABLE_COUNT, table_at};
 
-/// The rows of the tables, each table's read one at a time. None where a cell isn't of the type of its column.
+/// The rows of the tables, read one row at a time. `None` if a cell has another type than its column. Returns the
+/// database's error, if any.
 pub fn read_rows<S: Alter>(alloc: Global, conn: &mut Connection<S>) -> Result<Option<Rows>, Error>
     requires { HasCleanDisk (state S.Store conn.old) → HasTables (state S.Store conn.old).now.schema }
     ensures found { HasCleanDisk (state S.Store conn.new) → IfOk result (λ found. IfSome found (λ rows.

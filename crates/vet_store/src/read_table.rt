@@ -22,7 +22,8 @@ fn rises(last: Option<i64>, id: i64) -> bool
     }
 }
 
-/// The rows of a table. None where a cell isn't of the type of its column.
+/// The rows of a table. `None` if a cell has another type than its column. Returns the database's error, if any, and
+/// `DatabaseCorrupt` if the rowids don't rise.
 pub fn read_table<S: Alter>(
     alloc: Global,
     conn: &mut Connection<S>,

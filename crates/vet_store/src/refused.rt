@@ -1,4 +1,4 @@
-//! What the database refuses, as a refusal; and a refusal that gives the connection back.
+//! The refusal for an error of the database, and a refusal that gives the connection back.
 ghost use Rattle.std.specs.Prelude.{◌≡◌, ◌⊎◌};
 ghost use Rattle.vet_store.specs.Refusals.{refusal_of};
 ghost use Rattle.vet_store.specs.Runs.{IsOfStore};
@@ -22,7 +22,7 @@ impl<S: Alter + Drop> Drop for Refused<S> {
 }
 
 impl<S: Alter + Drop> Refused<S> {
-    /// Refuses a database in which no register is, and gives its connection back as it was. Takes no memory.
+    /// Refuses a database without a register, and gives its connection back as it was. Takes no memory.
     pub(crate) fn no_register(conn: Connection<S>) -> Refused<S>
         ensures refusal { result.refusal ≡ Refusal.NotARegister }
         ensures conn { result.conn ≡ conn }

@@ -1,4 +1,4 @@
-//! Rows that are put into tables and taken out inside a transaction.
+//! Rows that are put into tables and removed inside a transaction. Each call returns the database's error, if any.
 ghost use Rattle.sqlite.specs.Held.{state};
 ghost use Rattle.sqlite.specs.State.{HasCleanDisk, KeepsCommit, Survives};
 ghost use Rattle.sqlite.specs.Values.{bound};
@@ -35,7 +35,7 @@ pub fn put<S: Alter>(
     put_cells(tx, table, cells.as_slice())
 }
 
-/// Takes the row of this row's key out of its table, where there is one. Asks for a row of the table.
+/// Removes the row that has this row's key, if there is one. Asks for a row of the table.
 pub fn drop_row<S: Alter>(
     alloc: Global,
     tx: &mut Transaction<'_, S>,
@@ -55,7 +55,7 @@ pub fn drop_row<S: Alter>(
     drop_cells(tx, table, cells.as_slice())
 }
 
-/// Takes all rows out of a table.
+/// Removes all rows of a table.
 pub fn clear<S: Alter>(tx: &mut Transaction<'_, S>, table: TableName) -> Result<(), Error>
     ensures same_reference { tx.new.conn.ghost_name ≡ tx.old.conn.ghost_name }
     ensures changes { HasCleanDisk (state S.Store tx.new.conn.now) → IsTrue tx.old.conn.now.in_transaction
@@ -87,7 +87,7 @@ fn put_cells<S: Alter>(
     insert_cells(tx, table, cells)
 }
 
-// Takes out the row of the key of these cells.
+// Removes the row that has the key of these cells.
 fn drop_cells<S: Alter>(
     tx: &mut Transaction<'_, S>,
     table: TableName,

@@ -19,8 +19,8 @@ mod run;
 mod run_all;
 mod write;
 
-/// A register, and a connection to the database in whose tables its rows are. Once a commit failed it is shut: a
-/// crash may then leave the rows with the last command or without it, and nothing is run any more.
+/// A register, and a connection to the database whose tables have its rows. Once a commit has failed, it is shut: a
+/// crash may then leave the rows with the last command or without it, and no more commands are run.
 pub struct Store<S: Alter, K: Keeper> {
     pub(crate) conn: Connection<S>,
     pub(crate) register: Register<K>,
@@ -83,14 +83,15 @@ impl<S: Alter, K: Keeper> Store<S, K> {
         self.register.desk()
     }
 
-    /// Whether a commit failed. Takes no memory.
+    /// Whether the store is shut, as it is once a commit has failed. Takes no memory.
     pub fn is_shut(&self) -> bool
         ensures { result ≡ self.now.shut }
     {
         self.shut
     }
 
-    /// The tables have the register's rows, and a crash leaves them unless the store is shut. Does nothing.
+    /// The tables have the register's rows as long as the connection serves on a clean disk, and a crash leaves them
+    /// unless the store is shut. Does nothing.
     pub fn tables_are_of_register(&self)
         ensures { IsTied (state S.Store self.now.conn) self.now.shut (rows_of self.now.register.state) }
     {

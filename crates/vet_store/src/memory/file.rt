@@ -1,7 +1,7 @@
 //! A file in memory, for a database that ends with the program.
 //!
 //! **What is written to it is there at once. So a sync does nothing, and a commit costs the same however long the file
-//! is.** A read returns what was written, so that what is said of a connection needs no premise about a disk.
+//! is.** A read returns what was written, so contracts about a connection need no premise about a disk.
 ghost use Rattle.std.specs.Prelude.{◌≡◌, [], false, is_ok, length, IfErr, IfOk, OnOk, refl, true};
 ghost use Rattle.sqlite.specs.Files.{file_state};
 ghost use Rattle.sqlite.specs.Held.{IsNew};
@@ -22,7 +22,7 @@ use vet_base::refusal::Refusal;
 /// A database file and its log, both in memory.
 pub type MemoryFiles = FileStore<MemoryFile>;
 
-/// The bytes of a file, and how many calls wanted memory for it that was not there.
+/// The bytes of a file, and how many of its calls ran out of memory.
 #[derive(Drop)]
 pub struct MemoryFile {
     bytes: Vec<u8>,
@@ -97,7 +97,7 @@ impl Disk for MemoryFile {
     }
 
     fn read_checked(&mut self, _key: u64, _want: u64, at: usize, buf: &mut [u8]) -> io::Result<()> {
-        // what is read is what was written, so it has the digest
+        // a read returns what was written, which has this digest
         self.read_at(at, buf)
     }
 
@@ -127,14 +127,14 @@ pub fn connect_in_memory(alloc: Global) -> Result<Connection<MemoryFiles>, Refus
         log: MemoryFile::new(alloc),
         db: MemoryFile::new(alloc),
     };
-    // nobody but this program reads the log, so that its salts need no chance
+    // only this program reads the log, so its salts need not be random
     match Connection::open_files(alloc, files, Options::new(0)) {
         Ok(conn) => Ok(conn),
         Err((error, _files)) => Err(refusal_of(error)),
     }
 }
 
-// Running out of memory, as a fault of the file.
+// Counts running out of memory as a fault of the file, and returns it as an error.
 fn counted(outcome: Result<(), AllocError>, faults: &mut u64) -> io::Result<()>
     ensures same { is_ok result ≡ is_ok outcome }
     ensures memory { finds_no_room result ≡ false }

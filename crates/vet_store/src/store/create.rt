@@ -34,10 +34,10 @@ use vet_tables::find::has_name_taken;
 use vet_tables::table_name::TableName;
 
 impl<S: Alter + Drop, K: Keeper> Store<S, K> {
-    /// Makes the tables of a register that holds nothing, in a database where none of their names is taken, whatever
-    /// else it has. Asks for a connection outside a transaction, and a limit of 1 to 1,000,000 moves. A refusal gives
-    /// the connection back, and the database is as it was. Refused: `NoMemory`, `StoreRefused`, or `NotARegister`
-    /// where a table, an index or a view has the name of a table of a register.
+    /// Makes the tables of an empty register, beside whatever else the database has. Asks for a connection outside a
+    /// transaction, and a limit of 1 to 1,000,000 moves. A refusal gives the connection back, and the database is as it
+    /// was. Refused: `NoMemory`, `StoreRefused`, or `NotARegister` if a table, an index or a view has the name of one
+    /// of the tables, or a foreign key refers to it.
     pub fn create(
         alloc: Global,
         conn: Connection<S>,
@@ -84,7 +84,7 @@ impl<S: Alter + Drop, K: Keeper> Store<S, K> {
     }
 }
 
-// Makes the tables, and writes the rows of a register that holds nothing.
+// Makes the tables, and writes the rows of an empty register.
 fn write_start<S: Alter, K: Keeper>(
     alloc: Global,
     conn: &mut Connection<S>,
@@ -113,7 +113,7 @@ fn write_start<S: Alter, K: Keeper>(
     }
 }
 
-// What makes the rows of a register that holds nothing of empty tables: its one row.
+// The changes that turn empty tables into those of an empty register: they put its one row.
 fn start_changes<K: Keeper>(
     alloc: Global,
     register: &Register<K>,

@@ -1,6 +1,6 @@
-//! A store is made, and the first commands are run on it.
+//! Making a store and running the first commands on it.
 //!
-//! **They leave what the machine makes of them from its beginning**, and the headline over commands holds of them.
+//! **They leave the state of the machine after them, from its first state**, and the headline over commands holds.
 ghost use Rattle.std.specs.Prelude.{◌≡◌, ◌<◌, ◌≤◌, ◌⊎◌, IfErr, IfOk, IsErrAnd, IsTrue, false, length};
 ghost use Rattle.sqlite.specs.Held.{state};
 ghost use Rattle.sqlite.specs.State.{HasCleanDisk, Survives};
@@ -42,7 +42,7 @@ impl<S: Alter + Drop, K: Keeper> Drop for FirstRun<S, K> {
 
 impl<S: Alter + Drop, K: Keeper> Store<S, K> {
     /// Makes a store and runs commands on it. Asks for what `create` asks. Refused: what `create` refuses, with the
-    /// database as it was; and `NoMemory` with nothing run, where a register that holds nothing may be there.
+    /// database as it was; and `NoMemory` with nothing run, after which the database may have an empty register.
     pub fn create_and_run(
         alloc: Global,
         conn: Connection<S>,

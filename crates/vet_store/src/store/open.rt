@@ -1,8 +1,8 @@
-//! A store is opened: a register is made of the tables again.
+//! Opening a store: making the register whose rows are in the tables.
 //!
-//! **It is the sound state whose rows are in the tables, and only where there is none is the database refused as no
-//! register.** So no table is mended: the rows of the state that was read are compared with the rows that are there,
-//! the classes of `standing` among them.
+//! **The register has the sound state whose rows are in the tables. The database is refused as no register only if
+//! there is no such state.** No table is repaired: the rows of the state that was read are compared with the rows that
+//! are there, the classes of `standing` among them.
 ghost use Rattle.std.specs.Prelude.{◌≡◌, ◌⊎◌, false, Err, IfErr, IfOk, IsErrAnd, IsTrue, MatchResult, Ok, OnOk};
 ghost use Rattle.std.specs.Prelude.{if◌then◌else◌};
 ghost use Rattle.sqlite.specs.Held.{state};
@@ -37,8 +37,8 @@ use vet_tables::same_rows::have_same_rows;
 
 impl<S: Alter + Drop, K: Keeper> Store<S, K> {
     /// Opens the register whose rows are in the tables, whatever else the database has. Nothing is written. Asks for
-    /// a connection outside a transaction. A refusal gives the connection back. Refused: `NotARegister` where the
-    /// tables have the rows of no sound state, `NoMemory`, or `StoreRefused`. Without the tables in their form it is
+    /// a connection outside a transaction. A refusal gives the connection back. Refused: `NotARegister` if the tables
+    /// have the rows of no sound state, `NoMemory`, or `StoreRefused`. If a table is missing or has another form, it is
     /// `NotARegister`, and the connection is as it was.
     pub fn open(alloc: Global, conn: Connection<S>) -> Result<Store<S, K>, Refused<S>>
         requires autocommit { conn.in_transaction ≡ false }
@@ -114,7 +114,7 @@ fn read_register<S: Alter, K: Keeper>(
     register_of(alloc, &rows)
 }
 
-// The register of which these are the rows, in whatever order.
+// The register of which these are the rows, in any order.
 fn register_of<K: Keeper>(alloc: Global, rows: &Rows) -> Result<Register<K>, Refusal>
     ensures sound { IfOk result (λ r. IsSound r.state) }
     ensures held { IfOk result (λ r. IsHeldState r.state) }
@@ -132,7 +132,7 @@ fn register_of<K: Keeper>(alloc: Global, rows: &Rows) -> Result<Register<K>, Ref
     register_if(same, register)
 }
 
-// The register that was restored, where its rows are those that were read.
+// The register that was restored, if its rows are those that were read.
 fn register_if<K: Keeper>(same: bool, register: Register<K>) -> Result<Register<K>, Refusal>
     ensures { result ≡ (if same then Ok register else Err Refusal.NotARegister) }
 {

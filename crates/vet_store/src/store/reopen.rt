@@ -1,7 +1,7 @@
-//! A store is closed, and opened again.
+//! Closing a store and opening it again on its connection.
 //!
-//! **It has the state that was closed, and goes on as a store that was opened.** The connection that is given back
-//! shows the rows of that state, and `open` makes of tables with these rows that state and no other. A refusal loses
+//! **It has the state that was closed, and works like any store that was opened.** The connection of the closed store
+//! shows the rows of its state, and `open` makes that state and no other of tables with these rows. A refusal loses
 //! nothing: the tables still have these rows, also after a crash.
 ghost use Rattle.std.specs.Prelude.{◌≡◌, false, IfErr, IfOk, IsTrue, MatchResult};
 ghost use Rattle.sqlite.specs.Held.{state};
@@ -26,7 +26,8 @@ use vet_rows::held_register::register_is_held;
 
 impl<S: Alter + Drop, K: Keeper> Store<S, K> {
     /// Closes the store, and opens it again on its connection. Nothing is written. Asks for a store that is not shut. A
-    /// refusal gives the connection back. Refused, as long as the connection serves: `NoMemory` or `StoreRefused`.
+    /// refusal gives the connection back. Refused, as long as the connection serves on a clean disk: `NoMemory` or
+    /// `StoreRefused`.
     pub fn reopen(self, alloc: Global) -> Result<Store<S, K>, Refused<S>>
         requires { self.shut ≡ false }
         ensures same { IfOk result (λ s. HasCleanDisk (state S.Store s.conn)

@@ -1,8 +1,8 @@
-//! The files of a store are closed, and opened again.
+//! Closing the files of a store and opening them again.
 //!
-//! **What is opened has the state that was closed, and goes on as a store that was opened.** A close copies the log
-//! into the database file, so the next open finds the last commit, whose rows are those of the register. A refusal
-//! loses nothing that was committed, and gives back what remains.
+//! **The store that is opened has the state that was closed, and works like any store that was opened.** A close copies
+//! the log into the database file, so the next open finds the last commit, whose rows are those of the register. A
+//! refusal loses nothing that was committed, and gives back what remains.
 ghost use Rattle.std.specs.Prelude.{◌≡◌, false, IfErr, IfOk, IsTrue, MatchResult};
 ghost use Rattle.sqlite.specs.Files.{file_state};
 ghost use Rattle.sqlite.specs.Held.{IsNew};
@@ -25,13 +25,13 @@ use vet_base::refusal::Refusal;
 use vet_graph::keeper::Keeper;
 use vet_rows::held_register::register_is_held;
 
-/// What remains of a store whose files were not opened again.
+/// What remains of a store that could not be opened again.
 pub enum Remains<D: Disk> {
     /// The files could not be closed.
     Store(FileStore<D>),
-    /// The files were closed, and could not be opened.
+    /// The files were closed, but could not be opened.
     Files(Leftover<D>),
-    /// The files were opened, and the register could not be read.
+    /// The files were opened, but the register could not be read.
     Conn(Connection<FileStore<D>>),
 }
 
@@ -45,7 +45,7 @@ impl<D: Disk + Drop> Drop for Remains<D> {
     }
 }
 
-/// Why the files of a store were not opened again, and what remains of it.
+/// Why a store could not be opened again by its files, and what remains of it.
 pub struct ReopenError<D: Disk> {
     pub refusal: Refusal,
     pub remains: Remains<D>,
@@ -61,7 +61,7 @@ impl<D: Disk + Drop> Drop for ReopenError<D> {
 }
 
 impl<D: Disk + Drop> ReopenError<D> {
-    /// Why the files were not opened again, and what remains of the store. Takes no memory.
+    /// The refusal, and what remains of the store. Takes no memory.
     pub fn into_parts(self) -> (Refusal, Remains<D>)
         ensures refusal { result.0 ≡ self.refusal }
         ensures remains { result.1 ≡ self.remains }
@@ -72,9 +72,9 @@ impl<D: Disk + Drop> ReopenError<D> {
 }
 
 impl<D: Disk + Drop, K: Keeper> Store<FileStore<D>, K> {
-    /// Closes the files of the store, opens them again with these options, and reads the register. A store that is shut
-    /// cannot be closed. A refusal gives back what remains. Refused, as long as the connection serves on a clean disk:
-    /// `NoMemory` or `StoreRefused`.
+    /// Closes the files of the store, opens them again with these options, and reads the register. The files of a store
+    /// that is shut cannot be closed, so it is refused. A refusal gives back what remains. Refused: `NoMemory` or
+    /// `StoreRefused`, as long as a connection that remains serves on a clean disk.
     pub fn reopen_files(
         self,
         alloc: Global,

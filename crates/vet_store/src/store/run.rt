@@ -1,7 +1,7 @@
-//! A command is run: it is judged, its rows are written in one transaction, and then it is installed.
+//! Running a command: it is judged, its rows are written in one transaction, and then its change is installed.
 //!
-//! **The register is installed only once the rows are committed. A crash leaves the rows before the command or those
-//! after it. A commit that fails shuts the store: then nobody can say which of them.**
+//! **The change is installed only once the rows are committed. A crash leaves the rows before the command or those
+//! after it. A commit that fails shuts the store, since nobody can say then which of them a crash would leave.**
 ghost use Rattle.std.specs.Prelude.{◌≡◌, ◌⊎◌, true, false, OnErr, IsTrue};
 ghost use Rattle.sqlite.specs.Held.{state};
 ghost use Rattle.sqlite.specs.State.{HasCleanDisk, Survives};
@@ -25,10 +25,10 @@ use vet_register::change::{Change, Prepared};
 use vet_register::command::{Action, Command, Outcome};
 
 impl<S: Alter, K: Keeper> Store<S, K> {
-    /// Runs a command. After a refusal the register and the tables are as before. What else the database has stays in
-    /// any case. Refused: what `Register::prepare` refuses, or `NoMemory` or `StoreRefused` by the store, which refuses
-    /// only a command that would be done. If these come of the commit, the store is shut. A shut store answers
-    /// `StoreRefused` and touches nothing.
+    /// Runs a command. After a refusal the register and the tables are as before. Everything else in the database stays
+    /// in any case. Refused: what `Register::prepare` refuses; and `NoMemory` or `StoreRefused` by the store, but only
+    /// for a command that would be done. If the commit failed, the store is shut. A shut store returns `StoreRefused`
+    /// and changes nothing.
     pub fn run(&mut self, alloc: Global, command: &Command) -> Result<Outcome, Refusal>
         ensures turn { IsTurn self.old.register.state command.now result self.new.register.state }
         ensures repeats { RepeatsStay self.old.register.state command.now result self.new.register.state }
@@ -53,7 +53,7 @@ impl<S: Alter, K: Keeper> Store<S, K> {
         self.run_once(alloc, command)
     }
 
-    // The same, but for commands whose content is held.
+    // The same, without the clauses `repeats` and `outside`.
     fn run_once(&mut self, alloc: Global, command: &Command) -> Result<Outcome, Refusal>
         ensures turn { IsTurn self.old.register.state command.now result self.new.register.state }
         ensures tables { IsTied (state S.Store self.new.conn) self.new.shut (rows_of self.new.register.state) }
@@ -96,10 +96,10 @@ impl<S: Alter, K: Keeper> Store<S, K> {
     }
 }
 
-// Lets a change go that was not written.
+// Drops a change that was not written.
 fn let_go<K: Keeper>(_change: Change<K>) {}
 
-// What a command imports, or puts in place, is what files can hold. Does nothing.
+// The content that a command imports, or puts in place of files, is what files can hold. Does nothing.
 fn command_is_readable(command: &Command)
     ensures { IsReadable command.now.action }
 {

@@ -1,9 +1,9 @@
-//! Commands are run one after the other: **the headline over commands**.
+//! Running commands one after the other: **the headline over commands**.
 //!
-//! **Whatever commands are run, the register is that of the machine which keeps only the commands that were done, and
-//! each has the same outcome there. Each demanded pair is at exactly the class that chains of entries give it, the five
-//! classes add up to the demand, and each has what it had at first, with what came and without what went. An import or
-//! files whose content is held in their turn change nothing. The tables have the register's rows.**
+//! **Whatever commands are run, the register has the state of the machine after only the commands that were done, and
+//! each has the same outcome there. Each demanded pair has exactly the class that chains of entries give it, the five
+//! classes add up to the demand, and each class has the pairs that it had at first, plus arrivals, minus departures. An
+//! import, or files, whose content is already held in their turn change nothing. The tables have the register's rows.**
 //!
 //! The tables alone rest on a premise: the disk returned what was written, and the connection serves. On the same disk
 //! **a crash leaves the rows of the last state. If the commit of a command failed, which shuts the store, it leaves
@@ -29,9 +29,9 @@ use vet_graph::keeper::Keeper;
 use vet_register::command::{Command, Outcome};
 
 impl<S: Alter, K: Keeper> Store<S, K> {
-    /// Runs commands one after the other, whatever becomes of each, and returns the outcome of each in the state of its
-    /// turn, unless memory ran out or the store refused it. Of a store that is shut, each returns `StoreRefused`. Room
-    /// for the outcomes is taken first. Refused, with nothing run: `NoMemory`.
+    /// Runs commands one after the other, whatever the outcome of each, and returns these outcomes: each is the verdict
+    /// in the state of its turn, unless memory ran out or the store refused it. A shut store returns `StoreRefused` for
+    /// each. Room for the outcomes is taken first. Refused, with nothing run: `NoMemory`.
     pub fn run_all(
         &mut self,
         alloc: Global,

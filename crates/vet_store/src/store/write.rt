@@ -1,4 +1,4 @@
-//! A change is written to the tables.
+//! Writing a change to the tables.
 ghost use Rattle.std.specs.Prelude.{◌≡◌, ◌⊎◌, true, false, OnOk, OnErr, IfErr, IsTrue};
 ghost use Rattle.sqlite.specs.Held.{state};
 ghost use Rattle.sqlite.specs.State.{HasCleanDisk, Survives};
@@ -20,7 +20,8 @@ use vet_register::change::Change;
 use vet_register::register::Register;
 use vet_rows::row_changes::row_changes;
 
-/// Writes what a prepared change makes of the rows, in one transaction. If the commit fails, the store is shut.
+/// Writes the changes of rows of a prepared change, in one transaction. If the commit fails, the store is shut.
+/// Refused: `NoMemory` or `StoreRefused`, with the tables as before.
 pub(crate) fn write_change<S: Alter, K: Keeper>(
     alloc: Global,
     conn: &mut Connection<S>,
