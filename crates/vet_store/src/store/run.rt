@@ -82,7 +82,7 @@ impl<S: Alter, K: Keeper> Store<S, K> {
                 let shut = &mut self.shut;
                 match write_change(alloc, conn, shut, &self.register, &change) {
                     Err(refusal) => {
-                        let_go(change);
+                        drop_change(change);
                         Err(refusal)
                     }
                     Ok(()) => {
@@ -97,7 +97,7 @@ impl<S: Alter, K: Keeper> Store<S, K> {
 }
 
 // Drops a change that was not written.
-fn let_go<K: Keeper>(_change: Change<K>) {}
+fn drop_change<K: Keeper>(_change: Change<K>) {}
 
 // The content that a command imports, or puts in place of files, is what files can hold. Does nothing.
 fn command_is_readable(command: &Command)
