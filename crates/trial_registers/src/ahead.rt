@@ -55,7 +55,7 @@ impl<K: Keeper> Runs<K> for AheadRegister<K> {
     }
 }
 
-// Runs a command, and prepares the one behind it, if there is one, before it installs what this one changes.
+// Runs a command, and prepares the next one, if there is one, before it installs the change of this one.
 fn run_before<K: Keeper>(
     register: &mut Register<K>,
     alloc: Global,

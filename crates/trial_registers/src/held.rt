@@ -1,7 +1,7 @@
 //! Prints the entries and the peers that are held, a line each. Printing takes no memory.
 //!
-//! What an entry says beside its package, its kind and its criteria stands behind these as `KEY=TEXT`, where it says
-//! anything. Behind the line of a peer stand those of its map, of its own criteria, and of its entries.
+//! After the package, the kind and the criteria of an entry comes everything else that it says, as `KEY=TEXT`. After
+//! the line of a peer come those of its map, of its own criteria, and of its entries.
 
 use std::io;
 use trial_values::line::hexadecimal;
@@ -74,7 +74,7 @@ fn print_window(rt: &impl Print, word: &str, window: Window) -> io::Result<()> {
     print!(rt; " {word} {user} {} {}", window.first, window.last)
 }
 
-// What an entry says beside.
+// Prints what an entry says besides.
 fn print_fields(rt: &impl Print, entry: &Entry) -> io::Result<()> {
     if let Source::Peer(name) = &entry.source {
         print!(rt; " source={name}")?;
@@ -104,7 +104,7 @@ fn print_grant(rt: &impl Print, grant: &Grant) -> io::Result<()> {
     print_flag(rt, "renew", grant.renew)
 }
 
-/// Prints a truth value, if there is one, behind its key.
+/// Prints a boolean, if there is one, after its key.
 pub fn print_flag(rt: &impl Print, key: &str, flag: Option<bool>) -> io::Result<()> {
     match flag {
         Some(flag) => print!(rt; " {key}={flag}"),
@@ -119,7 +119,7 @@ fn print_texts(rt: &impl Print, key: &str, texts: &[Text]) -> io::Result<()> {
     Ok(())
 }
 
-/// Prints a text, if there is one, behind its key.
+/// Prints a text, if there is one, after its key.
 pub fn print_optional_text(rt: &impl Print, key: &str, text: &Option<Text>) -> io::Result<()> {
     match text {
         Some(text) => print_text(rt, key, text),
@@ -127,7 +127,7 @@ pub fn print_optional_text(rt: &impl Print, key: &str, text: &Option<Text>) -> i
     }
 }
 
-// Prints a text behind its key, as a word of a line writes it.
+// Prints a text after its key, as a word of a line writes it.
 fn print_text(rt: &impl Print, key: &str, text: &Text) -> io::Result<()> {
     print!(rt; " {key}=")?;
     if text.as_str().is_empty() {

@@ -1,6 +1,6 @@
 //! Prints the members and the reviews that a desk holds, a line each. Printing takes no memory.
 //!
-//! Behind the version of a review stands its state, with the member to whom it is assigned or the number of the entry
+//! After the version of a review comes its state, with the member to whom it is assigned or the number of the entry
 //! that finished it, and then its criteria. The line `restored-desk` asks for a desk that is restored.
 
 use crate::held::print_names;
@@ -21,8 +21,8 @@ pub fn print_desk(rt: &impl Print, desk: &Desk) -> io::Result<()> {
     Ok(())
 }
 
-/// Restores a desk without members and reviews, and tells how many it has of each, and the next number of a review.
-/// Refused: `NoMemory`.
+/// Restores a desk without members and reviews, and returns a line of how many it has of each, and of the next number
+/// of a review. Refused: `NoMemory`.
 pub fn restored_desk(alloc: Global) -> Result<String, Fault> {
     let desk = Desk::restore(alloc, Vec::new(alloc), Vec::new(alloc), 1)?;
     let members = desk.members().len();

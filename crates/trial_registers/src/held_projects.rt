@@ -1,7 +1,7 @@
 //! Prints the policies and the projects that are held. Printing takes no memory.
 //!
-//! A policy is a line of the words that set it. Behind the line of a project stand a line of each node, with its party,
-//! and then of each edge, with the names and versions between which it leads, and its kind.
+//! A policy is a line of the words that set it. After the line of a project come one for each node, with its party, and
+//! one for each edge, with its two ends and its kind.
 
 use crate::held::{print_flag, print_optional_text};
 use std::io;
@@ -40,7 +40,7 @@ fn print_policy(rt: &impl Print, policy: &Policy) -> io::Result<()> {
     print_optional_text(rt, "notes", &policy.notes)
 }
 
-/// Prints a list, if there is one, behind its key; an empty one has nothing behind the equals sign.
+/// Prints a list, if there is one, after its key; an empty one has nothing after the equals sign.
 pub fn print_list(rt: &impl Print, key: &str, names: &Option<Names>) -> io::Result<()> {
     match names {
         Some(names) => {

@@ -1,4 +1,4 @@
-//! Prints what a config file says to the tool alone, where it says anything. Printing takes no memory.
+//! Prints what a config file says only to the tool, if it says anything. Printing takes no memory.
 
 use crate::held::print_optional_text;
 use crate::held_projects::print_list;

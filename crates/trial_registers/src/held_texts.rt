@@ -1,7 +1,7 @@
 //! Lines that ask for the files of what the register holds.
 //!
-//! `audits-file`, `config-file` and `imports-file` have nothing behind them. Each tells the text of that file, as the
-//! word that writes it. Other lines are passed on to the modules of their values.
+//! `audits-file`, `config-file` and `imports-file` are whole lines. Each prints the text of that file, as the word that
+//! writes it. Other lines are passed on to the modules of their values.
 
 use crate::held_desk::restored_desk;
 use crate::packed::{is_packed, packed_value};
@@ -17,9 +17,9 @@ use vet_files::imports_file::write_imports;
 use vet_graph::keeper::Keeper;
 use vet_register::register::Register;
 
-/// What a line is told that gives no command: the text of a file of what is held, or a value. Refused: what the line's
+/// The answer to a line that gives no command: the text of a file of what is held, or a value. Refused: what the line's
 /// texts are refused for, and `NoMemory`.
-pub fn line_told<K: Keeper>(
+pub fn line_text<K: Keeper>(
     alloc: Global,
     register: &Register<K>,
     line: &str,
@@ -29,11 +29,11 @@ pub fn line_told<K: Keeper>(
         "config-file" => config_file(alloc, register),
         "imports-file" => imports_file(alloc, register),
         "restored-desk" => restored_desk(alloc),
-        _ => value_told(alloc, register.facts(), line),
+        _ => value_text(alloc, register.facts(), line),
     }
 }
 
-fn value_told(alloc: Global, facts: &EntryFacts, line: &str) -> Result<String, Fault> {
+fn value_text(alloc: Global, facts: &EntryFacts, line: &str) -> Result<String, Fault> {
     if !is_packed(line) {
         return value(alloc, facts, line);
     }

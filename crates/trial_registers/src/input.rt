@@ -6,13 +6,13 @@ use std::io::{ErrorKind, Read};
 /// The most bytes of an input.
 pub const MOST_BYTES: usize = 33_554_432;
 
-/// What stands on the input.
+/// What is on the input.
 pub enum Input {
     /// This text.
     Text(String),
-    /// More than 33,554,432 bytes, or bytes that are no text or can't be read.
+    /// More than 33,554,432 bytes, or bytes that are not text or can't be read.
     Other,
-    /// There was no memory to read it.
+    /// Memory ran out while it was read.
     NoMemory,
 }
 

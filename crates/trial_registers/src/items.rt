@@ -1,14 +1,14 @@
-//! What stands on the input: lines, and command documents.
+//! What is on the input: lines, and command documents.
 //!
-//! A document comes behind a line `DAY COUNT` or `DAY COUNT MEMBER`: it is the COUNT bytes behind the end of that line,
-//! given on that day, and by the member whose name is the rest of the line. Where its bytes don't end a line, the end
-//! of one follows.
+//! A document follows a line `DAY COUNT` or `DAY COUNT MEMBER`: it is the COUNT bytes after the end of that line, given
+//! on that day, and by the member whose name is the rest of the line. If its bytes don't end a line, the end of one
+//! follows.
 
 use std::alloc::Global;
 use trial_values::fault::Fault;
 use trial_values::line::{is_framing, is_remark};
 
-/// A document, with the day on which it is given and the member who gives it, where one is told.
+/// A document, with the day on which it is given and the member who gives it, if one is named.
 #[derive(Clone, Copy)]
 pub struct Document<'t> {
     pub day: &'t str,
@@ -16,14 +16,14 @@ pub struct Document<'t> {
     pub bytes: &'t [u8],
 }
 
-/// What stands somewhere on the input.
+/// A part of the input.
 #[derive(Clone, Copy)]
 pub enum Item<'t> {
     /// A line that asks for something.
     Line(&'t str),
     /// A command document.
     Document(Document<'t>),
-    /// A line that begins as one before a document does, and is none.
+    /// A line that begins like one before a document, but is not one.
     Unframed,
 }
 
@@ -102,7 +102,7 @@ fn count_and_member(rest: &str) -> (&str, Option<&str>) {
     }
 }
 
-// Whether a document ends a line, or the end of one is the byte behind it.
+// Whether a document ends a line, or the byte after it ends one.
 fn ends_line(bytes: &[u8], behind: Option<&u8>) -> bool {
     is_end(bytes.last()) || is_end(behind)
 }

@@ -1,7 +1,7 @@
 //! Registers of the program of tests: what it gives them, how it runs them and what it prints of them.
 //!
-//! It is no part of the product. `items` tells what may stand on the input, `runs` what a register is run by, and `run`
-//! gives it the items. A register in memory is run here, and one in a file by the program.
+//! It is not part of the product. `items` says what may be on the input, `runs` what runs commands on a register, and
+//! `run` gives it the items. A register in memory is run here, and one in a file by the program.
 #![tactic(auto)]
 
 mod ahead;

@@ -9,7 +9,7 @@ use vet_register::change::Prepared;
 use vet_register::command::{Command, Outcome};
 use vet_register::register::Register;
 
-/// A register, and what the command given last touches, where that was done.
+/// A register, and what the last command touches, if it was done.
 #[derive(Drop)]
 pub struct NotingRegister<K: Keeper> {
     register: Register<K>,

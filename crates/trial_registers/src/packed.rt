@@ -1,5 +1,5 @@
-//! Lines that ask for packed lists: `packed [TEXT ..]` tells the packed list of these texts, and `unpacked TEXT` the
-//! items of a packed list, each in brackets, or that the text is none. `packed-names`, `packed-packages`,
+//! Lines that ask for packed lists: `packed [TEXT ..]` prints the packed list of these texts, and `unpacked TEXT` the
+//! items of a packed list, each in brackets, or that the text is not one. `packed-names`, `packed-packages`,
 //! `unpacked-names` and `unpacked-packages` do the same with sets of names.
 
 use std::alloc::Global;
@@ -16,7 +16,7 @@ pub fn is_packed(line: &str) -> bool {
     line.starts_with("packed") || line.starts_with("unpacked")
 }
 
-/// What a line of these words is told. Refused: what its texts are refused for, and `NoMemory`.
+/// The answer to a line of these words. Refused: what its texts are refused for, and `NoMemory`.
 pub fn packed_value(alloc: Global, words: &[String]) -> Result<String, Fault> {
     let [word, texts @ ..] = words else {
         return Err(Fault::NotUnderstood);

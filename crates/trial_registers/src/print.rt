@@ -19,7 +19,7 @@ use vet_register::command::Outcome;
 use vet_register::moves::RecordedMove;
 use vet_register::register::Register;
 
-/// Prints what came of a command that nothing refused.
+/// Prints the outcome of a command.
 pub fn print_outcome(rt: &impl Print, outcome: Outcome) -> io::Result<()> {
     match outcome {
         Outcome::Done {

@@ -1,5 +1,5 @@
-//! A keeper that hands all on to a plain one. The register runs the examples with it as well: it needs
-//! nothing of a keeper but what the trait says.
+//! A keeper that passes every call on to a plain one. The register runs the examples with it as well: it needs nothing
+//! of a keeper but what the trait says.
 ghost use Rattle.std.specs.Prelude.{◌≡◌};
 
 use std::alloc::Global;
@@ -15,7 +15,7 @@ use vet_graph::plain::{PlainKeeper, PlainUpdate};
 use vet_graph::standing::{Counts, Stand};
 use vet_graph::touched::Touched;
 
-/// A keeper behind which a plain one stands.
+/// A keeper that passes every call on to a plain one.
 #[derive(Drop)]
 pub struct RelayKeeper {
     plain: PlainKeeper,

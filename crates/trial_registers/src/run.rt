@@ -1,7 +1,7 @@
-//! A run of what stands on the input, over what runs commands.
+//! A run of the input over a register that runs commands.
 
 use crate::ahead::AheadRegister;
-use crate::held_texts::line_told;
+use crate::held_texts::line_text;
 use crate::items::{Document, Item, NumberedItem, has_documents};
 use crate::noting::NotingRegister;
 use crate::print::{print_contents, print_outcome, print_touched};
@@ -49,7 +49,7 @@ impl How {
 }
 
 /// Gives items in their order to a register in memory, up to one for which memory runs out, and prints the
-/// answers and, where there is a command, what the register holds in the end.
+/// answers and, if there is a command, what the register holds at the end.
 pub fn run_in_memory<K: Keeper>(
     rt: &impl Print,
     alloc: Global,
@@ -195,7 +195,7 @@ fn give_command<K: Keeper, R: Runs<K>>(
     }
 }
 
-// Gives the list, and then tells the fault of what stands behind it.
+// Gives the list, and then prints the fault of the item after it.
 fn give_before<K: Keeper, R: Runs<K>>(
     rt: &impl Print,
     alloc: Global,
@@ -209,7 +209,7 @@ fn give_before<K: Keeper, R: Runs<K>>(
     }
 }
 
-// Gives the commands of a list, which has none behind that.
+// Gives the commands of a list, and empties it.
 fn give_list<K: Keeper, R: Runs<K>>(
     rt: &impl Print,
     alloc: Global,
@@ -241,7 +241,7 @@ pub fn print_answers(
     Ok(ItemResult::Answered)
 }
 
-// Gives the list, and then answers the line behind it.
+// Gives the list, and then answers the line after it.
 fn give_line<K: Keeper, R: Runs<K>>(
     rt: &impl Print,
     alloc: Global,
@@ -250,21 +250,21 @@ fn give_line<K: Keeper, R: Runs<K>>(
     line: &str,
 ) -> io::Result<ItemResult> {
     match give_list::<K, R>(rt, alloc, runs, list)? {
-        ItemResult::Answered => tell_line(rt, alloc, runs.shown(), line),
+        ItemResult::Answered => print_line(rt, alloc, runs.shown(), line),
         told => Ok(told),
     }
 }
 
-fn tell_line<K: Keeper>(
+fn print_line<K: Keeper>(
     rt: &impl Print,
     alloc: Global,
     register: &Register<K>,
     line: &str,
 ) -> io::Result<ItemResult> {
     if let Some(kind) = report_word(line) {
-        return tell_report(rt, alloc, register, kind);
+        return print_report(rt, alloc, register, kind);
     }
-    match line_told(alloc, register, line) {
+    match line_text(alloc, register, line) {
         Ok(told) => {
             println!(rt; "{told}")?;
             Ok(ItemResult::Answered)
@@ -273,7 +273,7 @@ fn tell_line<K: Keeper>(
     }
 }
 
-fn tell_report<K: Keeper>(
+fn print_report<K: Keeper>(
     rt: &impl Print,
     alloc: Global,
     register: &Register<K>,

@@ -12,7 +12,7 @@ pub trait Runs<K: Keeper> {
     /// Runs a command. After a refusal the register is as it was.
     fn run_command(&mut self, alloc: Global, command: &Command) -> Result<Outcome, Refusal>;
 
-    /// Runs commands one after the other, whatever becomes of each. Refused, with nothing run: `NoMemory`.
+    /// Runs commands one after the other, whatever the outcome of each. Refused, with nothing run: `NoMemory`.
     fn run_commands(
         &mut self,
         alloc: Global,
@@ -22,7 +22,7 @@ pub trait Runs<K: Keeper> {
     /// The register.
     fn shown(&self) -> &Register<K>;
 
-    /// The packages that the last command touches, where it was done and this is noted.
+    /// The packages that the last command touches, if it was done and this is noted.
     fn touched(&self) -> Option<&Touched>;
 }
 

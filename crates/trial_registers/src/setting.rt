@@ -1,12 +1,12 @@
 //! The setting with which an example begins: `limit N` says how many moves the register may record, from 1 to
-//! 1,000,000, which it may without this line.
+//! 1,000,000. Without this line it may record 1,000,000.
 ghost use Rattle.std.specs.Prelude.{◌<◌, ◌≤◌, IfSome};
 ghost use Rattle.vet_base.specs.declared.limits.TheConstants.{MOST_MOVES};
 
 use crate::items::{Item, NumberedItem};
 use vet_base::limits::MOST_MOVES;
 
-/// The items behind a setting, if one stands first.
+/// The items after a setting, if the first item is one.
 pub fn behind_setting<'i, 't>(items: &'i [NumberedItem<'t>]) -> &'i [NumberedItem<'t>] {
     match items {
         [first, others @ ..] => {
@@ -20,7 +20,7 @@ pub fn behind_setting<'i, 't>(items: &'i [NumberedItem<'t>]) -> &'i [NumberedIte
     }
 }
 
-/// How many moves the register may record that is given some items.
+/// How many moves the register that is given these items may record.
 pub fn limit_of(items: &[NumberedItem<'_>]) -> usize
     ensures { (0 < result) × (result ≤ MOST_MOVES) }
 {
