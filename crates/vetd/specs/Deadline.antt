@@ -1,11 +1,11 @@
 -- How long a connection may last, and how long its client may be silent (ours). All times are in nanoseconds.
 use Rattle.std.specs.Prelude.{◌≡◌, ◌+◌, ◌*◌, ◌<◌, min, ℕ}
 
--- when a connection ends that is accepted at a time: 30 seconds later
+-- when a connection ends that was accepted at this time: 30 seconds later
 abbrev pub end_of_connection : ℕ → ℕ
 end_of_connection accepted = accepted + 30 * 1000000000
 
--- how long a read waits at most for a client that sends nothing: 5 seconds
+-- the longest that a read waits for a client that sends nothing: 5 seconds
 abbrev pub longest_silence : ℕ
 longest_silence = 5 * 1000000000
 

@@ -14,7 +14,7 @@ pub record IsOpenedNew {D : Type 0} {g : Ghosts D} (conn : Held (FileStore D g))
   pub new : IsNew conn
   pub opened : HasCleanDisk (file_state conn) → IsOpened conn
 
--- the refusal of a path of which nothing can be learned, by the kind of the error
+-- the refusal of a path whose file can't be examined, by the kind of the error
 abbrev pub refusal_of_path : ErrorKind → Refusal
 refusal_of_path NotFound = NotARegister
 refusal_of_path NotADirectory = NotARegister

@@ -26,8 +26,8 @@ pub struct Deadline {
 }
 
 impl Deadline {
-    /// The deadline of a connection that is accepted now. Returns an error if the clock can't be read, or can't count
-    /// so far.
+    /// The deadline of a connection that is accepted now. Returns the clock's error if it can't be read, and
+    /// `InvalidData` if it can't count that far.
     pub fn from_now<C: Clock>(clock: &C) -> io::Result<Deadline> {
         match Deadline::after(Instant::now(clock)?) {
             Some(deadline) => Ok(deadline),
@@ -35,7 +35,7 @@ impl Deadline {
         }
     }
 
-    /// The deadline of a connection that was accepted at a time. `None` exactly if no clock counts that far.
+    /// The deadline of a connection that was accepted at this time. `None` exactly if no clock counts that far.
     fn after(accepted: Instant) -> Option<Deadline>
         ensures is { IfSome result (λ d. instant_nanos d.end ≡ end_of_connection (instant_nanos accepted)) }
         ensures none { result ≡ None → ¬ FitsClock (end_of_connection (instant_nanos accepted)) }
@@ -45,8 +45,8 @@ impl Deadline {
         Some(Deadline { end })
     }
 
-    /// The time that is left, which is never zero, since a stream refuses a time-out of zero. Fails with `TimedOut` if
-    /// no time is left.
+    /// The time that is left, which is never zero, since a stream refuses a time-out of zero. Fails with `TimedOut`
+    /// exactly if no time is left.
     pub fn time_left(self, now: Instant) -> io::Result<Duration>
         ensures left { IfOk result (λ left. IsLeft (instant_nanos now) (instant_nanos self.end) (as_nanos left)) }
         ensures none { IfErr result (λ _. instant_nanos self.end ≤ instant_nanos now) }
@@ -57,8 +57,8 @@ impl Deadline {
         }
     }
 
-    /// How long a read may wait that begins now: for the time that is left, and no longer than a client may be silent.
-    /// Fails with `TimedOut` if no time is left.
+    /// How long a read that begins now may wait: for the time that is left, and no longer than a client may be silent.
+    /// Fails with `TimedOut` exactly if no time is left.
     pub fn read_wait(self, now: Instant) -> io::Result<Duration>
         ensures wait { IfOk result (λ wait. IsWait (instant_nanos now) (instant_nanos self.end) (as_nanos wait)) }
         ensures none { IfErr result (λ _. instant_nanos self.end ≤ instant_nanos now) }
@@ -95,7 +95,8 @@ fn wait_within(left: Duration) -> Duration
     }
 }
 
-/// The clock's day in UTC. Fails if the clock can't be read, or is past 9999-12-31.
+/// The clock's day in UTC. Returns the clock's error if it can't be read, and `InvalidData` if it is before 1970-01-01
+/// or past 9999-12-31.
 pub fn today<C: Clock>(clock: &C) -> io::Result<Day> {
     match SystemTime::now(clock)?.duration_since(UNIX_EPOCH) {
         Ok(since_1970) => match day_at(since_1970.as_secs()) {
@@ -106,7 +107,7 @@ pub fn today<C: Clock>(clock: &C) -> io::Result<Day> {
     }
 }
 
-/// The day that it is so many seconds after 1970 began. `None` exactly if that is past 9999-12-31.
+/// The day at so many seconds after the beginning of 1970. `None` exactly if that is past 9999-12-31.
 fn day_at(seconds: u64) -> Option<Day>
     ensures number { IfSome result (λ day. day_number day ≡ pos (seconds / 86400)) }
     ensures only { (d : DayValue) → is_day d ≡ true → day_number d ≡ pos (seconds / 86400)

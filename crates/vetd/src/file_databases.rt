@@ -13,7 +13,7 @@ use vet_base::refusal::Refusal;
 use vet_store::refused::refusal_of;
 use vetd_commands::databases::Databases;
 
-/// A file and its log, of which a torn write may leave anything.
+/// A database file and its log. A torn write may leave anything in them.
 pub type DatabaseFile = FileStore<FileFrom<Wary>>;
 
 /// The most bytes of a file that holds no database.
@@ -48,7 +48,7 @@ impl Databases<DatabaseFile> for FileDatabases<'_> {
     }
 }
 
-/// Refuses a path at which no database can stand: without a file, or with one of at most a byte.
+/// Refuses a path at which there is no file, or one of at most one byte.
 fn check_file(rt: &HostRuntime, path: &str) -> Result<(), Refusal>
     ensures refused { IfErr result (λ e. IsOfStore e ⊎ (e ≡ Refusal.NotARegister)) }
 {
@@ -58,7 +58,7 @@ fn check_file(rt: &HostRuntime, path: &str) -> Result<(), Refusal>
     }
 }
 
-/// Refuses a file of so many bytes that no database is in it.
+/// Refuses a file of at most one byte, which is too short for a database.
 fn holds_some(is_file: bool, bytes: u64) -> Result<(), Refusal>
     ensures refused { IfErr result (λ e. (e ≡ Refusal.NotARegister) × IsTrue is_file × (bytes < 2)) }
     ensures taken { IfOk result (λ _. IsTrue is_file → 2 ≤ bytes) }
@@ -69,7 +69,7 @@ fn holds_some(is_file: bool, bytes: u64) -> Result<(), Refusal>
     Ok(())
 }
 
-/// The refusal of a path of which nothing can be learned.
+/// The refusal of a path whose file can't be examined.
 fn refusal_of_path(kind: io::ErrorKind) -> Refusal
     ensures { result ≡ refusal_of_path kind }
 {
@@ -80,7 +80,7 @@ fn refusal_of_path(kind: io::ErrorKind) -> Refusal
     }
 }
 
-/// A connection to the database in a file, of which a crash may leave what the start says.
+/// A connection to the database in a file. `start` says what a crash may leave of it.
 fn connect_as<F: Start>(
     rt: &HostRuntime,
     path: &str,

@@ -1,17 +1,17 @@
-//! `vetd`: what one file on standard input says, by the words of a command, and registers in database files.
+//! `vetd`: questions about one file on standard input, and registers in database files.
 //!
-//! `vetd class PACKAGE VERSION CRITERION` prints the word of the class that an audits file gives a version of
-//! a package. `vetd read KIND`, KIND `audits`, `config` or `imports`, prints how many things a file holds, and
-//! how many were passed over. `vetd new --db PATH` makes a register in a database file, and prints `created`.
-//! `vetd apply --db PATH --day D` has the command of a document run on it, and prints the outcome. `vetd report` and
-//! `vetd export` print what it holds, as a report or as one of the three files. `vetd serve --port N --connections K`
-//! serves a register over HTTP. Each ends with status 0. A refusal goes to standard error as one line, with status 1.
-//! Where the words are no command, clap's error goes to standard error, with status 2, and nothing is read or made.
-//! Help and the version go to standard output, with status 2 too.
+//! `vetd class PACKAGE VERSION CRITERION` prints the word of the class that an audits file gives a version of a
+//! package. `vetd read KIND`, with `audits`, `config` or `imports` as KIND, prints how many things a file holds, and
+//! how many were ignored. `vetd new --db PATH` makes a register in a database file, and prints `created`. `vetd apply
+//! --db PATH --day D` runs the command of a document on it, and prints the outcome. `vetd report` and `vetd export`
+//! print what it holds, as a report or as one of the three files. `vetd serve --port N --connections K` serves a
+//! register over HTTP. Each ends with status 0. A refusal is printed to standard error as one line, with status 1. If
+//! the words are not a command, clap's error is printed to standard error, with status 2, and nothing is read or made.
+//! Help and the version are printed to standard output, with status 2 too.
 //!
-//! **The words and the input alone decide what is written and the status, and with `--db` the words, the input, the
-//! file and what the database answers. With `serve` the clients and the clock do so too. A run that ends with a fault
-//! wrote nothing, or, where a write failed, the front of that answer.**
+//! **The words and the input alone decide what is written, and the status. With `--db` the file and the answers of the
+//! database do so too, and with `serve` the clients and the clock. A run that ends with a fault wrote nothing or, if a
+//! write failed, a prefix of its answer.**
 //!
 //! Scope of this crate: `main`, the databases in this machine's files, and its network. `vetd_program` has what the
 //! program does over any databases and any network.
@@ -48,7 +48,7 @@ fn words_after_name<R: Env + AllocGlobal>(rt: &R) -> io::Result<Vec<String>> {
     Ok(words.collect(rt.alloc())?)
 }
 
-/// Explains why the words can't be had: there was no memory, or one of them is no text.
+/// Explains why the words can't be had: memory ran out, which is a fault, or one of them is not text.
 fn explain_no_words<W: Write, E: Write>(
     alloc: Global,
     kind: io::ErrorKind,
@@ -64,8 +64,8 @@ fn explain_no_words<W: Write, E: Write>(
     explain(alloc, &error, writer, errors)
 }
 
-/// The status with which a run ends: its own, or that of a fault, of which a line goes to the standard error. Where
-/// even that can't be written, the status is the same.
+/// The status with which a run ends: its own, or 1 after a fault, for which a line is printed to standard error. If
+/// that line can't be printed, the status is the same.
 fn status_of<R: Eprint>(rt: &R, run: Result<u8, IoFault>) -> u8
     ensures ended { IfOk run (λ status. result ≡ status) }
     ensures faulted { OnErr run (result ≡ 1) }
@@ -79,8 +79,8 @@ fn status_of<R: Eprint>(rt: &R, run: Result<u8, IoFault>) -> u8
     }
 }
 
-/// Answers the words, over the databases in this machine's files and its network. A connection is let go, and its file
-/// stays locked so long.
+/// Answers the words, over the databases in this machine's files and over its network. A connection that the run hands
+/// back is dropped at the end, and its file stays locked until then.
 fn run_words(rt: &HostRuntime, words: &[String]) -> Result<u8, IoFault> {
     let run = program_run::<
         String,

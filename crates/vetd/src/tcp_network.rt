@@ -18,7 +18,7 @@ use vet_requests::input::CountedReader;
 use vetd_program::clients::arrival::Arrival;
 use vetd_program::clients::network::Network;
 
-/// The ports of the loopback, and the clock by which clients are served. Nothing is known of who connects.
+/// The ports of the loopback interface, and the clock by which clients are served. Nothing is known about who connects.
 #[derive(Drop)]
 pub struct TcpNetwork<'a, H: Net + Clock> {
     host: &'a H,
@@ -30,7 +30,7 @@ impl<'a, H: Net + Clock> TcpNetwork<'a, H> {
         TcpNetwork { host }
     }
 
-    /// A client's connection, whose time begins now. Without a day it is served on the clock's.
+    /// A client's connection, whose time begins now. If no day is given, the client is served on the clock's day.
     fn connection(
         &self,
         alloc: Global,
@@ -99,7 +99,7 @@ impl<'a, H: Net + Clock> Network for TcpNetwork<'a, H> {
     fn close(&mut self, _listener: Self::Listener) {}
 }
 
-/// The address at which clients of this machine alone connect: 127.0.0.1, and the port.
+/// The address at which only clients of this machine can connect: 127.0.0.1, and the port.
 fn loopback(port: u16) -> (Ipv4Addr, u16)
     ensures address { ipv4_octets result.0 ≡ 127 ∷ 0 ∷ 0 ∷ 1 ∷ [] }
     ensures port { result.1 ≡ port }
@@ -107,7 +107,8 @@ fn loopback(port: u16) -> (Ipv4Addr, u16)
     (Ipv4Addr::LOCALHOST, port)
 }
 
-/// What came of waiting in vain. A listener that no longer listens, or has no address, is lost.
+/// What an accept that failed means: the listener is lost if it no longer listens or has no address, and otherwise the
+/// client failed.
 fn failed<L: OpenListener, R, W>(listener: &L, kind: ErrorKind) -> Arrival<R, W>
     ensures { (told : Option DayValue) → IsOnDay told result }
 {

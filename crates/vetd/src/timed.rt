@@ -1,8 +1,8 @@
 //! A stream that is read and written by a deadline.
 //!
-//! **Each call waits no longer than the time that is left, and fails if no time is left.** So a client that gives or
-//! takes a byte at a time holds the program no longer than its connection may last. **A read waits no longer than a
-//! client may be silent**, which is less, so one that sends nothing is disconnected sooner.
+//! **Each call waits no longer than the time that is left, and fails if no time is left.** So a client that sends or
+//! reads one byte at a time holds the program no longer than its connection may last. **A read also waits no longer
+//! than a client may be silent**, so a client that sends nothing is disconnected sooner.
 ghost use Rattle.std.specs.Io.{ReadsAtMost};
 ghost use Rattle.std.specs.Io.KnownBytes.{ReadConsumes};
 
@@ -43,7 +43,7 @@ impl<C: Clock, T: Read + OpenStream> Read for TimedReader<'_, C, T> {
     }
 }
 
-/// One read, which waits no longer than the time that is left, nor than a client may be silent.
+/// One read, which waits no longer than the time that is left, or than a client may be silent.
 fn read_by<C: Clock, T: Read + OpenStream>(
     clock: &C,
     stream: &mut T,
@@ -77,7 +77,7 @@ impl<'a, C: Clock, T: Write + OpenStream> TimedWriter<'a, C, T> {
     }
 }
 
-// What is read through it changes nothing that it holds, but no clause of a stream says so. So its bytes are not known.
+// No clause says that a read through the same stream leaves what was written alone, so the written bytes are not known.
 impl<C: Clock, T: Write + OpenStream> Write for TimedWriter<'_, C, T> {
     fn write(&mut self, buf: &[u8]) -> io::Result<usize> {
         let left = self.deadline.time_left(Instant::now(self.clock)?)?;
@@ -99,7 +99,7 @@ impl<C: Clock, T: Read + Write + OpenStream> HangUp for TimedWriter<'_, C, T> {
     }
 }
 
-/// Whether bytes have come that nobody read. False if this can't be found out.
+/// Whether bytes have come that nobody has read. False if this can't be found out.
 fn has_unread<T: OpenStream>(stream: &T) -> bool {
     if stream.set_nonblocking(true).is_err() {
         return false;
@@ -112,7 +112,7 @@ fn has_unread<T: OpenStream>(stream: &T) -> bool {
     stream.set_nonblocking(false).is_ok() && unread
 }
 
-/// Reads to the stream's end, and no further than 32 MiB or the deadline. A read that fails or times out ends it.
+/// Reads and discards up to the stream's end, 32 MiB or the deadline. A read that fails or times out ends it.
 fn read_away<C: Clock, T: Read + OpenStream>(clock: &C, stream: &mut T, deadline: Deadline) {
     let mut chunk = [0u8; 4096];
     let mut taken = 0;
