@@ -1,11 +1,11 @@
-//! A program of tests, no part of the product: what `vetd serve` does with clients that are at hand.
+//! A program of tests, not part of the product: what `vetd serve` does with clients in memory.
 //!
-//! Its first word is how many clients are awaited, and each word behind it is what comes: a request, each whole;
-//! `failed`, for a client that can't be served; `lost`, for the loss of what listens; or, as the only one, `no-port`,
-//! where the port can't be had. Replies and what the program prints go to standard output in the order in which they
-//! are written, and a fault of the network to standard error. Last, where it closed what listened, is how many clients
-//! it released. If the first word is `class` or `read`, it answers its words by `class_run` or `read_run`, as `vetd`
-//! does. The status is that of the program, and 3 where there was no memory for its words.
+//! Its first word is how many clients are awaited, and each later word is what comes: a whole request; `failed`, for a
+//! client that can't be served; `lost`, for the loss of the listener; or, as the only one, `no-port`, if the port can't
+//! be had. Standard output has the replies and what the program prints, in the order in which they are written, and
+//! standard error a fault of the network. The last line, if the listener was closed, says how many clients were
+//! released. If the first word is `class` or `read`, it answers its words by `class_run` or `read_run`, as `vetd` does.
+//! The status is that of the program, or 3 if memory ran out for its words.
 #![tactic(auto)]
 
 use sqlite::Connection as Database;
@@ -31,7 +31,7 @@ use vetd_words::run::{class_run, read_run};
 /// The day on which all clients are served.
 const DAY: &str = "2024-05-01";
 
-/// The status of a run for which there was no memory.
+/// The status of a run that ran out of memory for its words.
 const NO_MEMORY: u8 = 3;
 
 /// The status of a run that ended with a fault.
@@ -95,7 +95,7 @@ fn arrival<'a, W: Drop>(
     }
 }
 
-/// Serves the clients that the words behind the first are.
+/// Serves the clients that the words after the first stand for.
 fn run_words(rt: &HostRuntime, words: &[String]) -> Result<u8, Fault> {
     let Some((awaited, rest)) = words.split_first() else {
         return Err(Fault::NotUnderstood);
@@ -169,7 +169,7 @@ fn status_of(run: Result<u8, IoFault>) -> u8 {
     }
 }
 
-/// The words behind the program's name.
+/// The words after the program's name.
 fn words_after_name(rt: &HostRuntime) -> Result<Vec<String>, Fault> {
     let mut words = env::args(rt)?;
     let _name = words.next();

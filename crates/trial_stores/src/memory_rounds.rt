@@ -12,7 +12,7 @@ use vet_store::memory::run_in_memory_files;
 use vet_store::store::Store;
 
 /// Makes a register in files in memory, imports each file of a text, and adds an entry and drops it in each round.
-/// Prints of each command what it is and its nanoseconds.
+/// Prints what each command is and its nanoseconds.
 pub fn run_memory<K: Keeper>(
     rt: &(impl Clock + AllocGlobal + Print),
     rounds: usize,
@@ -40,7 +40,7 @@ fn run_rounds<S: Alter, K: Keeper>(
     Ok(())
 }
 
-// An entry is added and dropped.
+// Adds an entry and drops it.
 fn run_round<S: Alter, K: Keeper>(
     rt: &(impl Clock + AllocGlobal + Print),
     store: &mut Store<S, K>,

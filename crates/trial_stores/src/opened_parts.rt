@@ -13,9 +13,9 @@ use vet_store::read::read_rows;
 use vet_tables::find::has_tables;
 use vet_tables::rows::Rows;
 
-/// Opens the register in a database by the calls of which a store's opening consists, except that the rows are not
-/// compared with those that were read. Then it sets another peer, for which the plain keeper finds every class anew.
-/// Prints of each part what it is and its nanoseconds.
+/// Opens the register in a database by the calls that `Store::open` makes, except that the rows are not compared with
+/// those that were read. Then it sets another peer, for which the plain keeper recomputes every class. Prints what each
+/// part is and its nanoseconds.
 pub fn run_parts<S: Alter, K: Keeper>(
     rt: &(impl Clock + AllocGlobal + Print),
     conn: &mut Connection<S>,
@@ -72,7 +72,7 @@ fn register_of<K: Keeper>(
     Ok(register)
 }
 
-// Prepares the setting of another peer, for which the plain keeper finds every class anew.
+// Prepares the setting of another peer, for which the plain keeper recomputes every class.
 fn print_plan<K: Keeper>(
     rt: &(impl Clock + AllocGlobal + Print),
     register: &mut Register<K>,

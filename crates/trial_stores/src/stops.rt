@@ -2,7 +2,7 @@
 //! call fails and changes nothing.
 //!
 //! `--stop-log N` stops the log, and `--stop-db N` the database file. A register is made and given all the commands,
-//! also those after one that was refused because of the stop. It prints the answers and what the register holds in
+//! also those after one that was refused because of the stop. It prints the answers and what the register holds at
 //! the end, and then a line `stop met log COUNT db COUNT`, or `no stop log COUNT db COUNT` if the file had fewer calls.
 //! The counts are those of the calls of each file, the failed ones included. After that the files are opened again,
 //! and what they hold is printed twice. Below a line `as written` it is what the end of the process leaves, all that
@@ -45,7 +45,7 @@ pub struct DiskStop {
     pub call: u64,
     /// Whether the file stops while the register is opened after the run, and not in the run.
     pub in_open: bool,
-    /// Whether the log is copied into the database file before each commit and in the end.
+    /// Whether the log is copied into the database file before each commit and at the end.
     pub checkpoint: bool,
 }
 
@@ -83,7 +83,7 @@ impl DiskStop {
     }
 }
 
-/// Gives items to a register in files of which one stops. Prints the answers, what the register holds in the end,
+/// Gives items to a register in files of which one stops. Prints the answers, what the register holds at the end,
 /// whether the stop was met, and what the files hold once they are opened again.
 pub fn run_stopped<K: Keeper>(
     rt: &impl Print,

@@ -58,7 +58,7 @@ impl<S: Alter + Drop, K: Keeper> Runs<K> for StoreRun<S, K> {
     }
 }
 
-/// Makes or opens a register in a database, gives it items, prints the answers and what the register holds in the end,
+/// Makes or opens a register in a database, gives it items, prints the answers and what the register holds at the end,
 /// and closes the database.
 pub fn run_stored<D: Disk + Drop, K: Keeper>(
     rt: &impl Print,
@@ -77,7 +77,7 @@ pub fn run_stored<D: Disk + Drop, K: Keeper>(
     }
 }
 
-// How a run ends whose database was closed.
+// How a run ends, once its database was closed.
 fn closed(rt: &impl Print, closed: Result<(), Error>, ending: Ending) -> io::Result<Ending> {
     match closed {
         Ok(()) => Ok(ending),
@@ -90,7 +90,8 @@ pub fn refused_by_database(rt: &impl Print, error: Error) -> io::Result<Ending> 
     refused(rt, &Fault::Refused(refusal_of(error)))
 }
 
-// A run over a connection, which is given back unless it has no register; then it is let go, and nothing written.
+// A run over a connection. If it has no register, the connection is dropped and nothing is written; otherwise it is
+// given back.
 fn run_connected<D: Disk + Drop, K: Keeper>(
     rt: &impl Print,
     alloc: Global,
@@ -162,7 +163,7 @@ fn reopened_files<D: Disk + Drop, K: Keeper>(
     alloc: Global,
     store: Store<FileStore<D>, K>,
 ) -> Result<Store<FileStore<D>, K>, Refusal> {
-    // nobody but this program reads the log, so that its salts need no chance
+    // only this program reads the log, so its salts need not be random
     match store.reopen_files(alloc, Options::new(0)) {
         Ok(store) => Ok(store),
         Err(not_reopened) => {

@@ -18,8 +18,8 @@ use vet_store::refused::Refused;
 use vet_store::store::Store;
 
 /// Makes a register in a file, loads the tables of a text in turn as one project, imports each of its files, and adds
-/// an entry and drops it in each round. Prints of each command what it is, the nanoseconds of its parts and how many
-/// rows it writes.
+/// an entry and drops it in each round. For each command it prints what it is, the nanoseconds of its parts and how
+/// many rows it writes.
 pub fn run_rounds<D: Disk + Drop, K: Keeper>(
     rt: &(impl Clock + AllocGlobal + Print),
     conn: Connection<FileStore<D>>,
@@ -58,7 +58,7 @@ pub fn imports_of(alloc: Global, text: &str) -> Result<Vec<Command>, Fault> {
     Ok(imports)
 }
 
-// The tables of a register that holds nothing.
+// The tables of an empty register.
 fn made<S: Alter + Drop, K: Keeper>(
     alloc: Global,
     conn: Connection<S>,
@@ -109,7 +109,7 @@ fn run_each<S: Alter, K: Keeper>(
     Ok(())
 }
 
-// An entry is added and dropped.
+// Adds an entry and drops it.
 fn run_round<S: Alter, K: Keeper>(
     rt: &(impl Clock + AllocGlobal + Print),
     conn: &mut Connection<S>,

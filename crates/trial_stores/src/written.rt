@@ -16,8 +16,8 @@ use vet_rows::row_changes::row_changes;
 use vet_store::change::commit_changes;
 use vet_tables::table_name::TableName;
 
-/// The nanoseconds of a command's parts: until it is prepared, until the rows are known that change, and until these
-/// are committed; how many they are, and how many of them are of neither `standing` nor `moves`.
+/// The nanoseconds of a command's parts: until it is prepared, until its changes of rows are known, and until these are
+/// committed; how many changes there are, and how many of them are of other tables than `standing` and `moves`.
 #[derive(Clone, Copy)]
 pub struct PartTimes {
     prepare: u128,
@@ -103,7 +103,7 @@ fn write<S: Alter, K: Keeper>(
     }
 }
 
-// How many of some changes are of neither `standing` nor `moves`.
+// How many changes are of other tables than `standing` and `moves`.
 fn count_others(changes: &[RowChange]) -> usize {
     let mut count = 0usize;
     for change in changes {

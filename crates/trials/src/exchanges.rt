@@ -1,19 +1,19 @@
 //! Requests to a register in memory.
 //!
-//! The first word is `exchanges`. The second says how the requests are served: each of the other words is a whole
+//! The first word is `exchanges`. The second says how the requests are served, and each of the other words is a whole
 //! request. With `slices` one call of `serve_slices` serves all of them. With `loopback` each is sent over a
 //! connection to this machine, which the same thread accepts and has `serve_one` serve. With `parts` each is read by
 //! `read_request`, its route is found by `find_route`, and it is answered by `answer`. Standard output has the replies
 //! one after the other, and nothing else.
 //!
-//! With `streams` each is served by `serve_one` over a reader that gives a byte a read and a writer that takes a byte
-//! a write, and has four words before it. The first says when reads are interrupted: `never`, `before-each` byte or
-//! `always`. Then come the number of the read that fails, 0 if none does, and how many bytes the writer takes. The
-//! fourth says what a write does after these: `fails`, `is-interrupted` or `takes-nothing`. Before what was written of
-//! the reply it prints a line `CAME reads R interrupted I writes W`: its status or the fault, and how many calls there
-//! were.
+//! With `streams` each is served by `serve_one` over a reader that gives one byte for each read and a writer that takes
+//! one for each write, and each request has four words before it. The first says when reads are interrupted: `never`,
+//! `before-each` byte or `always`. Then come the number of the read that fails, 0 if none does, and how many bytes the
+//! writer takes. The fourth says what a write does after these: `fails`, `is-interrupted` or `takes-nothing`. Before
+//! what was written of the reply it prints a line `CAME reads R interrupted I writes W`: its status or the fault, and
+//! how many calls there were.
 //!
-//! The status is 2 where a word is none of these, and 1 where something failed.
+//! The status is 2 if a word is none of these, and 1 if something failed.
 use crate::exchanges::loopback::serve_over_loopback;
 use crate::exchanges::parts::serve_in_parts;
 use crate::exchanges::slices::serve_together;
@@ -39,7 +39,7 @@ const NOT_UNDERSTOOD: u8 = 2;
 /// The day on which all requests are served.
 const DAY: &str = "2024-05-01";
 
-/// Serves the requests that the words are.
+/// Serves the requests in the words.
 pub fn run_exchanges(rt: &HostRuntime) -> ExitCode {
     match &run_whole(rt) {
         Ok(()) => ExitCode::SUCCESS,

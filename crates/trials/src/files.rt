@@ -1,4 +1,4 @@
-//! Registers in database files, opened as `vetd` opens them: a torn write may leave anything of a file, and its pages
+//! Registers in database files, opened as `vetd` opens them: a torn write may leave anything in a file, and its pages
 //! have no sums.
 ghost use Rattle.std.specs.Prelude.{◌≡◌, IfOk, false};
 
@@ -34,7 +34,7 @@ fn timed(rt: &HostRuntime, path: &str) -> Result<Connection<DatabaseFile>, Fault
     }
 }
 
-/// Makes or opens a register in the file of this path, gives it items, prints the answers and what it holds in the end,
+/// Makes or opens a register in the file of this path, gives it items, prints the answers and what it holds at the end,
 /// and closes the file.
 pub fn run_in_file<K: Keeper>(
     rt: &HostRuntime,

@@ -2,7 +2,7 @@
 //!
 //! The word `looks` takes a package. A register in memory that has this keeper is given what is on standard input, as
 //! for the word `masks`. After each answer it prints a line `looks ALL OF`: how many looks were made by then, and how
-//! many at the steps of the package since what was found of it was last found anew.
+//! many at the steps of the package since its searches last began again.
 
 use std::alloc::Global;
 use std::io;

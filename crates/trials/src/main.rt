@@ -1,14 +1,14 @@
-//! The program of tests and benches, no part of the product. Its first word says what it does.
+//! The program of tests and benches, not part of the product. Its first word says what it does.
 //!
 //! With a keeper of the classes, `plain`, `masks` or `relay`, it makes a register that has this keeper, and gives it
-//! what is on standard input: in their order lines, and command documents as `vetd apply` takes them, each behind a
-//! line that says its day, how many bytes it has, and its member (`items`). It prints the answers and, where there is a
-//! document, in the end what the register holds. The first line may set a limit (`setting`). The others ask for values
-//! (`values` and the modules that it names), for texts (`reports`) and for files of what is held (`held_texts`).
-//! After the keeper it takes `--contents`, which also prints what is held before each document, or `--together`, which
-//! gives the commands as lists. A register in memory takes two more flags. `--touched` prints before each answer to a
-//! command that is done a line of the packages that it touches, or a star for all of them. `--ahead` gives the commands
-//! as lists, and has each prepared before the change of the one before it is installed.
+//! what is on standard input, in order: lines, and command documents as `vetd apply` takes them, each after a line that
+//! says its day, how many bytes it has, and its member (`items`). It prints the answers and, if there is a document,
+//! what the register holds at the end. The first line may set a limit (`setting`). The others ask for values (`values`
+//! and the modules that it names), for texts (`reports`) and for files of what is held (`held_texts`). After the keeper
+//! it takes `--contents`, which also prints what is held before each document, or `--together`, which gives the
+//! commands as lists. A register in memory takes two more flags. `--touched` prints before each answer to a command
+//! that is done a line of the packages that it touches, or a star for all of them. `--ahead` gives the commands as
+//! lists, and has each prepared before the change of the one before it is installed.
 //!
 //! The last words may be `--db PATH`, for a register that it makes in a database file, or `--db-open PATH`, for the one
 //! that is in such a file. `--db-reopen PATH` makes one and, before it prints what that holds at the end, closes it and
@@ -18,11 +18,11 @@
 //! `looks PACKAGE` has a register in memory, and prints how many looks at steps its keeper makes (`looks`). `at-once`
 //! gives the commands by the call that makes their register (`at_once`). `demand` has no register, asks what projects
 //! demand, and has the lines of `workspace`, with the words of `policies` and `projects`. If memory runs out, the run
-//! ends with that refusal and what the register holds then, and with status 1. So it does if no register can be made
-//! or opened. At other words, an input that can't be read, or a line that isn't understood, it prints a message to
-//! standard error and returns status 2.
+//! ends with that refusal and what the register holds then, and with status 1. It ends in the same
+//! way if no register can be made or opened. If the words are others, the input can't be read, or a line isn't
+//! understood, it prints a message to standard error, with status 2.
 //!
-//! `times` times commands, `exchanges` serves requests, and `toml` has a TOML document read. The modules `times`,
+//! `times` times commands, `exchanges` serves requests, and `toml` reads a TOML document. The modules `times`,
 //! `exchanges` and `toml_only` say what they take and print. These are one program, since each program loads all
 //! libraries before its first line is proved.
 #![tactic(auto)]

@@ -33,7 +33,7 @@
 //!
 //! `open` and a path open that register. It prints `open NANOSECONDS NANOSECONDS COUNT`: until the database was open,
 //! from there until the register was, and how many entries it holds. `parts` and a path time the parts of that, and
-//! then a command for which the plain keeper finds every class anew. `memory` and a number of rounds time commands to a
+//! then a command for which the plain keeper recomputes every class. `memory` and a number of rounds time commands to a
 //! register in memory, as `store` does without tables. For each part or command it prints `WHAT NANOSECONDS`.
 //!
 //! For each other command of a round it prints what it is, its nanoseconds and its outcome. The status is 1 if anything

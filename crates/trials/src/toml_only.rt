@@ -1,5 +1,5 @@
-//! Reads a TOML document from standard input and does nothing more: what the reading of a file costs at least.
-//! The bench measures `vetd` beside it. The status is 0 where `toml` takes the document, and else 1.
+//! Reads a TOML document from standard input and does nothing more: this is the least that reading a file costs. The
+//! bench measures `vetd` beside it. The status is 0 if `toml` accepts the document, and otherwise 1.
 
 use std::io::Read;
 use std::process::ExitCode;

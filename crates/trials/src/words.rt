@@ -48,15 +48,15 @@ pub enum Place<'w> {
 /// The keeper of the classes.
 #[derive(Clone, Copy)]
 pub enum KeeperWord {
-    /// One that finds every class anew.
+    /// One that recomputes every class.
     Plain,
     /// That of the product.
     Masks,
-    /// One that hands all on to the plain one.
+    /// One that passes every call on to the plain one.
     Relay,
 }
 
-/// The words behind the program's own name. Refused: `OutOfMemory`, and what is no text.
+/// The words after the program's own name. Refused: `OutOfMemory`, and a word that is not text.
 pub fn read_words(rt: &(impl Env + AllocGlobal)) -> io::Result<Vec<String>> {
     let mut words = env::args(rt)?;
     let _name = words.next();
@@ -89,7 +89,7 @@ pub fn keeper_of(word: &str) -> Option<KeeperWord> {
     }
 }
 
-// What a word asks for that takes no other word.
+// What a word that takes no other words asks for.
 fn alone<'w>(others: &[String], kind: InputKind<'w>) -> Words<'w> {
     match others {
         [] => Words::Input(kind),
@@ -104,7 +104,7 @@ fn of_looks(others: &[String]) -> Words<'_> {
     }
 }
 
-// What the word of a keeper asks for, with those behind it.
+// What the word of a keeper asks for, with those after it.
 fn of_register<'w>(word: &str, others: &'w [String]) -> Words<'w> {
     match keeper_of(word) {
         Some(keeper) => of_keeper(keeper, others),
@@ -147,7 +147,7 @@ fn of_place<'w>(keeper: KeeperWord, how: How, place: Option<Place<'w>>) -> Words
     }
 }
 
-// The place that a flag names with its value and the words behind it.
+// The place that a flag names with its value and the words after it.
 fn place_of<'w>(flag: &str, value: &'w str, others: &[String]) -> Option<Place<'w>> {
     match flag {
         "--db" => file_at(OpenMode::Made, value, others),

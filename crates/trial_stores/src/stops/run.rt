@@ -19,7 +19,7 @@ use vet_store::store::Store;
 
 /// How the files are opened. With a checkpoint, each commit first copies the log if it has a frame.
 pub fn options(checkpoint: bool) -> Options {
-    // nobody but this program reads the log, so that its salts need no chance
+    // only this program reads the log, so its salts need not be random
     let mut options = Options::new(0);
     if checkpoint {
         options.checkpoint_frames = 1;
@@ -27,7 +27,7 @@ pub fn options(checkpoint: bool) -> Options {
     options
 }
 
-/// Makes a register in files and gives it items. Prints the answers and what it holds in the end, and gives the files
+/// Makes a register in files and gives it items. Prints the answers and what it holds at the end, and gives the files
 /// back.
 pub fn run_files<D: Disk + Drop, K: Keeper>(
     rt: &impl Print,

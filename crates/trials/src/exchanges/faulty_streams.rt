@@ -1,4 +1,4 @@
-//! A reader and a writer that give and take a byte a call, and fail at a given call. Both count their calls.
+//! A reader and a writer that give and take one byte for each call, and fail at a given call. Both count their calls.
 ghost use Rattle.std.specs.Prelude.{◌≡◌, IfOk};
 
 use std::alloc::Global;
@@ -16,7 +16,7 @@ pub enum Interruptions {
     Always,
 }
 
-/// Gives a byte a read.
+/// Gives one byte for each read.
 #[derive(Drop)]
 pub struct FaultyReader<'a> {
     left: &'a [u8],
@@ -41,7 +41,7 @@ impl<'a> FaultyReader<'a> {
         }
     }
 
-    // Whether the read that is being made is interrupted.
+    // Whether the present read is interrupted.
     fn is_interrupted(&self) -> bool {
         match self.interruptions {
             Interruptions::Never => false,
@@ -70,7 +70,7 @@ impl Read for FaultyReader<'_> {
     }
 }
 
-/// What a write does that finds no room.
+/// What a write without room does.
 #[derive(Clone, Copy)]
 pub enum WithoutRoom {
     /// It fails.
@@ -81,7 +81,7 @@ pub enum WithoutRoom {
     TakesNothing,
 }
 
-/// Takes a byte a write, as long as there is room.
+/// Takes one byte for each write, as long as there is room.
 #[derive(Drop)]
 pub struct FaultyWriter {
     /// The bytes that were taken.
@@ -122,7 +122,7 @@ impl Write for FaultyWriter {
     }
 }
 
-// What a write comes to that finds no room.
+// The result of a write without room.
 fn written_without_room(without_room: WithoutRoom) -> io::Result<usize>
     ensures { IfOk result (λ n. n ≡ 0) }
 {

@@ -1,4 +1,4 @@
-//! Requests that are at hand, each of which is read, routed and answered by calls that make their own room.
+//! Requests in memory, each of which is read, routed and answered by calls that make their own room.
 
 use crate::exchanges::served;
 use sqlite::Alter;

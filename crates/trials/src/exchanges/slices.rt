@@ -1,4 +1,4 @@
-//! Requests that are at hand, served by one call.
+//! Requests in memory, served by one call.
 
 use crate::exchanges::served;
 use sqlite::Alter;

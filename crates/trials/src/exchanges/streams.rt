@@ -1,4 +1,4 @@
-//! Requests over streams that give and take a byte a call, and fail.
+//! Requests over streams that give and take one byte for each call, and fail.
 
 use crate::exchanges::faulty_streams::{FaultyReader, FaultyWriter, Interruptions, WithoutRoom};
 use crate::exchanges::served;
@@ -18,7 +18,7 @@ use vet_store::store::Store;
 /// How many words a request has: those on its reader, those on its writer, and itself.
 const WORDS_OF_EACH: usize = 5;
 
-/// Serves each request over streams of its own. Prints what came of it, and then what was written.
+/// Serves each request over streams of its own. Prints its status or fault, and then what was written.
 pub fn serve_over_streams<S: Alter, W: Write>(
     rt: &HostRuntime,
     store: &mut Store<S, MaskKeeper>,

@@ -28,7 +28,7 @@ pub enum Task {
     Memory(usize),
 }
 
-/// What the words behind `times` say: over which keeper of the classes, and what is to be timed.
+/// What the words after `times` say: the keeper of the classes, and what is to be timed.
 pub fn read_task(rt: &HostRuntime) -> Result<(KeeperWord, Task), Fault> {
     let mut words = env::args(rt)?;
     let _name = words.next();
@@ -73,7 +73,7 @@ fn number(word: &Option<String>) -> Result<usize, Fault> {
     }
 }
 
-/// The path behind the task.
+/// The path after the task.
 pub fn read_path(rt: &HostRuntime) -> Result<String, Fault> {
     let mut words = env::args(rt)?;
     match words.nth(4) {
