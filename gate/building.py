@@ -1,6 +1,6 @@
-"""The building of the libraries from the lowest up, each proved over kept work once those below it are built. One that
-was built from the same sources over the same contracts stays, whatever bodies below it have changed. `rt all` and
-`rt run` would read all sources anew before, which takes minutes."""
+"""Builds the libraries from the lowest up, each proved over kept work once those below it are built. A library that was
+built from the same sources over the same contracts stays, whatever bodies below it have changed. `rt all` and `rt run`
+would first read all sources again, which takes minutes."""
 
 import concurrent.futures
 import hashlib
@@ -11,22 +11,22 @@ import time
 import kit
 from kit import ROOT, rtlib
 
-# where what each step says is kept
+# where the output of each step is kept
 KEPT = os.path.join(ROOT, "out", "kept")
 PROVED = re.compile(r"(fn|struct|enum|impl) \S+: proved$")
-# the most jobs of a proof, and what each further one takes of memory, as a part of the first
+# the most jobs of a proof, and the memory of each further job, as a part of the first's
 MOST_JOBS, MORE_MEMORY = 4, 0.6
 
 
 def files_below(folder, leave=()):
-    """The files of a folder and of the folders in it, but for those of the names to leave."""
+    """The files of a folder and of the folders in it, except folders with these names."""
     for at, folders, names in os.walk(folder):
         folders[:] = sorted(set(folders) - set(leave))
         yield from (os.path.join(at, name) for name in sorted(names))
 
 
 def sum_of(files):
-    """A sum of the files' places and contents."""
+    """A checksum of the files' paths and contents."""
     sums = hashlib.sha256()
     for file in files:
         with open(file, "rb") as it:
@@ -36,8 +36,8 @@ def sum_of(files):
 
 
 def contracts(crate):
-    """The files that say what the crate promises: definitions, lemmas, and its code without the bodies, as its
-    built library has it. A program has no library, so its code stands for it."""
+    """The files with what the crate promises: definitions, lemmas, and its code without the bodies, as its built
+    library has it. A program has no library, so its code is taken instead."""
     proofs = os.path.join(crate.folder, "proofs")
     yield from files_below(os.path.join(crate.folder, "specs"))
     yield from (file for file in files_below(proofs) if os.path.dirname(file) == proofs)
@@ -45,14 +45,14 @@ def contracts(crate):
 
 
 def basis(crate):
-    """A sum of what a library's proofs rest on: its own files, and what the libraries below it promise."""
+    """A checksum of what a library's proofs rest on: its own files, and what the libraries below it promise."""
     own = [os.path.join(rtlib.KIT, "WHAT"), os.path.join(ROOT, "crates.txt"), *rtlib.files_of(crate.folder)]
     return sum_of([*own, *(file for it in crate.below() for file in contracts(it))])
 
 
 def stays(crate):
-    """Whether a library was built on this basis: then a body below it has changed at most, which it does not read,
-    and `rt` is told that it is as its sources are now."""
+    """Whether a library was built on this basis. Then at most a body below it has changed, which it does not read, and
+    its stamp is written again so that `rt` takes it as up to date."""
     place = os.path.dirname(crate.rlib)
     if not crate.is_built() and rtlib.text_of(f"{place}/basis") == basis(crate):
         with open(f"{place}/stamp", "w", encoding="utf-8") as it:
@@ -61,7 +61,7 @@ def stays(crate):
 
 
 def note_basis(crate):
-    """Writes down on what a library was built, where that is what stands here now."""
+    """Writes down the basis on which a library was built, if that is still its basis."""
     on = basis(crate)
     if crate.is_built():
         with open(os.path.join(os.path.dirname(crate.rlib), "basis"), "w", encoding="utf-8") as it:
@@ -69,19 +69,19 @@ def note_basis(crate):
 
 
 def unproved(said):
-    """The lines of what a step said, without those of what is proved."""
+    """The lines that a step printed, without those that say that something is proved."""
     return [line for line in said.split("\n") if line and not PROVED.match(line)]
 
 
 def jobs_of(idle, others, memory=kit.MEMORY_OF_A_PROOF):
-    """How many jobs a proof has: its share of the idle processors among those that are ready, it and the others, which
-    is rounded up as the first is of the longest chain; as far as memory goes."""
+    """How many jobs a proof has, as far as memory allows: its share of the idle processors among all crates that are
+    ready. The share is rounded up, since the first crate is the one of the longest chain."""
     by_memory = 1 + int(max(kit.free() / memory - 1, 0) / MORE_MEMORY)
     return max(1, min(-(-idle // others), by_memory, MOST_JOBS))
 
 
 class Built:
-    """What came of a library: whether it is built, what was said, and how many seconds it took."""
+    """The result of building a library: whether it is built, what was printed, and how many seconds it took."""
 
     def __init__(self, crate, jobs):
         begun = time.monotonic()
@@ -96,8 +96,8 @@ class Built:
 
 
 class Building:
-    """Libraries that are built side by side, as many as there are lanes, each by a call of `build` with its jobs. Who
-    looks on is told of each as it begins and as it ends."""
+    """Libraries that are built side by side, as many as there are lanes, each by a call of `build` with its jobs. The
+    onlooker is called for each as it begins and as it ends."""
 
     def __init__(self, libraries, onlooker, build=Built, lanes=None):
         self.onlooker, self.build, self.lanes = onlooker, build, lanes or kit.lanes()
@@ -107,7 +107,7 @@ class Building:
 
     @staticmethod
     def lines_above(crate, libraries):
-        """The lines of the longest chain of crates from this one up, which the chain takes time by."""
+        """The lines of the longest chain of crates from this one up, as a measure of its time."""
         above = [it for it in libraries if crate in it.deps]
         return crate.count(rb"\n") + max((Building.lines_above(it, libraries) for it in above), default=0)
 
@@ -129,8 +129,9 @@ class Building:
         return not self.left and self.onlooker.is_well
 
     def ready(self):
-        """The libraries that may begin. While the next one of the longest chain waits for those that run, none begins
-        that has a chain of less than half its own: that one is to find a second processor, and the memory for it."""
+        """The libraries that may begin. While the next library of the longest chain waits for those that are running,
+        none begins that has a chain of less than half its length, so that a second processor and its memory stay
+        free."""
         found = [it for it in self.left if self.built.issuperset(it.deps)]
         begun = self.built.union(crate for crate, _ in self.running.values())
         if not self.left or self.left[0] in found or not begun.issuperset(self.left[0].deps):
@@ -138,7 +139,7 @@ class Building:
         return [it for it in found if 2 * self.above[it] >= self.above[self.left[0]]]
 
     def begin(self, pool):
-        """Begins those that are ready, as many as there are lanes, and shares the processors among them."""
+        """Begins the libraries that are ready, as many as there are lanes, and shares the processors among them."""
         ready = self.ready()
         for at, crate in enumerate(ready):
             idle = kit.processors() - sum(jobs for _, jobs in self.running.values())

@@ -1,5 +1,5 @@
-"""The kit's own module, `rtlib`, which knows the crates and the files that they are made of; and what this machine
-has for proofs, reckoned as the kit does."""
+"""The kit's own module, `rtlib`, which knows the crates and the files that they are made of; and what this machine has
+for proofs, estimated as the kit does."""
 
 import os
 import shutil
@@ -13,16 +13,16 @@ sys.dont_write_bytecode = True
 sys.path.insert(0, KIT)
 import rtlib  # noqa: E402
 
-# what a proof is reckoned to take, in bytes: the largest crates take more, but never all of them at once. With 24 GB
-# that is three, so that there is room for the trials of edits too
+# how many bytes a proof is expected to take: the largest crates take more, but never all of them at once. With 24 GB
+# three proofs run at once, so that there is room for the trials of edits too
 MEMORY_OF_A_PROOF = 6 << 30
 # the stamps that one call asks for, by thread
 STAMPS = threading.local()
 
 
 def stamp_once(crate, made=rtlib.Crate.stamp):
-    """A crate's stamp, with each library below read once. By itself the module reads one for each way that leads to it:
-    that of the program took half a minute."""
+    """A crate's stamp, with each library below read once. By itself the module reads a library once for each path that
+    leads to it: the stamp of the program took half a minute."""
     if getattr(STAMPS, "seen", None) is None:
         STAMPS.seen = {}
         try:
@@ -38,8 +38,8 @@ rtlib.Crate.stamp = stamp_once
 
 
 def begin():
-    """To be called before any thread runs: what is begun then ends with this run, however that ends. At Ctrl-C Python
-    would wait for what its threads have begun."""
+    """To be called before any thread runs. Processes that are started later end with this run, however it ends. At
+    Ctrl-C Python would otherwise wait for what its threads have started."""
     rtlib.guarded()
     signal.signal(signal.SIGINT, signal.SIG_DFL)
 

@@ -1,6 +1,6 @@
-"""What the proofs of each crate take of processors and of memory, seen from outside: the processes of the prover, and
-those that they start, are looked at each second. What a prover took in its last second is lost, and so is one that ends
-within a second."""
+"""How much processor time and memory the proofs of each crate take, seen from outside: it looks each second at the
+processes of the prover, and at those that they start. What a prover takes in its last second is lost, and so is a
+prover that ends within a second."""
 
 import contextlib
 import os
@@ -11,12 +11,12 @@ GB = 1_000_000_000
 SECOND_TICKS = os.sysconf("SC_CLK_TCK")
 ALL = "all crates"
 PROVER = "rattle"
-# shared memory is read at one look of this many, since that takes longer than the rest of a look
+# shared memory is read only at every tenth look, since that takes longer than the rest of a look
 SELDOM = 10
 
 
 def processes():
-    """Each process: its number, with its parent, its name, its start, and the ticks that it took, with those of the
+    """Each process by its number: its parent, its name, its start, and the ticks that it took, including those of the
     processes that it started and that have ended."""
     found = {}
     for number in filter(str.isdigit, os.listdir("/proc")):
@@ -28,7 +28,8 @@ def processes():
 
 
 def prover_of(number, top, found):
-    """The uppermost prover from which a process comes, or which it is, below the process `top`. Otherwise None."""
+    """The uppermost prover below the process `top` that started a process, or is it. None if there is no such
+    prover."""
     prover = None
     while number in found and number != top:
         prover = number if found[number][1] == PROVER else prover
@@ -37,7 +38,8 @@ def prover_of(number, top, found):
 
 
 def work_of(number):
-    """The crate that a process of the prover works on, and whether it proves it or tries edits of it, or None."""
+    """The crate that a process of the prover works on, and whether it proves it or tries its edits. None if it works on
+    no crate."""
     with contextlib.suppress(OSError, ValueError, IndexError):
         with open(f"/proc/{number}/cmdline", encoding="utf-8", errors="replace") as it:
             words = it.read().split("\0")
@@ -47,7 +49,7 @@ def work_of(number):
 
 
 def memory_of(number):
-    """What a process holds in bytes, and the most that it held."""
+    """How many bytes a process holds, and the most that it held."""
     told = {}
     with contextlib.suppress(OSError), open(f"/proc/{number}/status", encoding="utf-8", errors="replace") as it:
         told = dict(line.split(":", 1) for line in it if ":" in line)
@@ -55,14 +57,14 @@ def memory_of(number):
 
 
 def share_of(number):
-    """What a process holds in bytes, where memory that several share counts as a part for each."""
+    """How many bytes a process holds. Memory that several processes share is divided among them."""
     with contextlib.suppress(OSError), open(f"/proc/{number}/smaps_rollup", encoding="utf-8", errors="replace") as it:
         return sum(1024 * int(line.split()[1]) for line in it if line.startswith("Pss:"))
     return 0
 
 
 class Watched:
-    """What was seen of the provers below a process, by crate and by whether they prove it or try edits of it."""
+    """What was seen of the provers below a process, by crate and by whether they prove it or try its edits."""
 
     def __init__(self, top):
         self.top = top
@@ -81,7 +83,7 @@ class Watched:
 
     def go_on(self):
         while not self.over.wait(1):
-            # a process may end while it is looked at, and nothing that is watched may fail for it
+            # a process may end during a look, and watching must not make the gate fail
             with contextlib.suppress(Exception):
                 self.look()
 
@@ -104,8 +106,8 @@ class Watched:
         self.looks += 1
 
     def memory(self, prover, numbers):
-        """What a prover holds in bytes, and the most that it held. With several jobs it starts processes that prove for
-        it, and that share most of its memory."""
+        """How many bytes a prover holds, and the most that it held. With several jobs it starts processes that prove
+        for it, and that share most of its memory."""
         now, most = memory_of(prover)
         if len(numbers) == 1:
             return now, most
@@ -114,7 +116,7 @@ class Watched:
         return max(now, self.shared[prover]), most
 
     def lines(self):
-        """A line of each crate's proof and of its edits, and one of all together."""
+        """A line for each crate's proof and one for its edits, and one for all together."""
         minutes = defaultdict(float)
         for work, ticks in self.ticks.values():
             for it in (work, ALL):
