@@ -1,12 +1,12 @@
-"""A register with rows in each of its tables, and changes to its file: some leave a register there, and others leave
-none. That was worked out by hand."""
+"""A register with rows in each of its tables, and changes to its file. Some leave a register there, and others don't,
+which was worked out by hand."""
 
 from typing import NamedTuple
 
 from models.columns import TABLES
 from models.rows import names, optional, packed
 
-# a register with rows in each of the twelve tables: its commands, each with what it is told
+# a register with rows in each of the twelve tables: its commands, each with its answer
 COMMANDS = """2024-05-01 set-criterion reviewed safe-to-run
 #> done 1 moves 0
 2024-05-01 set-policy app criteria=safe-to-deploy
@@ -118,7 +118,7 @@ edge,0,1,normal,%0aedge,0,2,normal,%0a
 
 
 class Shown(NamedTuple):
-    """All that is shown of a register: what is held, the three files, and what commands are told."""
+    """What is shown of a register: what it holds, the three files, and the answers to commands."""
 
     held: str
     audits: str
@@ -127,7 +127,7 @@ class Shown(NamedTuple):
     more: str
 
     def replaced(self, *texts):
-        """The same with other texts in place of some, each of which stands somewhere."""
+        """The same with some texts replaced by others. Each of them must occur."""
         found = self
         for text, other in zip(texts[::2], texts[1::2], strict=True):
             if not any(text in it for it in found):
@@ -149,7 +149,8 @@ ALTERED_TABLES = [
     "DROP TABLE reviews",
 ]
 
-# what no cell of a type holds: a number below all, a word that is no name, a version or requirement, no packed list
+# what no cell of a type holds: a number that is too low, a text that is no name, version or requirement, and bytes that
+# are not a packed list
 BAD_CELLS = {"INTEGER": "-2", "TEXT": "' '", "BLOB": "x'31'"}
 # a day after the last one
 BAD_DAY = "2932897"
@@ -255,7 +256,7 @@ BAD_FORMS = [
 
 # a column of a table
 CLASS = "class INTEGER NOT NULL"
-# changes in the statement that makes a table: the table, and texts with what stands in their places
+# changes in the statement that makes a table: the table, and texts with those that replace them
 OTHER_STATEMENTS = [
     ("standing", CLASS, "class INTEGER"),
     ("standing", CLASS, "class ANY NOT NULL"),

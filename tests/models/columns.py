@@ -1,7 +1,7 @@
-"""The tables of a register's file, a line a table: the one list of them that tests and benches read. It was written by
-hand from "Tables of the store" in definitions.md. Behind its name a column has what it holds: a `number`, a `text`, a
-packed `list`, an `option` (a packed list of none or one), an `option-list` (a packed list of none or one packed list),
-or a `map` (a packed list of keys and packed lists in turn). The columns of a table's key have a `*`."""
+"""The tables of a register's file, the one list of them that tests and benches read. It was written by hand from
+"Tables of the store" in definitions.md. After the name of a column comes what it holds: a `number`, a `text`, a packed
+`list`, an `option` (a packed list of none or one), an `option-list` (a packed list of none or one packed list), or a
+`map` (a packed list of keys and packed lists in turn). The columns of a table's key have a `*`."""
 
 COLUMNS = {
     "meta": "one:number* version:number step:number next_entry:number next_review:number moves_limit:number "
@@ -26,7 +26,7 @@ TYPES = {"number": "INTEGER", "text": "TEXT", "list": "BLOB", "option": "BLOB", 
 
 
 def columns_of(line):
-    """The name of each column, what it holds, and whether it is one of the key."""
+    """The name of each column, what it holds, and whether it is part of the key."""
     parts = (word.split(":") for word in line.split(" "))
     return [(name, kind.rstrip("*"), kind.endswith("*")) for name, kind in parts]
 

@@ -20,7 +20,7 @@ OPERATORS = ("<", ">", "=", "<=", ">=", "~", "^")
 
 @contextlib.contextmanager
 def opened(path, mode="rw"):
-    """A connection of Python's `sqlite3`, which is closed in the end."""
+    """A connection of Python's `sqlite3`, which is closed at the end."""
     tables = sqlite3.connect(f"file:{path}?mode={mode}", uri=True, isolation_level=None)
     try:
         yield tables
@@ -56,7 +56,7 @@ def after_all(word, held, number):
 
 
 def text_of(word):
-    """The bytes of a text that stands as a word of a line."""
+    """The bytes of a text that a word of a line writes."""
     return b"" if word == "%" else unquote_to_bytes(word)
 
 
@@ -94,7 +94,7 @@ def day_number(day):
 
 
 def fields_of(words, keys):
-    """What stands as `KEY=TEXT`, by its key, and the words before that."""
+    """The texts written as `KEY=TEXT`, by their keys, and the words before them."""
     fields, plain = {}, []
     for word in words:
         key, mark, said = word.partition("=")
@@ -120,7 +120,7 @@ class Rows:
 
     def put(self, table, *row):
         if len(row) != len(TABLES[table]) or row in self.tables[table]:
-            raise AssertionError(f"{table}: {row} stands twice, or is no row")
+            raise AssertionError(f"{table}: {row} is there twice, or is not a row")
         self.tables[table].append(row)
 
     def take_step(self, words):

@@ -16,7 +16,7 @@ from product.register import DAY, FILES, FOLDER, REPORTS, Register
 MOST_ALLOCATIONS = 1 << 20
 # how many are refused one by one at the front, where words, input and tables are read, and at the end, where a command
 # is kept and told; and about how many between
-AT_THE_FRONT, AT_THE_END, BETWEEN = 150, 250, 250
+AT_THE_START, AT_THE_END, BETWEEN = 150, 250, 250
 # how many runs of a sweep are made at a time; the sweeps themselves are made side by side
 AT_ONCE = 2
 
@@ -144,7 +144,7 @@ class Sweep:
 def numbers_up_to(last):
     """The allocations that are refused: the first and the last ones, and some between."""
     step = max(1, last // BETWEEN)
-    chosen = itertools.chain(range(1, AT_THE_FRONT), range(1, last, step), range(last - AT_THE_END, last + 1))
+    chosen = itertools.chain(range(1, AT_THE_START), range(1, last, step), range(last - AT_THE_END, last + 1))
     return sorted({number for number in chosen if 1 <= number <= last})
 
 

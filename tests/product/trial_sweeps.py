@@ -22,7 +22,7 @@ TRIALS = os.path.join(os.path.dirname(os.path.dirname(EXAMPLES)), "crates", "tri
 # more than a few commands to a register in a file take
 MOST_OF_STORE = 100_000
 # how many are refused one by one at the start, and how far apart the others are
-AT_THE_FRONT, APART = 400, 23
+AT_THE_START, APART = 400, 23
 ANSWERS = (b"done ", b"already", b"refused ")
 SETTING = b"limit "
 TOLD = b"#> "
@@ -211,7 +211,7 @@ class InFile(NamedTuple):
         return told.with_end(told.own[1] + WANT, rows)
 
     def numbers(self):
-        return itertools.chain(range(AT_THE_FRONT), range(AT_THE_FRONT, MOST_OF_STORE, self.apart))
+        return itertools.chain(range(AT_THE_START), range(AT_THE_START, MOST_OF_STORE, self.apart))
 
 
 def tables_in(path):

@@ -8,7 +8,7 @@ from models.machine import Machine
 from models.reports import reports_of
 from product.documents import given_of
 from product.refusals import NO_MEMORY_BEFORE_ALL, WANT, run
-from product.trial_sweeps import APART, AT_THE_FRONT, MOST_OF_STORE, SHUT, TRIALS
+from product.trial_sweeps import APART, AT_THE_START, MOST_OF_STORE, SHUT, TRIALS
 from served.server import reply_of, request_of, status_of
 
 LINES = [
@@ -53,7 +53,7 @@ def sweep(_name, library, mark):
     own, others = served(replies_to(LINES)), set(allowed())
     requests = [request_of("POST", "/commands", given_of(line).document) for line in LINES]
     words = ["exchanges", "slices", *requests, COUNTS]
-    numbers = itertools.chain(range(AT_THE_FRONT), range(AT_THE_FRONT, MOST_OF_STORE, APART))
+    numbers = itertools.chain(range(AT_THE_START), range(AT_THE_START, MOST_OF_STORE, APART))
     for count, refused in enumerate(numbers):
         met, answer = run(TRIALS, words, b"", refused, library, mark)
         if answer != own and not (met and answer in others):

@@ -19,9 +19,9 @@ from served.swept import LOOK
 
 # more than any of these requests takes, with the start of the program
 MOST_ALLOCATIONS = 1 << 20
-# how many are refused at the start, where a request is read and its route found, and at the end, where a command is
+# how many are refused at the start, when a request is read and its route is found, and at the end, when a command is
 # written and answered
-AT_THE_FRONT, AT_THE_END = 10, 12
+AT_THE_START, AT_THE_END = 10, 12
 # how often a run is tried if it does not meet its refusal
 TRIES = 5
 REFUSED, ENDED = reply_of(503, b"refused 29 NoMemory\n"), b""
@@ -40,9 +40,9 @@ class Run(NamedTuple):
 
 
 class Sweep:
-    """The runs of a request, each on a copy of a register in a file. `environment` makes that of a run, from the number
-    of the allocation that is refused, the file that marks the refusal, where the count of allocations begins, and the
-    variables by which writes are counted."""
+    """The runs of a request, each on a copy of a register in a file, if the request has one. `environment` makes the
+    environment of a run: from the number of the allocation that is refused, the file that marks the refusal, whether
+    allocations are counted from the connection on, and the variables by which writes are counted."""
 
     def __init__(self, request, files, environment):
         self.request, self.files, self.environment = request, files, environment
@@ -72,13 +72,13 @@ class Sweep:
                     reply, met = server.reply_or_end(self.request.given), os.path.exists(mark)
                     wrote = bool(path) and met_at(counts).writes > written
                     later = server.reply_or_end(NEXT if path else self.request.look)
-            except NotListening as unheard:
-                reply, met, wrote, later = unheard.answer, os.path.exists(mark), False, ENDED
+            except NotListening as ended:
+                reply, met, wrote, later = ended.answer, os.path.exists(mark), False, ENDED
             return Run(met, wrote, (reply, later, rows_in(path) if path else None))
 
     def run_that_meets(self, refused):
-        """A run that has met its refusal by the time of the reply. On a busy machine the program may come to one of the
-        last allocations only after it, so there are a few tries."""
+        """A run that has met its refusal by the time of the reply, or the last of a few tries. On a busy machine the
+        program may come to one of the last allocations only after the reply."""
         for _ in range(TRIES):
             run = self.run(refused)
             if run.met:
@@ -112,8 +112,8 @@ class Sweep:
             yield NO_MEMORY, ENDED, self.before
 
     def shut(self):
-        """What it may leave if its commit failed: the store is shut, and the command is not in the tables. A client
-        that only reads gets the same reply as before."""
+        """What the request may leave if its commit failed: the store is shut, and the command is not in the tables. A
+        client that only reads gets the same reply as before."""
         if self.request.commits() and (self.request.in_file or self.request.look != LOOK):
             yield REFUSED, OF_SHUT, self.before
 
@@ -130,7 +130,7 @@ class Sweep:
         return f"allocation {refused}, wrote {run.wrote}: {reply!r}, then {later!r}, and {kept}"
 
     def last(self):
-        """The number of the last allocation of a run."""
+        """The number of the last allocation that a run meets by the time of its reply."""
         met, more = 0, MOST_ALLOCATIONS
         while more - met > 1:
             middle = min((met + more) // 2, 4 * met + 64)
@@ -141,7 +141,7 @@ class Sweep:
 def numbers_up_to(last, between):
     """The numbers of the allocations that are refused: the first and last ones, and some between."""
     step = max(1, last // between)
-    chosen = [*range(1, AT_THE_FRONT + 1), *range(1, last, step), *range(last - AT_THE_END + 1, last + 1)]
+    chosen = [*range(1, AT_THE_START + 1), *range(1, last, step), *range(last - AT_THE_END + 1, last + 1)]
     return sorted({number for number in chosen if 1 <= number <= last})
 
 
