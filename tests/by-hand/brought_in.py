@@ -62,12 +62,6 @@ def over_failing_streams(streams, test):
         test(streams.Runner(folder), streams.PRINTED[0])
 
 
-def at_a_path(test):
-    """A test of run_new, which has a path at which no file stands."""
-    with tempfile.TemporaryDirectory() as folder:
-        test(os.path.join(folder, "register.db"))
-
-
 def are_told(tables, cases):
     """What is told of some dependency tables, by one run."""
     found = tables.told_of([given for _, given, _ in cases])
@@ -134,7 +128,7 @@ def of_databases(programs):
     all, and the faults of each key are those of run_serve, where one program is told them all."""
     new, opened, register = (load(it, programs) for it in ("store/run_new", "store/run_opened", "program/run_register"))
     for test in new.TESTS:
-        yield test.__name__, partial(at_a_path, test)
+        yield test.__name__, partial(new.at_a_path, test)
     opened.ASKED = opened.ASKED[1:2]
     for name, test in opened.tests_of_files():
         if name.startswith("the register, ") or not name.endswith(("dumped", "vacuumed")):
