@@ -1,4 +1,4 @@
-"""What a function answers that gives up for want of memory, by its result."""
+"""The answer of a function that gives up because memory ran out, by the type of its result."""
 
 import re
 from typing import NamedTuple

@@ -1,5 +1,5 @@
-"""The tests that are given the planted programs: those of the scripts of tests/ that meet most functions. Of scripts
-with many tests of one kind each so manieth is taken."""
+"""The tests that are given the planted programs: those of the scripts of tests/ that reach most functions. Of a script
+with many tests of one kind, only one in so many is taken."""
 
 import glob
 import importlib.machinery
@@ -17,10 +17,10 @@ TESTS = os.path.dirname(os.path.dirname(os.path.abspath(__file__)))
 SCRIPTS = ("machine/run_trials", "files/run_files", "files/run_written")
 # 8 and 32 MB, for which a planted program takes over a minute
 LEFT_OUT = ("the largest file", "the_largest_input", "one_byte_more")
-# a test with this keeper meets no place of the product that the same with the plain one does not
+# a test with this keeper reaches no place of the product that the same test with the plain one does not reach
 OTHER_KEEPER = ", relay"
-# how far apart those stand that are taken: batches of run_chains and of run_demand, dependency tables in a batch, lists
-# of run_store, and forms of tables of run_opened
+# one in so many of these is taken: batches of run_chains and of run_demand, lists of run_store, and forms of tables of
+# run_opened; and how many dependency tables are in a batch
 CHAINS_APART = 40
 QUESTIONS_APART = 60
 TABLES_AT_ONCE = 100
@@ -29,9 +29,9 @@ STORED_APART = 5
 FORMS_APART = 5
 # how many drawn lists of run_held_files are taken
 LISTS = 8
-# of run_keepers what has more entries than a planted program holds, and what runs no program
+# tests of run_keepers that have more entries than a planted program holds, or run no program
 NOT_OF_KEEPERS = ("each_two_are_joined", "walks_find_what_chains_do")
-# these meet no function that others don't meet, and wait
+# these reach no function that others don't reach, and wait
 UNSERVED = ("always_out_of_memory", "a_wait_that_fails_is_one_of_them", "a_listener_that_is_lost")
 # tests of run_exchanges that make ten million reads, or start a program for each byte of a reply
 NOT_OF_EXCHANGES = ("reads are interrupted without end", "each write ")

@@ -1,5 +1,5 @@
-"""A copy of the repository in which each function that can answer the want of memory asks whether it is to give up:
-at its head, at the head of each of its branches, and behind each `if` that has no `else`."""
+"""A copy of the repository in which each function that can answer that memory ran out asks whether it is to give up: at
+its head, at the head of each of its branches, and after each `if` without an `else`."""
 
 import os
 import re
@@ -8,7 +8,7 @@ from typing import NamedTuple
 
 from answers import LOWEST, answer_of
 
-# their contracts say what they answer, and so not that they give up; what one of them is given can't be let go
+# their contracts say what they answer, so they can't give up; the argument of one of them can't be dropped
 EXACT = {
     "vet_rows::state_of::found_register",
     "vet_item_rows::read::cells::int_at",
