@@ -27,6 +27,8 @@ use Rattle.vet_item_rows.specs.SettingRows.{all_criteria, peer_row}
 use Rattle.vet_item_rows.specs.Values.{IsCriterion, IsHeldEntry, IsPackage, IsPublisher}
 use Rattle.vet_item_rows.specs.declared.read.criteria.SourcedCriterion.{SourcedCriterion}
 use Rattle.vet_tables.specs.Cells.{RowsValue}
+use Rattle.vet_tables.specs.declared.table_name.FactsTable.TheVariants.{Criteria as CriteriaTable, Entries, Peers}
+use Rattle.vet_tables.specs.declared.table_name.FactsTable.TheVariants.{Publishers}
 use Rattle.vet_tables.specs.declared.table_name.TableName.TheVariants as table
 
 -- ---- facts as they are held
@@ -105,7 +107,7 @@ pub record AreItemsOf (criteria : List SourcedCriterion) (entries : List HeldEnt
 
 -- the rows of four tables are those of some facts, in whatever order
 pub record AreRowsOf (rows : RowsValue) (facts : Facts) : Type 0 where
-  pub criteria : SameItems (rows table.Criteria) (all_criteria facts)
-  pub entries : SameItems (rows table.Entries) (all_entries facts)
-  pub publishers : SameItems (rows table.Publishers) (flat_map package_rows facts.publishers)
-  pub peers : SameItems (rows table.Peers) (map (λ peer. peer_row peer.settings) facts.peers)
+  pub criteria : SameItems (rows (table.Facts CriteriaTable)) (all_criteria facts)
+  pub entries : SameItems (rows (table.Facts Entries)) (all_entries facts)
+  pub publishers : SameItems (rows (table.Facts Publishers)) (flat_map package_rows facts.publishers)
+  pub peers : SameItems (rows (table.Facts Peers)) (map (λ peer. peer_row peer.settings) facts.peers)

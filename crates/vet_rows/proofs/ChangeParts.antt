@@ -23,8 +23,9 @@ use Rattle.vet_rows.specs.RowExchanges.{exchange_of}
 use Rattle.vet_rows.specs.StandingChanges.{move_exchanges}
 use Rattle.vet_rows.specs.declared.row_changes.exchange.Exchange.{Exchange}
 use Rattle.vet_tables.specs.Forms.{code}
+use Rattle.vet_tables.specs.declared.table_name.DemandTable.TheVariants.{Edges, Nodes, Policies}
 use Rattle.vet_tables.specs.declared.table_name.TableName.{TableName}
-use Rattle.vet_tables.specs.declared.table_name.TableName.TheVariants.{Edges, Nodes, Policies}
+use Rattle.vet_tables.specs.declared.table_name.TableName.TheVariants as table
 
 -- ---- of each edit
 
@@ -61,9 +62,9 @@ desk_rise (Some e) d = desk_change_rises e.change e.entry d
 
 -- an edit of facts leaves policies, nodes and edges
 pub facts_leave : (e : Edit) (f : Facts)
-    → (of_table (fact_exchanges e f) Policies ≡ exchange_of Policies [] [])
-    × ((of_table (fact_exchanges e f) Nodes ≡ exchange_of Nodes [] [])
-    × (of_table (fact_exchanges e f) Edges ≡ exchange_of Edges [] []))
+    → (of_table (fact_exchanges e f) (table.Demand Policies) ≡ exchange_of (table.Demand Policies) [] [])
+    × ((of_table (fact_exchanges e f) (table.Demand Nodes) ≡ exchange_of (table.Demand Nodes) [] [])
+    × (of_table (fact_exchanges e f) (table.Demand Edges) ≡ exchange_of (table.Demand Edges) [] []))
 facts_leave (edit.Criteria criteria) f = (refl, (refl, refl))
 facts_leave (edit.Insert place h) f = (refl, (refl, refl))
 facts_leave (edit.Remove place) f = (refl, (refl, refl))

@@ -37,16 +37,17 @@ use Rattle.vet_rows.proofs.FitRows.{edges_fit, nodes_fit, policies_fit}
 use Rattle.vet_rows.proofs.SameKeys.{own_key, same_text, same_whole, text_at}
 use Rattle.vet_tables.specs.Cells.{Row, same_key}
 use Rattle.vet_tables.specs.Forms.{form_of}
-use Rattle.vet_tables.specs.declared.table_name.TableName.TheVariants.{Edges, Nodes, Policies}
+use Rattle.vet_tables.specs.declared.table_name.DemandTable.TheVariants.{Edges, Nodes, Policies}
+use Rattle.vet_tables.specs.declared.table_name.TableName.TheVariants as table
 
 abbrev same_policy : Row → Row → Bool
-same_policy = same_key (form_of Policies)
+same_policy = same_key (form_of (table.Demand Policies))
 
 abbrev same_node : Row → Row → Bool
-same_node = same_key (form_of Nodes)
+same_node = same_key (form_of (table.Demand Nodes))
 
 abbrev same_edge : Row → Row → Bool
-same_edge = same_key (form_of Edges)
+same_edge = same_key (form_of (table.Demand Edges))
 
 -- versions of one text are one
 pub one_version : (v w : VersionValue) → IsVersion v → IsVersion w → version_text v ≡ version_text w → v ≡ w
@@ -65,7 +66,7 @@ policies_keyed policies up read r s i j e =
     let p = in_map policy_row policies r i in
     let q = in_map policy_row policies s j in
     let texts : key_text p.0.key ≡ key_text q.0.key =
-    ap (text_at 0) (sym p.1.1) ∙ same_text Policies r s e 0 (omega arith) ∙ ap (text_at 0) q.1.1 in
+    ap (text_at 0) (sym p.1.1) ∙ same_text (table.Demand Policies) r s e 0 (omega arith) ∙ ap (text_at 0) q.1.1 in
     let keys = one_key p.0.key q.0.key (read p.0 p.1.0) (read q.0 q.1.0) texts in
     p.1.1
     ∙ ap policy_row (of_one_key policy_key_cmp policy_key_total policy_key_cmp-IsAntisymmetric key_of policies up p.0
@@ -75,7 +76,8 @@ policies_keyed policies up read r s i j e =
 pub policies_replaced : (old new : List KeyedPolicy) → IsByKey policy_key_cmp key_of new → KeysAreRead new
     → IsExchange same_policy (map policy_row old) (map policy_row new) (map policy_row old) (map policy_row new)
 policies_replaced old new up read =
-    whole same_policy (map policy_row old) (map policy_row new) (λ r i. own_key Policies r (policies_fit old r i))
+    whole same_policy (map policy_row old) (map policy_row new)
+    (λ r i. own_key (table.Demand Policies) r (policies_fit old r i))
     (policies_keyed new up read)
 
 pub policies_become : (change : KeyedEdit KeyedPolicy) (old : KeyedRoom KeyedPolicy)
@@ -87,7 +89,8 @@ pub policies_become : (change : KeyedEdit KeyedPolicy) (old : KeyedRoom KeyedPol
 policies_become change old up up_new fits read read_new =
     let new = keyed.edited change old.items in
     of_items same_policy key_of the_policy (removed_item change old.items) (added_item change) old.items new []
-    (map policy_row old.items) (map policy_row new) (λ r i. own_key Policies r (policies_fit old.items r i))
+    (map policy_row old.items) (map policy_row new)
+    (λ r i. own_key (table.Demand Policies) r (policies_fit old.items r i))
     (only_mapped policy_row old.items) (only_mapped policy_row new)
     (edit_is policy_key_cmp policy_key_total policy_key_cmp-IsAntisymmetric key_of change old up fits)
     (λ g x r s i j a b e. one_key g.key x.key (read g i) (read x j) (texts g x r s a b e))
@@ -97,7 +100,7 @@ policies_become change old up up_new fits read read_new =
     texts : (g x : KeyedPolicy) (r s : Row) → IsIn r (the_policy g) → IsIn s (the_policy x)
         → same_policy r s ≡ true → key_text g.key ≡ key_text x.key
     texts g x r s (inl a) (inl b) e =
-        ap (text_at 0) (sym a) ∙ same_text Policies r s e 0 (omega arith) ∙ ap (text_at 0) b
+        ap (text_at 0) (sym a) ∙ same_text (table.Demand Policies) r s e 0 (omega arith) ∙ ap (text_at 0) b
     texts g x r s (inl a) (inr none) e = absurd none
     texts g x r s (inr none) b e = absurd none
 
@@ -135,8 +138,10 @@ nodes_of_one : (p : NamedProject) → NodesAreRead p → (r s : Row) → IsIn r 
 nodes_of_one p read r s i j e =
     let m = in_map (node_row p.name) p.project.nodes r i in
     let n = in_map (node_row p.name) p.project.nodes s j in
-    let names = ap (text_at 1) (sym m.1.1) ∙ same_text Nodes r s e 1 (omega arith) ∙ ap (text_at 1) n.1.1 in
-    let texts = ap (text_at 2) (sym m.1.1) ∙ same_text Nodes r s e 2 (omega arith) ∙ ap (text_at 2) n.1.1 in
+    let names = ap (text_at 1) (sym m.1.1) ∙ same_text (table.Demand Nodes) r s e 1 (omega arith)
+    ∙ ap (text_at 1) n.1.1 in
+    let texts = ap (text_at 2) (sym m.1.1) ∙ same_text (table.Demand Nodes) r s e 2 (omega arith)
+    ∙ ap (text_at 2) n.1.1 in
     let versions = one_version m.0.version n.0.version (read.1 m.0 m.1.0) (read.1 n.0 n.1.0) texts in
     m.1.1 ∙ ap (node_row p.name) (one_node p.project.nodes read.0.nodes_in_order m.0 n.0 m.1.0 n.1.0 names versions)
     ∙ sym n.1.1
@@ -152,12 +157,15 @@ nodes_become change old up up_new fits read =
     let new = keyed.edited change old.items in
     let is = project_edit change old up fits in
     of_coming same_node project_name node_rows (removed_item change old.items) (added_item change) old.items new []
-    (flat_map node_rows old.items) (flat_map node_rows new) (λ r i. own_key Nodes r (nodes_fit old.items r i))
+    (flat_map node_rows old.items) (flat_map node_rows new)
+    (λ r i. own_key (table.Demand Nodes) r (nodes_fit old.items r i))
     (only_flat node_rows old.items) (only_flat node_rows new) is
-    (λ g x r s i j a b e. sym (of_project g r a) ∙ same_text Nodes r s e 0 (omega arith) ∙ of_project x s b)
+    (λ g x r s i j a b e. sym (of_project g r a) ∙ same_text (table.Demand Nodes) r s e 0 (omega arith)
+    ∙ of_project x s b)
     (λ g r s i a none e. none)
     (λ c r s i a j e. (let x = in_flat node_rows new s j in
-    let names = sym (of_project c r a) ∙ same_text Nodes r s e 0 (omega arith) ∙ of_project x.0 s x.1.1 in
+    let names = sym (of_project c r a) ∙ same_text (table.Demand Nodes) r s e 0 (omega arith)
+    ∙ of_project x.0 s x.1.1 in
     let one = of_one_key (slice_cmp nat_cmp) nat_list_cmp_total only_equal project_name new up_new c x.0
     (is.come_in c i) x.1.0 names in
     nodes_of_one c (read c i) r s a (subst (λ p. IsIn s (node_rows p)) (sym one) x.1.1) e))
@@ -166,7 +174,7 @@ nodes_become change old up up_new fits read =
 pub edges_keyed : (projects : List NamedProject) (r s : Row) → IsIn r (flat_map edge_rows projects)
     → IsIn s (flat_map edge_rows projects) → same_edge r s ≡ true → r ≡ s
 edges_keyed projects r s i j =
-    same_whole Edges refl r s (edges_fit projects r i) (edges_fit projects s j)
+    same_whole (table.Demand Edges) refl r s (edges_fit projects r i) (edges_fit projects s j)
 
 pub edges_become : (change : KeyedEdit NamedProject) (old : KeyedRoom NamedProject)
     → IsByKey (slice_cmp nat_cmp) project_name old.items → Fits (slice_cmp nat_cmp) project_name change old
@@ -175,10 +183,11 @@ pub edges_become : (change : KeyedEdit NamedProject) (old : KeyedRoom NamedProje
 edges_become change old up fits =
     let new = keyed.edited change old.items in
     of_items same_edge project_name edge_rows (removed_item change old.items) (added_item change) old.items new []
-    (flat_map edge_rows old.items) (flat_map edge_rows new) (λ r i. own_key Edges r (edges_fit old.items r i))
+    (flat_map edge_rows old.items) (flat_map edge_rows new)
+    (λ r i. own_key (table.Demand Edges) r (edges_fit old.items r i))
     (only_flat edge_rows old.items) (only_flat edge_rows new)
     (project_edit change old up fits)
-    (λ g x r s i j a b e. sym (edge_of g r a) ∙ same_text Edges r s e 0 (omega arith) ∙ edge_of x s b)
+    (λ g x r s i j a b e. sym (edge_of g r a) ∙ same_text (table.Demand Edges) r s e 0 (omega arith) ∙ edge_of x s b)
     (λ g r s i a none e. none)
     (λ c r s i a j e. edges_keyed new r s (flat_in edge_rows new c r i a) j e)
 
@@ -205,7 +214,8 @@ pub nodes_keyed : (projects : List NamedProject) → IsByKey (slice_cmp nat_cmp)
 nodes_keyed projects up read r s i j e =
     let p = in_flat node_rows projects r i in
     let q = in_flat node_rows projects s j in
-    let names = sym (of_project p.0 r p.1.1) ∙ same_text Nodes r s e 0 (omega arith) ∙ of_project q.0 s q.1.1 in
+    let names = sym (of_project p.0 r p.1.1) ∙ same_text (table.Demand Nodes) r s e 0 (omega arith)
+    ∙ of_project q.0 s q.1.1 in
     let one = of_one_key (slice_cmp nat_cmp) nat_list_cmp_total only_equal project_name projects up p.0 q.0 p.1.0
     q.1.0 names in
     nodes_of_one p.0 (read p.0 p.1.0) r s p.1.1 (subst (λ x. IsIn s (node_rows x)) (sym one) q.1.1) e

@@ -34,19 +34,20 @@ use Rattle.vet_rows.proofs.FitRows.{members_fit, reviews_fit}
 use Rattle.vet_rows.proofs.SameKeys.{number_at, own_key, same_number, same_text, same_whole, text_at}
 use Rattle.vet_tables.specs.Cells.{Row, same_key}
 use Rattle.vet_tables.specs.Forms.{form_of}
-use Rattle.vet_tables.specs.declared.table_name.TableName.TheVariants.{Members, Reviews}
+use Rattle.vet_tables.specs.declared.table_name.DeskTable.TheVariants.{Members, Reviews}
+use Rattle.vet_tables.specs.declared.table_name.TableName.TheVariants as table
 
 abbrev same_member : Row → Row → Bool
-same_member = same_key (form_of Members)
+same_member = same_key (form_of (table.Desk Members))
 
 abbrev same_review : Row → Row → Bool
-same_review = same_key (form_of Reviews)
+same_review = same_key (form_of (table.Desk Reviews))
 
 -- ---- members
 
 members_keyed : (names : List Name) (r s : Row) → IsIn r (map member_row names) → IsIn s (map member_row names)
     → same_member r s ≡ true → r ≡ s
-members_keyed names r s i j = same_whole Members refl r s (members_fit names r i) (members_fit names s j)
+members_keyed names r s i j = same_whole (table.Desk Members) refl r s (members_fit names r i) (members_fit names s j)
 
 one_member : (g x : Name) (r s : Row) → IsIn r (the_member g) → IsIn s (the_member x) → text_at 0 r ≡ text_at 0 s
     → g ≡ x
@@ -56,16 +57,17 @@ one_member g x r s (inr none) b e = absurd none
 
 pub members_become : (change : DeskChange) (old : DeskState) (room : DeskRoom) (entry : Option ℕ)
     → FitsDesk change (record { content = old; room = room }) → IsByKey (slice_cmp nat_cmp) own_name old.members
-    → Leads Members (desk_change_exchanges change entry old) (map member_row old.members)
+    → Leads (table.Desk Members) (desk_change_exchanges change entry old) (map member_row old.members)
     (map member_row (desk_changed change entry old).members)
 members_become (Join change) old room entry fits up =
     let new = keyed.edited change old.members in
     of_items same_member own_name the_member (removed_item change old.members) (added_item change) old.members new []
-    (map member_row old.members) (map member_row new) (λ r i. own_key Members r (members_fit old.members r i))
+    (map member_row old.members) (map member_row new)
+    (λ r i. own_key (table.Desk Members) r (members_fit old.members r i))
     (only_mapped member_row old.members) (only_mapped member_row new)
     (edit_is (slice_cmp nat_cmp) nat_list_cmp_total only_equal own_name change
     (record { items = old.members; room = room.members }) up fits)
-    (λ g x r s i j a b e. one_member g x r s a b (same_text Members r s e 0 (omega arith)))
+    (λ g x r s i j a b e. one_member g x r s a b (same_text (table.Desk Members) r s e 0 (omega arith)))
     (λ g r s i a none e. none)
     (λ c r s i a j e. members_keyed new r s ((only_mapped member_row new).item_in c r i a) j e)
 members_become (Open review) old room entry fits up = stays same_member (map member_row old.members)
@@ -82,7 +84,7 @@ one_number : (g x : Review) (r s : Row) → IsIn r (the_review g) → IsIn s (th
     → g.number ≡ x.number
 one_number g x r s (inl a) (inl b) e =
     same_pos g.number x.number
-    (ap (number_at 0) (sym a) ∙ same_number Reviews r s e 0 (omega arith) ∙ ap (number_at 0) b)
+    (ap (number_at 0) (sym a) ∙ same_number (table.Desk Reviews) r s e 0 (omega arith) ∙ ap (number_at 0) b)
 one_number g x r s (inl a) (inr none) e = absurd none
 one_number g x r s (inr none) b e = absurd none
 
@@ -92,7 +94,7 @@ review_exchange : (gone come : Option Review) (old new : List Review) → IsByKe
     (map review_row new)
 review_exchange gone come old new up is =
     of_items same_review review_number the_review gone come old new [] (map review_row old)
-    (map review_row new) (λ r i. own_key Reviews r (reviews_fit old r i)) (only_mapped review_row old)
+    (map review_row new) (λ r i. own_key (table.Desk Reviews) r (reviews_fit old r i)) (only_mapped review_row old)
     (only_mapped review_row new) is
     (λ g x r s i j a b e. one_number g x r s a b e)
     (λ g r s i a none e. none)
@@ -143,7 +145,7 @@ turn reviews place state (Some review) up up_new at =
 pub reviews_become : (change : DeskChange) (old : DeskState) (entry : Option ℕ)
     → IsByKey nat_cmp review_number old.reviews
     → IsByKey nat_cmp review_number (desk_changed change entry old).reviews
-    → Leads Reviews (desk_change_exchanges change entry old) (map review_row old.reviews)
+    → Leads (table.Desk Reviews) (desk_change_exchanges change entry old) (map review_row old.reviews)
     (map review_row (desk_changed change entry old).reviews)
 reviews_become (Join change) old entry up up_new = stays same_review (map review_row old.reviews)
 reviews_become (Open review) old entry up up_new =

@@ -27,7 +27,8 @@ use Rattle.vet_rows.specs.FactsRows.{fact_exchanges, own_entry}
 use Rattle.vet_rows.specs.KeyedItems.{added_item, removed_item, rows_if}
 use Rattle.vet_tables.specs.Cells.{Row, same_key}
 use Rattle.vet_tables.specs.Forms.{form_of}
-use Rattle.vet_tables.specs.declared.table_name.TableName.TheVariants.{Entries}
+use Rattle.vet_tables.specs.declared.table_name.FactsTable.TheVariants.{Entries}
+use Rattle.vet_tables.specs.declared.table_name.TableName.TheVariants as table
 use Rattle.vet_rows.proofs.ExchangeParts.{Leads, removed_by}
 use Rattle.vet_rows.proofs.Exchanges.{AreRowsOf, IsExchange, alike, gone_of, of_items, stays}
 use Rattle.vet_rows.proofs.KeyedExchanges.{IsOneForOne, edit_is, found_in, put_is, take_is, with_is}
@@ -79,17 +80,17 @@ module _ (peers : List HeldPeer) (up : IsByKey (slice_cmp nat_cmp) peer_name pee
 -- ---- the rows of entries
 
 abbrev same_entry : Row → Row → Bool
-same_entry = same_key (form_of Entries)
+same_entry = same_key (form_of (table.Facts Entries))
 
 own_keys : (facts : Facts) (r : Row) → IsIn r (all_entries facts) → same_entry r r ≡ true
-own_keys facts r i = own_key Entries r (entries_fit facts r i)
+own_keys facts r i = own_key (table.Facts Entries) r (entries_fit facts r i)
 
 same_pos : (m n : ℕ) → pos m ≡ pos n → m ≡ n
 same_pos m n e = cc e
 
 same_held : (g h : HeldEntry) → same_entry (entry_row g) (entry_row h) ≡ true → g.number ≡ h.number
 same_held g h e =
-    same_pos g.number h.number (same_number Entries (entry_row g) (entry_row h) e 0 (omega arith))
+    same_pos g.number h.number (same_number (table.Facts Entries) (entry_row g) (entry_row h) e 0 (omega arith))
 
 entry_of : (facts : Facts) (r : Row) → IsIn r (all_entries facts)
     → (h : HeldEntry) × (IsHeldIn h facts × (r ≡ entry_row h))
@@ -194,7 +195,7 @@ unchanged old new entries peers =
 
 module _ (old : Facts) (room : Room) (k : HaveKeys old) where
   pub entries_become : (e : Edit) → Fits e (record { content = old; room = room }) → HaveKeys (edited e old)
-      → Leads Entries (fact_exchanges e old) (all_entries old) (all_entries (edited e old))
+      → Leads (table.Facts Entries) (fact_exchanges e old) (all_entries old) (all_entries (edited e old))
   entries_become (edit.Criteria table) fits l = unchanged old (edited (edit.Criteria table) old) refl refl
   entries_become (edit.Insert place held) fits l =
       own_exchange old (edited (edit.Insert place held) old) None (Some held) k l refl
@@ -238,7 +239,7 @@ module _ (old : Facts) (room : Room) (k : HaveKeys old) where
 
   -- the rows that go are there
   pub entries_there : (e : Edit) → Fits e (record { content = old; room = room }) → (r : Row)
-      → IsIn r (removed_by (fact_exchanges e old) Entries) → IsIn r (all_entries old)
+      → IsIn r (removed_by (fact_exchanges e old) (table.Facts Entries)) → IsIn r (all_entries old)
   entries_there (edit.Criteria table) fits r i = absurd i
   entries_there (edit.Insert place held) fits r i = absurd i
   entries_there (edit.Remove place) fits r i =

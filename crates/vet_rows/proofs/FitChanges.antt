@@ -52,10 +52,11 @@ use Rattle.vet_rows.specs.StandingChanges.{clear_moves, leaves, move_exchanges, 
 use Rattle.vet_rows.specs.declared.row_change.RowChange.{RowChange}
 use Rattle.vet_rows.specs.declared.row_changes.exchange.Exchange.{Exchange}
 use Rattle.vet_tables.specs.Cells.{Row}
+use Rattle.vet_tables.specs.declared.table_name.DemandTable.TheVariants.{Edges, Nodes, Policies}
+use Rattle.vet_tables.specs.declared.table_name.DeskTable.TheVariants.{Members, Reviews}
+use Rattle.vet_tables.specs.declared.table_name.FactsTable.TheVariants.{Criteria, Entries, Peers, Publishers}
 use Rattle.vet_tables.specs.declared.table_name.TableName.{TableName}
-use Rattle.vet_tables.specs.declared.table_name.TableName.TheVariants.{Meta, Criteria, Entries, Publishers, Policies}
-use Rattle.vet_tables.specs.declared.table_name.TableName.TheVariants.{Peers}
-use Rattle.vet_tables.specs.declared.table_name.TableName.TheVariants.{Nodes, Edges, Moves, Members, Reviews}
+use Rattle.vet_tables.specs.declared.table_name.TableName.TheVariants as table
 
 -- each of some exchanges has rows of its table
 abbrev AllFit : List Exchange → Type 0
@@ -71,47 +72,53 @@ item_fits name rows_of each change items = (
 
 -- ---- by an edit of what is held
 
-the_peer_fits : (p : HeldPeer) → AreRows Peers (the_peer p)
-the_peer_fits p = one_fit Peers (peer_row p.settings) (peer_fits p)
+the_peer_fits : (p : HeldPeer) → AreRows (table.Facts Peers) (the_peer p)
+the_peer_fits p = one_fit (table.Facts Peers) (peer_row p.settings) (peer_fits p)
 
-the_policy_fits : (p : KeyedPolicy) → AreRows Policies (the_policy p)
-the_policy_fits p = one_fit Policies (policy_row p) (policy_fits p)
+the_policy_fits : (p : KeyedPolicy) → AreRows (table.Demand Policies) (the_policy p)
+the_policy_fits p = one_fit (table.Demand Policies) (policy_row p) (policy_fits p)
 
 facts_fit : (e : Edit) (f : Facts) → AllFit (fact_exchanges e f)
 facts_fit (edit.Criteria criteria) f = ((table_fit own_peer f.criteria, table_fit own_peer criteria), tt)
-facts_fit (edit.Insert place h) f = ((none_fit Entries, own_entry_fits h), tt)
-facts_fit (edit.Remove place) f =
-    ((if_fit Entries own_entry own_entry_fits (slice_get f.entries place), none_fit Entries), tt)
+facts_fit (edit.Insert place h) f = ((none_fit (table.Facts Entries), own_entry_fits h), tt)
+facts_fit (edit.Remove place) f = (
+  (if_fit (table.Facts Entries) own_entry own_entry_fits (slice_get f.entries place), none_fit (table.Facts Entries)),
+  tt,
+)
 facts_fit (edit.Peer change) f = (
-  item_fits Criteria peer_criteria peer_table_fit change f.peers,
+  item_fits (table.Facts Criteria) peer_criteria peer_table_fit change f.peers,
   (
-    item_fits Entries peer_entries peer_entries_fit change f.peers,
-    (item_fits Peers the_peer the_peer_fits change f.peers, tt),
+    item_fits (table.Facts Entries) peer_entries peer_entries_fit change f.peers,
+    (item_fits (table.Facts Peers) the_peer the_peer_fits change f.peers, tt),
   ),
 )
 facts_fit (edit.Settings settings) f = (
   (
-    if_fit Peers the_peer the_peer_fits (peer_of f.peers settings.name),
-    one_fit Peers (peer_row settings) (settings_fit settings),
+    if_fit (table.Facts Peers) the_peer the_peer_fits (peer_of f.peers settings.name),
+    one_fit (table.Facts Peers) (peer_row settings) (settings_fit settings),
   ),
   tt,
 )
 facts_fit (edit.Content name content) f = (
-  (if_fit Criteria peer_criteria peer_table_fit (peer_of f.peers name), table_fit name content.table),
+  (if_fit (table.Facts Criteria) peer_criteria peer_table_fit (peer_of f.peers name), table_fit name content.table),
   (
-    (if_fit Entries peer_entries peer_entries_fit (peer_of f.peers name), some_entries_fit content.entries),
+    (
+      if_fit (table.Facts Entries) peer_entries peer_entries_fit (peer_of f.peers name),
+      some_entries_fit content.entries,
+    ),
     tt,
   ),
 )
-facts_fit (edit.Publishers change) f = (item_fits Publishers package_rows package_fit change f.publishers, tt)
+facts_fit (edit.Publishers change) f =
+    (item_fits (table.Facts Publishers) package_rows package_fit change f.publishers, tt)
 
 held_fit : (e : HeldEdit) (h : HeldValue) → AllFit (held_exchanges e h)
 held_fit held.Nothing h = tt
 held_fit (held.Facts e) h = facts_fit e h.facts
-held_fit (held.Policies e) h = (item_fits Policies the_policy the_policy_fits e h.policies, tt)
+held_fit (held.Policies e) h = (item_fits (table.Demand Policies) the_policy the_policy_fits e h.policies, tt)
 held_fit (held.Projects e) h = (
-  item_fits Nodes node_rows project_nodes_fit e h.projects,
-  (item_fits Edges edge_rows project_edges_fit e h.projects, tt),
+  item_fits (table.Demand Nodes) node_rows project_nodes_fit e h.projects,
+  (item_fits (table.Demand Edges) edge_rows project_edges_fit e h.projects, tt),
 )
 held_fit (held.Files files) h = (
   (criteria_fit h.facts, criteria_fit files.facts.content),
@@ -132,24 +139,25 @@ held_fit (held.Files files) h = (
 moves_made_fit : (recording : Recording) → AllFit (move_exchanges recording)
 moves_made_fit recording = (
   (moved_fit (filter leaves (recorded_moves recording)), moved_fit (filter stands (recorded_moves recording))),
-  ((none_fit Moves, moves_fit (recorded_moves recording)), tt),
+  ((none_fit table.Moves, moves_fit (recorded_moves recording)), tt),
 )
 
-the_review_fits : (r : Review) → AreRows Reviews (the_review r)
-the_review_fits r = one_fit Reviews (review_row r) (review_fits r)
+the_review_fits : (r : Review) → AreRows (table.Desk Reviews) (the_review r)
+the_review_fits r = one_fit (table.Desk Reviews) (review_row r) (review_fits r)
 
-the_member_fits : (n : Name) → AreRows Members (the_member n)
-the_member_fits n = one_fit Members (member_row n) (member_fits n)
+the_member_fits : (n : Name) → AreRows (table.Desk Members) (the_member n)
+the_member_fits n = one_fit (table.Desk Members) (member_row n) (member_fits n)
 
 turned_fits : (state : ReviewState) (review : Option Review) → Makes Fits (turned_exchange state review)
 turned_fits state review = (
-  if_fit Reviews the_review the_review_fits review,
-  if_fit Reviews the_review the_review_fits (option_map (in_state state) review),
+  if_fit (table.Desk Reviews) the_review the_review_fits review,
+  if_fit (table.Desk Reviews) the_review the_review_fits (option_map (in_state state) review),
 )
 
 desk_change_fits : (c : DeskChange) (entry : Option ℕ) (d : DeskState) → AllFit (desk_change_exchanges c entry d)
-desk_change_fits (Join change) entry d = (item_fits Members the_member the_member_fits change d.members, tt)
-desk_change_fits (Open review) entry d = ((none_fit Reviews, the_review_fits review), tt)
+desk_change_fits (Join change) entry d =
+    (item_fits (table.Desk Members) the_member the_member_fits change d.members, tt)
+desk_change_fits (Open review) entry d = ((none_fit (table.Desk Reviews), the_review_fits review), tt)
 desk_change_fits (Turn place state) entry d = (turned_fits state (slice_get d.reviews place), tt)
 desk_change_fits (Finish place made) None d = tt
 desk_change_fits (Finish place made) (Some number) d =
@@ -169,7 +177,7 @@ clears_fit (Anew counts) c (inr none) = absurd none
 module _ {K U : Type 0} (s : State) (change : Change K U) where
   all_fit : AllFit (change_exchanges s change)
   all_fit =
-      of_parts s change (Makes Fits) (none_fit Meta, rows_fit (changed change s) Meta)
+      of_parts s change (Makes Fits) (none_fit table.Meta, rows_fit (changed change s) table.Meta)
       (held_fit change.edit s.held) (moves_made_fit change.recording) (desk_fit change.desk s.desk)
 
   pub changes_fit : (c : RowChange)

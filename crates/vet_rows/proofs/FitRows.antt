@@ -36,10 +36,11 @@ use Rattle.vet_rows.specs.StandingChanges.{moved_row}
 use Rattle.vet_rows.specs.StandingRows.{move_row}
 use Rattle.vet_tables.specs.Cells.{IsRowOf, Row}
 use Rattle.vet_tables.specs.Forms.{form_of}
+use Rattle.vet_tables.specs.declared.table_name.DemandTable.TheVariants.{Edges, Nodes, Policies}
+use Rattle.vet_tables.specs.declared.table_name.DeskTable.TheVariants.{Members, Reviews}
+use Rattle.vet_tables.specs.declared.table_name.FactsTable.TheVariants.{Criteria, Entries, Peers, Publishers}
 use Rattle.vet_tables.specs.declared.table_name.TableName.{TableName}
-use Rattle.vet_tables.specs.declared.table_name.TableName.TheVariants.{Meta, Criteria, Entries, Publishers, Policies}
-use Rattle.vet_tables.specs.declared.table_name.TableName.TheVariants.{Peers}
-use Rattle.vet_tables.specs.declared.table_name.TableName.TheVariants.{Nodes, Edges, Standing, Moves, Members, Reviews}
+use Rattle.vet_tables.specs.declared.table_name.TableName.TheVariants as table
 
 -- ---- lists of rows
 
@@ -73,130 +74,135 @@ module _ (table : TableName) where
 
 -- ---- facts
 
-criterion_fits : (peer : Name) (c : Criterion) → IsRowOf (form_of Criteria) (criterion_row peer c)
+criterion_fits : (peer : Name) (c : Criterion) → IsRowOf (form_of (table.Facts Criteria)) (criterion_row peer c)
 criterion_fits peer c = (tt, (tt, (tt, (tt, (tt, tt)))))
 
-pub table_fit : (peer : Name) (table : CriteriaValue) → AreRows Criteria (criteria_rows peer table)
-table_fit peer table = mapped_fit Criteria (criterion_row peer) (criterion_fits peer) (further table)
+pub table_fit : (peer : Name) (criteria : CriteriaValue) → AreRows (table.Facts Criteria) (criteria_rows peer criteria)
+table_fit peer criteria =
+    mapped_fit (table.Facts Criteria) (criterion_row peer) (criterion_fits peer) (further criteria)
 
-pub peer_table_fit : (p : HeldPeer) → AreRows Criteria (peer_criteria p)
+pub peer_table_fit : (p : HeldPeer) → AreRows (table.Facts Criteria) (peer_criteria p)
 peer_table_fit p = table_fit p.settings.name p.content.table
 
-pub criteria_fit : (facts : Facts) → AreRows Criteria (all_criteria facts)
+pub criteria_fit : (facts : Facts) → AreRows (table.Facts Criteria) (all_criteria facts)
 criteria_fit facts =
-    both_fit Criteria (criteria_rows own_peer facts.criteria) (flat_map peer_criteria facts.peers)
-    (table_fit own_peer facts.criteria) (flat_fit Criteria peer_criteria peer_table_fit facts.peers)
+    both_fit (table.Facts Criteria) (criteria_rows own_peer facts.criteria) (flat_map peer_criteria facts.peers)
+    (table_fit own_peer facts.criteria) (flat_fit (table.Facts Criteria) peer_criteria peer_table_fit facts.peers)
 
-entry_fits : (h : HeldEntry) → IsRowOf (form_of Entries) (entry_row h)
+entry_fits : (h : HeldEntry) → IsRowOf (form_of (table.Facts Entries)) (entry_row h)
 entry_fits h = (tt, (tt, (tt, (tt, (tt, (tt, (tt, (tt, (tt, (tt, (tt, (tt, (tt, (tt, (tt, tt)))))))))))))))
 
-pub some_entries_fit : (entries : List HeldEntry) → AreRows Entries (map entry_row entries)
-some_entries_fit entries = mapped_fit Entries entry_row entry_fits entries
+pub some_entries_fit : (entries : List HeldEntry) → AreRows (table.Facts Entries) (map entry_row entries)
+some_entries_fit entries = mapped_fit (table.Facts Entries) entry_row entry_fits entries
 
-pub own_entry_fits : (h : HeldEntry) → AreRows Entries (entry_row h ∷ [])
-own_entry_fits h = one_fit Entries (entry_row h) (entry_fits h)
+pub own_entry_fits : (h : HeldEntry) → AreRows (table.Facts Entries) (entry_row h ∷ [])
+own_entry_fits h = one_fit (table.Facts Entries) (entry_row h) (entry_fits h)
 
-pub peer_entries_fit : (p : HeldPeer) → AreRows Entries (peer_entries p)
+pub peer_entries_fit : (p : HeldPeer) → AreRows (table.Facts Entries) (peer_entries p)
 peer_entries_fit p = some_entries_fit p.content.entries
 
-pub entries_fit : (facts : Facts) → AreRows Entries (all_entries facts)
+pub entries_fit : (facts : Facts) → AreRows (table.Facts Entries) (all_entries facts)
 entries_fit facts =
-    both_fit Entries (map entry_row facts.entries) (flat_map peer_entries facts.peers)
-    (some_entries_fit facts.entries) (flat_fit Entries peer_entries peer_entries_fit facts.peers)
+    both_fit (table.Facts Entries) (map entry_row facts.entries) (flat_map peer_entries facts.peers)
+    (some_entries_fit facts.entries) (flat_fit (table.Facts Entries) peer_entries peer_entries_fit facts.peers)
 
-publisher_fits : (name : Name) (p : Publisher) → IsRowOf (form_of Publishers) (publisher_row name p)
+publisher_fits : (name : Name) (p : Publisher) → IsRowOf (form_of (table.Facts Publishers)) (publisher_row name p)
 publisher_fits name p = (tt, (tt, (tt, (tt, (tt, (tt, tt))))))
 
-pub package_fit : (p : PackagePublishers) → AreRows Publishers (package_rows p)
-package_fit p = mapped_fit Publishers (publisher_row p.«package») (publisher_fits p.«package») p.publishers
+pub package_fit : (p : PackagePublishers) → AreRows (table.Facts Publishers) (package_rows p)
+package_fit p =
+    mapped_fit (table.Facts Publishers) (publisher_row p.«package») (publisher_fits p.«package») p.publishers
 
-pub publishers_fit : (packages : List PackagePublishers) → AreRows Publishers (flat_map package_rows packages)
-publishers_fit = flat_fit Publishers package_rows package_fit
+pub publishers_fit : (packages : List PackagePublishers)
+    → AreRows (table.Facts Publishers) (flat_map package_rows packages)
+publishers_fit = flat_fit (table.Facts Publishers) package_rows package_fit
 
-pub settings_fit : (settings : PeerSettings) → IsRowOf (form_of Peers) (peer_row settings)
+pub settings_fit : (settings : PeerSettings) → IsRowOf (form_of (table.Facts Peers)) (peer_row settings)
 settings_fit settings = (tt, (tt, (tt, (tt, tt))))
 
-pub peer_fits : (p : HeldPeer) → IsRowOf (form_of Peers) (peer_row p.settings)
+pub peer_fits : (p : HeldPeer) → IsRowOf (form_of (table.Facts Peers)) (peer_row p.settings)
 peer_fits p = settings_fit p.settings
 
-pub peers_fit : (peers : List HeldPeer) → AreRows Peers (map (λ (p : HeldPeer). peer_row p.settings) peers)
-peers_fit = mapped_fit Peers (λ (p : HeldPeer). peer_row p.settings) peer_fits
+pub peers_fit : (peers : List HeldPeer)
+    → AreRows (table.Facts Peers) (map (λ (p : HeldPeer). peer_row p.settings) peers)
+peers_fit = mapped_fit (table.Facts Peers) (λ (p : HeldPeer). peer_row p.settings) peer_fits
 
 -- ---- policies and projects
 
-pub policy_fits : (p : KeyedPolicy) → IsRowOf (form_of Policies) (policy_row p)
+pub policy_fits : (p : KeyedPolicy) → IsRowOf (form_of (table.Demand Policies)) (policy_row p)
 policy_fits p = (tt, (tt, (tt, (tt, (tt, (tt, tt))))))
 
-pub policies_fit : (policies : List KeyedPolicy) → AreRows Policies (map policy_row policies)
-policies_fit = mapped_fit Policies policy_row policy_fits
+pub policies_fit : (policies : List KeyedPolicy) → AreRows (table.Demand Policies) (map policy_row policies)
+policies_fit = mapped_fit (table.Demand Policies) policy_row policy_fits
 
-node_fits : (project : Name) (n : Node) → IsRowOf (form_of Nodes) (node_row project n)
+node_fits : (project : Name) (n : Node) → IsRowOf (form_of (table.Demand Nodes)) (node_row project n)
 node_fits project n = (tt, (tt, (tt, (tt, tt))))
 
-pub project_nodes_fit : (p : NamedProject) → AreRows Nodes (node_rows p)
-project_nodes_fit p = mapped_fit Nodes (node_row p.name) (node_fits p.name) p.project.nodes
+pub project_nodes_fit : (p : NamedProject) → AreRows (table.Demand Nodes) (node_rows p)
+project_nodes_fit p = mapped_fit (table.Demand Nodes) (node_row p.name) (node_fits p.name) p.project.nodes
 
-pub nodes_fit : (projects : List NamedProject) → AreRows Nodes (flat_map node_rows projects)
-nodes_fit = flat_fit Nodes node_rows project_nodes_fit
+pub nodes_fit : (projects : List NamedProject) → AreRows (table.Demand Nodes) (flat_map node_rows projects)
+nodes_fit = flat_fit (table.Demand Nodes) node_rows project_nodes_fit
 
-edge_fits : (project : Name) (nodes : List Node) (e : Edge) → IsRowOf (form_of Edges) (edge_row project nodes e)
+edge_fits : (project : Name) (nodes : List Node) (e : Edge)
+    → IsRowOf (form_of (table.Demand Edges)) (edge_row project nodes e)
 edge_fits project nodes e = (tt, (tt, (tt, (tt, (tt, (tt, tt))))))
 
-pub project_edges_fit : (p : NamedProject) → AreRows Edges (edge_rows p)
+pub project_edges_fit : (p : NamedProject) → AreRows (table.Demand Edges) (edge_rows p)
 project_edges_fit p =
-    mapped_fit Edges (edge_row p.name p.project.nodes) (edge_fits p.name p.project.nodes) p.project.edges
+    mapped_fit (table.Demand Edges) (edge_row p.name p.project.nodes) (edge_fits p.name p.project.nodes) p.project.edges
 
-pub edges_fit : (projects : List NamedProject) → AreRows Edges (flat_map edge_rows projects)
-edges_fit = flat_fit Edges edge_rows project_edges_fit
+pub edges_fit : (projects : List NamedProject) → AreRows (table.Demand Edges) (flat_map edge_rows projects)
+edges_fit = flat_fit (table.Demand Edges) edge_rows project_edges_fit
 
 -- ---- the standing, moves and the desk
 
-pub stand_fits : (s : Stand) → IsRowOf (form_of Standing) (standing_row s)
+pub stand_fits : (s : Stand) → IsRowOf (form_of table.Standing) (standing_row s)
 stand_fits s = (tt, (tt, (tt, (tt, tt))))
 
-pub standing_fit : (stands : List Stand) → AreRows Standing (map standing_row stands)
-standing_fit = mapped_fit Standing standing_row stand_fits
+pub standing_fit : (stands : List Stand) → AreRows table.Standing (map standing_row stands)
+standing_fit = mapped_fit table.Standing standing_row stand_fits
 
-pub moved_fits : (m : RecordedMove) → IsRowOf (form_of Standing) (moved_row m)
+pub moved_fits : (m : RecordedMove) → IsRowOf (form_of table.Standing) (moved_row m)
 moved_fits m = (tt, (tt, (tt, (tt, tt))))
 
-pub moved_fit : (moves : List RecordedMove) → AreRows Standing (map moved_row moves)
-moved_fit = mapped_fit Standing moved_row moved_fits
+pub moved_fit : (moves : List RecordedMove) → AreRows table.Standing (map moved_row moves)
+moved_fit = mapped_fit table.Standing moved_row moved_fits
 
-pub move_fits : (m : RecordedMove) → IsRowOf (form_of Moves) (move_row m)
+pub move_fits : (m : RecordedMove) → IsRowOf (form_of table.Moves) (move_row m)
 move_fits m = (tt, (tt, (tt, (tt, (tt, (tt, (tt, tt)))))))
 
-pub moves_fit : (moves : List RecordedMove) → AreRows Moves (map move_row moves)
-moves_fit = mapped_fit Moves move_row move_fits
+pub moves_fit : (moves : List RecordedMove) → AreRows table.Moves (map move_row moves)
+moves_fit = mapped_fit table.Moves move_row move_fits
 
-pub member_fits : (name : Name) → IsRowOf (form_of Members) (member_row name)
+pub member_fits : (name : Name) → IsRowOf (form_of (table.Desk Members)) (member_row name)
 member_fits name = (tt, tt)
 
-pub members_fit : (names : List Name) → AreRows Members (map member_row names)
-members_fit = mapped_fit Members member_row member_fits
+pub members_fit : (names : List Name) → AreRows (table.Desk Members) (map member_row names)
+members_fit = mapped_fit (table.Desk Members) member_row member_fits
 
-pub review_fits : (r : Review) → IsRowOf (form_of Reviews) (review_row r)
+pub review_fits : (r : Review) → IsRowOf (form_of (table.Desk Reviews)) (review_row r)
 review_fits r = (tt, (tt, (tt, (tt, (tt, (tt, (tt, (tt, tt))))))))
 
-pub reviews_fit : (reviews : List Review) → AreRows Reviews (map review_row reviews)
-reviews_fit = mapped_fit Reviews review_row review_fits
+pub reviews_fit : (reviews : List Review) → AreRows (table.Desk Reviews) (map review_row reviews)
+reviews_fit = mapped_fit (table.Desk Reviews) review_row review_fits
 
 -- ---- all rows of a state
 
-meta_fits : (s : State) → AreRows Meta (rows_of s Meta)
+meta_fits : (s : State) → AreRows table.Meta (rows_of s table.Meta)
 meta_fits s =
-    one_fit Meta _ (tt, (tt, (tt, (tt, (tt, (tt, (tt, (tt, (tt, (tt, (tt, (tt, (tt, tt)))))))))))))
+    one_fit table.Meta _ (tt, (tt, (tt, (tt, (tt, (tt, (tt, (tt, (tt, (tt, (tt, (tt, (tt, tt)))))))))))))
 
 pub rows_fit : (s : State) (table : TableName) → AreRows table (rows_of s table)
-rows_fit s Meta = meta_fits s
-rows_fit s Criteria = criteria_fit s.held.facts
-rows_fit s Entries = entries_fit s.held.facts
-rows_fit s Publishers = publishers_fit s.held.facts.publishers
-rows_fit s Policies = policies_fit s.held.policies
-rows_fit s Peers = peers_fit s.held.facts.peers
-rows_fit s Nodes = nodes_fit s.held.projects
-rows_fit s Edges = edges_fit s.held.projects
-rows_fit s Standing = standing_fit (standing s)
-rows_fit s Moves = moves_fit s.moves
-rows_fit s Members = members_fit s.desk.members
-rows_fit s Reviews = reviews_fit s.desk.reviews
+rows_fit s table.Meta = meta_fits s
+rows_fit s (table.Facts Criteria) = criteria_fit s.held.facts
+rows_fit s (table.Facts Entries) = entries_fit s.held.facts
+rows_fit s (table.Facts Publishers) = publishers_fit s.held.facts.publishers
+rows_fit s (table.Demand Policies) = policies_fit s.held.policies
+rows_fit s (table.Facts Peers) = peers_fit s.held.facts.peers
+rows_fit s (table.Demand Nodes) = nodes_fit s.held.projects
+rows_fit s (table.Demand Edges) = edges_fit s.held.projects
+rows_fit s table.Standing = standing_fit (standing s)
+rows_fit s table.Moves = moves_fit s.moves
+rows_fit s (table.Desk Members) = members_fit s.desk.members
+rows_fit s (table.Desk Reviews) = reviews_fit s.desk.reviews

@@ -32,9 +32,10 @@ use Rattle.std.specs.Cmp.Lexicographic.{pointwise_decides}
 use Rattle.vet_tables.specs.CellLaws.{cell_eq-Decides}
 use Rattle.vet_tables.specs.Cells.{Row, same_key}
 use Rattle.vet_tables.specs.Forms.{form_of}
+use Rattle.vet_tables.specs.declared.table_name.DemandTable.TheVariants.{Edges, Nodes, Policies}
+use Rattle.vet_tables.specs.declared.table_name.FactsTable.TheVariants.{Criteria, Entries, Peers, Publishers}
 use Rattle.vet_tables.specs.declared.table_name.TableName.{TableName}
-use Rattle.vet_tables.specs.declared.table_name.TableName.TheVariants.{Criteria, Edges, Entries, Nodes, Peers, Policies}
-use Rattle.vet_tables.specs.declared.table_name.TableName.TheVariants.{Publishers}
+use Rattle.vet_tables.specs.declared.table_name.TableName.TheVariants as table
 use Rattle.vet_rows.proofs.SettingExchanges.{criteria_become, criteria_keyed, peers_become, peers_keyed}
 use Rattle.vet_rows.proofs.SettingExchanges.{publishers_become, publishers_keyed, publishers_there}
 
@@ -61,91 +62,99 @@ untouched name e rows none =
 
 module _ (old : HeldValue) (room : HeldRoom) (k : HaveTexts old) where
   pub held_criteria : (e : HeldEdit) → Fits e (held_with old room) → HaveTexts (edited e old)
-      → Leads Criteria (held_exchanges e old) (all_criteria old.facts) (all_criteria (edited e old).facts)
+      → Leads (table.Facts Criteria) (held_exchanges e old) (all_criteria old.facts) (all_criteria (edited e old).facts)
   held_criteria (edit.Facts e) fits l = criteria_become old.facts room.facts k.facts e fits l.facts
-  held_criteria (edit.Policies e) fits l = stays (same_in Criteria) (all_criteria old.facts)
-  held_criteria (edit.Projects e) fits l = stays (same_in Criteria) (all_criteria old.facts)
-  held_criteria edit.Nothing fits l = stays (same_in Criteria) (all_criteria old.facts)
+  held_criteria (edit.Policies e) fits l = stays (same_in (table.Facts Criteria)) (all_criteria old.facts)
+  held_criteria (edit.Projects e) fits l = stays (same_in (table.Facts Criteria)) (all_criteria old.facts)
+  held_criteria edit.Nothing fits l = stays (same_in (table.Facts Criteria)) (all_criteria old.facts)
   held_criteria (edit.Files files) fits l =
-      whole (same_in Criteria) (all_criteria old.facts) (all_criteria files.facts.content)
-      (λ r i. own_key Criteria r (criteria_fit old.facts r i))
+      whole (same_in (table.Facts Criteria)) (all_criteria old.facts) (all_criteria files.facts.content)
+      (λ r i. own_key (table.Facts Criteria) r (criteria_fit old.facts r i))
       (criteria_keyed files.facts.content l.facts)
 
   pub held_entries : (e : HeldEdit) → Fits e (held_with old room) → HaveTexts (edited e old)
-      → Leads Entries (held_exchanges e old) (all_entries old.facts) (all_entries (edited e old).facts)
+      → Leads (table.Facts Entries) (held_exchanges e old) (all_entries old.facts) (all_entries (edited e old).facts)
   held_entries (edit.Facts e) fits l = entries_become old.facts room.facts k.facts e fits l.facts
-  held_entries (edit.Policies e) fits l = stays (same_in Entries) (all_entries old.facts)
-  held_entries (edit.Projects e) fits l = stays (same_in Entries) (all_entries old.facts)
-  held_entries edit.Nothing fits l = stays (same_in Entries) (all_entries old.facts)
+  held_entries (edit.Policies e) fits l = stays (same_in (table.Facts Entries)) (all_entries old.facts)
+  held_entries (edit.Projects e) fits l = stays (same_in (table.Facts Entries)) (all_entries old.facts)
+  held_entries edit.Nothing fits l = stays (same_in (table.Facts Entries)) (all_entries old.facts)
   held_entries (edit.Files files) fits l =
-      whole (same_in Entries) (all_entries old.facts) (all_entries files.facts.content)
-      (λ r i. own_key Entries r (entries_fit old.facts r i))
+      whole (same_in (table.Facts Entries)) (all_entries old.facts) (all_entries files.facts.content)
+      (λ r i. own_key (table.Facts Entries) r (entries_fit old.facts r i))
       (entries_keyed files.facts.content l.facts)
 
   pub held_publishers : (e : HeldEdit) → Fits e (held_with old room)
-      → Leads Publishers (held_exchanges e old) (flat_map package_rows old.facts.publishers)
+      → Leads (table.Facts Publishers) (held_exchanges e old) (flat_map package_rows old.facts.publishers)
       (flat_map package_rows (edited e old).facts.publishers)
   held_publishers (edit.Facts e) fits = publishers_become old.facts room.facts k.facts e fits
-  held_publishers (edit.Policies e) fits = stays (same_in Publishers) (flat_map package_rows old.facts.publishers)
-  held_publishers (edit.Projects e) fits = stays (same_in Publishers) (flat_map package_rows old.facts.publishers)
-  held_publishers edit.Nothing fits = stays (same_in Publishers) (flat_map package_rows old.facts.publishers)
+  held_publishers (edit.Policies e) fits =
+      stays (same_in (table.Facts Publishers)) (flat_map package_rows old.facts.publishers)
+  held_publishers (edit.Projects e) fits =
+      stays (same_in (table.Facts Publishers)) (flat_map package_rows old.facts.publishers)
+  held_publishers edit.Nothing fits =
+      stays (same_in (table.Facts Publishers)) (flat_map package_rows old.facts.publishers)
   held_publishers (edit.Files files) fits =
-      whole (same_in Publishers) (flat_map package_rows old.facts.publishers)
+      whole (same_in (table.Facts Publishers)) (flat_map package_rows old.facts.publishers)
       (flat_map package_rows files.facts.content.publishers)
-      (λ r i. own_key Publishers r (publishers_fit old.facts.publishers r i))
+      (λ r i. own_key (table.Facts Publishers) r (publishers_fit old.facts.publishers r i))
       (publishers_keyed files.facts.content.publishers)
 
   pub held_peers : (e : HeldEdit) → Fits e (held_with old room) → HaveTexts (edited e old)
-      → Leads Peers (held_exchanges e old) (peer_rows old.facts.peers) (peer_rows (edited e old).facts.peers)
+      → Leads (table.Facts Peers) (held_exchanges e old) (peer_rows old.facts.peers)
+      (peer_rows (edited e old).facts.peers)
   held_peers (edit.Facts e) fits l = peers_become old.facts room.facts k.facts e fits l.facts
-  held_peers (edit.Policies e) fits l = stays (same_in Peers) (peer_rows old.facts.peers)
-  held_peers (edit.Projects e) fits l = stays (same_in Peers) (peer_rows old.facts.peers)
-  held_peers edit.Nothing fits l = stays (same_in Peers) (peer_rows old.facts.peers)
+  held_peers (edit.Policies e) fits l = stays (same_in (table.Facts Peers)) (peer_rows old.facts.peers)
+  held_peers (edit.Projects e) fits l = stays (same_in (table.Facts Peers)) (peer_rows old.facts.peers)
+  held_peers edit.Nothing fits l = stays (same_in (table.Facts Peers)) (peer_rows old.facts.peers)
   held_peers (edit.Files files) fits l =
-      whole (same_in Peers) (peer_rows old.facts.peers) (peer_rows files.facts.content.peers)
-      (λ r i. own_key Peers r (peers_fit old.facts.peers r i))
+      whole (same_in (table.Facts Peers)) (peer_rows old.facts.peers) (peer_rows files.facts.content.peers)
+      (λ r i. own_key (table.Facts Peers) r (peers_fit old.facts.peers r i))
       (peers_keyed files.facts.content l.facts)
 
   pub held_policies : (e : HeldEdit) → Fits e (held_with old room) → HaveTexts (edited e old)
-      → Leads Policies (held_exchanges e old) (map policy_row old.policies) (map policy_row (edited e old).policies)
+      → Leads (table.Demand Policies) (held_exchanges e old) (map policy_row old.policies)
+      (map policy_row (edited e old).policies)
   held_policies (edit.Facts e) fits l =
-      untouched Policies (of_table (held_exchanges (edit.Facts e) old) Policies) (map policy_row old.policies)
+      untouched (table.Demand Policies) (of_table (held_exchanges (edit.Facts e) old) (table.Demand Policies))
+      (map policy_row old.policies)
       (facts_leave e old.facts).0
   held_policies (edit.Policies e) fits l =
       policies_become e (record { items = old.policies; room = room.policies }) k.policies l.policies fits k.read l.read
-  held_policies (edit.Projects e) fits l = stays (same_in Policies) (map policy_row old.policies)
-  held_policies edit.Nothing fits l = stays (same_in Policies) (map policy_row old.policies)
+  held_policies (edit.Projects e) fits l = stays (same_in (table.Demand Policies)) (map policy_row old.policies)
+  held_policies edit.Nothing fits l = stays (same_in (table.Demand Policies)) (map policy_row old.policies)
   held_policies (edit.Files files) fits l = policies_replaced old.policies files.policies.items l.policies l.read
 
   pub held_nodes : (e : HeldEdit) → Fits e (held_with old room) → HaveTexts (edited e old) → AddedProjectsAreRead e
-      → Leads Nodes (held_exchanges e old) (flat_map node_rows old.projects)
+      → Leads (table.Demand Nodes) (held_exchanges e old) (flat_map node_rows old.projects)
       (flat_map node_rows (edited e old).projects)
   held_nodes (edit.Facts e) fits l read =
-      untouched Nodes (of_table (held_exchanges (edit.Facts e) old) Nodes) (flat_map node_rows old.projects)
+      untouched (table.Demand Nodes) (of_table (held_exchanges (edit.Facts e) old) (table.Demand Nodes))
+      (flat_map node_rows old.projects)
       (facts_leave e old.facts).1.0
-  held_nodes (edit.Policies e) fits l read = stays (same_in Nodes) (flat_map node_rows old.projects)
+  held_nodes (edit.Policies e) fits l read = stays (same_in (table.Demand Nodes)) (flat_map node_rows old.projects)
   held_nodes (edit.Projects e) fits l read =
       nodes_become e (record { items = old.projects; room = room.projects }) k.projects l.projects fits read
-  held_nodes edit.Nothing fits l read = stays (same_in Nodes) (flat_map node_rows old.projects)
-  held_nodes (edit.Files files) fits l read = stays (same_in Nodes) (flat_map node_rows old.projects)
+  held_nodes edit.Nothing fits l read = stays (same_in (table.Demand Nodes)) (flat_map node_rows old.projects)
+  held_nodes (edit.Files files) fits l read = stays (same_in (table.Demand Nodes)) (flat_map node_rows old.projects)
 
   pub held_edges : (e : HeldEdit) → Fits e (held_with old room)
-      → Leads Edges (held_exchanges e old) (flat_map edge_rows old.projects)
+      → Leads (table.Demand Edges) (held_exchanges e old) (flat_map edge_rows old.projects)
       (flat_map edge_rows (edited e old).projects)
   held_edges (edit.Facts e) fits =
-      untouched Edges (of_table (held_exchanges (edit.Facts e) old) Edges) (flat_map edge_rows old.projects)
+      untouched (table.Demand Edges) (of_table (held_exchanges (edit.Facts e) old) (table.Demand Edges))
+      (flat_map edge_rows old.projects)
       (facts_leave e old.facts).1.1
-  held_edges (edit.Policies e) fits = stays (same_in Edges) (flat_map edge_rows old.projects)
+  held_edges (edit.Policies e) fits = stays (same_in (table.Demand Edges)) (flat_map edge_rows old.projects)
   held_edges (edit.Projects e) fits =
       edges_become e (record { items = old.projects; room = room.projects }) k.projects fits
-  held_edges edit.Nothing fits = stays (same_in Edges) (flat_map edge_rows old.projects)
-  held_edges (edit.Files files) fits = stays (same_in Edges) (flat_map edge_rows old.projects)
+  held_edges edit.Nothing fits = stays (same_in (table.Demand Edges)) (flat_map edge_rows old.projects)
+  held_edges (edit.Files files) fits = stays (same_in (table.Demand Edges)) (flat_map edge_rows old.projects)
 
 -- ---- only the rows that differ go and come
 
 module _ (old : HeldValue) (room : HeldRoom) (k : HaveTexts old) where
   entries_there_held : (e : HeldEdit) → Fits e (held_with old room) → (r : Row)
-      → IsIn r (removed_by (held_exchanges e old) Entries) → IsIn r (all_entries old.facts)
+      → IsIn r (removed_by (held_exchanges e old) (table.Facts Entries)) → IsIn r (all_entries old.facts)
   entries_there_held (edit.Facts e) fits r i = entries_there old.facts room.facts k.facts e fits r i
   entries_there_held (edit.Policies e) fits r i = absurd i
   entries_there_held (edit.Projects e) fits r i = absurd i
@@ -153,7 +162,8 @@ module _ (old : HeldValue) (room : HeldRoom) (k : HaveTexts old) where
   entries_there_held (edit.Files files) fits r i = i
 
   publishers_there_held : (e : HeldEdit) → Fits e (held_with old room) → (r : Row)
-      → IsIn r (removed_by (held_exchanges e old) Publishers) → IsIn r (flat_map package_rows old.facts.publishers)
+      → IsIn r (removed_by (held_exchanges e old) (table.Facts Publishers))
+      → IsIn r (flat_map package_rows old.facts.publishers)
   publishers_there_held (edit.Facts e) fits r i = publishers_there old.facts room.facts k.facts e fits r i
   publishers_there_held (edit.Policies e) fits r i = absurd i
   publishers_there_held (edit.Projects e) fits r i = absurd i
@@ -161,7 +171,7 @@ module _ (old : HeldValue) (room : HeldRoom) (k : HaveTexts old) where
   publishers_there_held (edit.Files files) fits r i = i
 
   edges_there_held : (e : HeldEdit) → Fits e (held_with old room) → (r : Row)
-      → IsIn r (removed_by (held_exchanges e old) Edges) → IsIn r (flat_map edge_rows old.projects)
+      → IsIn r (removed_by (held_exchanges e old) (table.Demand Edges)) → IsIn r (flat_map edge_rows old.projects)
   edges_there_held (edit.Facts e) fits r i =
       absurd (subst (λ (x : Exchange). IsIn r x.removed) (facts_leave e old.facts).1.1 i)
   edges_there_held (edit.Policies e) fits r i = absurd i
@@ -171,35 +181,40 @@ module _ (old : HeldValue) (room : HeldRoom) (k : HaveTexts old) where
   edges_there_held (edit.Files files) fits r i = absurd i
 
   pub entries_differ : (e : HeldEdit) → Fits e (held_with old room) → HaveTexts (edited e old)
-      → LeadsByDifference Entries (of_table (held_exchanges e old) Entries) (all_entries old.facts)
+      → LeadsByDifference (table.Facts Entries) (of_table (held_exchanges e old) (table.Facts Entries))
+      (all_entries old.facts)
       (all_entries (edited e old).facts)
   entries_differ e fits l =
-      differ (same_in Entries) same_row rows_decide (removed_by (held_exchanges e old) Entries)
-      (added_by (held_exchanges e old) Entries) (all_entries old.facts) (all_entries (edited e old).facts)
+      differ (same_in (table.Facts Entries)) same_row rows_decide
+      (removed_by (held_exchanges e old) (table.Facts Entries))
+      (added_by (held_exchanges e old) (table.Facts Entries)) (all_entries old.facts) (all_entries (edited e old).facts)
       (held_entries old room k e fits l)
       (entries_there_held e fits) (entries_keyed old.facts k.facts)
 
   pub publishers_differ : (e : HeldEdit) → Fits e (held_with old room)
-      → LeadsByDifference Publishers (of_table (held_exchanges e old) Publishers)
+      → LeadsByDifference (table.Facts Publishers) (of_table (held_exchanges e old) (table.Facts Publishers))
       (flat_map package_rows old.facts.publishers) (flat_map package_rows (edited e old).facts.publishers)
   publishers_differ e fits =
-      differ (same_in Publishers) same_row rows_decide (removed_by (held_exchanges e old) Publishers)
-      (added_by (held_exchanges e old) Publishers) (flat_map package_rows old.facts.publishers)
+      differ (same_in (table.Facts Publishers)) same_row rows_decide
+      (removed_by (held_exchanges e old) (table.Facts Publishers))
+      (added_by (held_exchanges e old) (table.Facts Publishers)) (flat_map package_rows old.facts.publishers)
       (flat_map package_rows (edited e old).facts.publishers)
       (held_publishers old room k e fits) (publishers_there_held e fits) (publishers_keyed old.facts.publishers)
 
   pub nodes_differ : (e : HeldEdit) → Fits e (held_with old room) → HaveTexts (edited e old) → AddedProjectsAreRead e
       → ProjectsHeldAreRead e old.projects
-      → LeadsByDifference Nodes (of_table (held_exchanges e old) Nodes) (flat_map node_rows old.projects)
+      → LeadsByDifference (table.Demand Nodes) (of_table (held_exchanges e old) (table.Demand Nodes))
+      (flat_map node_rows old.projects)
       (flat_map node_rows (edited e old).projects)
   nodes_differ (edit.Facts e) fits l read there =
-      subst (λ (x : Exchange). LeadsByDifference Nodes x (flat_map node_rows old.projects)
+      subst (λ (x : Exchange). LeadsByDifference (table.Demand Nodes) x (flat_map node_rows old.projects)
       (flat_map node_rows old.projects)) (sym (facts_leave e old.facts).1.0)
-      (stays (same_in Nodes) (flat_map node_rows old.projects))
+      (stays (same_in (table.Demand Nodes)) (flat_map node_rows old.projects))
   nodes_differ (edit.Policies e) fits l read there = held_nodes old room k (edit.Policies e) fits l read
   nodes_differ (edit.Projects e) fits l read there =
-      differ (same_in Nodes) same_row rows_decide (removed_by (held_exchanges (edit.Projects e) old) Nodes)
-      (added_by (held_exchanges (edit.Projects e) old) Nodes) (flat_map node_rows old.projects)
+      differ (same_in (table.Demand Nodes)) same_row rows_decide
+      (removed_by (held_exchanges (edit.Projects e) old) (table.Demand Nodes))
+      (added_by (held_exchanges (edit.Projects e) old) (table.Demand Nodes)) (flat_map node_rows old.projects)
       (flat_map node_rows (edited (edit.Projects e) old).projects)
       (held_nodes old room k (edit.Projects e) fits l read)
       (nodes_there e (record { items = old.projects; room = room.projects }) k.projects fits)
@@ -208,10 +223,12 @@ module _ (old : HeldValue) (room : HeldRoom) (k : HaveTexts old) where
   nodes_differ (edit.Files files) fits l read there = held_nodes old room k (edit.Files files) fits l read
 
   pub edges_differ : (e : HeldEdit) → Fits e (held_with old room)
-      → LeadsByDifference Edges (of_table (held_exchanges e old) Edges) (flat_map edge_rows old.projects)
+      → LeadsByDifference (table.Demand Edges) (of_table (held_exchanges e old) (table.Demand Edges))
+      (flat_map edge_rows old.projects)
       (flat_map edge_rows (edited e old).projects)
   edges_differ e fits =
-      differ (same_in Edges) same_row rows_decide (removed_by (held_exchanges e old) Edges)
-      (added_by (held_exchanges e old) Edges) (flat_map edge_rows old.projects)
+      differ (same_in (table.Demand Edges)) same_row rows_decide
+      (removed_by (held_exchanges e old) (table.Demand Edges))
+      (added_by (held_exchanges e old) (table.Demand Edges)) (flat_map edge_rows old.projects)
       (flat_map edge_rows (edited e old).projects)
       (held_edges old room k e fits) (edges_there_held e fits) (edges_keyed old.projects)

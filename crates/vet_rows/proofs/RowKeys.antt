@@ -34,6 +34,9 @@ use Rattle.vet_rows.specs.RowsOf.{meta_row, rows_of}
 use Rattle.vet_rows.specs.StandingRows.{move_row}
 use Rattle.vet_tables.specs.Cells.{Row, same_key}
 use Rattle.vet_tables.specs.Forms.{form_of}
+use Rattle.vet_tables.specs.declared.table_name.DemandTable.TheVariants.{Edges, Nodes, Policies}
+use Rattle.vet_tables.specs.declared.table_name.DeskTable.TheVariants.{Members, Reviews}
+use Rattle.vet_tables.specs.declared.table_name.FactsTable.TheVariants.{Criteria, Entries, Peers, Publishers}
 use Rattle.vet_tables.specs.declared.table_name.TableName.{TableName}
 use Rattle.vet_tables.specs.declared.table_name.TableName.TheVariants as table
 
@@ -119,13 +122,13 @@ module _ (s : State) (sound : IsSound s) (named : ArePeersNamed s.held.facts.pee
   -- ---- reviews
 
   reviews_keyed : (r x : Row) → IsIn r (map review_row s.desk.reviews) → IsIn x (map review_row s.desk.reviews)
-      → same_in table.Reviews r x ≡ true → r ≡ x
+      → same_in (table.Desk Reviews) r x ≡ true → r ≡ x
   reviews_keyed r x i j e =
       let p = in_map review_row s.desk.reviews r i in
       let q = in_map review_row s.desk.reviews x j in
-      let one = of_these table.Reviews r x (review_row p.0) (review_row q.0) p.1.1 q.1.1 e in
+      let one = of_these (table.Desk Reviews) r x (review_row p.0) (review_row q.0) p.1.1 q.1.1 e in
       let numbers = same_pos p.0.number q.0.number
-      (same_number table.Reviews (review_row p.0) (review_row q.0) one 0 (omega arith)) in
+      (same_number (table.Desk Reviews) (review_row p.0) (review_row q.0) one 0 (omega arith)) in
       p.1.1
       ∙ ap review_row (of_one_key nat_cmp nat_cmp_total nat_cmp-IsAntisymmetric review_number s.desk.reviews
       sound.desk.desk.reviews.numbers_rise p.0 q.0 p.1.0 q.1.0 numbers)
@@ -135,16 +138,17 @@ module _ (s : State) (sound : IsSound s) (named : ArePeersNamed s.held.facts.pee
 
   pub keys_differ : KeysDiffer (rows_of s)
   keys_differ table.Meta r x i j e = meta_keyed r x i j
-  keys_differ table.Criteria r x i j e = criteria_keyed s.held.facts facts r x i j e
-  keys_differ table.Entries r x i j e = entries_keyed s.held.facts facts r x i j e
-  keys_differ table.Publishers r x i j e = publishers_keyed s.held.facts.publishers r x i j e
-  keys_differ table.Policies r x i j e =
+  keys_differ (table.Facts Criteria) r x i j e = criteria_keyed s.held.facts facts r x i j e
+  keys_differ (table.Facts Entries) r x i j e = entries_keyed s.held.facts facts r x i j e
+  keys_differ (table.Facts Publishers) r x i j e = publishers_keyed s.held.facts.publishers r x i j e
+  keys_differ (table.Demand Policies) r x i j e =
       policies_keyed s.held.policies sound.held.policies.by_key keys r x i j e
-  keys_differ table.Peers r x i j e = peers_keyed s.held.facts facts r x i j e
-  keys_differ table.Nodes r x i j e = nodes_keyed s.held.projects sound.held.projects.by_name projects r x i j e
-  keys_differ table.Edges r x i j e = edges_keyed s.held.projects r x i j e
+  keys_differ (table.Facts Peers) r x i j e = peers_keyed s.held.facts facts r x i j e
+  keys_differ (table.Demand Nodes) r x i j e =
+      nodes_keyed s.held.projects sound.held.projects.by_name projects r x i j e
+  keys_differ (table.Demand Edges) r x i j e = edges_keyed s.held.projects r x i j e
   keys_differ table.Standing r x i j e = standing_keyed r x i j e
   keys_differ table.Moves r x i j e = moves_keyed r x i j e
-  keys_differ table.Members r x i j e =
-      same_whole table.Members refl r x (members_fit s.desk.members r i) (members_fit s.desk.members x j) e
-  keys_differ table.Reviews r x i j e = reviews_keyed r x i j e
+  keys_differ (table.Desk Members) r x i j e =
+      same_whole (table.Desk Members) refl r x (members_fit s.desk.members r i) (members_fit s.desk.members x j) e
+  keys_differ (table.Desk Reviews) r x i j e = reviews_keyed r x i j e

@@ -75,6 +75,9 @@ use Rattle.vet_tables.proofs.TableRows.{cleared_elsewhere}
 use Rattle.vet_tables.specs.Cells.{Row, RowsValue, SameRows, same_key}
 use Rattle.vet_tables.specs.Forms.{code, form_of}
 use Rattle.vet_tables.specs.declared.cell.Cell.TheVariants.{Int}
+use Rattle.vet_tables.specs.declared.table_name.DemandTable.TheVariants.{Edges, Nodes, Policies}
+use Rattle.vet_tables.specs.declared.table_name.DeskTable.TheVariants.{Members, Reviews}
+use Rattle.vet_tables.specs.declared.table_name.FactsTable.TheVariants.{Criteria, Entries, Peers, Publishers}
 use Rattle.vet_tables.specs.declared.table_name.TableName.{TableName}
 use Rattle.vet_tables.specs.declared.table_name.TableName.TheVariants as table
 
@@ -151,16 +154,16 @@ pairs_unmap f R (x ∷ xs) up =
 module _ (s : State) (room : DeskRoom) where
   members_are : (e : Option DeskEdit) → HoldsDesk e (record { content = s.desk; room = room })
       → IsSound s
-      → Leads table.Members (desk_exchanges e s.desk) (map member_row s.desk.members)
+      → Leads (table.Desk Members) (desk_exchanges e s.desk) (map member_row s.desk.members)
       (map member_row (desk_edited e s.desk).members)
-  members_are None holds sound = stays (same_in table.Members) (map member_row s.desk.members)
+  members_are None holds sound = stays (same_in (table.Desk Members)) (map member_row s.desk.members)
   members_are (Some e) holds sound =
       members_become e.change s.desk room e.entry holds.prepared.fits sound.desk.desk.members.by_name
 
   reviews_are : (e : Option DeskEdit) (after : State) → desk_edited e s.desk ≡ after.desk → IsSound s → IsSound after
-      → Leads table.Reviews (desk_exchanges e s.desk) (map review_row s.desk.reviews)
+      → Leads (table.Desk Reviews) (desk_exchanges e s.desk) (map review_row s.desk.reviews)
       (map review_row (desk_edited e s.desk).reviews)
-  reviews_are None after is sound sound_after = stays (same_in table.Reviews) (map review_row s.desk.reviews)
+  reviews_are None after is sound sound_after = stays (same_in (table.Desk Reviews)) (map review_row s.desk.reviews)
   reviews_are (Some e) after is sound sound_after =
       reviews_become e.change s.desk e.entry sound.desk.desk.reviews.numbers_rise
       (subst (λ (d : DeskState). IsByKey nat_cmp review_number d.reviews) (sym is)
@@ -346,34 +349,35 @@ module _ {K U : Type 0} (differences : MovesAreDifferences) (least : DemandIsLea
 
   others_become : (name : TableName) → (code name ≡ code table.Moves → ⊥) → Becomes name (rows_of s name)
   others_become table.Meta apart = meta_becomes s after
-  others_become table.Criteria apart =
-      by_held table.Criteria (omega arith) (omega arith)
+  others_become (table.Facts Criteria) apart =
+      by_held (table.Facts Criteria) (omega arith) (omega arith)
       (held_criteria s.held r.room.held texts change.edit is.fits texts_after)
-  others_become table.Entries apart =
-      by_held table.Entries (omega arith) (omega arith)
+  others_become (table.Facts Entries) apart =
+      by_held (table.Facts Entries) (omega arith) (omega arith)
       (entries_differ s.held r.room.held texts change.edit is.fits texts_after)
-  others_become table.Publishers apart =
-      by_held table.Publishers (omega arith) (omega arith)
+  others_become (table.Facts Publishers) apart =
+      by_held (table.Facts Publishers) (omega arith) (omega arith)
       (publishers_differ s.held r.room.held texts change.edit is.fits)
-  others_become table.Policies apart =
-      by_held table.Policies (omega arith) (omega arith)
+  others_become (table.Demand Policies) apart =
+      by_held (table.Demand Policies) (omega arith) (omega arith)
       (held_policies s.held r.room.held texts change.edit is.fits texts_after)
-  others_become table.Peers apart =
-      by_held table.Peers (omega arith) (omega arith)
+  others_become (table.Facts Peers) apart =
+      by_held (table.Facts Peers) (omega arith) (omega arith)
       (held_peers s.held r.room.held texts change.edit is.fits texts_after)
-  others_become table.Nodes apart =
-      by_held table.Nodes (omega arith) (omega arith)
+  others_become (table.Demand Nodes) apart =
+      by_held (table.Demand Nodes) (omega arith) (omega arith)
       (nodes_differ s.held r.room.held texts change.edit is.fits texts_after read.projects read.projects_held)
-  others_become table.Edges apart =
-      by_held table.Edges (omega arith) (omega arith) (edges_differ s.held r.room.held texts change.edit is.fits)
+  others_become (table.Demand Edges) apart =
+      by_held (table.Demand Edges) (omega arith) (omega arith)
+      (edges_differ s.held r.room.held texts change.edit is.fits)
   others_become table.Standing apart =
       by_moves table.Standing (rows_of s table.Standing) (omega arith) (omega arith)
       (standing_becomes (standing s) (standing after) more standing_up after_up are_moves read_stands read.moves)
   others_become table.Moves apart = absurd (apart refl)
-  others_become table.Members apart =
-      by_desk table.Members (omega arith) (members_are s r.room.desk change.desk is.desk sound)
-  others_become table.Reviews apart =
-      by_desk table.Reviews (omega arith) (reviews_are s r.room.desk change.desk after refl sound sound_after)
+  others_become (table.Desk Members) apart =
+      by_desk (table.Desk Members) (omega arith) (members_are s r.room.desk change.desk is.desk sound)
+  others_become (table.Desk Reviews) apart =
+      by_desk (table.Desk Reviews) (omega arith) (reviews_are s r.room.desk change.desk after refl sound sound_after)
 
   rows_become : (name : TableName) → Becomes name (cleared_rows name)
   rows_become name = elim (same_or_other name table.Moves) [

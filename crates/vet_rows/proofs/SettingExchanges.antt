@@ -36,25 +36,26 @@ use Rattle.vet_rows.proofs.FitRows.{criteria_fit, peers_fit, publishers_fit}
 use Rattle.vet_rows.proofs.SameKeys.{own_key, same_text, same_whole, text_at}
 use Rattle.vet_tables.specs.Cells.{IsRowOf, Row, same_key}
 use Rattle.vet_tables.specs.Forms.{form_of}
+use Rattle.vet_tables.specs.declared.table_name.FactsTable.TheVariants.{Criteria as CriteriaTable, Peers, Publishers}
 use Rattle.vet_tables.specs.declared.table_name.TableName.TheVariants as table
 
 abbrev same_criterion : Row → Row → Bool
-same_criterion = same_key (form_of table.Criteria)
+same_criterion = same_key (form_of (table.Facts CriteriaTable))
 
 abbrev same_peer : Row → Row → Bool
-same_peer = same_key (form_of table.Peers)
+same_peer = same_key (form_of (table.Facts Peers))
 
 abbrev same_publisher : Row → Row → Bool
-same_publisher = same_key (form_of table.Publishers)
+same_publisher = same_key (form_of (table.Facts Publishers))
 
 -- ---- the rows of criteria
 
 criterion_same : (r s : Row) → same_criterion r s ≡ true → (text_at 0 r ≡ text_at 0 s) × (text_at 1 r ≡ text_at 1 s)
 criterion_same r s e =
-    (same_text table.Criteria r s e 0 (omega arith), same_text table.Criteria r s e 1 (omega arith))
+    let text = same_text (table.Facts CriteriaTable) r s e in (text 0 (omega arith), text 1 (omega arith))
 
 own_criteria : (facts : Facts) (r : Row) → IsIn r (all_criteria facts) → same_criterion r r ≡ true
-own_criteria facts r i = own_key table.Criteria r (criteria_fit facts r i)
+own_criteria facts r i = own_key (table.Facts CriteriaTable) r (criteria_fit facts r i)
 
 -- a row of a table has the table's peer, and the name of a criterion of the table
 abbrev IsOfTable : Name → Criteria → Row → Type 0
@@ -187,7 +188,8 @@ pub peers_keyed : (facts : Facts) → HaveKeys facts → (r s : Row) → IsIn r 
 peers_keyed facts k r s i j e =
     let p = in_map (λ (peer : HeldPeer). peer_row peer.settings) facts.peers r i in
     let q = in_map (λ (peer : HeldPeer). peer_row peer.settings) facts.peers s j in
-    let names = ap (text_at 0) (sym p.1.1) ∙ same_text table.Peers r s e 0 (omega arith) ∙ ap (text_at 0) q.1.1 in
+    let names = ap (text_at 0) (sym p.1.1) ∙ same_text (table.Facts Peers) r s e 0 (omega arith)
+    ∙ ap (text_at 0) q.1.1 in
     p.1.1
     ∙ ap (λ (x : HeldPeer). peer_row x.settings)
     (of_one_key (slice_cmp nat_cmp) nat_list_cmp_total only_equal peer_name facts.peers k.peers p.0 q.0 p.1.0 q.1.0
@@ -199,7 +201,7 @@ settings_exchange : (old new : Facts) (gone come : Option HeldPeer) → HaveKeys
     → IsExchange same_peer (rows_if the_peer gone) (rows_if the_peer come) (peer_rows old.peers) (peer_rows new.peers)
 settings_exchange old new gone come l is =
     of_items same_peer peer_name the_peer gone come old.peers new.peers [] (peer_rows old.peers)
-    (peer_rows new.peers) (λ r i. own_key table.Peers r (peers_fit old.peers r i))
+    (peer_rows new.peers) (λ r i. own_key (table.Facts Peers) r (peers_fit old.peers r i))
     (only_mapped (λ (peer : HeldPeer). peer_row peer.settings) old.peers)
     (only_mapped (λ (peer : HeldPeer). peer_row peer.settings) new.peers) is
     (λ g x r s i j a b e. named g x r s a b e)
@@ -210,7 +212,7 @@ settings_exchange old new gone come l is =
     named : (g x : HeldPeer) (r s : Row) → IsIn r (the_peer g) → IsIn s (the_peer x) → same_peer r s ≡ true
         → peer_name g ≡ peer_name x
     named g x r s (inl a) (inl b) e =
-        ap (text_at 0) (sym a) ∙ same_text table.Peers r s e 0 (omega arith) ∙ ap (text_at 0) b
+        ap (text_at 0) (sym a) ∙ same_text (table.Facts Peers) r s e 0 (omega arith) ∙ ap (text_at 0) b
     named g x r s (inl a) (inr none) e = absurd none
     named g x r s (inr none) b e = absurd none
 
@@ -220,9 +222,10 @@ package_is : (p : PackagePublishers) (r : Row) → IsIn r (package_rows p) → t
 package_is p r i = ap (text_at 0) (in_map (publisher_row p.«package») p.publishers r i).1.1
 
 -- all columns of a publisher's row are its key
-pub publisher_same : (r s : Row) → IsRowOf (form_of table.Publishers) r → IsRowOf (form_of table.Publishers) s
+pub publisher_same : (r s : Row) → IsRowOf (form_of (table.Facts Publishers)) r
+    → IsRowOf (form_of (table.Facts Publishers)) s
     → same_publisher r s ≡ true → r ≡ s
-publisher_same = same_whole table.Publishers refl
+publisher_same = same_whole (table.Facts Publishers) refl
 
 pub publishers_keyed : (packages : List PackagePublishers) (r s : Row) → IsIn r (flat_map package_rows packages)
     → IsIn s (flat_map package_rows packages) → same_publisher r s ≡ true → r ≡ s
@@ -233,7 +236,7 @@ publishers_keyed packages r s i j =
 
 module _ (old : Facts) (room : Room) (k : HaveKeys old) where
   pub criteria_become : (e : Edit) → Fits e (record { content = old; room = room }) → HaveKeys (edited e old)
-      → Leads table.Criteria (fact_exchanges e old) (all_criteria old) (all_criteria (edited e old))
+      → Leads (table.Facts CriteriaTable) (fact_exchanges e old) (all_criteria old) (all_criteria (edited e old))
   criteria_become (edit.Criteria table) fits l = table_exchange old (edited (edit.Criteria table) old) k l refl
   criteria_become (edit.Insert place held) fits l = same_tables old (edited (edit.Insert place held) old) refl refl
   criteria_become (edit.Remove place) fits l = same_tables old (edited (edit.Remove place) old) refl refl
@@ -276,7 +279,7 @@ module _ (old : Facts) (room : Room) (k : HaveKeys old) where
   criteria_become (edit.Publishers change) fits l = same_tables old (edited (edit.Publishers change) old) refl refl
 
   pub peers_become : (e : Edit) → Fits e (record { content = old; room = room }) → HaveKeys (edited e old)
-      → Leads table.Peers (fact_exchanges e old) (peer_rows old.peers) (peer_rows (edited e old).peers)
+      → Leads (table.Facts Peers) (fact_exchanges e old) (peer_rows old.peers) (peer_rows (edited e old).peers)
   peers_become (edit.Criteria table) fits l = stays same_peer (peer_rows old.peers)
   peers_become (edit.Insert place held) fits l = stays same_peer (peer_rows old.peers)
   peers_become (edit.Remove place) fits l = stays same_peer (peer_rows old.peers)
@@ -316,7 +319,7 @@ module _ (old : Facts) (room : Room) (k : HaveKeys old) where
   peers_become (edit.Publishers change) fits l = stays same_peer (peer_rows old.peers)
 
   pub publishers_become : (e : Edit) → Fits e (record { content = old; room = room })
-      → Leads table.Publishers (fact_exchanges e old) (flat_map package_rows old.publishers)
+      → Leads (table.Facts Publishers) (fact_exchanges e old) (flat_map package_rows old.publishers)
       (flat_map package_rows (edited e old).publishers)
   publishers_become (edit.Criteria table) fits = stays same_publisher (flat_map package_rows old.publishers)
   publishers_become (edit.Insert place held) fits = stays same_publisher (flat_map package_rows old.publishers)
@@ -328,18 +331,19 @@ module _ (old : Facts) (room : Room) (k : HaveKeys old) where
       let new = keyed.edited change old.publishers in
       of_items same_publisher package_of package_rows (removed_item change old.publishers) (added_item change)
       old.publishers new [] (flat_map package_rows old.publishers) (flat_map package_rows new)
-      (λ r i. own_key table.Publishers r (publishers_fit old.publishers r i))
+      (λ r i. own_key (table.Facts Publishers) r (publishers_fit old.publishers r i))
       (only_flat package_rows old.publishers) (only_flat package_rows new)
       (edit_is (slice_cmp nat_cmp) nat_list_cmp_total only_equal package_of change
       (record { items = old.publishers; room = room.packages }) k.packages fits.place)
-      (λ g x r s i j a b e. sym (package_is g r a) ∙ same_text table.Publishers r s e 0 (omega arith)
+      (λ g x r s i j a b e. sym (package_is g r a) ∙ same_text (table.Facts Publishers) r s e 0 (omega arith)
       ∙ package_is x s b)
       (λ g r s i a none e. none)
       (λ c r s i a j e. publishers_keyed new r s (flat_in package_rows new c r i a) j e)
 
   -- the rows that go are there
   pub publishers_there : (e : Edit) → Fits e (record { content = old; room = room }) → (r : Row)
-      → IsIn r (removed_by (fact_exchanges e old) table.Publishers) → IsIn r (flat_map package_rows old.publishers)
+      → IsIn r (removed_by (fact_exchanges e old) (table.Facts Publishers))
+      → IsIn r (flat_map package_rows old.publishers)
   publishers_there (edit.Criteria table) fits r i = absurd i
   publishers_there (edit.Insert place held) fits r i = absurd i
   publishers_there (edit.Remove place) fits r i = absurd i

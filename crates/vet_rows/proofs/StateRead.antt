@@ -19,6 +19,7 @@ use Rattle.vet_rows.specs.RowsOf.{rows_of}
 use Rattle.vet_rows.specs.declared.meta.Meta.{Meta}
 use Rattle.vet_tables.specs.Cells.{Row, RowsValue}
 use Rattle.vet_tables.specs.Forms.{code}
+use Rattle.vet_tables.specs.declared.table_name.FactsTable.TheVariants.{Criteria, Entries, Peers, Publishers}
 use Rattle.vet_tables.specs.declared.table_name.TableName.{TableName}
 use Rattle.vet_tables.specs.declared.table_name.TableName.TheVariants as table
 
@@ -39,10 +40,10 @@ module _ (rows : RowsValue) (s : State) (same : SameButStanding rows (rows_of s)
 
   pub facts_rows : AreRowsOf rows s.held.facts
   facts_rows = record {
-    criteria = table_rows table.Criteria tt (rows table.Criteria) refl;
-    entries = table_rows table.Entries tt (rows table.Entries) refl;
-    publishers = table_rows table.Publishers tt (rows table.Publishers) refl;
-    peers = table_rows table.Peers tt (rows table.Peers) refl;
+    criteria = table_rows (table.Facts Criteria) tt (rows (table.Facts Criteria)) refl;
+    entries = table_rows (table.Facts Entries) tt (rows (table.Facts Entries)) refl;
+    publishers = table_rows (table.Facts Publishers) tt (rows (table.Facts Publishers)) refl;
+    peers = table_rows (table.Facts Peers) tt (rows (table.Facts Peers)) refl;
   }
 
 -- the rows of a state are its own

@@ -15,6 +15,7 @@ use Rattle.vet_rows.specs.KeyedItems.{one_row, rows_if}
 use Rattle.vet_rows.specs.RowExchanges.{exchange_of, item_exchange}
 use Rattle.vet_rows.specs.declared.row_changes.exchange.Exchange.{Exchange}
 use Rattle.vet_tables.specs.Cells.{Row}
+use Rattle.vet_tables.specs.declared.table_name.DeskTable.TheVariants.{Members, Reviews}
 use Rattle.vet_tables.specs.declared.table_name.TableName.TheVariants as table
 
 -- of a member, and of a review
@@ -27,12 +28,13 @@ the_review = one_row review_row
 -- the row of a review, if there is one, for its row in another state
 abbrev pub turned_exchange : ReviewState → Option Review → Exchange
 turned_exchange state review =
-    exchange_of table.Reviews (rows_if the_review review) (rows_if the_review (option_map (in_state state) review))
+    exchange_of (table.Desk Reviews) (rows_if the_review review)
+    (rows_if the_review (option_map (in_state state) review))
 
 -- a review that is finished gets the entry of this number, if one is given
 abbrev pub desk_change_exchanges : DeskChange → Option ℕ → DeskState → List Exchange
-desk_change_exchanges (Join edit) entry d = item_exchange table.Members the_member edit d.members ∷ []
-desk_change_exchanges (Open review) entry d = exchange_of table.Reviews [] (the_review review) ∷ []
+desk_change_exchanges (Join edit) entry d = item_exchange (table.Desk Members) the_member edit d.members ∷ []
+desk_change_exchanges (Open review) entry d = exchange_of (table.Desk Reviews) [] (the_review review) ∷ []
 desk_change_exchanges (Turn place state) entry d = turned_exchange state (slice_get d.reviews place) ∷ []
 desk_change_exchanges (Finish place made) None d = []
 desk_change_exchanges (Finish place made) (Some number) d =

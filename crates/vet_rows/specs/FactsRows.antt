@@ -14,6 +14,7 @@ use Rattle.vet_rows.specs.KeyedItems.{one_row, rows_if}
 use Rattle.vet_rows.specs.RowExchanges.{exchange_of, item_exchange}
 use Rattle.vet_rows.specs.declared.row_changes.exchange.Exchange.{Exchange}
 use Rattle.vet_tables.specs.Cells.{Row}
+use Rattle.vet_tables.specs.declared.table_name.FactsTable.TheVariants.{Criteria, Entries, Peers, Publishers}
 use Rattle.vet_tables.specs.declared.table_name.TableName.TheVariants as table
 
 -- ---- the rows of facts
@@ -30,18 +31,20 @@ the_peer = one_row (λ (peer : HeldPeer). peer_row peer.settings)
 -- If a peer is removed or added, so are its criteria and entries. If its content is exchanged, all of them are removed.
 abbrev pub fact_exchanges : Edit → Facts → List Exchange
 fact_exchanges (edit.Criteria criteria) facts =
-    exchange_of table.Criteria (criteria_rows own_peer facts.criteria) (criteria_rows own_peer criteria) ∷ []
-fact_exchanges (edit.Insert place held) facts = exchange_of table.Entries [] (own_entry held) ∷ []
+    exchange_of (table.Facts Criteria) (criteria_rows own_peer facts.criteria) (criteria_rows own_peer criteria) ∷ []
+fact_exchanges (edit.Insert place held) facts = exchange_of (table.Facts Entries) [] (own_entry held) ∷ []
 fact_exchanges (edit.Remove place) facts =
-    exchange_of table.Entries (rows_if own_entry (slice_get facts.entries place)) [] ∷ []
+    exchange_of (table.Facts Entries) (rows_if own_entry (slice_get facts.entries place)) [] ∷ []
 fact_exchanges (edit.Peer change) facts =
-    item_exchange table.Criteria peer_criteria change facts.peers
-    ∷ item_exchange table.Entries peer_entries change facts.peers
-    ∷ item_exchange table.Peers the_peer change facts.peers ∷ []
+    item_exchange (table.Facts Criteria) peer_criteria change facts.peers
+    ∷ item_exchange (table.Facts Entries) peer_entries change facts.peers
+    ∷ item_exchange (table.Facts Peers) the_peer change facts.peers ∷ []
 fact_exchanges (edit.Settings settings) facts =
-    exchange_of table.Peers (rows_if the_peer (peer_of facts.peers settings.name)) (peer_row settings ∷ []) ∷ []
+    exchange_of (table.Facts Peers) (rows_if the_peer (peer_of facts.peers settings.name)) (peer_row settings ∷ []) ∷ []
 fact_exchanges (edit.Content name content) facts =
-    exchange_of table.Criteria (rows_if peer_criteria (peer_of facts.peers name)) (criteria_rows name content.table)
-    ∷ exchange_of table.Entries (rows_if peer_entries (peer_of facts.peers name)) (map entry_row content.entries) ∷ []
+    exchange_of (table.Facts Criteria) (rows_if peer_criteria (peer_of facts.peers name))
+    (criteria_rows name content.table)
+    ∷ exchange_of (table.Facts Entries) (rows_if peer_entries (peer_of facts.peers name))
+    (map entry_row content.entries) ∷ []
 fact_exchanges (edit.Publishers change) facts =
-    item_exchange table.Publishers package_rows change facts.publishers ∷ []
+    item_exchange (table.Facts Publishers) package_rows change facts.publishers ∷ []

@@ -8,8 +8,10 @@ use Rattle.vet_rows.specs.declared.row_change.RowChange.{RowChange}
 use Rattle.vet_rows.specs.declared.row_change.RowChange.TheVariants.{Put, Drop}
 use Rattle.vet_rows.specs.declared.row_changes.exchange.Exchange.{Exchange}
 use Rattle.vet_tables.specs.Cells.{Row, cell_eq}
+use Rattle.vet_tables.specs.declared.table_name.DemandTable.TheVariants.{Edges, Nodes}
+use Rattle.vet_tables.specs.declared.table_name.FactsTable.TheVariants.{Entries, Publishers}
 use Rattle.vet_tables.specs.declared.table_name.TableName.{TableName}
-use Rattle.vet_tables.specs.declared.table_name.TableName.TheVariants.{Edges, Entries, Nodes, Publishers}
+use Rattle.vet_tables.specs.declared.table_name.TableName.TheVariants as table
 
 -- ---- exchanges
 
@@ -41,10 +43,10 @@ unmarked (r ∷ rows) (mark ∷ marks) = cond mark (unmarked rows marks) (r ∷ 
 -- There may be thousands of entries, publishers, nodes and edges. One of their rows that would be removed and added
 -- again stays.
 abbrev pub is_compared : TableName → Bool
-is_compared Entries = true
-is_compared Publishers = true
-is_compared Nodes = true
-is_compared Edges = true
+is_compared (table.Facts Entries) = true
+is_compared (table.Facts Publishers) = true
+is_compared (table.Demand Nodes) = true
+is_compared (table.Demand Edges) = true
 is_compared _ = false
 
 -- so of rows that are exchanged for others, these are the ones that are written

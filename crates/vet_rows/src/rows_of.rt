@@ -28,7 +28,9 @@ use vet_item_rows::rows_of::project_rows::{all_edges, all_nodes};
 use vet_register::register::Register;
 use vet_tables::rows::Rows;
 use vet_tables::sequence::Row;
-use vet_tables::table_name::{TABLE_COUNT, TableName, table_at};
+use vet_tables::table_name::{
+    DemandTable, DeskTable, FactsTable, TABLE_COUNT, TableName, table_at,
+};
 
 /// The rows of a register's state: a list for each table, each row once. Costs a look at each thing that is held, and a
 /// binary search for each demanded pair. Refused: `NoMemory`.
@@ -54,16 +56,16 @@ pub fn rows_in<K: Keeper>(
     numbers_fit(register);
     match table {
         TableName::Meta => Ok(vec![in alloc; meta_row(alloc, register)?]?),
-        TableName::Criteria => all_criteria(alloc, register.facts()),
-        TableName::Entries => all_entries(alloc, register.facts()),
-        TableName::Publishers => all_publishers(alloc, register.publishers()),
-        TableName::Policies => rows_each(alloc, register.policies()),
-        TableName::Peers => rows_each(alloc, register.peers()),
-        TableName::Nodes => all_nodes(alloc, register.projects()),
-        TableName::Edges => all_edges(alloc, register.projects()),
+        TableName::Facts(FactsTable::Criteria) => all_criteria(alloc, register.facts()),
+        TableName::Facts(FactsTable::Entries) => all_entries(alloc, register.facts()),
+        TableName::Facts(FactsTable::Publishers) => all_publishers(alloc, register.publishers()),
+        TableName::Demand(DemandTable::Policies) => rows_each(alloc, register.policies()),
+        TableName::Facts(FactsTable::Peers) => rows_each(alloc, register.peers()),
+        TableName::Demand(DemandTable::Nodes) => all_nodes(alloc, register.projects()),
+        TableName::Demand(DemandTable::Edges) => all_edges(alloc, register.projects()),
         TableName::Standing => all_standing(alloc, register),
         TableName::Moves => rows_each(alloc, register.moves()),
-        TableName::Members => rows_each(alloc, register.desk().members()),
-        TableName::Reviews => rows_each(alloc, register.desk().reviews()),
+        TableName::Desk(DeskTable::Members) => rows_each(alloc, register.desk().members()),
+        TableName::Desk(DeskTable::Reviews) => rows_each(alloc, register.desk().reviews()),
     }
 }

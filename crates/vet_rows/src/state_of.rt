@@ -20,7 +20,6 @@ ghost use Rattle.vet_rows.specs.HeldState.{IsHeldState, SameButStanding};
 ghost use Rattle.vet_rows.specs.ReadState.{state_in};
 ghost use Rattle.vet_rows.specs.RowsOf.{rows_of};
 ghost use Rattle.vet_tables.specs.Cells.{rows_in};
-ghost use Rattle.vet_tables.specs.declared.table_name.TableName.TheVariants as table;
 
 use crate::meta::Meta;
 use crate::read::meta::read_meta;
@@ -39,7 +38,7 @@ use vet_item_rows::read::read_error::{ReadError, found};
 use vet_register::moves::RecordedMove;
 use vet_register::state::State;
 use vet_tables::rows::Rows;
-use vet_tables::table_name::TableName;
+use vet_tables::table_name::{DemandTable, DeskTable, TableName};
 
 /// The state of which these are the rows, in any order; those of `standing` are ignored. Takes a time of n log n.
 /// Refused: `NotARegister`, only if they are the rows of no sound state, and `NoMemory`.
@@ -65,8 +64,12 @@ fn read_state(alloc: Global, rows: &Rows) -> Result<State, ReadError>
 {
     let meta = read_meta(alloc, rows.of(TableName::Meta))?;
     let facts = facts_of(alloc, rows)?;
-    let policies = policies(alloc, rows.of(TableName::Policies))?;
-    let projects = projects(alloc, rows.of(TableName::Nodes), rows.of(TableName::Edges))?;
+    let policies = policies(alloc, rows.of(TableName::Demand(DemandTable::Policies)))?;
+    let projects = projects(
+        alloc,
+        rows.of(TableName::Demand(DemandTable::Nodes)),
+        rows.of(TableName::Demand(DemandTable::Edges)),
+    )?;
     let desk = read_desk(alloc, rows, meta.numbers.next_review)?;
     let moves = moves(alloc, rows.of(TableName::Moves))?;
     Ok(made(meta, facts, policies, projects, desk, moves))
@@ -75,12 +78,13 @@ fn read_state(alloc: Global, rows: &Rows) -> Result<State, ReadError>
 // The desk of which these are the rows.
 fn read_desk(alloc: Global, rows: &Rows, next_review: u64) -> Result<Desk, ReadError>
     ensures { (d : DeskState) → IsSoundDesk d → All IsName d.members → All IsReview d.reviews
-        → SameItems (rows_in rows.now table.Members) (map member_row d.members)
-        → SameItems (rows_in rows.now table.Reviews) (map review_row d.reviews) → next_review ≡ d.next_review
+        → SameItems (rows_in rows.now (TableName.Desk DeskTable.Members)) (map member_row d.members)
+        → SameItems (rows_in rows.now (TableName.Desk DeskTable.Reviews)) (map review_row d.reviews)
+        → next_review ≡ d.next_review
         → MatchResult result (λ desk. desk.content ≡ d) (λ e. e ≡ ReadError.NoMemory) }
 {
-    let members = members(alloc, rows.of(TableName::Members))?;
-    let reviews = reviews(alloc, rows.of(TableName::Reviews))?;
+    let members = members(alloc, rows.of(TableName::Desk(DeskTable::Members)))?;
+    let reviews = reviews(alloc, rows.of(TableName::Desk(DeskTable::Reviews)))?;
     found(Desk::restored(members, reviews, next_review))
 }
 

@@ -64,10 +64,12 @@ use Rattle.vet_tables.specs.Cells.{Row, value_of, values_of}
 use Rattle.vet_tables.specs.Typed.{IsReadable}
 use Rattle.vet_tables.specs.declared.cell.Cell.{Cell}
 use Rattle.vet_tables.specs.declared.cell.Cell.TheVariants.{Int, Text, Blob}
+use Rattle.vet_tables.specs.declared.table_name.DemandTable.TheVariants.{Edges, Nodes, Policies}
+use Rattle.vet_tables.specs.declared.table_name.DeskTable.TheVariants.{Members, Reviews}
+use Rattle.vet_tables.specs.declared.table_name.FactsTable.TheVariants.{Criteria as CriteriaTable, Entries, Peers}
+use Rattle.vet_tables.specs.declared.table_name.FactsTable.TheVariants.{Publishers}
 use Rattle.vet_tables.specs.declared.table_name.TableName.{TableName}
-use Rattle.vet_tables.specs.declared.table_name.TableName.TheVariants.{Meta, Criteria as CriteriaTable, Entries}
-use Rattle.vet_tables.specs.declared.table_name.TableName.TheVariants.{Publishers, Policies, Peers, Nodes, Edges}
-use Rattle.vet_tables.specs.declared.table_name.TableName.TheVariants.{Standing, Moves, Members, Reviews}
+use Rattle.vet_tables.specs.declared.table_name.TableName.TheVariants as table
 
 -- ---- cells
 
@@ -328,21 +330,22 @@ module _ (s : State) (sound : IsSound s) (held : IsHeldState s) where
       (stand_told pair.0 (class_of_pair s.held.facts pair.0) pair.1.0)
 
   rows_told : (n : TableName) (r : Row) → IsIn r (rows_of s n) → AreTold r
-  rows_told Meta r (inl is) =
+  rows_told table.Meta r (inl is) =
       subst AreTold (sym is) (tt, (tt, (tt, (tt, (tt, (tt, (tt, (tt, (tt, (tt, (tt, (tt, (tt, tt)))))))))))))
-  rows_told Meta r (inr none) = absurd none
-  rows_told CriteriaTable r i = criteria_told r i
-  rows_told Entries r i = entries_told r i
-  rows_told Publishers r i = publishers_told r i
-  rows_told Policies r i = each_row IsKeyedPolicy policy_row policy_told s.held.policies held.policies r i
-  rows_told Peers r i =
+  rows_told table.Meta r (inr none) = absurd none
+  rows_told (table.Facts CriteriaTable) r i = criteria_told r i
+  rows_told (table.Facts Entries) r i = entries_told r i
+  rows_told (table.Facts Publishers) r i = publishers_told r i
+  rows_told (table.Demand Policies) r i =
+      each_row IsKeyedPolicy policy_row policy_told s.held.policies held.policies r i
+  rows_told (table.Facts Peers) r i =
       each_row IsPeerValue (λ (p : HeldPeer). peer_row p.settings) peer_told s.held.facts.peers held.facts.peers r i
-  rows_told Nodes r i = nodes_told r i
-  rows_told Edges r i = each_flat IsNamedProject edge_rows edges_told s.held.projects held.projects r i
-  rows_told Standing r i = standing_told r i
-  rows_told Moves r i = each_row IsRecordedMove move_row move_told s.moves held.moves r i
-  rows_told Members r i = each_row IsName member_row member_told s.desk.members held.members r i
-  rows_told Reviews r i = each_row IsReview review_row review_told s.desk.reviews held.reviews r i
+  rows_told (table.Demand Nodes) r i = nodes_told r i
+  rows_told (table.Demand Edges) r i = each_flat IsNamedProject edge_rows edges_told s.held.projects held.projects r i
+  rows_told table.Standing r i = standing_told r i
+  rows_told table.Moves r i = each_row IsRecordedMove move_row move_told s.moves held.moves r i
+  rows_told (table.Desk Members) r i = each_row IsName member_row member_told s.desk.members held.members r i
+  rows_told (table.Desk Reviews) r i = each_row IsReview review_row review_told s.desk.reviews held.reviews r i
 
   pub rows_readable : AreReadable (rows_of s)
   rows_readable n r i = record { fits = rows_fit s n r i; texts = told_at r (rows_told n r i) }

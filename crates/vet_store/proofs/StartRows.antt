@@ -16,8 +16,9 @@ use Rattle.vet_register.specs.State.{start}
 use Rattle.vet_rows.specs.RowsOf.{meta_row, rows_of}
 use Rattle.vet_tables.proofs.TablePlaces.{each}
 use Rattle.vet_tables.specs.Cells.{no_rows, put}
+use Rattle.vet_tables.specs.declared.table_name.FactsTable.TheVariants.{Criteria}
 use Rattle.vet_tables.specs.declared.table_name.TableName.{TableName}
-use Rattle.vet_tables.specs.declared.table_name.TableName.TheVariants.{Criteria, Meta, Standing}
+use Rattle.vet_tables.specs.declared.table_name.TableName.TheVariants.{Facts, Meta, Standing}
 
 nothing_among : {X : Type 0} (xs : List X) → SameItems xs [] → xs ≡ []
 nothing_among [] same = refl
@@ -30,7 +31,7 @@ none_further = nothing_among (further built_in_criteria) (further_are_defined []
 abbrev IsAtStart : ℕ → TableName → Type 0
 IsAtStart limit n = rows_of (start limit) n ≡ put Meta (meta_row (start limit)) no_rows n
 
-no_criteria : (limit : ℕ) → IsAtStart limit Criteria
+no_criteria : (limit : ℕ) → IsAtStart limit (Facts Criteria)
 no_criteria limit = ap (λ (criteria : List Criterion). map (criterion_row own_peer) criteria ++ []) none_further
 
 no_standing : NothingIsDemanded → (limit : ℕ) → IsAtStart limit Standing

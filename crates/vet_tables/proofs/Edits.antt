@@ -20,9 +20,10 @@ use Rattle.sqlite_sql.specs.Term.{Term, col}
 use Rattle.sqlite_trees.specs.Tree.{Trees, put_row}
 use Rattle.sqlite_value.specs.Order.{Row as Cells}
 use Rattle.vet_tables.proofs.Answered.{answered, passes}
+use Rattle.vet_tables.proofs.NewRows.{news_are}
 use Rattle.vet_tables.proofs.Numbers.{removed}
 use Rattle.vet_tables.proofs.Shapes.{insert_terms}
-use Rattle.vet_tables.proofs.StoredRows.{news_are, stored_row}
+use Rattle.vet_tables.proofs.StoredRows.{stored_row}
 use Rattle.vet_tables.proofs.Outcomes.{same_value, went}
 use Rattle.vet_tables.proofs.TableMeanings.{over}
 use Rattle.vet_tables.proofs.Unreferred.{no_works}

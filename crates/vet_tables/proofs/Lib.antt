@@ -11,6 +11,10 @@ pub mod KeyedRows
 pub mod Makes
 pub mod Making
 pub mod Meanings
+pub mod NewDemandRows
+pub mod NewDeskRows
+pub mod NewFactsRows
+pub mod NewRows
 pub mod Numbers
 pub mod Outcomes
 pub mod Payloads

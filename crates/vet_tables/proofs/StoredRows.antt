@@ -21,9 +21,6 @@ use Rattle.vet_tables.proofs.Payloads.{Payloads, cells_of, payloads}
 use Rattle.vet_tables.specs.Forms.{form_of}
 use Rattle.vet_tables.specs.Typed.{AreSorts, kinds_of}
 use Rattle.vet_tables.specs.declared.table_name.TableName.{TableName}
-use Rattle.vet_tables.specs.declared.table_name.TableName.TheVariants.{Meta, Criteria, Entries, Publishers, Policies}
-use Rattle.vet_tables.specs.declared.table_name.TableName.TheVariants.{Peers}
-use Rattle.vet_tables.specs.declared.table_name.TableName.TheVariants.{Nodes, Edges, Standing, Moves, Members, Reviews}
 
 abbrev pub rowid_cell : Option ℕ → ℤ → Cells → Value
 rowid_cell None next cells = Int next
@@ -40,7 +37,7 @@ stored_row form next cells = rowid_cell (rowid_of form) next cells ∷ kept_from
 abbrev pub sorts_of : TableName → Type 0
 sorts_of n = Payloads (kinds_of (form_of n))
 
-abbrev made : (n : TableName) → sorts_of n → Cells
+abbrev pub made : (n : TableName) → sorts_of n → Cells
 made n all = cells_of (kinds_of (form_of n)) all
 
 made_shows : (n : TableName) (all : sorts_of n) (next : ℤ)
@@ -59,35 +56,21 @@ either : (b : Bool) (x : Value) → cond b x x ≡ x
 either true x = refl
 either false x = refl
 
-cast_null : cast kind.Integer Null ≡ Null
+pub cast_null : cast kind.Integer Null ≡ Null
 unfolding unary
 cast_null = either _ Null
 
-cast_int : (n : ℤ) → cast kind.Integer (Int n) ≡ Int n
+pub cast_int : (n : ℤ) → cast kind.Integer (Int n) ≡ Int n
 unfolding unary
 cast_int n = either _ (Int n)
 
 -- what an INSERT of the cells adds
-abbrev News : (n : TableName) → Trees → ℕ → Cells → Type 0
+abbrev pub News : (n : TableName) → Trees → ℕ → Cells → Type 0
 News n db tree cells =
     (edit_of db (table_of (form_of n) tree) [] Chosen 0
     (value_rows (cells ++ []) (length (form_of n).columns + 1)
     (length (insert_terms (form_of n)) / (length (form_of n).columns + 1)) (insert_terms (form_of n)))).news
     ≡ stored_row (form_of n) (next_rowid (db tree)) cells ∷ []
-
-made_news : (n : TableName) (all : sorts_of n) (db : Trees) (tree : ℕ) → News n db tree (made n all)
-made_news Meta all db tree = simp (cast_null, cast_int) refl
-made_news Criteria all db tree = simp cast_null refl
-made_news Entries all db tree = simp (cast_null, cast_int) refl
-made_news Publishers all db tree = simp (cast_null, cast_int) refl
-made_news Policies all db tree = simp (cast_null, cast_int) refl
-made_news Peers all db tree = simp cast_null refl
-made_news Nodes all db tree = simp (cast_null, cast_int) refl
-made_news Edges all db tree = simp (cast_null, cast_int) refl
-made_news Standing all db tree = simp (cast_null, cast_int) refl
-made_news Moves all db tree = simp (cast_null, cast_int) refl
-made_news Members all db tree = simp cast_null refl
-made_news Reviews all db tree = simp (cast_null, cast_int) refl
 
 module _ (n : TableName) (cells : Cells) (sorts : AreSorts (kinds_of (form_of n)) cells) where
   pub shows_cells : (next : ℤ) → shown (form_of n) (stored_row (form_of n) next cells) ≡ cells
@@ -99,8 +82,3 @@ module _ (n : TableName) (cells : Cells) (sorts : AreSorts (kinds_of (form_of n)
   has_rowid next =
       let it = payloads (kinds_of (form_of n)) cells sorts in
       subst (λ c. is_int (rowid (stored_row (form_of n) next c)) ≡ true) (sym it.1) (made_rowid n it.0 next)
-
-  pub news_are : (db : Trees) (tree : ℕ) → News n db tree cells
-  news_are db tree =
-      let it = payloads (kinds_of (form_of n)) cells sorts in
-      subst (News n db tree) (sym it.1) (made_news n it.0 db tree)

@@ -8,26 +8,27 @@ use Rattle.std.proofs.lemmas.Option.{get_or_from_slice_get}
 use Rattle.std.specs.List.{AllByRecursion}
 use Rattle.vet_base.specs.Items.{IsIn}
 use Rattle.vet_tables.specs.Forms.{code, form_of, tables}
+use Rattle.vet_tables.specs.declared.table_name.DemandTable.TheVariants.{Policies, Nodes, Edges}
+use Rattle.vet_tables.specs.declared.table_name.DeskTable.TheVariants.{Members, Reviews}
+use Rattle.vet_tables.specs.declared.table_name.FactsTable.TheVariants.{Criteria, Entries, Publishers, Peers}
 use Rattle.vet_tables.specs.declared.table_name.TableName.{TableName}
-use Rattle.vet_tables.specs.declared.table_name.TableName.TheVariants.{Meta, Criteria, Entries, Publishers, Policies}
-use Rattle.vet_tables.specs.declared.table_name.TableName.TheVariants.{Peers}
-use Rattle.vet_tables.specs.declared.table_name.TableName.TheVariants.{Nodes, Edges, Standing, Moves, Members, Reviews}
+use Rattle.vet_tables.specs.declared.table_name.TableName.TheVariants.{Meta, Facts, Demand, Standing, Moves, Desk}
 use Rattle.vet_tables.specs.declared.table_name.TheConstants.{TABLE_COUNT}
 
 -- each is one of the twelve
 pub among_tables : (n : TableName) → IsIn n tables
 among_tables Meta = inl refl
-among_tables Criteria = inr (inl refl)
-among_tables Entries = inr (inr (inl refl))
-among_tables Publishers = inr (inr (inr (inl refl)))
-among_tables Policies = inr (inr (inr (inr (inl refl))))
-among_tables Peers = inr (inr (inr (inr (inr (inl refl)))))
-among_tables Nodes = inr (inr (inr (inr (inr (inr (inl refl))))))
-among_tables Edges = inr (inr (inr (inr (inr (inr (inr (inl refl)))))))
+among_tables (Facts Criteria) = inr (inl refl)
+among_tables (Facts Entries) = inr (inr (inl refl))
+among_tables (Facts Publishers) = inr (inr (inr (inl refl)))
+among_tables (Demand Policies) = inr (inr (inr (inr (inl refl))))
+among_tables (Facts Peers) = inr (inr (inr (inr (inr (inl refl)))))
+among_tables (Demand Nodes) = inr (inr (inr (inr (inr (inr (inl refl))))))
+among_tables (Demand Edges) = inr (inr (inr (inr (inr (inr (inr (inl refl)))))))
 among_tables Standing = inr (inr (inr (inr (inr (inr (inr (inr (inl refl))))))))
 among_tables Moves = inr (inr (inr (inr (inr (inr (inr (inr (inr (inl refl)))))))))
-among_tables Members = inr (inr (inr (inr (inr (inr (inr (inr (inr (inr (inl refl))))))))))
-among_tables Reviews = inr (inr (inr (inr (inr (inr (inr (inr (inr (inr (inr (inl refl)))))))))))
+among_tables (Desk Members) = inr (inr (inr (inr (inr (inr (inr (inr (inr (inr (inl refl))))))))))
+among_tables (Desk Reviews) = inr (inr (inr (inr (inr (inr (inr (inr (inr (inr (inr (inl refl)))))))))))
 
 -- what holds of each of the twelve, one after the other, holds of every table
 pub each : (P : TableName → Type 0) → AllByRecursion P tables → (n : TableName) → P n

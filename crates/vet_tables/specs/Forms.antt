@@ -2,10 +2,11 @@
 use Rattle.std.specs.Prelude.{List, [], ◌∷◌, codes, ℕ}
 use Rattle.sqlite_schema.specs.declared.schema.Kind.TheVariants.{Blob, Integer, Text}
 use Rattle.vet_tables.specs.Form.{TableForm}
+use Rattle.vet_tables.specs.declared.table_name.DemandTable.TheVariants.{Policies, Nodes, Edges}
+use Rattle.vet_tables.specs.declared.table_name.DeskTable.TheVariants.{Members, Reviews}
+use Rattle.vet_tables.specs.declared.table_name.FactsTable.TheVariants.{Criteria, Entries, Publishers, Peers}
 use Rattle.vet_tables.specs.declared.table_name.TableName.{TableName}
-use Rattle.vet_tables.specs.declared.table_name.TableName.TheVariants.{Meta, Criteria, Entries, Publishers, Policies}
-use Rattle.vet_tables.specs.declared.table_name.TableName.TheVariants.{Peers}
-use Rattle.vet_tables.specs.declared.table_name.TableName.TheVariants.{Nodes, Edges, Standing, Moves, Members, Reviews}
+use Rattle.vet_tables.specs.declared.table_name.TableName.TheVariants.{Meta, Facts, Demand, Standing, Moves, Desk}
 
 abbrev pub form_of : TableName → TableForm
 form_of Meta = record {
@@ -18,13 +19,13 @@ form_of Meta = record {
       ∷ (codes "default_criteria", Blob) ∷ [];
   key = 1;
 }
-form_of Criteria = record {
+form_of (Facts Criteria) = record {
   name = codes "criteria";
   columns = (codes "peer", Text) ∷ (codes "name", Text) ∷ (codes "about", Blob) ∷ (codes "url", Blob)
       ∷ (codes "implies", Blob) ∷ [];
   key = 2;
 }
-form_of Entries = record {
+form_of (Facts Entries) = record {
   name = codes "entries";
   columns = (codes "number", Integer) ∷ (codes "peer", Text) ∷ (codes "package", Text) ∷ (codes "kind", Integer)
       ∷ (codes "a", Text) ∷ (codes "b", Text) ∷ (codes "user", Integer) ∷ (codes "day1", Integer)
@@ -33,29 +34,29 @@ form_of Entries = record {
       ∷ (codes "renew", Integer) ∷ (codes "importable", Integer) ∷ [];
   key = 1;
 }
-form_of Publishers = record {
+form_of (Facts Publishers) = record {
   name = codes "publishers";
   columns = (codes "package", Text) ∷ (codes "version", Text) ∷ (codes "user", Integer) ∷ (codes "day", Integer)
       ∷ (codes "login", Blob) ∷ (codes "name", Blob) ∷ [];
   key = 6;
 }
-form_of Policies = record {
+form_of (Demand Policies) = record {
   name = codes "policies";
   columns = (codes "policy", Text) ∷ (codes "as_crates", Integer) ∷ (codes "criteria", Blob) ∷ (codes "dev", Blob)
       ∷ (codes "dependency", Blob) ∷ (codes "notes", Blob) ∷ [];
   key = 1;
 }
-form_of Peers = record {
+form_of (Facts Peers) = record {
   name = codes "peers";
   columns = (codes "name", Text) ∷ (codes "url", Blob) ∷ (codes "exclude", Blob) ∷ (codes "map", Blob) ∷ [];
   key = 1;
 }
-form_of Nodes = record {
+form_of (Demand Nodes) = record {
   name = codes "nodes";
   columns = (codes "project", Text) ∷ (codes "name", Text) ∷ (codes "version", Text) ∷ (codes "party", Integer) ∷ [];
   key = 3;
 }
-form_of Edges = record {
+form_of (Demand Edges) = record {
   name = codes "edges";
   columns = (codes "project", Text) ∷ (codes "from_name", Text) ∷ (codes "from_version", Text) ∷ (codes "to_name", Text)
       ∷ (codes "to_version", Text) ∷ (codes "kind", Integer) ∷ [];
@@ -73,8 +74,8 @@ form_of Moves = record {
       ∷ (codes "day", Integer) ∷ (codes "before", Integer) ∷ (codes "after", Integer) ∷ [];
   key = 4;
 }
-form_of Members = record { name = codes "members"; columns = (codes "name", Text) ∷ []; key = 1 }
-form_of Reviews = record {
+form_of (Desk Members) = record { name = codes "members"; columns = (codes "name", Text) ∷ []; key = 1 }
+form_of (Desk Reviews) = record {
   name = codes "reviews";
   columns = (codes "number", Integer) ∷ (codes "package", Text) ∷ (codes "version", Text) ∷ (codes "criteria", Blob)
       ∷ (codes "day", Integer) ∷ (codes "state", Integer) ∷ (codes "member", Text) ∷ (codes "entry", Integer) ∷ [];
@@ -84,19 +85,19 @@ form_of Reviews = record {
 -- the place of a table among the twelve
 abbrev pub code : TableName → ℕ
 code Meta = 0
-code Criteria = 1
-code Entries = 2
-code Publishers = 3
-code Policies = 4
-code Peers = 5
-code Nodes = 6
-code Edges = 7
+code (Facts Criteria) = 1
+code (Facts Entries) = 2
+code (Facts Publishers) = 3
+code (Demand Policies) = 4
+code (Facts Peers) = 5
+code (Demand Nodes) = 6
+code (Demand Edges) = 7
 code Standing = 8
 code Moves = 9
-code Members = 10
-code Reviews = 11
+code (Desk Members) = 10
+code (Desk Reviews) = 11
 
 -- the twelve tables, each at its place
 abbrev pub tables : List TableName
-tables = Meta ∷ Criteria ∷ Entries ∷ Publishers ∷ Policies ∷ Peers ∷ Nodes ∷ Edges ∷ Standing ∷ Moves ∷ Members
-    ∷ Reviews ∷ []
+tables = Meta ∷ Facts Criteria ∷ Facts Entries ∷ Facts Publishers ∷ Demand Policies ∷ Facts Peers ∷ Demand Nodes
+    ∷ Demand Edges ∷ Standing ∷ Moves ∷ Desk Members ∷ Desk Reviews ∷ []

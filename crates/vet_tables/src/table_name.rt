@@ -7,6 +7,9 @@
 //! means none.
 ghost use Rattle.std.specs.Prelude.{◌≡◌, ◌<◌};
 ghost use Rattle.vet_tables.specs.Forms.{code, form_of};
+ghost use Rattle.vet_tables.specs.declared.table_name.DemandTable.TheVariants as demand;
+ghost use Rattle.vet_tables.specs.declared.table_name.DeskTable.TheVariants as desk;
+ghost use Rattle.vet_tables.specs.declared.table_name.FactsTable.TheVariants as facts;
 ghost use Rattle.vet_tables.specs.declared.table_name.TableName.TheVariants as table;
 
 use crate::form::Form;
@@ -15,19 +18,37 @@ use sqlite_schema::schema::Kind;
 /// How many tables there are.
 pub const TABLE_COUNT: usize = 12;
 
-/// One of the twelve tables.
+/// One of the twelve tables: one of a state itself, or one of its facts, of what it demands or of its desk.
 #[derive(Clone, Copy)]
 pub enum TableName {
     Meta,
+    Facts(FactsTable),
+    Demand(DemandTable),
+    Standing,
+    Moves,
+    Desk(DeskTable),
+}
+
+/// A table of the facts of packages.
+#[derive(Clone, Copy)]
+pub enum FactsTable {
     Criteria,
     Entries,
     Publishers,
-    Policies,
     Peers,
+}
+
+/// A table of policies and projects, from which the demand is made.
+#[derive(Clone, Copy)]
+pub enum DemandTable {
+    Policies,
     Nodes,
     Edges,
-    Standing,
-    Moves,
+}
+
+/// A table of the review desk.
+#[derive(Clone, Copy)]
+pub enum DeskTable {
     Members,
     Reviews,
 }
@@ -39,17 +60,17 @@ impl TableName {
     {
         match self {
             TableName::Meta => meta(),
-            TableName::Criteria => criteria(),
-            TableName::Entries => entries(),
-            TableName::Publishers => publishers(),
-            TableName::Policies => policies(),
-            TableName::Peers => peers(),
-            TableName::Nodes => nodes(),
-            TableName::Edges => edges(),
+            TableName::Facts(FactsTable::Criteria) => criteria(),
+            TableName::Facts(FactsTable::Entries) => entries(),
+            TableName::Facts(FactsTable::Publishers) => publishers(),
+            TableName::Demand(DemandTable::Policies) => policies(),
+            TableName::Facts(FactsTable::Peers) => peers(),
+            TableName::Demand(DemandTable::Nodes) => nodes(),
+            TableName::Demand(DemandTable::Edges) => edges(),
             TableName::Standing => standing(),
             TableName::Moves => moves(),
-            TableName::Members => members(),
-            TableName::Reviews => reviews(),
+            TableName::Desk(DeskTable::Members) => members(),
+            TableName::Desk(DeskTable::Reviews) => reviews(),
         }
     }
 
@@ -59,17 +80,17 @@ impl TableName {
     {
         match self {
             TableName::Meta => 0,
-            TableName::Criteria => 1,
-            TableName::Entries => 2,
-            TableName::Publishers => 3,
-            TableName::Policies => 4,
-            TableName::Peers => 5,
-            TableName::Nodes => 6,
-            TableName::Edges => 7,
+            TableName::Facts(FactsTable::Criteria) => 1,
+            TableName::Facts(FactsTable::Entries) => 2,
+            TableName::Facts(FactsTable::Publishers) => 3,
+            TableName::Demand(DemandTable::Policies) => 4,
+            TableName::Facts(FactsTable::Peers) => 5,
+            TableName::Demand(DemandTable::Nodes) => 6,
+            TableName::Demand(DemandTable::Edges) => 7,
             TableName::Standing => 8,
             TableName::Moves => 9,
-            TableName::Members => 10,
-            TableName::Reviews => 11,
+            TableName::Desk(DeskTable::Members) => 10,
+            TableName::Desk(DeskTable::Reviews) => 11,
         }
     }
 }
@@ -81,17 +102,17 @@ pub fn table_at(at: usize) -> TableName
 {
     match at {
         0 => TableName::Meta,
-        1 => TableName::Criteria,
-        2 => TableName::Entries,
-        3 => TableName::Publishers,
-        4 => TableName::Policies,
-        5 => TableName::Peers,
-        6 => TableName::Nodes,
-        7 => TableName::Edges,
+        1 => TableName::Facts(FactsTable::Criteria),
+        2 => TableName::Facts(FactsTable::Entries),
+        3 => TableName::Facts(FactsTable::Publishers),
+        4 => TableName::Demand(DemandTable::Policies),
+        5 => TableName::Facts(FactsTable::Peers),
+        6 => TableName::Demand(DemandTable::Nodes),
+        7 => TableName::Demand(DemandTable::Edges),
         8 => TableName::Standing,
         9 => TableName::Moves,
-        10 => TableName::Members,
-        _ => TableName::Reviews,
+        10 => TableName::Desk(DeskTable::Members),
+        _ => TableName::Desk(DeskTable::Reviews),
     }
 }
 
@@ -140,7 +161,7 @@ fn meta() -> Form
 
 // Own criteria and those of peers.
 fn criteria() -> Form
-    ensures { result ≡ form_of table.Criteria }
+    ensures { result ≡ form_of (table.Facts facts.Criteria) }
 {
     Form {
         name: "criteria",
@@ -166,7 +187,7 @@ fn criteria() -> Form
 
 // Entries.
 fn entries() -> Form
-    ensures { result ≡ form_of table.Entries }
+    ensures { result ≡ form_of (table.Facts facts.Entries) }
 {
     Form {
         name: "entries",
@@ -213,7 +234,7 @@ fn entries() -> Form
 
 // Publisher records.
 fn publishers() -> Form
-    ensures { result ≡ form_of table.Publishers }
+    ensures { result ≡ form_of (table.Facts facts.Publishers) }
 {
     Form {
         name: "publishers",
@@ -242,7 +263,7 @@ fn publishers() -> Form
 
 // Policies.
 fn policies() -> Form
-    ensures { result ≡ form_of table.Policies }
+    ensures { result ≡ form_of (table.Demand demand.Policies) }
 {
     Form {
         name: "policies",
@@ -273,7 +294,7 @@ fn policies() -> Form
 
 // Peers and their settings.
 fn peers() -> Form
-    ensures { result ≡ form_of table.Peers }
+    ensures { result ≡ form_of (table.Facts facts.Peers) }
 {
     Form {
         name: "peers",
@@ -299,7 +320,7 @@ fn peers() -> Form
 
 // Packages of projects.
 fn nodes() -> Form
-    ensures { result ≡ form_of table.Nodes }
+    ensures { result ≡ form_of (table.Demand demand.Nodes) }
 {
     Form {
         name: "nodes",
@@ -323,7 +344,7 @@ fn nodes() -> Form
 
 // Dependencies of projects.
 fn edges() -> Form
-    ensures { result ≡ form_of table.Edges }
+    ensures { result ≡ form_of (table.Demand demand.Edges) }
 {
     Form {
         name: "edges",
@@ -407,7 +428,7 @@ fn moves() -> Form
 
 // Members of the desk.
 fn members() -> Form
-    ensures { result ≡ form_of table.Members }
+    ensures { result ≡ form_of (table.Desk desk.Members) }
 {
     Form {
         name: "members",
@@ -424,7 +445,7 @@ fn members() -> Form
 
 // Reviews.
 fn reviews() -> Form
-    ensures { result ≡ form_of table.Reviews }
+    ensures { result ≡ form_of (table.Desk desk.Reviews) }
 {
     Form {
         name: "reviews",

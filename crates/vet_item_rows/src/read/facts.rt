@@ -26,7 +26,7 @@ use vet_entries::facts::{EntryFacts, HeldEntry};
 use vet_entries::held_peer::HeldPeer;
 use vet_entries::peer_settings::PeerSettings;
 use vet_tables::rows::Rows;
-use vet_tables::table_name::TableName;
+use vet_tables::table_name::{FactsTable, TableName};
 
 /// What is held of packages, except publisher records.
 #[derive(Drop)]
@@ -44,7 +44,7 @@ pub fn facts_of(alloc: Global, rows: &Rows) -> Result<EntryFacts, ReadError>
         → MatchResult result (λ held. held.content ≡ facts) (λ e. e ≡ ReadError.NoMemory) }
 {
     let parts = parts_in(alloc, rows)?;
-    let records = read_rows(alloc, rows.of(TableName::Publishers))?;
+    let records = read_rows(alloc, rows.of(TableName::Facts(FactsTable::Publishers)))?;
     let publishers = records_of(alloc, records)?;
     let PackageFacts {
         criteria,
@@ -61,9 +61,9 @@ fn parts_in(alloc: Global, rows: &Rows) -> Result<PackageFacts, ReadError>
     ensures back { (facts : Facts) → AreInForm facts → AreFactsValues facts → AreRowsOf (rows_in rows.now) facts
         → AreFound result facts }
 {
-    let criteria = read_rows(alloc, rows.of(TableName::Criteria))?;
-    let entries = read_rows(alloc, rows.of(TableName::Entries))?;
-    let settings = read_rows(alloc, rows.of(TableName::Peers))?;
+    let criteria = read_rows(alloc, rows.of(TableName::Facts(FactsTable::Criteria)))?;
+    let entries = read_rows(alloc, rows.of(TableName::Facts(FactsTable::Entries)))?;
+    let settings = read_rows(alloc, rows.of(TableName::Facts(FactsTable::Peers)))?;
     parts_of(alloc, criteria, entries, settings)
 }
 

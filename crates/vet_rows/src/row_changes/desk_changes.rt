@@ -19,7 +19,7 @@ use vet_desk::review::{Review, ReviewState};
 use vet_item_rows::rows_of::desk_rows::turned_row;
 use vet_register::change::DeskEdit;
 use vet_tables::sequence::Row;
-use vet_tables::table_name::TableName;
+use vet_tables::table_name::{DeskTable, TableName};
 
 /// The rows that an edit of the desk removes and adds, if there is one. Asks that the numbers of reviews, before and
 /// after it, are below 2^63. Fails only if memory runs out.
@@ -54,10 +54,12 @@ fn desk_change_exchanges(
     match change {
         DeskChange::Join(edit) => {
             let removed = removed_item(edit, desk.members());
-            only_row_exchange(alloc, TableName::Members, removed, added_item(edit))
+            let members = TableName::Desk(DeskTable::Members);
+            only_row_exchange(alloc, members, removed, added_item(edit))
         }
         DeskChange::Open(review) => {
-            only_row_exchange(alloc, TableName::Reviews, None, Some(review))
+            let reviews = TableName::Desk(DeskTable::Reviews);
+            only_row_exchange(alloc, reviews, None, Some(review))
         }
         DeskChange::Turn(place, state) => review_turned(alloc, desk.reviews().get(*place), state),
         DeskChange::Finish(place, _) => match entry {
@@ -83,7 +85,7 @@ fn review_turned(
 {
     let removed = row_if(alloc, review)?;
     let added = turned(alloc, review, state)?;
-    let reviews = Exchange::of(TableName::Reviews, removed, added);
+    let reviews = Exchange::of(TableName::Desk(DeskTable::Reviews), removed, added);
     Ok(vec![in alloc; reviews]?)
 }
 

@@ -8,7 +8,7 @@ use crate::row_change::RowChange;
 use std::alloc::{AllocError, Global};
 use vet_tables::same_items::marks_among;
 use vet_tables::sequence::Row;
-use vet_tables::table_name::TableName;
+use vet_tables::table_name::{DemandTable, FactsTable, TableName};
 
 /// Adds the changes that remove some rows of a table and add others. If the table may have thousands of rows, these are
 /// only the rows that differ. Fails only if memory runs out.
@@ -115,7 +115,8 @@ fn is_compared(table: TableName) -> bool
     ensures { result ≡ is_compared table }
 {
     match table {
-        TableName::Entries | TableName::Publishers | TableName::Nodes | TableName::Edges => true,
+        TableName::Facts(FactsTable::Entries) | TableName::Facts(FactsTable::Publishers) => true,
+        TableName::Demand(DemandTable::Nodes) | TableName::Demand(DemandTable::Edges) => true,
         _ => false,
     }
 }

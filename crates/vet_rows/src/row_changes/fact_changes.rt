@@ -29,7 +29,7 @@ use vet_entries::publisher_records::PackagePublishers;
 use vet_item_rows::rows_of::entry_rows::push_publishers;
 use vet_item_rows::rows_of::setting_rows::push_criteria;
 use vet_tables::sequence::Row;
-use vet_tables::table_name::TableName;
+use vet_tables::table_name::{FactsTable, TableName};
 
 /// The rows that an edit of facts removes and adds. Asks that the numbers of entries, before and after it, are below
 /// 2^63. Fails only if memory runs out.
@@ -45,7 +45,10 @@ pub fn fact_exchanges(
 {
     match edit {
         Edit::Criteria(table) => criteria_exchange(alloc, facts, table),
-        Edit::Insert(_, held) => only_row_exchange(alloc, TableName::Entries, None, Some(held)),
+        Edit::Insert(_, held) => {
+            let entries = TableName::Facts(FactsTable::Entries);
+            only_row_exchange(alloc, entries, None, Some(held))
+        }
         Edit::Remove(place) => entry_removed(alloc, facts, *place),
         Edit::Peer(change) => peer_exchanges(alloc, facts, change),
         Edit::Settings(settings) => settings_exchange(alloc, facts, settings),
@@ -65,7 +68,7 @@ fn criteria_exchange(
 {
     let removed = own_criteria(alloc, facts.criteria())?;
     let added = own_criteria(alloc, table)?;
-    let criteria = Exchange::of(TableName::Criteria, removed, added);
+    let criteria = Exchange::of(TableName::Facts(FactsTable::Criteria), removed, added);
     Ok(vec![in alloc; criteria]?)
 }
 
@@ -80,7 +83,7 @@ fn entry_removed(
 {
     only_row_exchange(
         alloc,
-        TableName::Entries,
+        TableName::Facts(FactsTable::Entries),
         entry_at(facts.entries(), place),
         None,
     )
@@ -106,16 +109,16 @@ fn peer_exchanges(
     let removed = removed_item(change, facts.peers());
     let added = added_item(change);
     let criteria = Exchange::of(
-        TableName::Criteria,
+        TableName::Facts(FactsTable::Criteria),
         criteria_of_peer(alloc, removed)?,
         criteria_of_peer(alloc, added)?,
     );
     let entries = Exchange::of(
-        TableName::Entries,
+        TableName::Facts(FactsTable::Entries),
         entries_of_peer(alloc, removed)?,
         entries_of_peer(alloc, added)?,
     );
-    let peers = row_exchange(alloc, TableName::Peers, removed, added)?;
+    let peers = row_exchange(alloc, TableName::Facts(FactsTable::Peers), removed, added)?;
     Ok(vec![in alloc; criteria, entries, peers]?)
 }
 
@@ -130,7 +133,7 @@ fn settings_exchange(
 {
     let removed = row_if(alloc, facts.peer(&settings.name))?;
     let added = row_if(alloc, Some(settings))?;
-    let peers = Exchange::of(TableName::Peers, removed, added);
+    let peers = Exchange::of(TableName::Facts(FactsTable::Peers), removed, added);
     Ok(vec![in alloc; peers]?)
 }
 
@@ -148,12 +151,12 @@ fn content_exchanges(
 {
     let held = facts.peer(name);
     let criteria = Exchange::of(
-        TableName::Criteria,
+        TableName::Facts(FactsTable::Criteria),
         criteria_of_peer(alloc, held)?,
         criteria_of(alloc, name, content.definitions())?,
     );
     let entries = Exchange::of(
-        TableName::Entries,
+        TableName::Facts(FactsTable::Entries),
         entries_of_peer(alloc, held)?,
         rows_each(alloc, content.entries())?,
     );
@@ -171,7 +174,7 @@ fn publishers_exchange(
 {
     let removed = publishers_of(alloc, removed_item(change, facts.publishers()))?;
     let added = publishers_of(alloc, added_item(change))?;
-    let publishers = Exchange::of(TableName::Publishers, removed, added);
+    let publishers = Exchange::of(TableName::Facts(FactsTable::Publishers), removed, added);
     Ok(vec![in alloc; publishers]?)
 }
 

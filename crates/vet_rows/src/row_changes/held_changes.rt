@@ -30,7 +30,7 @@ use vet_item_rows::rows_of::project_rows::{push_edges, push_nodes};
 use vet_register::held::{FilesHeld, HeldEdit};
 use vet_register::register::Register;
 use vet_tables::sequence::Row;
-use vet_tables::table_name::TableName;
+use vet_tables::table_name::{DemandTable, FactsTable, TableName};
 
 /// The rows that an edit of what is held removes and adds. Asks that the numbers of entries that it adds are below
 /// 2^63. Fails only if memory runs out.
@@ -62,7 +62,8 @@ fn policy_exchange<K: Keeper>(
         ≡ held_exchanges (HeldEdit.Policies change.now) register.now.state.held) }
 {
     let removed = removed_item(change, register.policies());
-    only_row_exchange(alloc, TableName::Policies, removed, added_item(change))
+    let policies = TableName::Demand(DemandTable::Policies);
+    only_row_exchange(alloc, policies, removed, added_item(change))
 }
 
 // The exchanges that remove, exchange or add a project, with its nodes and edges.
@@ -77,12 +78,12 @@ fn project_exchanges<K: Keeper>(
     let removed = removed_item(change, register.projects());
     let added = added_item(change);
     let nodes = Exchange::of(
-        TableName::Nodes,
+        TableName::Demand(DemandTable::Nodes),
         nodes_of(alloc, removed)?,
         nodes_of(alloc, added)?,
     );
     let edges = Exchange::of(
-        TableName::Edges,
+        TableName::Demand(DemandTable::Edges),
         edges_of(alloc, removed)?,
         edges_of(alloc, added)?,
     );
@@ -107,7 +108,8 @@ fn files_exchanges<K: Keeper>(
     let entries = entries_replaced(alloc, held, filed)?;
     let publishers = publishers_replaced(alloc, held, filed)?;
     let policies = policies_replaced(alloc, register, files)?;
-    let peers = rows_exchange(alloc, TableName::Peers, held.peers(), filed.peers())?;
+    let table = TableName::Facts(FactsTable::Peers);
+    let peers = rows_exchange(alloc, table, held.peers(), filed.peers())?;
     Ok(vec![in alloc; criteria, entries, publishers, policies, peers]?)
 }
 
@@ -118,11 +120,12 @@ fn criteria_replaced(
     filed: &EntryFacts,
 ) -> Result<Exchange, AllocError>
     ensures { IfOk result (λ e. e
-        ≡ exchange_of TableName.Criteria (all_criteria held.now.content) (all_criteria filed.now.content)) }
+        ≡ exchange_of (TableName.Facts FactsTable.Criteria) (all_criteria held.now.content)
+        (all_criteria filed.now.content)) }
 {
     let removed = all_criteria(alloc, held)?;
     let added = all_criteria(alloc, filed)?;
-    Ok(Exchange::of(TableName::Criteria, removed, added))
+    Ok(Exchange::of(TableName::Facts(FactsTable::Criteria), removed, added))
 }
 
 // The exchange of all entries for others.
@@ -136,11 +139,12 @@ fn entries_replaced(
     requires own_added { All EntryFits filed.now.content.entries }
     requires peers_added { All PeerFits filed.now.content.peers }
     ensures { IfOk result (λ e. e
-        ≡ exchange_of TableName.Entries (all_entries held.now.content) (all_entries filed.now.content)) }
+        ≡ exchange_of (TableName.Facts FactsTable.Entries) (all_entries held.now.content)
+        (all_entries filed.now.content)) }
 {
     let removed = all_entries(alloc, held)?;
     let added = all_entries(alloc, filed)?;
-    Ok(Exchange::of(TableName::Entries, removed, added))
+    Ok(Exchange::of(TableName::Facts(FactsTable::Entries), removed, added))
 }
 
 // The exchange of all publisher records for others.
@@ -150,12 +154,12 @@ fn publishers_replaced(
     filed: &EntryFacts,
 ) -> Result<Exchange, AllocError>
     ensures { IfOk result (λ e. e
-        ≡ exchange_of TableName.Publishers (flat_map package_rows held.now.content.publishers)
+        ≡ exchange_of (TableName.Facts FactsTable.Publishers) (flat_map package_rows held.now.content.publishers)
         (flat_map package_rows filed.now.content.publishers)) }
 {
     let removed = all_publishers(alloc, held.publishers())?;
     let added = all_publishers(alloc, filed.publishers())?;
-    Ok(Exchange::of(TableName::Publishers, removed, added))
+    Ok(Exchange::of(TableName::Facts(FactsTable::Publishers), removed, added))
 }
 
 // The exchange of all policies for others.
@@ -165,11 +169,12 @@ fn policies_replaced<K: Keeper>(
     files: &FilesHeld,
 ) -> Result<Exchange, AllocError>
     ensures { IfOk result (λ e. e
-        ≡ exchange_of TableName.Policies (map policy_row register.now.state.held.policies)
+        ≡ exchange_of (TableName.Demand DemandTable.Policies) (map policy_row register.now.state.held.policies)
         (map policy_row files.now.policies.items)) }
 {
     let filed = files.policies.items();
-    rows_exchange(alloc, TableName::Policies, register.policies(), filed)
+    let policies = TableName::Demand(DemandTable::Policies);
+    rows_exchange(alloc, policies, register.policies(), filed)
 }
 
 // ---- rows of a project

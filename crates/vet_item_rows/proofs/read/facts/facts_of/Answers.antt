@@ -4,6 +4,7 @@ use Rattle.vet_item_rows.proofs.FactsMade.{records_read, records_stand, same_fac
 use Rattle.vet_item_rows.proofs.Reading.{passed_on, refused_on}
 use Rattle.vet_item_rows.proofs.read.facts.facts_of.Goals as goal
 use Rattle.vet_tables.specs.Cells.{rows_in}
+use Rattle.vet_tables.specs.declared.table_name.FactsTable.TheVariants.{Publishers}
 use Rattle.vet_tables.specs.declared.table_name.TableName.TheVariants as table
 
 pub returns-in_err-parts : goal.returns-in_err-parts
@@ -13,8 +14,8 @@ returns-in_err-parts c facts form values rows =
 
 pub returns-in_err-records : goal.returns-in_err-records
 returns-in_err-records c facts form values rows =
-    let stand = records_stand facts values c.of.result.now (rows_in c.args.rows.now table.Publishers) c.of.ensures
-    rows.publishers in
+    let stand = records_stand facts values c.of.result.now (rows_in c.args.rows.now (table.Facts Publishers))
+    c.of.ensures rows.publishers in
     rw (passed_on c.from_residual-in_err-records.result c.in_err-records.field-0.0
     c.from_residual-in_err-records.ensures.1 (c.in_err-records.ensures stand.0 stand.1)) refl
 
@@ -24,7 +25,7 @@ returns-in_err-publishers c facts form values rows =
       by_name = form.packages;
       in_order = form.in_order;
       few = form.few;
-      same = records_read facts values c.of.result.now (rows_in c.args.rows.now table.Publishers) c.of.ensures
+      same = records_read facts values c.of.result.now (rows_in c.args.rows.now (table.Facts Publishers)) c.of.ensures
           rows.publishers c.in_ok-records.records.items c.in_ok-records.ensures;
     } in
     rw (passed_on c.from_residual-in_err-publishers.result c.in_err-publishers.field-0.0
@@ -41,7 +42,7 @@ returns c facts form values rows =
       by_name = form.packages;
       in_order = form.in_order;
       few = form.few;
-      same = records_read facts values c.of.result.now (rows_in c.args.rows.now table.Publishers) c.of.ensures
+      same = records_read facts values c.of.result.now (rows_in c.args.rows.now (table.Facts Publishers)) c.of.ensures
           rows.publishers c.in_ok-records.records.items c.in_ok-records.ensures;
     } in
     let found = c.in_ok-parts.ensures.back facts form values rows in

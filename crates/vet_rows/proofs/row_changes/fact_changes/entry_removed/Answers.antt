@@ -8,7 +8,8 @@ use Rattle.vet_rows.specs.KeyedItems.{rows_if}
 use Rattle.vet_rows.specs.RowExchanges.{exchange_of}
 use Rattle.vet_rows.proofs.ListEdits.{at_in}
 use Rattle.vet_rows.proofs.row_changes.fact_changes.entry_removed.Goals as goal
-use Rattle.vet_tables.specs.declared.table_name.TableName.TheVariants.{Entries}
+use Rattle.vet_tables.specs.declared.table_name.FactsTable.TheVariants.{Entries}
+use Rattle.vet_tables.specs.declared.table_name.TableName.TheVariants as table
 
 pub only_row_exchange-requires-clause-removed : goal.only_row_exchange-requires-clause-removed
 only_row_exchange-requires-clause-removed c = λ h e.
@@ -19,6 +20,6 @@ only_row_exchange-requires-clause-removed c = λ h e.
 pub returns : goal.returns
 returns c =
     subst (λ o. IfOk c.only_row_exchange.result
-    (λ exchanges. exchanges.items ≡ exchange_of Entries (rows_if own_entry o) [] ∷ []))
+    (λ exchanges. exchanges.items ≡ exchange_of (table.Facts Entries) (rows_if own_entry o) [] ∷ []))
     (c.entry_at.ensures ∙ ap (λ entries. slice_get entries c.args.place) c.entries.ensures.value)
     c.only_row_exchange.ensures
