@@ -1,5 +1,6 @@
 -- The exchanges of a change are of tables one behind the other, and each table's is in one of their four parts.
-use Rattle.std.proofs.Common.{◌≡◌, ℕ, ◌<◌, ◌≤◌, List, [], ◌∷◌, ◌++◌, Option, Some, None, arith, refl, ◌∙◌}
+use Rattle.std.proofs.Common.{◌≡◌, ℕ, ◌+◌, ◌<◌, ◌≤◌, List, [], ◌∷◌, ◌++◌, Option, Some, None, arith, refl, rules, ◌∙◌}
+use Rattle.std.specs.Bool.{⊤}
 use Rattle.std.specs.List.{AllByRecursion}
 use Rattle.vet_desk.specs.declared.change.DeskChange.{DeskChange}
 use Rattle.vet_desk.specs.declared.change.DeskChange.TheVariants.{Join, Open, Turn, Finish}
@@ -22,14 +23,44 @@ use Rattle.vet_rows.specs.HeldChanges.{held_exchanges}
 use Rattle.vet_rows.specs.RowExchanges.{exchange_of}
 use Rattle.vet_rows.specs.StandingChanges.{move_exchanges}
 use Rattle.vet_rows.specs.declared.row_changes.exchange.Exchange.{Exchange}
+use Rattle.vet_tables.proofs.TablePlaces.{each}
 use Rattle.vet_tables.specs.Forms.{code}
 use Rattle.vet_tables.specs.declared.table_name.DemandTable.TheVariants.{Edges, Nodes, Policies}
+use Rattle.vet_tables.specs.declared.table_name.DeskTable.TheVariants.{Reviews}
 use Rattle.vet_tables.specs.declared.table_name.TableName.{TableName}
 use Rattle.vet_tables.specs.declared.table_name.TableName.TheVariants as table
 
+-- ---- places of the parts
+
+-- the places behind the tables of what is held, behind the standing and moves, and behind the desk
+abbrev pub held_end : ℕ
+held_end = code table.Standing
+
+abbrev pub moves_end : ℕ
+moves_end = code table.Moves + 1
+
+abbrev pub desk_end : ℕ
+desk_end = code (table.Desk Reviews) + 1
+
+held_first : held_end ≤ moves_end
+held_first = omega arith
+
+abbrev pub IsHeldPlace : ℕ → Type 0
+IsHeldPlace at = (1 ≤ at) × (at < held_end)
+
+-- each table is among those of its part
+abbrev pub IsInPlace : TableName → Type 0
+IsInPlace (table.Facts t) = IsHeldPlace (code (table.Facts t))
+IsInPlace (table.Demand t) = IsHeldPlace (code (table.Demand t))
+IsInPlace (table.Desk t) = moves_end ≤ code (table.Desk t)
+IsInPlace _ = ⊤
+
+pub in_place : (name : TableName) → IsInPlace name
+in_place name = each IsInPlace (search rules) name
+
 -- ---- of each edit
 
-facts_rise : (e : Edit) (f : Facts) → Rise 1 8 (fact_exchanges e f)
+facts_rise : (e : Edit) (f : Facts) → Rise 1 held_end (fact_exchanges e f)
 facts_rise (edit.Criteria criteria) f = (omega arith, omega arith)
 facts_rise (edit.Insert place h) f = (omega arith, omega arith)
 facts_rise (edit.Remove place) f = (omega arith, omega arith)
@@ -38,7 +69,7 @@ facts_rise (edit.Settings settings) f = (omega arith, omega arith)
 facts_rise (edit.Content name content) f = (omega arith, (omega arith, omega arith))
 facts_rise (edit.Publishers change) f = (omega arith, omega arith)
 
-pub held_rise : (e : HeldEdit) (h : HeldValue) → Rise 1 8 (held_exchanges e h)
+pub held_rise : (e : HeldEdit) (h : HeldValue) → Rise 1 held_end (held_exchanges e h)
 held_rise held.Nothing h = omega arith
 held_rise (held.Facts e) h = facts_rise e h.facts
 held_rise (held.Policies e) h = (omega arith, omega arith)
@@ -46,17 +77,18 @@ held_rise (held.Projects e) h = (omega arith, (omega arith, omega arith))
 held_rise (held.Files files) h =
     (omega arith, (omega arith, (omega arith, (omega arith, (omega arith, omega arith)))))
 
-pub moves_rise : (recording : Recording) → Rise 8 10 (move_exchanges recording)
+pub moves_rise : (recording : Recording) → Rise held_end moves_end (move_exchanges recording)
 moves_rise recording = (omega arith, (omega arith, omega arith))
 
-desk_change_rises : (c : DeskChange) (entry : Option ℕ) (d : DeskState) → Rise 10 12 (desk_change_exchanges c entry d)
+desk_change_rises : (c : DeskChange) (entry : Option ℕ) (d : DeskState)
+    → Rise moves_end desk_end (desk_change_exchanges c entry d)
 desk_change_rises (Join change) entry d = (omega arith, omega arith)
 desk_change_rises (Open review) entry d = (omega arith, omega arith)
 desk_change_rises (Turn place state) entry d = (omega arith, omega arith)
 desk_change_rises (Finish place made) None d = omega arith
 desk_change_rises (Finish place made) (Some number) d = (omega arith, omega arith)
 
-pub desk_rise : (e : Option DeskEdit) (d : DeskState) → Rise 10 12 (desk_exchanges e d)
+pub desk_rise : (e : Option DeskEdit) (d : DeskState) → Rise moves_end desk_end (desk_exchanges e d)
 desk_rise None d = omega arith
 desk_rise (Some e) d = desk_change_rises e.change e.entry d
 
@@ -91,33 +123,34 @@ module _ {K U : Type 0} (s : State) (change : Change K U) where
   meta_rises : Rise 0 1 of_meta
   meta_rises = (omega arith, omega arith)
 
-  held_then : Rise 0 8 (of_meta ++ of_held)
-  held_then = rises of_meta of_held 0 1 8 meta_rises (held_rise change.edit s.held)
+  held_then : Rise 0 held_end (of_meta ++ of_held)
+  held_then = rises of_meta of_held 0 1 held_end meta_rises (held_rise change.edit s.held)
 
-  moves_then : Rise 0 10 ((of_meta ++ of_held) ++ of_moves)
-  moves_then = rises (of_meta ++ of_held) of_moves 0 8 10 held_then (moves_rise change.recording)
+  moves_then : Rise 0 moves_end ((of_meta ++ of_held) ++ of_moves)
+  moves_then = rises (of_meta ++ of_held) of_moves 0 held_end moves_end held_then (moves_rise change.recording)
 
-  pub all_rise : Rise 0 12 (change_exchanges s change)
-  all_rise = rises ((of_meta ++ of_held) ++ of_moves) of_desk 0 10 12 moves_then (desk_rise change.desk s.desk)
+  pub all_rise : Rise 0 desk_end (change_exchanges s change)
+  all_rise =
+      rises ((of_meta ++ of_held) ++ of_moves) of_desk 0 moves_end desk_end moves_then (desk_rise change.desk s.desk)
 
   -- what is held, the standing and moves, and the desk
-  pub held_part : (name : TableName) → 1 ≤ code name → code name < 8
+  pub held_part : (name : TableName) → 1 ≤ code name → code name < held_end
       → of_table (change_exchanges s change) name ≡ of_table (held_exchanges change.edit s.held) name
   held_part name low high =
-      of_front ((of_meta ++ of_held) ++ of_moves) of_desk 10 12 name (desk_rise change.desk s.desk)
-      (omega (arith, high))
-      ∙ of_front (of_meta ++ of_held) of_moves 8 10 name (moves_rise change.recording) high
+      of_front ((of_meta ++ of_held) ++ of_moves) of_desk moves_end desk_end name (desk_rise change.desk s.desk)
+      (omega (arith, high, held_first))
+      ∙ of_front (of_meta ++ of_held) of_moves held_end moves_end name (moves_rise change.recording) high
       ∙ of_back of_meta of_held 0 1 name meta_rises low
 
-  pub moves_part : (name : TableName) → 8 ≤ code name → code name < 10
+  pub moves_part : (name : TableName) → held_end ≤ code name → code name < moves_end
       → of_table (change_exchanges s change) name ≡ of_table (move_exchanges change.recording) name
   moves_part name low high =
-      of_front ((of_meta ++ of_held) ++ of_moves) of_desk 10 12 name (desk_rise change.desk s.desk) high
-      ∙ of_back (of_meta ++ of_held) of_moves 0 8 name held_then low
+      of_front ((of_meta ++ of_held) ++ of_moves) of_desk moves_end desk_end name (desk_rise change.desk s.desk) high
+      ∙ of_back (of_meta ++ of_held) of_moves 0 held_end name held_then low
 
-  pub desk_part : (name : TableName) → 10 ≤ code name
+  pub desk_part : (name : TableName) → moves_end ≤ code name
       → of_table (change_exchanges s change) name ≡ of_table (desk_exchanges change.desk s.desk) name
-  desk_part name low = of_back ((of_meta ++ of_held) ++ of_moves) of_desk 0 10 name moves_then low
+  desk_part name low = of_back ((of_meta ++ of_held) ++ of_moves) of_desk 0 moves_end name moves_then low
 
   -- what holds of each exchange of the parts holds of all
   pub of_parts : (Q : Exchange → Type 0) → Q (meta_exchange s change) → AllByRecursion Q of_held

@@ -33,7 +33,7 @@ use Rattle.vet_rows.proofs.Exchanges.{IsExchange, gone_of, of_coming, of_items, 
 use Rattle.vet_rows.proofs.KeyedExchanges.{IsOneForOne, edit_is}
 use Rattle.vet_rows.proofs.ListEdits.{flat_in, in_flat}
 use Rattle.vet_rows.proofs.RowViews.{only_flat, only_mapped, told_once}
-use Rattle.vet_rows.proofs.FitRows.{edges_fit, nodes_fit, policies_fit}
+use Rattle.vet_rows.proofs.FitDemand.{edges_fit, nodes_fit, policies_fit}
 use Rattle.vet_rows.proofs.SameKeys.{own_key, same_text, same_whole, text_at}
 use Rattle.vet_tables.specs.Cells.{Row, same_key}
 use Rattle.vet_tables.specs.Forms.{form_of}

@@ -30,7 +30,7 @@ use Rattle.vet_rows.proofs.ExchangeParts.{Leads}
 use Rattle.vet_rows.proofs.Exchanges.{IsExchange, of_items, stays}
 use Rattle.vet_rows.proofs.KeyedExchanges.{IsOneForOne, edit_is, swap_is}
 use Rattle.vet_rows.proofs.RowViews.{only_mapped}
-use Rattle.vet_rows.proofs.FitRows.{members_fit, reviews_fit}
+use Rattle.vet_rows.proofs.FitDesk.{members_fit, reviews_fit}
 use Rattle.vet_rows.proofs.SameKeys.{number_at, own_key, same_number, same_text, same_whole, text_at}
 use Rattle.vet_tables.specs.Cells.{Row, same_key}
 use Rattle.vet_tables.specs.Forms.{form_of}

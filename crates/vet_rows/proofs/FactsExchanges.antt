@@ -34,7 +34,7 @@ use Rattle.vet_rows.proofs.Exchanges.{AreRowsOf, IsExchange, alike, gone_of, of_
 use Rattle.vet_rows.proofs.KeyedExchanges.{IsOneForOne, edit_is, found_in, put_is, take_is, with_is}
 use Rattle.vet_rows.proofs.ListEdits.{flat_in, in_flat}
 use Rattle.vet_rows.proofs.RowViews.{flat_rows, mapped_rows, same_rows}
-use Rattle.vet_rows.proofs.FitRows.{entries_fit}
+use Rattle.vet_rows.proofs.FitFacts.{entries_fit}
 use Rattle.vet_rows.proofs.SameKeys.{own_key, same_number}
 
 -- ---- facts whose rows have keys

@@ -1,5 +1,5 @@
--- What an edit of all that is held makes of the rows of each table.
-use Rattle.std.proofs.Common.{◌≡◌, Bool, List, [], map, subst, sym}
+-- What an edit of all that is held makes of the rows of each table, and the keys of these rows.
+use Rattle.std.proofs.Common.{◌≡◌, Bool, List, [], map, subst, sym, true}
 use Rattle.std.specs.Bool.{Decides}
 use Rattle.std.specs.List.{flat_map}
 use Rattle.std.specs.Ordering.{nat_cmp}
@@ -9,6 +9,7 @@ use Rattle.vet_base.specs.Keyed.{IsByKey}
 use Rattle.vet_demand.specs.NamedProject.{project_name}
 use Rattle.vet_demand.specs.Policies.{key_of}
 use Rattle.vet_demand.specs.PolicyKey.{policy_key_cmp}
+use Rattle.vet_entries.specs.Facts.{Facts}
 use Rattle.vet_item_rows.specs.EntryRows.{all_entries, package_rows}
 use Rattle.vet_item_rows.specs.ProjectRows.{edge_rows, node_rows}
 use Rattle.vet_item_rows.specs.SettingRows.{all_criteria, policy_row}
@@ -16,23 +17,27 @@ use Rattle.vet_register.specs.declared.held.HeldEdit.{HeldEdit}
 use Rattle.vet_register.specs.declared.held.HeldEdit.TheVariants as edit
 use Rattle.vet_register.specs.Held.{Fits, HeldRoom, HeldValue, edited, held_with}
 use Rattle.vet_rows.specs.HeldChanges.{held_exchanges, peer_rows}
-use Rattle.vet_rows.specs.KeyTexts.{KeysAreRead, AddedProjectsAreRead, ProjectsHeldAreRead}
+use Rattle.vet_rows.specs.DemandRows.{rows_of_demand}
+use Rattle.vet_rows.specs.FactsRows.{rows_of_facts}
+use Rattle.vet_rows.specs.KeyTexts.{AddedProjectsAreRead, KeysAreRead, ProjectsAreRead, ProjectsHeldAreRead}
 use Rattle.vet_rows.specs.RowExchanges.{exchange_of, same_row}
 use Rattle.vet_rows.specs.declared.row_changes.exchange.Exchange.{Exchange}
 use Rattle.vet_rows.proofs.ChangeParts.{facts_leave}
 use Rattle.vet_rows.proofs.DemandExchanges.{edges_become, edges_keyed, edges_there, nodes_become, nodes_keyed}
 use Rattle.vet_rows.proofs.DemandExchanges.{nodes_there}
-use Rattle.vet_rows.proofs.DemandExchanges.{policies_become, policies_replaced}
+use Rattle.vet_rows.proofs.DemandExchanges.{policies_become, policies_keyed, policies_replaced}
 use Rattle.vet_rows.proofs.ExchangeParts.{Leads, LeadsByDifference, added_by, of_table, removed_by}
 use Rattle.vet_rows.proofs.Exchanges.{IsExchange, differ, stays, whole}
 use Rattle.vet_rows.proofs.FactsExchanges.{HaveKeys, entries_become, entries_keyed, entries_there}
-use Rattle.vet_rows.proofs.FitRows.{criteria_fit, entries_fit, peers_fit, publishers_fit}
+use Rattle.vet_rows.proofs.FitFacts.{criteria_fit, entries_fit, peers_fit, publishers_fit}
 use Rattle.vet_rows.proofs.SameKeys.{own_key}
 use Rattle.std.specs.Cmp.Lexicographic.{pointwise_decides}
 use Rattle.vet_tables.specs.CellLaws.{cell_eq-Decides}
 use Rattle.vet_tables.specs.Cells.{Row, same_key}
 use Rattle.vet_tables.specs.Forms.{form_of}
+use Rattle.vet_tables.specs.declared.table_name.DemandTable.{DemandTable}
 use Rattle.vet_tables.specs.declared.table_name.DemandTable.TheVariants.{Edges, Nodes, Policies}
+use Rattle.vet_tables.specs.declared.table_name.FactsTable.{FactsTable}
 use Rattle.vet_tables.specs.declared.table_name.FactsTable.TheVariants.{Criteria, Entries, Peers, Publishers}
 use Rattle.vet_tables.specs.declared.table_name.TableName.{TableName}
 use Rattle.vet_tables.specs.declared.table_name.TableName.TheVariants as table
@@ -232,3 +237,37 @@ module _ (old : HeldValue) (room : HeldRoom) (k : HaveTexts old) where
       (added_by (held_exchanges e old) (table.Demand Edges)) (flat_map edge_rows old.projects)
       (flat_map edge_rows (edited e old).projects)
       (held_edges old room k e fits) (edges_there_held e fits) (edges_keyed old.projects)
+
+  -- ---- in each table of facts, and in each of policies and projects
+
+  pub facts_become : (e : HeldEdit) → Fits e (held_with old room) → HaveTexts (edited e old) → (t : FactsTable)
+      → LeadsByDifference (table.Facts t) (of_table (held_exchanges e old) (table.Facts t))
+      (rows_of_facts old.facts t) (rows_of_facts (edited e old).facts t)
+  facts_become e fits l Criteria = held_criteria old room k e fits l
+  facts_become e fits l Entries = entries_differ e fits l
+  facts_become e fits l Publishers = publishers_differ e fits
+  facts_become e fits l Peers = held_peers old room k e fits l
+
+  pub demand_become : (e : HeldEdit) → Fits e (held_with old room) → HaveTexts (edited e old)
+      → AddedProjectsAreRead e → ProjectsHeldAreRead e old.projects → (t : DemandTable)
+      → LeadsByDifference (table.Demand t) (of_table (held_exchanges e old) (table.Demand t)) (rows_of_demand old t)
+      (rows_of_demand (edited e old) t)
+  demand_become e fits l read there Policies = held_policies old room k e fits l
+  demand_become e fits l read there Nodes = nodes_differ e fits l read there
+  demand_become e fits l read there Edges = edges_differ e fits
+
+-- ---- rows of one key are the same row
+
+pub facts_keyed : (facts : Facts) → HaveKeys facts → (t : FactsTable) (r s : Row) → IsIn r (rows_of_facts facts t)
+    → IsIn s (rows_of_facts facts t) → same_in (table.Facts t) r s ≡ true → r ≡ s
+facts_keyed facts k Criteria r s i j e = criteria_keyed facts k r s i j e
+facts_keyed facts k Entries r s i j e = entries_keyed facts k r s i j e
+facts_keyed facts k Publishers r s i j e = publishers_keyed facts.publishers r s i j e
+facts_keyed facts k Peers r s i j e = peers_keyed facts k r s i j e
+
+pub demand_keyed : (held : HeldValue) → HaveTexts held → ProjectsAreRead held.projects → (t : DemandTable)
+    (r s : Row) → IsIn r (rows_of_demand held t) → IsIn s (rows_of_demand held t)
+    → same_in (table.Demand t) r s ≡ true → r ≡ s
+demand_keyed held k read Policies r s i j e = policies_keyed held.policies k.policies k.read r s i j e
+demand_keyed held k read Nodes r s i j e = nodes_keyed held.projects k.projects read r s i j e
+demand_keyed held k read Edges r s i j e = edges_keyed held.projects r s i j e

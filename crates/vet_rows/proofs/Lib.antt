@@ -8,6 +8,10 @@ pub mod FactsExchanges
 pub mod FactsInForm
 pub mod FirstRead
 pub mod FitChanges
+pub mod FitDemand
+pub mod FitDesk
+pub mod FitFacts
+pub mod FitLists
 pub mod FitRows
 pub mod HeldExchanges
 pub mod HeldKeys

@@ -20,23 +20,21 @@ use Rattle.vet_item_rows.specs.StandingRows.{standing_row}
 use Rattle.vet_register.specs.Sound.{IsSound}
 use Rattle.vet_register.specs.State.{State, demanded, standing}
 use Rattle.vet_register.specs.declared.moves.RecordedMove.{RecordedMove}
-use Rattle.vet_rows.proofs.DemandExchanges.{edges_keyed, nodes_keyed, policies_keyed}
-use Rattle.vet_rows.proofs.FactsExchanges.{HaveKeys, entries_keyed}
-use Rattle.vet_rows.proofs.FitRows.{members_fit}
+use Rattle.vet_rows.proofs.FitDesk.{members_fit}
+use Rattle.vet_rows.proofs.HeldExchanges.{HaveTexts, demand_keyed, facts_keyed}
 use Rattle.vet_rows.proofs.HeldKeys.{have_keys}
 use Rattle.vet_rows.proofs.RowViews.{told_once}
 use Rattle.vet_rows.proofs.SameKeys.{same_number, same_text, same_whole}
-use Rattle.vet_rows.proofs.SettingExchanges.{criteria_keyed, peers_keyed, publishers_keyed}
 use Rattle.vet_rows.proofs.StandingExchanges.{one_pair}
+use Rattle.vet_rows.specs.DeskRows.{rows_of_desk}
 use Rattle.vet_rows.specs.KeyTexts.{ArePeersNamed, KeysAreRead, MovesAreRead, PairsAreRead, ProjectsAreRead}
 use Rattle.vet_rows.specs.RowKeys.{KeysDiffer}
 use Rattle.vet_rows.specs.RowsOf.{meta_row, rows_of}
 use Rattle.vet_rows.specs.StandingRows.{move_row}
 use Rattle.vet_tables.specs.Cells.{Row, same_key}
 use Rattle.vet_tables.specs.Forms.{form_of}
-use Rattle.vet_tables.specs.declared.table_name.DemandTable.TheVariants.{Edges, Nodes, Policies}
+use Rattle.vet_tables.specs.declared.table_name.DeskTable.{DeskTable}
 use Rattle.vet_tables.specs.declared.table_name.DeskTable.TheVariants.{Members, Reviews}
-use Rattle.vet_tables.specs.declared.table_name.FactsTable.TheVariants.{Criteria, Entries, Peers, Publishers}
 use Rattle.vet_tables.specs.declared.table_name.TableName.{TableName}
 use Rattle.vet_tables.specs.declared.table_name.TableName.TheVariants as table
 
@@ -59,8 +57,13 @@ place m = (m.step, m.change.pair)
 module _ (s : State) (sound : IsSound s) (named : ArePeersNamed s.held.facts.peers)
     (keys : KeysAreRead s.held.policies) (projects : ProjectsAreRead s.held.projects)
     (pairs : PairsAreRead (demanded s)) (moves : MovesAreRead s.moves) where
-  facts : HaveKeys s.held.facts
-  facts = have_keys s.held.facts s.next_entry sound.held.facts named
+  texts : HaveTexts s.held
+  texts = record {
+    facts = have_keys s.held.facts s.next_entry sound.held.facts named;
+    policies = sound.held.policies.by_key;
+    read = keys;
+    projects = sound.held.projects.by_name;
+  }
 
   -- ---- the one row of `meta`
 
@@ -119,7 +122,7 @@ module _ (s : State) (sound : IsSound s) (named : ArePeersNamed s.held.facts.pee
       ∙ ap move_row (told_once place s.moves moves_apart m.0 n.0 m.1.0 n.1.0 (λ k. (steps k, pair k)))
       ∙ sym n.1.1
 
-  -- ---- reviews
+  -- ---- the desk
 
   reviews_keyed : (r x : Row) → IsIn r (map review_row s.desk.reviews) → IsIn x (map review_row s.desk.reviews)
       → same_in (table.Desk Reviews) r x ≡ true → r ≡ x
@@ -134,21 +137,18 @@ module _ (s : State) (sound : IsSound s) (named : ArePeersNamed s.held.facts.pee
       sound.desk.desk.reviews.numbers_rise p.0 q.0 p.1.0 q.1.0 numbers)
       ∙ sym q.1.1
 
+  desk_keyed : (t : DeskTable) (r x : Row) → IsIn r (rows_of_desk s.desk t) → IsIn x (rows_of_desk s.desk t)
+      → same_in (table.Desk t) r x ≡ true → r ≡ x
+  desk_keyed Members r x i j e =
+      same_whole (table.Desk Members) refl r x (members_fit s.desk.members r i) (members_fit s.desk.members x j) e
+  desk_keyed Reviews r x i j e = reviews_keyed r x i j e
+
   -- ---- all tables
 
   pub keys_differ : KeysDiffer (rows_of s)
   keys_differ table.Meta r x i j e = meta_keyed r x i j
-  keys_differ (table.Facts Criteria) r x i j e = criteria_keyed s.held.facts facts r x i j e
-  keys_differ (table.Facts Entries) r x i j e = entries_keyed s.held.facts facts r x i j e
-  keys_differ (table.Facts Publishers) r x i j e = publishers_keyed s.held.facts.publishers r x i j e
-  keys_differ (table.Demand Policies) r x i j e =
-      policies_keyed s.held.policies sound.held.policies.by_key keys r x i j e
-  keys_differ (table.Facts Peers) r x i j e = peers_keyed s.held.facts facts r x i j e
-  keys_differ (table.Demand Nodes) r x i j e =
-      nodes_keyed s.held.projects sound.held.projects.by_name projects r x i j e
-  keys_differ (table.Demand Edges) r x i j e = edges_keyed s.held.projects r x i j e
+  keys_differ (table.Facts t) r x i j e = facts_keyed s.held.facts texts.facts t r x i j e
+  keys_differ (table.Demand t) r x i j e = demand_keyed s.held texts projects t r x i j e
   keys_differ table.Standing r x i j e = standing_keyed r x i j e
   keys_differ table.Moves r x i j e = moves_keyed r x i j e
-  keys_differ (table.Desk Members) r x i j e =
-      same_whole (table.Desk Members) refl r x (members_fit s.desk.members r i) (members_fit s.desk.members x j) e
-  keys_differ (table.Desk Reviews) r x i j e = reviews_keyed r x i j e
+  keys_differ (table.Desk t) r x i j e = desk_keyed t r x i j e

@@ -48,6 +48,7 @@ use Rattle.vet_register.specs.State.{State, changes_of, demanded, standing}
 use Rattle.vet_register.proofs.Soundness.{standing_in_order}
 use Rattle.vet_rows.specs.ChangedRows.{change_exchanges}
 use Rattle.vet_rows.specs.DeskChanges.{desk_exchanges}
+use Rattle.vet_rows.specs.DeskRows.{rows_of_desk}
 use Rattle.vet_rows.specs.HeldChanges.{held_exchanges}
 use Rattle.vet_rows.specs.KeyTexts.{AreRead, MovesAreRead}
 use Rattle.vet_rows.specs.RowsOf.{meta_row, rows_of}
@@ -61,12 +62,12 @@ use Rattle.vet_rows.proofs.NumbersFit.{numbers_fit}
 use Rattle.vet_rows.proofs.OnlyStanding.{others_named}
 use Rattle.std.specs.List.{AllByRecursion, filter, flat_map}
 use Rattle.vet_base.proofs.ItemLemmas.{in_filter}
-use Rattle.vet_rows.proofs.ChangeParts.{all_rise, desk_part, desk_rise, held_part, held_rise, moves_part, of_parts}
+use Rattle.vet_rows.proofs.ChangeParts.{all_rise, desk_end, desk_part, desk_rise, held_end, held_part, held_rise}
+use Rattle.vet_rows.proofs.ChangeParts.{in_place, moves_end, moves_part, of_parts}
 use Rattle.vet_rows.proofs.DeskExchanges.{members_become, reviews_become}
 use Rattle.vet_rows.proofs.ExchangeParts.{Leads, LeadsByDifference, Makes, made_by, of_table}
 use Rattle.vet_rows.proofs.Exchanges.{IsExchange, stays}
-use Rattle.vet_rows.proofs.HeldExchanges.{HaveTexts, edges_differ, entries_differ, held_criteria, held_peers}
-use Rattle.vet_rows.proofs.HeldExchanges.{held_policies, nodes_differ, publishers_differ}
+use Rattle.vet_rows.proofs.HeldExchanges.{HaveTexts, demand_become, facts_become}
 use Rattle.vet_rows.proofs.HeldKeys.{have_keys}
 use Rattle.vet_rows.proofs.StandingExchanges.{moves_behind, standing_becomes}
 use Rattle.vet_rows.proofs.TableChanges.{changed-append, exchanges_lead}
@@ -75,9 +76,8 @@ use Rattle.vet_tables.proofs.TableRows.{cleared_elsewhere}
 use Rattle.vet_tables.specs.Cells.{Row, RowsValue, SameRows, same_key}
 use Rattle.vet_tables.specs.Forms.{code, form_of}
 use Rattle.vet_tables.specs.declared.cell.Cell.TheVariants.{Int}
-use Rattle.vet_tables.specs.declared.table_name.DemandTable.TheVariants.{Edges, Nodes, Policies}
+use Rattle.vet_tables.specs.declared.table_name.DeskTable.{DeskTable}
 use Rattle.vet_tables.specs.declared.table_name.DeskTable.TheVariants.{Members, Reviews}
-use Rattle.vet_tables.specs.declared.table_name.FactsTable.TheVariants.{Criteria, Entries, Peers, Publishers}
 use Rattle.vet_tables.specs.declared.table_name.TableName.{TableName}
 use Rattle.vet_tables.specs.declared.table_name.TableName.TheVariants as table
 
@@ -326,58 +326,48 @@ module _ {K U : Type 0} (differences : MovesAreDifferences) (least : DemandIsLea
   abbrev Becomes : TableName → List Row → Type 0
   Becomes name old = LeadsByDifference name (of_table exchanges name) old (rows_of after name)
 
-  by_held : (name : TableName) → 1 ≤ code name → code name < 8
+  by_held : (name : TableName) → 1 ≤ code name → code name < held_end
       → LeadsByDifference name (of_table (held_exchanges change.edit s.held) name) (rows_of s name) (rows_of after name)
       → Becomes name (rows_of s name)
   by_held name low high =
       subst (λ (e : Exchange). LeadsByDifference name e (rows_of s name) (rows_of after name))
       (sym (held_part s change name low high))
 
-  by_moves : (name : TableName) (old : List Row) → 8 ≤ code name → code name < 10
+  by_moves : (name : TableName) (old : List Row) → held_end ≤ code name → code name < moves_end
       → LeadsByDifference name (of_table (move_exchanges change.recording) name) old (rows_of after name)
       → Becomes name old
   by_moves name old low high =
       subst (λ (e : Exchange). LeadsByDifference name e old (rows_of after name))
       (sym (moves_part s change name low high))
 
-  by_desk : (name : TableName) → 10 ≤ code name
+  by_desk : (name : TableName) → moves_end ≤ code name
       → LeadsByDifference name (of_table (desk_exchanges change.desk s.desk) name) (rows_of s name) (rows_of after name)
       → Becomes name (rows_of s name)
   by_desk name low =
       subst (λ (e : Exchange). LeadsByDifference name e (rows_of s name) (rows_of after name))
       (sym (desk_part s change name low))
 
+  desk_become : (t : DeskTable)
+      → LeadsByDifference (table.Desk t) (of_table (desk_exchanges change.desk s.desk) (table.Desk t))
+      (rows_of_desk s.desk t) (rows_of_desk after.desk t)
+  desk_become Members = members_are s r.room.desk change.desk is.desk sound
+  desk_become Reviews = reviews_are s r.room.desk change.desk after refl sound sound_after
+
   others_become : (name : TableName) → (code name ≡ code table.Moves → ⊥) → Becomes name (rows_of s name)
   others_become table.Meta apart = meta_becomes s after
-  others_become (table.Facts Criteria) apart =
-      by_held (table.Facts Criteria) (omega arith) (omega arith)
-      (held_criteria s.held r.room.held texts change.edit is.fits texts_after)
-  others_become (table.Facts Entries) apart =
-      by_held (table.Facts Entries) (omega arith) (omega arith)
-      (entries_differ s.held r.room.held texts change.edit is.fits texts_after)
-  others_become (table.Facts Publishers) apart =
-      by_held (table.Facts Publishers) (omega arith) (omega arith)
-      (publishers_differ s.held r.room.held texts change.edit is.fits)
-  others_become (table.Demand Policies) apart =
-      by_held (table.Demand Policies) (omega arith) (omega arith)
-      (held_policies s.held r.room.held texts change.edit is.fits texts_after)
-  others_become (table.Facts Peers) apart =
-      by_held (table.Facts Peers) (omega arith) (omega arith)
-      (held_peers s.held r.room.held texts change.edit is.fits texts_after)
-  others_become (table.Demand Nodes) apart =
-      by_held (table.Demand Nodes) (omega arith) (omega arith)
-      (nodes_differ s.held r.room.held texts change.edit is.fits texts_after read.projects read.projects_held)
-  others_become (table.Demand Edges) apart =
-      by_held (table.Demand Edges) (omega arith) (omega arith)
-      (edges_differ s.held r.room.held texts change.edit is.fits)
+  others_become (table.Facts t) apart =
+      let at = in_place (table.Facts t) in
+      by_held (table.Facts t) at.0 at.1
+      (facts_become s.held r.room.held texts change.edit is.fits texts_after t)
+  others_become (table.Demand t) apart =
+      let at = in_place (table.Demand t) in
+      by_held (table.Demand t) at.0 at.1
+      (demand_become s.held r.room.held texts change.edit is.fits texts_after read.projects read.projects_held t)
   others_become table.Standing apart =
       by_moves table.Standing (rows_of s table.Standing) (omega arith) (omega arith)
       (standing_becomes (standing s) (standing after) more standing_up after_up are_moves read_stands read.moves)
   others_become table.Moves apart = absurd (apart refl)
-  others_become (table.Desk Members) apart =
-      by_desk (table.Desk Members) (omega arith) (members_are s r.room.desk change.desk is.desk sound)
-  others_become (table.Desk Reviews) apart =
-      by_desk (table.Desk Reviews) (omega arith) (reviews_are s r.room.desk change.desk after refl sound sound_after)
+  others_become (table.Desk t) apart = by_desk (table.Desk t) (in_place (table.Desk t)) (desk_become t)
 
   rows_become : (name : TableName) → Becomes name (cleared_rows name)
   rows_become name = elim (same_or_other name table.Moves) [
@@ -396,7 +386,7 @@ module _ {K U : Type 0} (differences : MovesAreDifferences) (least : DemandIsLea
       subst (λ rows. SameRows rows (rows_of (next s c))) (sym made)
       (subst (λ t. SameRows (all_changed (flat_map row_changes_of exchanges) cleared_rows) (rows_of t))
       is.step.becomes
-      (exchanges_lead exchanges 0 12 (all_rise s change) cleared_rows (rows_of after) rows_become))
+      (exchanges_lead exchanges 0 desk_end (all_rise s change) cleared_rows (rows_of after) rows_become))
 
   -- ---- numbers of rows that come
 
@@ -453,10 +443,10 @@ module _ {K U : Type 0} (differences : MovesAreDifferences) (least : DemandIsLea
   all_named : AllByRecursion NamesMoves exchanges
   all_named =
       of_parts s change NamesMoves (λ x i. tt, λ x i. tt)
-      (others_named (moves_of s c.day c.action) (held_exchanges change.edit s.held) 1 8
+      (others_named (moves_of s c.day c.action) (held_exchanges change.edit s.held) 1 held_end
       (held_rise change.edit s.held) (inl (omega arith)))
       moves_named
-      (others_named (moves_of s c.day c.action) (desk_exchanges change.desk s.desk) 10 12
+      (others_named (moves_of s c.day c.action) (desk_exchanges change.desk s.desk) moves_end desk_end
       (desk_rise change.desk s.desk) (inr (omega arith)))
 
   pub standing_named : (x : RowChange) → IsIn x the_changes → IsOfMoves (moves_of s c.day c.action) x

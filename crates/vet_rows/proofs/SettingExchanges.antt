@@ -32,7 +32,7 @@ use Rattle.vet_rows.proofs.FactsExchanges.{HaveKeys, name_of, peer_edit, put_for
 use Rattle.vet_rows.proofs.KeyedExchanges.{IsOneForOne, edit_is}
 use Rattle.vet_rows.proofs.ListEdits.{flat_in, in_flat}
 use Rattle.vet_rows.proofs.RowViews.{flat_rows, front_rows, only_flat, only_mapped, same_rows, told_once}
-use Rattle.vet_rows.proofs.FitRows.{criteria_fit, peers_fit, publishers_fit}
+use Rattle.vet_rows.proofs.FitFacts.{criteria_fit, peers_fit, publishers_fit}
 use Rattle.vet_rows.proofs.SameKeys.{own_key, same_text, same_whole, text_at}
 use Rattle.vet_tables.specs.Cells.{IsRowOf, Row, same_key}
 use Rattle.vet_tables.specs.Forms.{form_of}

@@ -1,6 +1,6 @@
 -- The rows of facts of packages, and those that an edit of the facts removes and adds (ours).
 use Rattle.std.specs.Prelude.{List, [], ◌∷◌, map}
-use Rattle.std.specs.List.{slice_get}
+use Rattle.std.specs.List.{flat_map, slice_get}
 use Rattle.vet_entries.specs.declared.facts.Edit.{Edit}
 use Rattle.vet_entries.specs.declared.facts.Edit.TheVariants as edit
 use Rattle.vet_entries.specs.declared.facts.HeldEntry.{HeldEntry}
@@ -8,16 +8,24 @@ use Rattle.vet_entries.specs.declared.held_peer.HeldPeer.{HeldPeer}
 use Rattle.vet_entries.specs.Facts.{Facts}
 use Rattle.vet_entries.specs.HeldPeer.{peer_of}
 use Rattle.vet_item_rows.specs.Columns.{own_peer}
-use Rattle.vet_item_rows.specs.EntryRows.{entry_row, package_rows, peer_entries}
-use Rattle.vet_item_rows.specs.SettingRows.{criteria_rows, peer_criteria, peer_row}
+use Rattle.vet_item_rows.specs.EntryRows.{all_entries, entry_row, package_rows, peer_entries}
+use Rattle.vet_item_rows.specs.SettingRows.{all_criteria, criteria_rows, peer_criteria, peer_row}
 use Rattle.vet_rows.specs.KeyedItems.{one_row, rows_if}
 use Rattle.vet_rows.specs.RowExchanges.{exchange_of, item_exchange}
 use Rattle.vet_rows.specs.declared.row_changes.exchange.Exchange.{Exchange}
 use Rattle.vet_tables.specs.Cells.{Row}
+use Rattle.vet_tables.specs.declared.table_name.FactsTable.{FactsTable}
 use Rattle.vet_tables.specs.declared.table_name.FactsTable.TheVariants.{Criteria, Entries, Peers, Publishers}
 use Rattle.vet_tables.specs.declared.table_name.TableName.TheVariants as table
 
 -- ---- the rows of facts
+
+-- in each of their tables
+abbrev pub rows_of_facts : Facts → FactsTable → List Row
+rows_of_facts facts Criteria = all_criteria facts
+rows_of_facts facts Entries = all_entries facts
+rows_of_facts facts Publishers = flat_map package_rows facts.publishers
+rows_of_facts facts Peers = map (λ peer. peer_row peer.settings) facts.peers
 
 -- of an own entry, and of a peer's settings
 abbrev pub own_entry : HeldEntry → List Row

@@ -2,6 +2,7 @@ pub mod ChangedRows
 pub mod AddedNumbers
 pub mod DemandRows
 pub mod DeskChanges
+pub mod DeskRows
 pub mod FactsRows
 pub mod FitChanges
 pub mod HeldChanges

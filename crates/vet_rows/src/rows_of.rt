@@ -2,35 +2,35 @@
 //!
 //! **`rows_of` gives the rows of a register's state, each once.**
 //!
-//! Each thing that is held has its row (`ToRow`), and each table its list of rows. A column of numbers holds numbers
-//! below 2^63, and all numbers of a sound state are below it (`numbers_fit`, `counts_fit`).
+//! Each thing that is held has its row (`ToRow`), and each table its list of rows. The tables of facts, of policies and
+//! projects, and of the desk are in a file each. A column of numbers holds numbers below 2^63, and all numbers of a
+//! sound state are below it (`numbers_fit`, `counts_fit`).
 ghost use Rattle.std.specs.Prelude.{◌≡◌, IfErr, IfOk};
 ghost use Rattle.vet_rows.specs.RowsOf.{rows_of};
 ghost use Rattle.vet_tables.specs.Cells.{rows_in};
 
+mod demand_rows;
 pub mod desk_rows;
 pub mod entry_rows;
+mod facts_rows;
 pub mod meta_rows;
 pub mod setting_rows;
 pub mod standing_rows;
 pub mod to_row;
 
-use crate::rows_of::entry_rows::all_entries;
+use crate::rows_of::demand_rows::rows_of_demand;
+use crate::rows_of::desk_rows::rows_of_desk;
+use crate::rows_of::facts_rows::rows_of_facts;
 use crate::rows_of::meta_rows::{meta_row, numbers_fit};
-use crate::rows_of::setting_rows::all_criteria;
 use crate::rows_of::standing_rows::all_standing;
 use crate::rows_of::to_row::rows_each;
 use std::alloc::{AllocError, Global};
 use vet_base::refusal::Refusal;
 use vet_graph::keeper::Keeper;
-use vet_item_rows::rows_of::entry_rows::all_publishers;
-use vet_item_rows::rows_of::project_rows::{all_edges, all_nodes};
 use vet_register::register::Register;
 use vet_tables::rows::Rows;
 use vet_tables::sequence::Row;
-use vet_tables::table_name::{
-    DemandTable, DeskTable, FactsTable, TABLE_COUNT, TableName, table_at,
-};
+use vet_tables::table_name::{TABLE_COUNT, TableName, table_at};
 
 /// The rows of a register's state: a list for each table, each row once. Costs a look at each thing that is held, and a
 /// binary search for each demanded pair. Refused: `NoMemory`.
@@ -56,16 +56,10 @@ pub fn rows_in<K: Keeper>(
     numbers_fit(register);
     match table {
         TableName::Meta => Ok(vec![in alloc; meta_row(alloc, register)?]?),
-        TableName::Facts(FactsTable::Criteria) => all_criteria(alloc, register.facts()),
-        TableName::Facts(FactsTable::Entries) => all_entries(alloc, register.facts()),
-        TableName::Facts(FactsTable::Publishers) => all_publishers(alloc, register.publishers()),
-        TableName::Demand(DemandTable::Policies) => rows_each(alloc, register.policies()),
-        TableName::Facts(FactsTable::Peers) => rows_each(alloc, register.peers()),
-        TableName::Demand(DemandTable::Nodes) => all_nodes(alloc, register.projects()),
-        TableName::Demand(DemandTable::Edges) => all_edges(alloc, register.projects()),
+        TableName::Facts(table) => rows_of_facts(alloc, register.facts(), table),
+        TableName::Demand(table) => rows_of_demand(alloc, register, table),
         TableName::Standing => all_standing(alloc, register),
         TableName::Moves => rows_each(alloc, register.moves()),
-        TableName::Desk(DeskTable::Members) => rows_each(alloc, register.desk().members()),
-        TableName::Desk(DeskTable::Reviews) => rows_each(alloc, register.desk().reviews()),
+        TableName::Desk(table) => rows_of_desk(alloc, register.desk(), table),
     }
 }
