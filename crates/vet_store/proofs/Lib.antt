@@ -1,5 +1,8 @@
 pub mod Crashes
+pub mod DemandTexts
+pub mod DeskTexts
 pub mod Exactness
+pub mod FactsTexts
 pub mod Found
 pub mod HeldRows
 pub mod HeldTexts
@@ -12,6 +15,7 @@ pub mod Reopening
 pub mod RepeatLaws
 pub mod ReqTexts
 pub mod RowStatements
+pub mod RowTexts
 pub mod Running
 pub mod StartRows
 pub mod Steps
