@@ -72,13 +72,15 @@ class Register:
         self.entries = by_package(entries, 2)
         self.publishers = by_package(publishers, 0)
         self.pairs = by_package(standing, 0)
+        # the numbers of exemptions that give no step
+        self.lapsed = NONE
 
     def steps(self, package):
         """The steps of a package, each with its criteria, and its violations."""
         steps, violations = [], []
         for entry in self.entries.get(package, ()):
-            _number, peer, _package, kind, first, second, user, begins, ends, names, *_rest = entry
-            if peer and package in self.words.peers[peer].excluded:
+            number, peer, _package, kind, first, second, user, begins, ends, names, *_rest = entry
+            if number in self.lapsed or peer and package in self.words.peers[peer].excluded:
                 continue
             names = self.words.local(peer, kind, names)
             if kind == VIOLATION:
@@ -102,6 +104,11 @@ class Register:
                 for _package, version, of, _class in pairs:
                     if of == criterion:
                         yield package, version, criterion, search.class_of(version)
+
+
+def lapsed(today, lasts):
+    """The numbers of the exemptions whose last day is over, by the rows of two tables."""
+    return {number for number, last in lasts for _one, day in today if last < day}
 
 
 def by_package(rows, place):

@@ -133,8 +133,10 @@ def of_databases(programs):
     for name, test in opened.tests_of_files():
         if name.startswith("the register, ") or not name.endswith(("dumped", "vacuumed")):
             yield name, test
-    yield from opened.tests_of_rows()
-    yield from itertools.islice(opened.tests_of_forms(), None, None, FORMS_APART)
+    for version in opened.VERSIONS:
+        yield from opened.tests_of_registers(version)
+    yield from opened.tests_of_rows(opened.SECOND)
+    yield from itertools.islice(opened.tests_of_forms(opened.SECOND), None, None, FORMS_APART)
     words = ("apply", "report", "export")
     register.COMMANDS = [next(it for it in register.COMMANDS if it[0] == word) for word in words]
     register.key_faults = tuple

@@ -85,8 +85,11 @@ def is_printed(server, audits, text):
 
 def notes_are_written(server):
     server.hold([CRITERIA, POLICY, ""], table_of("1.0.0"))
-    text = printed(SCRIPT, server.url(), '--notes=To "be" \\ reviewed', timeout=SECONDS)
-    compare("document", text, OF_ALL.rstrip("\n") + '\nnotes = "To \\"be\\" \\\\ reviewed"\n\n')
+    notes = OF_ALL.rstrip("\n") + '\nnotes = "To \\"be\\" \\\\ reviewed"\n'
+    words = [server.url(), '--notes=To "be" \\ reviewed']
+    compare("document", printed(SCRIPT, *words, timeout=SECONDS), f"{notes}\n")
+    text = printed(SCRIPT, *words, "--last-day=2024-05-31", timeout=SECONDS)
+    compare("document", text, f'{notes}last-day = "2024-05-31"\n\n')
 
 
 def made(program, folder, audits, limit=None):
@@ -106,6 +109,20 @@ def a_register_file(program):
         counts = {line.split()[0]: line.split()[-1] for line in register.report("counts").splitlines()}
         compare("counts", [counts[it] for it in ("unvetted", "conflicting", "exempted")], ["0", "1", "3"])
         compare("days", {line.split()[1] for line in register.report("moves").splitlines()}, {DAY})
+
+
+def last_days(program):
+    """Each exemption lapses after the day. One before that of the commands is refused."""
+    with tempfile.TemporaryDirectory(dir=FOLDER) as folder:
+        register = made(program, folder, OTHER)
+        words = (register.path, "--apply", f"--day={DAY}", f"--vetd={program}")
+        told = "0 of 2 are done, and then: refused 11 EmptyWindow"
+        refused(SCRIPT, *words, "--last-day=2024-04-30", told=[[told]], timeout=SECONDS)
+        text = printed(SCRIPT, *words, "--last-day=2024-05-31", timeout=SECONDS)
+        compare("text", text, "2 versions were exempted\nunvetted 0, conflicting 0, of 4 pairs\n")
+        lapses = [line.split()[1:5] for line in register.report("lapses").splitlines()]
+        compare("lapses", lapses, [["2024-05-31", "serde", version, "held"] for version in ("1.0.0", "1.1.0")])
+        register.told(document("set-day"), "done 5 moves 4", "2024-06-01")
 
 
 def files_of_documents(program):
@@ -157,7 +174,7 @@ def all_tests(program):
         yield "criteria that are left", lambda: is_printed(server, CRITERIA + REVIEWED, OF_THE_REST)
         for test in (notes_are_written, a_command_that_is_refused_over_http):
             yield test.__name__, lambda test=test: test(server)
-        for test in (a_register_file, files_of_documents, a_command_that_is_refused):
+        for test in (a_register_file, last_days, files_of_documents, a_command_that_is_refused):
             yield test.__name__, lambda test=test: test(program)
         yield faults.__name__, lambda: faults(server, program)
 

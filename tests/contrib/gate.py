@@ -10,7 +10,7 @@ from http.server import BaseHTTPRequestHandler, HTTPServer
 
 from contrib.scripts import CONTRIB, TESTS, compare, run
 from contrib.served_register import ServedRegister
-from product.documents import document, table_of
+from product.documents import document, entry, table_of
 from product.register import FOLDER, Register
 
 SCRIPT = "gate"
@@ -133,6 +133,31 @@ def a_register_file(gate):
         compare("counts", register.report("counts").splitlines()[-1].split(), ["demand", "0", "0", "0", "0"])
 
 
+def an_exemption_with_a_last_day(gate):
+    """It vouches up to that day, though it is in no file, and not after it."""
+    with tempfile.TemporaryDirectory(dir=FOLDER) as folder:
+        register = Register(gate.program, os.path.join(folder, "register.db"), SECONDS).make()
+        register.told(document("replace-files", **FILES), "done 1 moves 0")
+        lasting = entry("exemption", version="1.0.1", last_day="2024-05-31")
+        register.told(lasting, "done 2 number 4 moves 0")
+        register.told(document("set-day"), "done 3 moves 0", "2024-05-31")
+        gate.judges(UNVETTED, 0, "4 pairs were looked at: 4 vetted, 0 not\n", register=register.path)
+        register.told(document("set-day"), "done 4 moves 0", "2024-06-01")
+        gate.judges(UNVETTED, 1, UNVETTED_TEXT, register=register.path)
+
+
+def one_of_a_served_register(gate):
+    """One that names no criterion vouches for nothing."""
+    about = {"package": "serde", "kind": "exemption", "version": "1.0.1", "last_day": "2024-05-31"}
+    criteria = ([], ["safe-to-run"])
+    added = [gate.server.give("add-entry", criteria=names, **about).split()[3] for names in criteria]
+    text = UNVETTED_TEXT.split("serde 1.0.1 safe-to-run: unvetted", 1)[0]
+    text = text.replace("    nearest", "    vetted for safe-to-run (exempted)\n    nearest")
+    gate.judges(UNVETTED, 1, f"{text}4 pairs were looked at: 3 vetted, 1 not\n")
+    for number in added:
+        gate.server.give("drop-entry", number=int(number))
+
+
 def it_only_reads(gate):
     """Pairs of another project neither fail the gate nor are changed by it."""
     gate.server.ask("PUT", "/projects/other", table_of("9.9.9").encode())
@@ -217,7 +242,7 @@ class Changing(BaseHTTPRequestHandler):
 
     def do_GET(self):
         Changing.count += 1
-        text = b"# %d\n" % Changing.count
+        text = b"" if self.path == "/lapses" else b"# %d\n" % Changing.count
         self.send_response(200)
         self.send_header("Content-Length", str(len(text)))
         self.end_headers()
@@ -265,7 +290,8 @@ def the_program_is_needed(gate):
 
 
 def tests(program):
-    judgements = (vetted, unvetted, conflicting, errors_of_a_runner, a_register_file, it_only_reads, nothing_to_look_at)
+    judgements = (vetted, unvetted, conflicting, errors_of_a_runner, a_register_file, an_exemption_with_a_last_day)
+    judgements += (one_of_a_served_register, it_only_reads, nothing_to_look_at)
     needs = (what_cargo_says, options_are_handed_on, the_folder_one_is_in, cargo_that_fails, cargo_that_prints_nothing)
     others = (no_judgements, a_register_that_changes, without_the_other_scripts, bad_command_lines)
     with ServedRegister(program) as server:

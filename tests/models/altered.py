@@ -5,8 +5,9 @@ from typing import NamedTuple
 
 from models.columns import TABLES
 from models.rows import names, optional, packed
+from models.versions import FIRST, SECOND
 
-# a register with rows in each of the twelve tables: its commands, each with its answer
+# a register with rows in each table that may have some: its commands, each with its answer
 COMMANDS = """2024-05-01 set-criterion reviewed safe-to-run
 #> done 1 moves 0
 2024-05-01 set-policy app criteria=safe-to-deploy
@@ -138,6 +139,32 @@ class Shown(NamedTuple):
 
 SHOWN = Shown(HELD, AUDITS, CONFIG, IMPORTS, MORE)
 
+# the same register with a day and an exemption with a last day, which have tables of their own: its further commands,
+# and what is shown of it
+DATED_COMMANDS = COMMANDS + """2024-05-01 add-entry exemption log 0.4.0 safe-to-deploy last-day=2024-05-31
+#> done 12 number 3 moves 1
+2024-05-01 set-day
+#> done 13 moves 0
+"""
+WINDOW = "entry 2 log wildcard 5 2023-01-01 2023-12-31 reviewed\n"
+LAST_MOVE = "move 7 2024-05-01 log 0.4.0 safe-to-run unvetted full\n"
+DATED = SHOWN.replaced(
+    "step 11\n",
+    "step 13\ntoday 2024-05-01\n",
+    WINDOW,
+    f"{WINDOW}entry 3 log exemption 0.4.0 safe-to-deploy last-day=2024-05-31\n",
+    "pair log 0.4.0 safe-to-deploy unvetted",
+    "pair log 0.4.0 safe-to-deploy exempted",
+    "exempted 0 unvetted 1",
+    "exempted 1 unvetted 0",
+    LAST_MOVE,
+    f"{LAST_MOVE}move 12 2024-05-01 log 0.4.0 safe-to-deploy unvetted exempted\n",
+    "2024-05-02 add-entry full log 0.4.0 safe-to-deploy\n#> done 12 number 3",
+    "2024-05-01 add-entry exemption log 0.4.0 safe-to-deploy last-day=2024-05-31\n#> already 3\n"
+    "2024-05-01 set-day\n#> already\n"
+    "2024-05-02 add-entry full log 0.4.0 safe-to-deploy\n#> done 14 number 4",
+)
+
 # changes after the first two commands of an example, with an entry, a pair that is full and one that is unvetted
 ALTERED_TABLES = [
     "UPDATE standing SET class = 1 WHERE class = 4",
@@ -147,6 +174,8 @@ ALTERED_TABLES = [
     ("UPDATE entries SET criteria = ?", names(["a b"])),
     "UPDATE meta SET first4 = first4 + 1",
     "DROP TABLE reviews",
+    "DROP TABLE today",
+    "INSERT INTO lasts VALUES (1, 19844)",
 ]
 
 # what no cell of a type holds: a number that is too low, a text that is no name, version or requirement, and bytes that
@@ -159,7 +188,8 @@ DAYS = ("day", "day1", "day2")
 UNKNOWN = names(["z"])
 # rows of the right form, and changes of one row of them after which no register has them all
 BAD_ROWS = [
-    "UPDATE meta SET version = 2",
+    "UPDATE meta SET version = 0",
+    "UPDATE meta SET version = 3",
     # recorded moves lie above the step, numbers above the next ones, more moves than there may be
     "UPDATE meta SET step = 6",
     "UPDATE meta SET next_entry = 2",
@@ -225,6 +255,16 @@ BAD_ROWS = [
     "UPDATE reviews SET number = 2",
     ("UPDATE reviews SET criteria = ?", UNKNOWN),
 ]
+# by the version of the tables: the number of the other version, and rows of no day and of no exemption
+BAD_ROWS_OF = {
+    FIRST: ["UPDATE meta SET version = 2"],
+    SECOND: [
+        "UPDATE meta SET version = 1",
+        "INSERT INTO today VALUES (2, 19844)",
+        "INSERT INTO today VALUES (0, 0)",
+        "INSERT INTO lasts VALUES (2, 19844)",
+    ],
+}
 
 # changes that leave a register, with what is shown then in place of something else
 GOOD_ROWS = [
@@ -240,6 +280,46 @@ GOOD_ROWS = [
         "assign-review 1 ann\n#> refused 21 ReviewClosed",
     ),
     ("UPDATE meta SET step = 7", "step 11", "step 7", "done 12", "done 8"),
+]
+
+# of the register with a day: changes of rows of the two tables after which no register has them all
+BAD_DATED_ROWS = [
+    "UPDATE today SET one = 2",
+    "UPDATE today SET one = -2",
+    "INSERT INTO today VALUES (2, 19844)",
+    f"UPDATE today SET day = {BAD_DAY}",
+    f"UPDATE lasts SET day = {BAD_DAY}",
+    # the day after the last one of the exemption, by which it would be unvetted
+    "UPDATE today SET day = 19875",
+    "UPDATE lasts SET day = 19843",
+    # no exemption, a peer's entry, and no entry
+    "UPDATE lasts SET entry = 2",
+    "UPDATE lasts SET entry = 1",
+    "UPDATE lasts SET entry = 4",
+    "INSERT INTO lasts VALUES (2, 19874)",
+    "INSERT INTO lasts VALUES (4, 19874)",
+    "INSERT INTO lasts VALUES (-2, 19874)",
+]
+# and changes that leave one
+GOOD_DATED_ROWS = [
+    (
+        "UPDATE today SET day = day + 1",
+        "today 2024-05-01",
+        "today 2024-05-02",
+        "set-day\n#> already",
+        "set-day\n#> refused 32 DayGoesBack",
+    ),
+    # on the last day
+    (
+        "UPDATE today SET day = 19874",
+        "today 2024-05-01",
+        "today 2024-05-31",
+        "set-day\n#> already",
+        "set-day\n#> refused 32 DayGoesBack",
+    ),
+    ("DELETE FROM today", "today 2024-05-01\n", "", "2024-05-01 set-day\n#> already\n", ""),
+    ("UPDATE lasts SET day = day + 1", "last-day=2024-05-31", "last-day=2024-06-01"),
+    ("UPDATE lasts SET day = 19844", "last-day=2024-05-31", "last-day=2024-05-01"),
 ]
 
 # for each table what makes it none of a register's, by its name and the columns of its key
@@ -279,6 +359,22 @@ OTHER_STATEMENTS = [
 ]
 # the last column of each table that has one beside its key
 LAST_COLUMNS = {table: columns[-1][0] for table, columns in TABLES.items() if not columns[-1][2]}
+
+# what makes tables of the first version none of a register's: it takes a name of the two tables that they lack, or both
+TAKEN = [
+    "CREATE TABLE today (x)",
+    "CREATE TABLE today (one INTEGER NOT NULL, day INTEGER NOT NULL, PRIMARY KEY (one)) STRICT",
+    "CREATE TABLE Lasts (x TEXT) STRICT",
+    "CREATE TABLE lasts (entry INTEGER NOT NULL, day INTEGER NOT NULL, PRIMARY KEY (entry)) STRICT",
+    "CREATE TABLE today (one INTEGER NOT NULL, day INTEGER NOT NULL, PRIMARY KEY (one)) STRICT; "
+    "CREATE TABLE lasts (entry INTEGER NOT NULL, day INTEGER NOT NULL, PRIMARY KEY (entry)) STRICT",
+    "CREATE VIEW TODAY AS SELECT name FROM members",
+    "CREATE VIEW lasts AS SELECT name FROM members",
+    "CREATE TABLE notes (said TEXT); CREATE INDEX today ON notes (said)",
+    "CREATE TABLE notes (said TEXT); CREATE INDEX LASTS ON notes (said)",
+    "CREATE TABLE more (x INTEGER REFERENCES today (one))",
+    "CREATE TABLE more (x INTEGER, FOREIGN KEY (x) REFERENCES Lasts (entry))",
+]
 
 # what another program may have in the file beside the register
 BESIDE = [

@@ -20,7 +20,11 @@ COLUMNS = {
     "members": "name:text*",
     "reviews": "number:number* package:text version:text criteria:list day:number state:number member:text "
     "entry:number",
+    "today": "one:number* day:number",
+    "lasts": "entry:number* day:number",
 }
+# those that the first version of the tables lacks
+LATER = ["today", "lasts"]
 # the type of a column by what it holds
 TYPES = {"number": "INTEGER", "text": "TEXT", "list": "BLOB", "option": "BLOB", "option-list": "BLOB", "map": "BLOB"}
 

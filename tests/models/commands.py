@@ -1,10 +1,11 @@
-"""Commands, by a plain model: each changes a copy of what is held, or answers that this is held already. All words of a
-line are good names, versions and days, and no file is at fault."""
+"""Commands, by a plain model: each changes a copy of what is held, or answers that this is held already. Beside the
+words of its line it is given its day. All words of a line are good names, versions and days, and no file is at
+fault."""
 
 import tomllib
 import urllib.parse
 
-from models.files import Content, Criterion, Entry, Files, Settings, content_of, record
+from models.files import LAST_DAY, Content, Criterion, Entry, Files, Settings, content_of, record
 from models.held import BUILT_IN
 from models.projects import read_project, table_of
 from models.refused import Refused
@@ -42,7 +43,7 @@ def items_listed(text):
 # ---- criteria, own entries, publisher records
 
 
-def set_criterion(held, words):
+def set_criterion(held, _day, words):
     name, criterion = words[0], Criterion(frozenset(words[1:]))
     if held.criteria.get(name) == criterion:
         return "already"
@@ -54,7 +55,7 @@ def set_criterion(held, words):
     held.criteria[name] = criterion
 
 
-def remove_criterion(held, words):
+def remove_criterion(held, _day, words):
     name = words[0]
     known(held.has, {name})
     if name in BUILT_IN:
@@ -72,26 +73,34 @@ def count_of(held):
     return len(held.entries) + sum(len(content.entries) for content in held.contents.values())
 
 
-def add_entry(held, words):
+def read_entry(words):
+    """An entry; a last day stands as the last word of its line."""
     kind, package, *rest = words
+    said = [rest.pop()] if rest[-1].startswith(LAST_DAY) else []
     parts = {"delta": 2, "wildcard": 3, "trusted": 3}.get(kind, 1)
-    entry = Entry(kind, package, tuple(rest[:parts]), tuple(sorted(set(rest[parts:]))))
+    return Entry(kind, package, tuple(rest[:parts]), tuple(sorted(set(rest[parts:]))), tuple(said))
+
+
+def add_entry(held, day, words):
+    entry = read_entry(words)
     for number, other in held.entries.items():
         if other == entry:
             return f"already {number}"
     within("entries", count_of(held) + 1, MOST_ENTRIES)
     known(held.has, entry.criteria)
+    if entry.last_day() and entry.last_day() < day:
+        raise Refused("11 EmptyWindow")
     held.entries[held.next_entry] = entry
     held.next_entry += 1
 
 
-def drop_entry(held, words):
+def drop_entry(held, _day, words):
     if int(words[0]) not in held.entries:
         raise Refused("10 UnknownEntry")
     del held.entries[int(words[0])]
 
 
-def set_publishers(held, words):
+def set_publishers(held, _day, words):
     package, *records = words
     tables = [dict(zip(("version", "user-id", "when"), it.split(","))) for it in set(records)]
     found = [record(table | {"user-id": int(table["user-id"])}) for table in sorted(tables, key=publisher_order)]
@@ -116,7 +125,7 @@ def read_policy(words):
     return policy
 
 
-def set_policy(held, words):
+def set_policy(held, _day, words):
     policy = read_policy(words[1:])
     if held.policies.get(words[0]) == policy:
         return "already"
@@ -124,17 +133,17 @@ def set_policy(held, words):
     held.policies[words[0]] = policy
 
 
-def drop_policy(held, words):
+def drop_policy(held, _day, words):
     if words[0] not in held.policies:
         raise Refused("14 UnknownPolicy")
     del held.policies[words[0]]
 
 
-def load_project(held, words):
+def load_project(held, _day, words):
     return hold_project(held, words[0], urllib.parse.unquote(words[1]))
 
 
-def demand(held, words):
+def demand(held, _day, words):
     """The project whose root demands versions of a package."""
     package, *versions = words
     return hold_project(held, "app", table_of(*versions, package=package))
@@ -147,7 +156,7 @@ def hold_project(held, name, table):
     held.projects[name] = project
 
 
-def drop_project(held, words):
+def drop_project(held, _day, words):
     if words[0] not in held.projects:
         raise Refused("15 UnknownProject")
     del held.projects[words[0]]
@@ -163,7 +172,7 @@ def read_settings(words):
     return Settings(items_listed(urls), items_listed(excluded), tuple(pairs))
 
 
-def set_peer(held, words):
+def set_peer(held, _day, words):
     name, settings = words[0], read_settings(words[1:])
     if held.settings.get(name) == settings:
         return "already"
@@ -178,7 +187,7 @@ def peer_is_held(held, name):
         raise Refused("13 UnknownPeer")
 
 
-def drop_peer(held, words):
+def drop_peer(held, _day, words):
     peer_is_held(held, words[0])
     del held.settings[words[0]], held.contents[words[0]]
 
@@ -198,7 +207,7 @@ def numbered(held, entries, found):
     return kept
 
 
-def import_peer(held, words):
+def import_peer(held, _day, words):
     name, content = words[0], content_of(audits_table(tomllib.loads(text_of(words[1])), is_peer=True))
     if name in held.contents and same_content(held.contents[name], content):
         return "already"
@@ -213,12 +222,12 @@ def import_peer(held, words):
 
 
 def are_held(files, held):
-    """Whether all that is held, but for the projects, is what the files say."""
+    """Whether all that files may say of what is held is what these say."""
     if not set(files.contents) <= set(files.settings):
         return False
     pairs = (
         (held.criteria, files.criteria),
-        (set(held.entries.values()), set(files.entries())),
+        (set(held.entries.values()) - set(held.lasting().values()), set(files.entries())),
         (held.settings, files.settings),
         (held.publishers, files.publishers),
         (held.policies, files.policies),
@@ -228,11 +237,11 @@ def are_held(files, held):
     return same and all(same_content(content, files.content(name)) for name, content in held.contents.items())
 
 
-def limits(files):
+def limits(files, lasting):
     if len(files.criteria) > MOST_CRITERIA:
         raise Refused("9 TooManyCriteria")
     within("peers", len(files.settings), MOST_PEERS)
-    within("entries", files.count(), MOST_ENTRIES)
+    within("entries", len(lasting) + files.count(), MOST_ENTRIES)
     within("publishers", sum(map(len, files.publishers.values())), MOST_PUBLISHERS)
     within("policies", len(files.policies), MOST_POLICIES)
 
@@ -246,17 +255,19 @@ def references(files):
         raise Refused("13 UnknownPeer")
 
 
-def replace_files(held, words):
+def replace_files(held, _day, words):
     files = Files(*map(text_of, words))
     if are_held(files, held):
         return "already"
-    limits(files)
+    lasting = held.lasting()
+    limits(files, lasting)
     references(files)
-    if not held.in_review() <= {*files.criteria, *BUILT_IN}:
+    staying = held.in_review().union(*(entry.criteria for entry in lasting.values()))
+    if not staying <= {*files.criteria, *BUILT_IN}:
         raise Refused("8 CriterionInUse")
     held.criteria, held.publishers, held.policies = files.criteria, files.publishers, files.policies
     held.settings, held.tool = files.settings, files.tool
-    held.entries = numbered(held, held.entries, files.entries())
+    held.entries = lasting | numbered(held, held.entries, files.entries())
     before, held.contents = held.contents, {}
     for name in sorted(files.settings):
         content = files.content(name)
@@ -264,10 +275,18 @@ def replace_files(held, words):
         held.contents[name] = Content(content.criteria, entries)
 
 
-# ---- periods
+# ---- days and periods
 
 
-def close_period(_held, _words):
+def set_day(held, day, _words):
+    if held.today == day:
+        return "already"
+    if held.today and day < held.today:
+        raise Refused("32 DayGoesBack")
+    held.today = day
+
+
+def close_period(_held, _day, _words):
     """Changes nothing that is held."""
 
 
@@ -286,5 +305,6 @@ COMMANDS = {
     "drop-peer": drop_peer,
     "import-peer": import_peer,
     "replace-files": replace_files,
+    "set-day": set_day,
     "close-period": close_period,
 }

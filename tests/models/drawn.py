@@ -2,7 +2,7 @@
 before: some of it is taken away or changed, and something added."""
 
 from models.drawn_desk import DrawnDesk
-from models.files import Content, Criterion, Entry, Settings
+from models.files import LAST_DAY, Content, Criterion, Entry, Settings
 from models.held import BUILT_IN
 from models.machine import MOST_MOVES, Machine
 from models.projects import KINDS, PARTIES, word_of_table
@@ -19,6 +19,9 @@ KEYS = ("a", "a:1.0.0", "app", "app:1.0.0", "app:1.1.0", "b", "b:1.1.0")
 PROJECTS = ("app", "one", "two")
 DAYS = ("2023-02-01", "2023-02-03", "2023-02-05")
 USERS = (5, 6)
+# last days of exemptions, the first before all commands, and how many days commands have, from 2024-05-01 on
+LAST_DAYS = ("2024-04-30", "2024-05-01", "2024-05-02", "2024-05-03", "2024-05-04")
+COMMAND_DAYS = 6
 # how many commands a list has
 LENGTH = 40
 
@@ -36,7 +39,7 @@ class Drawn(DrawnDesk):
         for command in ("set-criterion x", "set-criterion y x", self.member(), self.project()):
             self.give(f"2024-05-01 {command}")
         for place in range(LENGTH):
-            self.give(f"2024-05-{1 + place // 10:02} {self.command()}")
+            self.give(f"{self.day(place)} {self.command()}")
 
     def give(self, line):
         self.lines.append(line)
@@ -49,13 +52,20 @@ class Drawn(DrawnDesk):
 
     # ---- commands
 
+    def day(self, place):
+        """Mostly one after the other."""
+        return f"2024-05-{1 + (place // 10 if self.dice.random() < 0.8 else self.dice.randrange(COMMAND_DAYS)):02}"
+
     def command(self):
         drawn = (self.criterion, self.entry, self.policy, self.policy, self.project, self.project, self.dropped)
-        drawn += (self.publishers, self.peer, self.imported, self.imported, self.files)
+        drawn += (self.publishers, self.peer, self.imported, self.imported, self.files, self.set_day)
         return self.dice.choice((*drawn, *[self.at_desk] * 10, *[self.period] * (self.dice.random() < 0.3)))()
 
     def period(self):
         return "close-period"
+
+    def set_day(self):
+        return "set-day"
 
     def some(self, things, least, most):
         return [self.dice.choice(things) for _ in range(self.dice.randrange(least, most + 1))]
@@ -64,8 +74,10 @@ class Drawn(DrawnDesk):
         return " ".join(["set-criterion", *self.some(CRITERIA, 1, 3)])
 
     def entry(self):
-        entry = self.drawn_entry(CRITERIA, ("full", "exemption", "delta", "violation"))
-        return " ".join(["add-entry", entry.kind, entry.package, *entry.parts, *entry.criteria])
+        entry = self.drawn_entry(CRITERIA, ("full", "exemption", "exemption", "delta", "violation"))
+        lasts = entry.kind == "exemption" and self.dice.random() < 0.8
+        last = [LAST_DAY + self.dice.choice(LAST_DAYS)] if lasts else []
+        return " ".join(["add-entry", entry.kind, entry.package, *entry.parts, *entry.criteria, *last])
 
     def policy(self):
         listed = lambda: ",".join(self.some(CRITERIA, 0, 2))

@@ -1,7 +1,7 @@
 """Packages that are drawn, of up to twelve versions each, with commands about what gives these their classes: entries,
 also of peers, violations, publisher records, policies, projects and criteria. The same is then given at once."""
 
-from models.files import Content, Criterion, Entry
+from models.files import LAST_DAY, Content, Criterion, Entry
 from models.held import BUILT_IN
 from models.machine import Machine
 from models.projects import word_of_table
@@ -29,8 +29,16 @@ MORE_EXEMPTIONS = (0, 0, 8)
 KINDS_OF_PEERS = ("delta",) * 5 + ("full", "violation", "wildcard")
 # how many commands are drawn, and how many behind what is given at once
 LENGTH, LENGTH_BEHIND = 36, 6
+# the day of each command but those that set the register's day
 DAY = "2024-05-01"
+LAST_DAYS = (DAY, "2024-05-02", "2024-05-03", "2024-05-04")
+SET_DAY = "set-day"
 MAPPED = "set-peer p - - r=x,y;s=safe-to-deploy"
+
+
+def command_of(entry):
+    """What adds an entry."""
+    return " ".join(["add-entry", entry.kind, entry.package, *entry.parts, *entry.criteria, *entry.said])
 
 
 class Given:
@@ -40,8 +48,8 @@ class Given:
         self.machine = Machine(held=WalkedHeld())
         self.lines, self.answers, self.told = [], [], []
 
-    def give(self, command):
-        line, before = f"{DAY} {command}", list(self.machine.contents())
+    def give(self, command, day=DAY):
+        line, before = f"{day} {command}", list(self.machine.contents())
         self.lines.append(line)
         self.answers.append(self.machine.told(line))
         self.told += [*before, self.answers[-1]]
@@ -66,38 +74,43 @@ class DrawnPackages:
         self.draw(LENGTH)
         commands = self.whole()
         self.given = self.at_once = Given()
-        for command in commands:
-            self.give(command)
+        for command, day in commands:
+            self.give(command, day)
         self.is_same = self.held().standing() == self.by_commands.machine.held.standing()
         self.draw(LENGTH_BEHIND)
 
-    def give(self, command):
-        self.given.give(command)
+    def give(self, command, day=DAY):
+        self.given.give(command, day)
         if command.startswith("load-project "):
             self.loaded[command.split(" ")[1]] = command
 
     def draw(self, count):
         for _ in range(count):
-            self.give(self.command())
+            command = self.command()
+            self.give(command, self.later() if command == SET_DAY else DAY)
 
     def held(self):
         return self.given.machine.held
 
     def whole(self):
-        """What gives all that is held at once: the projects, and three files before, between or behind them."""
+        """What gives all that is held at once, each command with its day: the projects, and three files before, between
+        or behind them; then the exemptions that stand in no file, and the register's day before or behind these."""
         held = self.held()
         tables = (held_audits(held), held_config(held), held_imports(held, excluding=False))
         files = f"replace-files {' '.join(word_of(toml_text(table, self.dice)) for table in tables)}"
         commands = [self.loaded[name] for name in sorted(held.projects)]
         commands.insert(self.dice.randint(0, len(commands)), files)
-        return commands
+        lasting = [(command_of(entry), DAY) for _, entry in sorted(held.lasting().items())]
+        if held.today:
+            lasting.insert(self.dice.choice((0, len(lasting))), (SET_DAY, held.today))
+        return [(command, DAY) for command in commands] + lasting
 
     # ---- commands
 
     def command(self):
         drawn = (self.entry,) * 12 + (self.drop_entry,) * 3 + (self.imported,) * 4 + (self.peer,) * 2
         drawn += (self.publishers,) * 2 + (self.policy, self.demanding, self.a_project, self.dropped)
-        drawn += (self.changed_criterion, self.period)
+        drawn += (self.changed_criterion, self.period, self.set_day)
         return self.dice.choice(drawn)()
 
     def some(self, things, least, most):
@@ -136,7 +149,9 @@ class DrawnPackages:
 
     def entry(self):
         entry = self.drawn_entry(CRITERIA, self.kinds)
-        return " ".join(["add-entry", entry.kind, entry.package, *entry.parts, *entry.criteria])
+        if entry.kind == "exemption" and self.dice.random() < 0.4:
+            entry = entry._replace(said=(LAST_DAY + self.dice.choice(LAST_DAYS),))
+        return command_of(entry)
 
     def drop_entry(self):
         """Mostly of one that is held, and the last one more often than others."""
@@ -192,3 +207,11 @@ class DrawnPackages:
 
     def period(self):
         return "close-period"
+
+    def set_day(self):
+        return SET_DAY
+
+    def later(self):
+        """Mostly the day after the register's, so that some of what it holds lapses."""
+        days = (*LAST_DAYS, "2024-05-05")
+        return self.dice.choice((*days, *[day for day in days if day > (self.held().today or "")][:1] * 5))

@@ -9,6 +9,7 @@ from models.words import word_of
 
 # the lists of an audits file in the order of reading
 LISTS = ("audits", "wildcard-audits", "trusted")
+LAST_DAY = "last-day="
 SUBJECTS = {"version": "full", "delta": "delta", "violation": "violation"}
 
 
@@ -20,6 +21,10 @@ class Entry(NamedTuple):
     criteria: tuple
     # what is said beside, each as `KEY=TEXT`
     said: tuple = ()
+
+    def last_day(self):
+        """The last day of an exemption, if it has one."""
+        return next((it.removeprefix(LAST_DAY) for it in self.said if it.startswith(LAST_DAY)), None)
 
 
 class Criterion(NamedTuple):

@@ -28,6 +28,8 @@ class Held:
         # members, and reviews by their numbers
         self.members, self.reviews = {}, {}
         self.next_entry = self.next_review = 1
+        # the register's day
+        self.today = None
 
     def copy(self):
         other = type(self)()
@@ -37,6 +39,10 @@ class Held:
 
     def has(self, name):
         return name in self.criteria or name in BUILT_IN
+
+    def lasting(self):
+        """The exemptions that have a last day, which stand in no file."""
+        return {number: entry for number, entry in self.entries.items() if entry.last_day()}
 
     def in_review(self):
         """The criteria of the reviews that aren't closed."""
@@ -105,7 +111,13 @@ class Held:
                 steps |= set(self.steps_of(entry))
         return steps, condemned
 
+    def has_lapsed(self, entry):
+        """Whether the register's day is past the last day of an exemption."""
+        return bool(self.today and entry.last_day() and entry.last_day() < self.today)
+
     def steps_of(self, entry):
+        if self.has_lapsed(entry):
+            return
         if entry.kind not in ("wildcard", "trusted"):
             origin = entry.parts[0] if entry.kind == "delta" else None
             yield (origin, entry.parts[-1], entry.kind == "exemption")

@@ -16,9 +16,7 @@ def held_after(held, line):
     """What is held after a command, and what the command is told if that was held already."""
     day, word, *words = line.split(" ")
     after = held.copy()
-    if word in DESK_COMMANDS:
-        return after, DESK_COMMANDS[word](after, day, words)
-    return after, COMMANDS[word](after, words)
+    return after, (COMMANDS | DESK_COMMANDS)[word](after, day, words)
 
 
 class Machine:
@@ -76,6 +74,8 @@ class Machine:
 
 
 def held_lines(held):
+    if held.today:
+        yield f"today {held.today}"
     built_in = {name: Criterion(frozenset(implied)) for name, implied in BUILT_IN.items()}
     yield from criteria_lines("criterion", built_in | held.criteria)
     yield from entry_lines(held.entries)

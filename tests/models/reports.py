@@ -20,6 +20,7 @@ def reports_of(lines):
         "standing-csv": standing_csv(pairs),
         "moves": "".join(move_line(*move) for move in moves),
         "desk": "".join(desk_line(*review) for review in rows.get("review", [])),
+        "lapses": "".join(lapse_lines(*rows.get("today", [[None]])[0], rows.get("entry", []))),
     }
 
 
@@ -63,3 +64,14 @@ def desk_line(number, day, package, version, state, *criteria):
     member, entry = by if word == "assigned" else "-", by if word == "finished" else "-"
     front = f"{number:>8} {day} {package:<24} {version:<20} {word:<9}"
     return f"{front} {member:<16} {entry:>8} {','.join(criteria)}\n"
+
+
+def lapse_lines(today, entries):
+    """A line for each exemption that has a last day."""
+    for number, package, kind, *words in entries:
+        if kind == "exemption":
+            said = dict(word.split("=", 1) for word in words if "=" in word)
+            version, *criteria = (word for word in words if "=" not in word)
+            if last := said.get("last-day"):
+                word = "lapsed" if today and last < today else "held"
+                yield f"{number:>8} {last} {package:<24} {version:<20} {word:<6} {','.join(criteria)}\n"

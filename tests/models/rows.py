@@ -16,6 +16,8 @@ EDGES = ("normal", "build", "dev")
 STATES = ("waiting", "assigned", "finished", "withdrawn")
 FLAGS = {None: -1, "false": 0, "true": 1}
 OPERATORS = ("<", ">", "=", "<=", ">=", "~", "^")
+# of the tables, as `meta` tells it
+VERSION = 2
 
 
 @contextlib.contextmanager
@@ -28,13 +30,13 @@ def opened(path, mode="rw"):
         tables.close()
 
 
-def rows_in(path):
-    """The rows of each table in a database file, in their order, once its state is found to be whole."""
+def rows_in(path, names=TABLES):
+    """The rows of each of these tables in a database file, in their order, once its state is found to be whole."""
     with opened(path, "ro") as tables:
         state = tables.execute("PRAGMA integrity_check").fetchall()
         if state != [("ok",)]:
             raise AssertionError(f"the file's state is {state}")
-        return {name: sorted(tables.execute(f"SELECT * FROM {name}").fetchall()) for name in TABLES}
+        return {name: sorted(tables.execute(f"SELECT * FROM {name}").fetchall()) for name in names}
 
 
 def rows_of(lines, limit, next_entry, next_review):
@@ -114,7 +116,7 @@ class Rows:
             word, *words = line.split(" ")
             getattr(self, f"take_{word}")(words)
         self.end_peer()
-        numbers = (1, 1, self.step, next_entry, next_review, limit, *self.first)
+        numbers = (1, VERSION, self.step, next_entry, next_review, limit, *self.first)
         said = (text(self.settings, "version"), optional_list(self.settings, "default-criteria"))
         self.tables["meta"].append((*numbers, *said))
 
@@ -125,6 +127,9 @@ class Rows:
 
     def take_step(self, words):
         self.step = int(words[0])
+
+    def take_today(self, words):
+        self.put("today", 1, day_number(words[0]))
 
     # ---- criteria and entries
 
@@ -142,7 +147,7 @@ class Rows:
 
     def take_entry(self, words):
         number, package, kind, *words = words
-        keys = ("source", "who", "notes", "suggest", "renew", "importable")
+        keys = ("source", "who", "notes", "suggest", "renew", "importable", "last-day")
         fields, plain = fields_of(words, keys)
         a, b, user, first, last, criteria = subject(kind, plain)
         who = packed(text_of(word) for word in fields.get("who", ()))
@@ -150,6 +155,8 @@ class Rows:
         source = fields.get("source", [""])[0]
         said = (KINDS.index(kind), a, b, user, first, last, names(criteria), who, text(fields, "notes"))
         self.put("entries", int(number), source, package, *said, *flags)
+        for day in fields.get("last-day", ()):
+            self.put("lasts", int(number), day_number(day))
 
     # ---- peers and publishers
 

@@ -35,6 +35,11 @@ def demand(before, after, _words):
     return {package for package, *_ in set(before.demand()) ^ set(after.demand())}
 
 
+def lapsing(before, after, _words):
+    """The packages of exemptions that have lapsed only after it."""
+    return {it.package for it in after.entries.values() if after.has_lapsed(it) and not before.has_lapsed(it)}
+
+
 TOUCHES = {
     "set-criterion": everything,
     "remove-criterion": everything,
@@ -56,6 +61,7 @@ TOUCHES = {
     "open-review": nothing,
     "assign-review": nothing,
     "withdraw-review": nothing,
+    "set-day": lapsing,
     "close-period": nothing,
 }
 

@@ -76,7 +76,8 @@ def policy_table(policy):
 
 def held_config(held):
     version, defaults = held.tool
-    exempt = [entry for entry in in_order_of_numbers(held.entries) if entry.kind == "exemption"]
+    own = in_order_of_numbers(held.entries)
+    exempt = [entry for entry in own if entry.kind == "exemption" and not entry.last_day()]
     found = {} if version is None else {"cargo-vet": {"version": version}}
     found |= {} if defaults is None else {"default-criteria": set_of(defaults)}
     return found | lists_of_entries(exempt) | unless_empty(

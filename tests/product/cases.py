@@ -68,6 +68,20 @@ LONG_MOVES = """\
        3 2024-05-01 package-with-a-name-longer-than-24 1.0.0-alpha.of-many-parts read,"twice"         none        \
 unvetted
 """
+# of an exemption of serde, the lines before and after its last day is over, and one that names no criterion
+HELD_LINE = """\
+       1 2024-05-31 serde                    1.0.1                held   safe-to-deploy
+"""
+LAPSED_LINE = """\
+       1 2024-05-31 serde                    1.0.1                lapsed safe-to-deploy
+"""
+BARE_LINE = f"       3 2024-05-01 {'serde':<24} {'1.0.1':<20} held   \n"
+TWO_CRITERIA_LINE = """\
+       4 9999-12-31 log                      0.4.0                held   safe-to-deploy,x
+"""
+LONG_LAPSE = """\
+       1 2024-05-31 package-with-a-name-longer-than-24 1.0.0-alpha.of-many-parts held   read,"twice"
+"""
 LONG_REVIEW = """\
        1 2024-05-01 package-with-a-name-longer-than-24 1.0.0-alpha.of-many-parts assigned  a-member-of-more-than-16 \
        - read,"twice"
@@ -95,6 +109,15 @@ serde                    1.0.1                safe-to-run          exempted
 serde                    1.0.2                safe-to-run          partial
 serde                    1.0.3                safe-to-run          conflicting
 serde                    1.0.4                safe-to-run          unvetted
+"""
+COUNTS_OF_LAPSED = """\
+class            first   arrived  departed       now
+conflicting          0         0         0         0
+full                 0         0         0         0
+partial              0         0         0         0
+exempted             0         2         2         0
+unvetted             0         4         2         2
+demand               0         6         4         2
 """
 COUNTS_OF_EACH_CLASS = """\
 class            first   arrived  departed       now
@@ -133,6 +156,7 @@ EXAMPLES = [
         ("standing-csv", "package,version,criterion,class\n"),
         ("moves", ""),
         ("desk", ""),
+        ("lapses", ""),
     ]),
     ("a_pair_arrives_and_departs", None, [
         (demand_of("1.0.1"), "done 1 moves 2"),
@@ -207,6 +231,11 @@ EXAMPLES = [
         ),
         (document("assign-review", review=1, member="a-member-of-more-than-16"), "done 6 moves 0"),
         ("desk", LONG_REVIEW),
+        (
+            entry("exemption", package=LONG_NAME, version=LONG_VERSION, criteria=MARKS, last_day="2024-05-31"),
+            "done 7 number 1 moves 1",
+        ),
+        ("lapses", LONG_LAPSE),
     ]),
     ("pairs_stand_in_order", None, [
         (document("load-project", project="app", csv=table_in_disorder()), f"done 1 moves {len(IN_ORDER)}"),
@@ -224,6 +253,40 @@ EXAMPLES = [
         (entry("violation", **RUN, violation="=1.0.3"), "done 6 number 5 moves 1"),
         ("standing", OF_EACH_CLASS),
         ("counts", COUNTS_OF_EACH_CLASS),
+    ]),
+    ("an_exemption_lapses", None, [
+        (demand_of("1.0.1"), "done 1 moves 2"),
+        (entry("exemption", version="1.0.1", last_day="2024-05-31"), "done 2 number 1 moves 2"),
+        ("lapses", HELD_LINE),
+        (document("set-day"), "done 3 moves 0", "2024-05-31"),
+        (document("set-day"), "already", "2024-05-31"),
+        ("lapses", HELD_LINE),
+        (document("set-day"), "done 4 moves 2", "2024-06-01"),
+        (document("set-day"), "refused 32 DayGoesBack", "2024-05-31"),
+        ("lapses", LAPSED_LINE),
+        ("counts", COUNTS_OF_LAPSED),
+    ]),
+    # by the day of the command, and not by that of the register; the ones without a last day have no line
+    ("last_days_are_judged_by_the_day", None, [
+        (document("set-day"), "done 1 moves 0", "2024-06-01"),
+        (entry("exemption", version="1.0.1", last_day="2024-05-31"), "done 2 number 1 moves 0", "2024-05-31"),
+        (entry("exemption", version="1.0.2", last_day="2024-04-30"), "refused 11 EmptyWindow"),
+        (entry("exemption", version="1.0.1"), "done 3 number 2 moves 0", "2024-06-01"),
+        (entry("exemption", version="1.0.1", last_day="2024-05-31"), "already 1", "2024-06-01"),
+        ("lapses", LAPSED_LINE),
+    ]),
+    ("last_days_by_number", None, [
+        (document("set-criterion", name="x"), "done 1 moves 0"),
+        (entry("exemption", version="1.0.1", last_day="2024-05-31"), "done 2 number 1 moves 0"),
+        (entry("exemption", version="1.0.1"), "done 3 number 2 moves 0"),
+        (entry("exemption", version="1.0.1", criteria=[], last_day="2024-05-01"), "done 4 number 3 moves 0"),
+        (
+            entry("exemption", package="log", version="0.4.0", criteria=["x", "safe-to-deploy"], last_day="9999-12-31"),
+            "done 5 number 4 moves 0",
+        ),
+        ("lapses", HELD_LINE + BARE_LINE + TWO_CRITERIA_LINE),
+        (document("drop-entry", number=3), "done 6 moves 0"),
+        ("lapses", HELD_LINE + TWO_CRITERIA_LINE),
     ]),
 ]
 
@@ -416,6 +479,12 @@ KEPT = [
         {"exemptions": {"serde": [{
             "criteria": "safe-to-deploy", "version": "1.0.2", "notes": "N", "suggest": False
         }]}},
+    ),
+    (
+        "an exemption with a last day, which stands in no file",
+        entry("exemption", version="1.0.2", notes="N", suggest=False, last_day="2024-05-31"),
+        "config",
+        {"exemptions": None},
     ),
     (
         "a policy with all keys",

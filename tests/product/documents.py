@@ -3,6 +3,7 @@
 import json
 from typing import NamedTuple
 
+from models.files import LAST_DAY
 from models.projects import table_of
 from models.words import text_of
 
@@ -93,8 +94,9 @@ def subject_of(kind, parts):
 
 def add_entry(words):
     kind, package, *rest = words
+    last = {"last-day": rest.pop().removeprefix(LAST_DAY)} if rest[-1].startswith(LAST_DAY) else {}
     about, criteria = rest[: PARTS[kind]], rest[PARTS[kind] :]
-    return "add-entry", {"package": package, "kind": kind, **subject_of(kind, about), "criteria": criteria}
+    return "add-entry", {"package": package, "kind": kind, **subject_of(kind, about), "criteria": criteria} | last
 
 
 def add_audit(words):
@@ -169,6 +171,7 @@ LINES = {
     "load-project": plain("load-project", "project", "csv"),
     "drop-project": plain("drop-project", "project"),
     "replace-files": plain("replace-files", "audits", "config", "imports"),
+    "set-day": plain("set-day"),
     "close-period": plain("close-period"),
     "add-member": plain("add-member", "member"),
     "open-review": open_review,

@@ -94,7 +94,13 @@ KEYS = {
     "add-entry violation": FRONT | {"violation": "requirement"} | AUDIT,
     "add-entry wildcard": FRONT | WINDOW | {"who?": "texts", "notes?": "text", "renew?": "flag"},
     "add-entry trusted": FRONT | WINDOW | {"notes?": "text"},
-    "add-entry exemption": FRONT | {"version": "version", "criteria": "names", "notes?": "text", "suggest?": "flag"},
+    "add-entry exemption": FRONT | {
+        "version": "version",
+        "criteria": "names",
+        "notes?": "text",
+        "suggest?": "flag",
+        "last-day?": "day",
+    },
     "drop-entry": {"number": "number"},
     "set-policy": {
         "policy": "policy key",
@@ -112,6 +118,7 @@ KEYS = {
     "load-project": {"project": "package", "csv": "table of a project"},
     "drop-project": {"project": "package"},
     "replace-files": {"audits": "file", "config": "file", "imports": "file"},
+    "set-day": {},
     "close-period": {},
     "add-member": {"member": "name"},
     "open-review": {"package": "package", "version": "version", "criteria": "names"},
@@ -125,7 +132,7 @@ MEMBER = "a b"
 # keys of other commands and kinds, which this one lacks
 LACKED = {
     "set-criterion": "url",
-    "add-entry full": "renew",
+    "add-entry full": "renew last-day",
     "add-entry delta": "version",
     "add-entry violation": "suggest",
     "add-entry wildcard": "importable",
@@ -177,8 +184,8 @@ def unknown_keys(words):
     yield f"{words}, the least unknown key", good | {"zz": 1, "zy": 1}, fault("zy")
     yield f"{words}, a key before all others", good | {"0": {"zz": 1}}, fault("0")
     yield f"{words}, a key of another case", good | {"Notes": "x"}, fault("Notes")
-    if words in LACKED:
-        yield f"{words}, a key of another", good | {LACKED[words]: "x"}, fault(LACKED[words])
+    for key in LACKED.get(words, "").split():
+        yield f"{words}, {key} of another", good | {key: "x"}, fault(key)
 
 
 def two_faults(words):

@@ -5,7 +5,7 @@ import subprocess
 
 # a folder in memory, where writes need not reach a disk
 FOLDER = "/dev/shm" if os.path.isdir("/dev/shm") else None
-REPORTS = ("counts", "standing", "standing-csv", "moves", "desk")
+REPORTS = ("counts", "standing", "standing-csv", "moves", "desk", "lapses")
 FILES = ("audits", "config", "imports")
 DAY = "2024-05-01"
 CREATED = (0, b"created\n", b"")

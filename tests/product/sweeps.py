@@ -1,13 +1,15 @@
 """Commands to a register in a file, each with its allocations refused in turn. A run gives its own answer and leaves
-its own rows, or it answers that memory ran out and leaves the rows that were there before."""
+its own rows, or it answers that memory ran out and leaves the rows that were there before, in tables of either version
+if those of the first were there."""
 
+import contextlib
 import itertools
 import os
 import tempfile
 from concurrent.futures import ThreadPoolExecutor
 from typing import NamedTuple
 
-from models.rows import rows_in
+from models.versions import FIRST, SECOND, put_back, rows_of_either
 from product.documents import Given, demand_of, document, entry
 from product.refusals import NO_MEMORY
 from product.register import DAY, FILES, FOLDER, REPORTS, Register
@@ -81,11 +83,13 @@ COMMANDS = [
     *(Swept(f"report_{kind}", ["report", kind], b"", 0, b"") for kind in REPORTS),
     *(Swept(f"export_{kind}", ["export", kind], b"", 0, b"") for kind in FILES),
 ]
+# of these, one of each kind: they are also given to tables of the first version
+OPENING = [it for it in COMMANDS if it.name in ("apply_an_entry", "report_counts", "export_config")]
 
 
-def files_begun(program, documents):
-    """The files of a register that was given these documents, by the ends of their names. Those without a day come on
-    the same one."""
+def files_begun(program, documents, version=SECOND):
+    """The files of a register that was given these documents, by the ends of their names, with tables of a version.
+    Documents without a day come on the same one."""
     with tempfile.TemporaryDirectory(dir=FOLDER) as folder:
         register = Register(program, os.path.join(folder, "register.db")).make()
         for it in documents:
@@ -93,6 +97,8 @@ def files_begun(program, documents):
             status, _, errors = register.apply(given.document, given.day, given.member)
             if status != 0:
                 raise AssertionError(f"{given}: {errors}")
+        if version == FIRST:
+            put_back(register.path)
         found = {}
         for name in sorted(os.listdir(folder)):
             with open(os.path.join(folder, name), "rb") as file:
@@ -107,22 +113,30 @@ class Sweep:
     def __init__(self, command, files, run):
         self.command, self.files, self.run = command, files, run
 
-    def answer(self, refused):
-        """Whether a run met its refusal, what it answered, and the rows that are there then."""
-        command = self.command
+    @contextlib.contextmanager
+    def copy(self):
+        """The path of a copy of the register."""
         with tempfile.TemporaryDirectory(dir=FOLDER) as folder:
             path = os.path.join(folder, "register.db")
             for end, content in self.files.items():
                 with open(path + end, "wb") as file:
                     file.write(content)
+            yield path
+
+    def answer(self, refused):
+        """Whether a run met its refusal, what it answered, and the rows that are there then."""
+        command = self.command
+        with self.copy() as path:
             words = [command.words[0], "--db", path, *command.words[1:]]
-            met, answer = self.run(words, command.given, refused, os.path.join(folder, "met"))
-            return met, answer, rows_in(path)
+            met, answer = self.run(words, command.given, refused, f"{path}-met")
+            return met, answer, rows_of_either(path)
 
     def begun(self):
-        """The rows before the command, which a report does not change."""
+        """The rows before the command, and those that are there once a report has opened the register. They differ only
+        if its tables are of the first version."""
         shown = self.command._replace(words=["report", "counts"], given=b"")
-        return Sweep(shown, self.files, self.run).answer(0)[2]
+        with self.copy() as path:
+            return [rows_of_either(path), Sweep(shown, self.files, self.run).answer(0)[2]]
 
     def last(self):
         """The number of the last allocation that is met."""
@@ -134,10 +148,10 @@ class Sweep:
 
     def fault_at(self, refused, own, before):
         met, answer, rows = self.answer(refused)
-        is_own, is_want = (answer, rows) == own, met and (answer, rows) == (NO_MEMORY, before)
+        is_own, is_want = (answer, rows) == own, met and answer == NO_MEMORY and rows in before
         if not met:
             return f"allocation {refused} was not met"
-        kept = "the rows before it" if rows == before else "other rows"
+        kept = "the rows before it" if rows in before else "other rows"
         return None if is_own or is_want else f"allocation {refused}: {answer}, {kept}"
 
 

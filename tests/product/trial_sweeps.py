@@ -12,7 +12,7 @@ import tempfile
 from typing import NamedTuple
 
 from models.machine import Machine
-from models.rows import rows_in
+from models.versions import FIRST, in_version, put_back, rows_of_either
 from product.examples import EXAMPLES, Example
 from product.refusals import NO_MEMORY_BEFORE_ALL, WANT, refused_in_turn, run
 from product.register import FOLDER
@@ -192,12 +192,13 @@ def sweep_list(words, told_of, name, library, mark):
 
 class InFile(NamedTuple):
     """A sweep: the words before the path, the commands, and those that the register was given before. After the start,
-    allocations that are this far apart are refused."""
+    allocations that are this far apart are refused. The tables that are opened may be of the first version."""
 
     words: list
     lines: list
     before: list = []
     apart: int = APART
+    is_first: bool = False
 
     def told(self):
         """The possible answers. The last refusal comes while the file is closed, and the one before it while it is
@@ -205,6 +206,8 @@ class InFile(NamedTuple):
         told = as_list(self.lines) if "--together" in self.words else singly(self.lines, self.before)
         if "--together" in self.words:
             told = told._replace(allowed=told.allowed | dict(shut_by_one(self.lines)))
+        if self.is_first:
+            told.allowed[NO_MEMORY_BEFORE_ALL] = in_version(FIRST, told.allowed[NO_MEMORY_BEFORE_ALL])
         rows, course = told.allowed[told.own], Course([*self.before, *self.lines])
         if "--db-reopen" in self.words:
             told = told.with_end(course.told(len(self.before)) + WANT, rows)
@@ -231,7 +234,7 @@ def stored(in_file, begun, refused, library, mark):
             if os.path.exists(begun + behind):
                 shutil.copy(begun + behind, path + behind)
         met, answer = run(TRIALS, [*in_file.words, path], streamed(in_file.lines), refused, library, mark)
-        found = rows_in(path) if tables_in(path) else None
+        found = rows_of_either(path) if tables_in(path) else None
         if SHUT in answer[1]:
             check_opened(path, answer[1], library, mark)
         return met, answer, found
@@ -252,6 +255,8 @@ def sweep_stored(in_file, library, mark):
         begun = os.path.join(folder, "begun.db")
         if in_file.before:
             run(TRIALS, ["plain", "--db", begun], streamed(in_file.before), 0, library, mark)
+        if in_file.is_first:
+            put_back(begun)
         for count, refused in enumerate(in_file.numbers()):
             met, answer, found = stored(in_file, begun, refused, library, mark)
             if answer not in allowed or found != allowed[answer] or (answer != own and not met):

@@ -80,6 +80,7 @@ SHOWN = [
     HttpExchange("GET", "/standing.csv", 200, STANDING_CSV.encode(), CSV),
     HttpExchange("GET", "/moves", 200, MOVES),
     HttpExchange("GET", "/desk", 200, b""),
+    HttpExchange("GET", "/lapses", 200, b""),
     HttpExchange("GET", "/class/serde/1.0.1/safe-to-run", 200, b"full\n"),
     HttpExchange("GET", "/class/serde/1.0.1/safe-to-deploy", 200, b"unvetted\n"),
     HttpExchange("GET", "/class/serde/1.0.1/read", 200, b"none\n"),
@@ -94,6 +95,7 @@ ROUTES = {
     "/standing": "GET",
     "/moves": "GET",
     "/desk": "GET",
+    "/lapses": "GET",
     "/standing/serde": "GET",
     "/standing.csv": "GET",
     "/class/serde/1.0.1/safe-to-run": "GET",
@@ -113,7 +115,8 @@ UNROUTED = [
     *("/standing/", "/standing/serde/", "/standing/serde/1.0.1", "/standing.csv/", "/standing.CSV"),
     *("/class", "/class/serde/1.0.1", "/class/serde/1.0.1/", "/class//1.0.1/safe-to-run"),
     *("/class/serde/1.0.1/safe-to-run/", "/files", "/files/", "/files/audits.toml/", "/projects", "/projects/"),
-    *("/projects/app/", "/peers", "/peers/", "/peers/p/", "/commands/", "http://127.0.0.1/counts", "/é"),
+    *("/projects/app/", "/peers", "/peers/", "/peers/p/", "/commands/", "/lapses/", "/lapse", "/Lapses"),
+    *("http://127.0.0.1/counts", "/é"),
 ]
 # names of no file
 UNNAMED = ("audits", "audits.TOML", "config.lock", "imports.toml", "audits.toml?")

@@ -14,6 +14,7 @@ REPORTS = {
     "standing-csv": ("/standing.csv", CSV),
     "moves": ("/moves", TEXT),
     "desk": ("/desk", TEXT),
+    "lapses": ("/lapses", TEXT),
 }
 
 

@@ -3,9 +3,9 @@ accepted one of each command word, and the documents of the example that shows e
 
 from typing import NamedTuple
 
-from product.cases import COUNTS, MOVES, REVIEW, STANDING, STANDING_CSV
+from product.cases import COUNTS, LAPSED_LINE, MOVES, REVIEW, STANDING, STANDING_CSV
 from product.cases import REFUSED as EXAMPLES_OF_REFUSALS
-from product.documents import LINES, demand_of, document, entry, given_of, table_of
+from product.documents import LINES, Given, demand_of, document, entry, given_of, table_of
 from product.examples import examples
 from product.sweeps import CONFIG, IMPORTS, MADE, PEER
 from served.cases import ADD_ANN, ALREADY_ANN, DONE_ANN, FULL_RUN, TABLE
@@ -64,6 +64,7 @@ SHOWN = {
     "/standing.csv": b"package,version,criterion,class\nserde,1.0.1,",
     "/moves": b"       1 2024-05-01 serde ",
     "/desk": b"       1 2024-05-01 serde ",
+    "/lapses": b"",
     "/class/serde/1.0.1/safe-to-run": b"exempted\n",
     "/files/audits.toml": b"",
     "/files/config.toml": b"",
@@ -82,6 +83,8 @@ RECORDS = [{"version": "1.0.1", "when": "2024-01-01", "user-id": 5, "user-login"
 X = document("set-criterion", name="x")
 ONLY_RUN = document("set-policy", policy="app", criteria="safe-to-run")
 BOB = document("add-member", member="bob")
+# an exemption whose last day is over on the day of the server
+LASTING = Given("2024-04-30", entry("exemption", version="1.0.1", last_day="2024-04-30"))
 ACCEPTED = {
     "set-criterion": (document("set-criterion", name="x", description="Read.", implies="safe-to-run"), "moves 0"),
     "remove-criterion": (document("remove-criterion", name="x"), "moves 0", X),
@@ -96,6 +99,7 @@ ACCEPTED = {
     "load-project": (demand_of("1.0.1", "1.0.2"), "moves 2"),
     "drop-project": (document("drop-project", project="app"), "moves 2"),
     "replace-files": (THREE_FILES, "moves 1"),
+    "set-day": (document("set-day"), "moves 1", LASTING),
     "close-period": (document("close-period"), "moves 0"),
     "add-member": (BOB, "moves 0"),
     "open-review": (
@@ -135,12 +139,14 @@ def made_by(name):
 
 # the texts of worked examples, each with the commands that led to it
 DROPPED, FINISHED = made_by("counts_after_a_dropped_project"), made_by("a_review_is_finished_by_its_member")
+LAPSED = made_by("an_exemption_lapses")
 TEXTS = {
     "/counts": (COUNTS, DROPPED),
     "/moves": (MOVES, DROPPED),
     "/standing": (STANDING, DROPPED[:2]),
     "/standing.csv": (STANDING_CSV, DROPPED[:2]),
     "/desk": (REVIEW, FINISHED),
+    "/lapses": (LAPSED_LINE, LAPSED),
 }
 
 # a member who is posted to a register in memory that holds nothing, and then again

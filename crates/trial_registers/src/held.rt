@@ -7,6 +7,7 @@ use std::io;
 use trial_values::line::hexadecimal;
 use vet_base::criteria_table::is_built_in;
 use vet_base::criterion::Criterion;
+use vet_base::day::Day;
 use vet_base::name::Name;
 use vet_base::text::Text;
 use vet_entries::criteria_map::MappedCriterion;
@@ -90,7 +91,21 @@ fn print_kind_fields(rt: &impl Print, kind: &Kind) -> io::Result<()> {
         Kind::Violation(_, audit) => print_audit(rt, audit),
         Kind::Wildcard(_, grant) => print_grant(rt, grant),
         Kind::Trusted(_) => Ok(()),
-        Kind::Exemption { suggest, .. } => print_flag(rt, "suggest", *suggest),
+        Kind::Exemption {
+            suggest,
+            last_day,
+            ..
+        } => {
+            print_flag(rt, "suggest", *suggest)?;
+            print_last_day(rt, *last_day)
+        }
+    }
+}
+
+fn print_last_day(rt: &impl Print, last_day: Option<Day>) -> io::Result<()> {
+    match last_day {
+        Some(day) => print!(rt; " last-day={day}"),
+        None => Ok(()),
     }
 }
 

@@ -7,6 +7,7 @@ use crate::held_settings::print_tool_settings;
 use std::io;
 use trial_values::tables::class_word;
 use vet_base::criteria_table::CriteriaTable;
+use vet_base::day::Day;
 use vet_base::name::PackageName;
 use vet_entries::publisher::Publisher;
 use vet_entries::publisher_records::PackagePublishers;
@@ -56,12 +57,21 @@ fn print_touched_packages(rt: &impl Print, names: &[PackageName]) -> io::Result<
     println!(rt; "")
 }
 
-/// Prints what a register holds: its step, criteria, own entries, peers, publisher records, what a config file says to
-/// the tool alone, policies, projects, members, reviews, demanded pairs, counts and recorded moves.
+/// Prints what a register holds: its step, its day if it has one, criteria, own entries, peers, publisher records, what
+/// a config file says to the tool alone, policies, projects, members, reviews, demanded pairs, counts and recorded
+/// moves.
 pub fn print_contents<K: Keeper>(rt: &impl Print, register: &Register<K>) -> io::Result<()> {
     println!(rt; "step {}", register.step())?;
+    print_today(rt, register.today())?;
     print_held(rt, register)?;
     print_standing(rt, register)
+}
+
+fn print_today(rt: &impl Print, today: Option<Day>) -> io::Result<()> {
+    match today {
+        Some(day) => println!(rt; "today {day}"),
+        None => Ok(()),
+    }
 }
 
 fn print_held<K: Keeper>(rt: &impl Print, register: &Register<K>) -> io::Result<()> {

@@ -10,7 +10,7 @@ use vet_register::register::Register;
 use vet_rows::rows_of::rows_of;
 use vet_rows::state_of::state_of;
 use vet_store::read::read_rows;
-use vet_tables::find::has_tables;
+use vet_tables::find::version_of;
 use vet_tables::rows::Rows;
 
 /// Opens the register in a database by the calls that `Store::open` makes, except that the rows are not compared with
@@ -42,10 +42,10 @@ fn rows_in<S: Alter>(
     conn: &mut Connection<S>,
 ) -> Result<Rows, Fault> {
     let begun = Instant::now(rt)?;
-    if !has_tables(conn.schema()) {
+    let Some(version) = version_of(conn.schema()) else {
         return Err(Fault::Refused(Refusal::NotARegister));
-    }
-    match read_rows(rt.alloc(), conn) {
+    };
+    match read_rows(rt.alloc(), conn, version) {
         Ok(Some(rows)) => {
             print_part(rt, "read", &begun)?;
             Ok(rows)

@@ -19,6 +19,7 @@ use vet_entries::peer_settings::PeerSettings;
 use vet_files::files_content::FilesContent;
 use vet_register::command::{Action, Command};
 
+// The day of each command except SetDay.
 const DAY: &str = "2024-05-01";
 
 const PEER: &str = "harbour";
@@ -103,6 +104,45 @@ pub fn drop_entry(number: u64) -> Result<Command, Fault> {
 /// Adds the own entry that vouches for the demanded version of a package.
 pub fn add_demanded(alloc: Global, place: usize) -> Result<Command, Fault> {
     add_entry(alloc, place, VetVersion::parse(alloc, VERSION)?)
+}
+
+/// Adds an own entry for a version of a package that is not demanded.
+pub fn add_undemanded(alloc: Global, place: usize) -> Result<Command, Fault> {
+    add_entry(alloc, place, VetVersion::parse(alloc, "2.0.0")?)
+}
+
+/// Adds an own exemption of the demanded version of the package at a place. Its last day is that many days after `DAY`.
+pub fn add_exemption(alloc: Global, place: usize) -> Result<Command, Fault> {
+    command(Action::AddEntry(Entry {
+        source: Source::Own,
+        package: package_name(alloc, place)?,
+        kind: Kind::Exemption {
+            version: VetVersion::parse(alloc, VERSION)?,
+            suggest: None,
+            last_day: Some(day_after(place)?),
+        },
+        criteria: one_criterion(alloc, CRITERION)?,
+        notes: None,
+    }))
+}
+
+/// Sets the register's day to the day after the last day of the exemption at a place.
+pub fn set_day_after(place: usize) -> Result<Command, Fault> {
+    Ok(Command {
+        day: day_after(place.saturating_add(1))?,
+        action: Action::SetDay,
+    })
+}
+
+// The day that many days after `DAY`.
+fn day_after(days: usize) -> Result<Day, Fault> {
+    let Ok(days) = u32::try_from(days) else {
+        return Err(Fault::NotUnderstood);
+    };
+    match Day::parse(DAY)?.plus(days) {
+        Some(day) => Ok(day),
+        None => Err(Fault::NotUnderstood),
+    }
 }
 
 /// Adds an entry for a version that no file and no demand has.

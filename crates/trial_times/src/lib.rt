@@ -10,6 +10,7 @@ pub mod demand_rounds;
 pub mod desk_rounds;
 pub mod files;
 pub mod import_rounds;
+pub mod lapse_rounds;
 mod project;
 pub mod replacements;
 mod reviews;

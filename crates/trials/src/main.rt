@@ -63,7 +63,8 @@ const NOT_UNDERSTOOD: u8 = 2;
 /// What is printed if the words are not understood.
 const TAKEN_WORDS: &str = "trials takes the words (plain | masks | relay) \
     [--contents | --together | --touched | --ahead] \
-    [(--db | --db-open | --db-reopen) PATH | (--stop-log | --stop-db) N [--stop-open] [--checkpoint]], \
+    [(--db | --db-open | --db-reopen) PATH \
+    | (--stop-log | --stop-db) N [--stop-open [--first-version]] [--checkpoint]], \
     looks PACKAGE, at-once, demand, times .., exchanges .., or toml";
 
 fn main(rt: HostRuntime) -> io::Result<ExitCode> {

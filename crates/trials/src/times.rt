@@ -1,5 +1,5 @@
-//! Times imports into a register, a register in a file, files that replace what is held, commands to a review desk, and
-//! what projects demand, by the clock, for the benches.
+//! Times imports into a register, a register in a file, files that replace what is held, commands to a review desk,
+//! exemptions that lapse, and what projects demand, by the clock, for the benches.
 //!
 //! The first word is `times`, the second names a keeper of the classes, and the third says what is timed.
 //!
@@ -19,6 +19,10 @@
 //! register has one demanded pair, a member, and reviews of all states. In each round a review is opened; one is
 //! assigned and finished by its version, for which an equal entry is held; another is assigned and finished by a delta;
 //! one is withdrawn; a peer is set; and a criterion is removed. At the end it prints `reviews COUNT`.
+//!
+//! `lapses`, a number of exemptions and one of rounds time exemptions that lapse. Standard input is ignored. Each of so
+//! many demanded packages has an exemption with a last day of its own. In each round an entry of one package is added,
+//! and then the register's day becomes the day behind the last one of its exemption.
 //!
 //! `demand` and a number of rounds time a demand. Standard input has an audits file, of which the criteria are taken, a
 //! config file, of which the policies are taken, and dependency tables, with a line `---` between two. For each table
@@ -47,6 +51,7 @@ use trial_stores::memory_rounds::run_memory;
 use trial_times::demand_rounds::run_demands;
 use trial_times::desk_rounds::run_reviews;
 use trial_times::import_rounds::run_imports;
+use trial_times::lapse_rounds::run_lapses;
 use trial_times::replacements::run_replacements;
 use trial_values::fault::Fault;
 use vet_graph::keeper::Keeper;
@@ -82,6 +87,7 @@ fn run_task<K: Keeper>(rt: &HostRuntime, task: Task) -> Result<(), Fault> {
         Task::Imports(sizes) => run_imports::<K>(rt, sizes, text.as_str()),
         Task::Replacements(rounds) => run_replacements::<K>(rt, rounds, text.as_str()),
         Task::Desk(reviews) => run_reviews::<K>(rt, reviews),
+        Task::Lapses(lapses) => run_lapses::<K>(rt, lapses),
         Task::Demands(rounds) => run_demands(rt, rounds, text.as_str()),
         Task::Stored(rounds) => {
             let path = read_path(rt)?;

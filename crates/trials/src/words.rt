@@ -171,14 +171,19 @@ fn stop_at<'w>(file: StoppedFile, number: &str, others: &[String]) -> Option<Pla
         return None;
     };
     let (in_open, others) = behind_flag(others, "--stop-open");
+    let (first_version, others) = behind_flag(others, "--first-version");
     let (checkpoint, others) = behind_flag(others, "--checkpoint");
     if call == 0 || !others.is_empty() {
+        return None;
+    }
+    if first_version && !in_open {
         return None;
     }
     Some(Place::Stopping(DiskStop {
         file,
         call: call as u64,
         in_open,
+        first_version,
         checkpoint,
     }))
 }

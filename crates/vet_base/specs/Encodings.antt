@@ -3,6 +3,7 @@ use Rattle.std.specs.Prelude.{ℕ, List, Option}
 use Rattle.std.specs.Coded.{Coded, code_by, coded×, coded_ℕ, coded_list, coded_option}
 use Rattle.std.specs.FinSet as set
 use Rattle.std.proofs.Common.{refl}
+use Rattle.vet_base.specs.Day.{DayValue}
 use Rattle.vet_base.specs.declared.criterion.Criterion.{Criterion}
 use Rattle.vet_base.specs.Keyed.{KeyedRoom}
 use Rattle.vet_base.specs.Names.{NameSet}
@@ -17,6 +18,12 @@ criterion_code =
     (λ c. (c.name, (c.description, (c.url, c.implies))))
     (λ p. record { name = p.0; description = p.1.0; url = p.1.1.0; implies = p.1.1.1 })
     (λ _. refl)
+
+-- a day is stored as the tuple of its parts
+abbrev pub day_code : Coded DayValue
+day_code =
+    code_by (ℕ × (ℕ × ℕ)) (coded× coded_ℕ (coded× coded_ℕ coded_ℕ)) (λ d. (d.year, (d.month, d.day)))
+    (λ p. record { year = p.0; month = p.1.0; day = p.1.1 }) (λ _. refl)
 
 -- items and their room are stored as a pair
 abbrev pub keyed_code : {E : Type 0} → Coded E → Coded (KeyedRoom E)

@@ -9,7 +9,7 @@ use Rattle.vet_base.specs.declared.refusal.Refusal.TheVariants.{UnknownProject, 
 use Rattle.vet_base.specs.declared.refusal.Refusal.TheVariants.{UnknownMember, UnknownReview, ReviewClosed, NotYours}
 use Rattle.vet_base.specs.declared.refusal.Refusal.TheVariants.{WrongTarget, NotDemanded, MovesFull, TomlRefused}
 use Rattle.vet_base.specs.declared.refusal.Refusal.TheVariants.{CsvRefused, FieldRefused, NoMemory, StoreRefused}
-use Rattle.vet_base.specs.declared.refusal.Refusal.TheVariants.{NotARegister}
+use Rattle.vet_base.specs.declared.refusal.Refusal.TheVariants.{NotARegister, DayGoesBack}
 use Rattle.vet_base.specs.declared.refusal.Limit.{Limit}
 use Rattle.vet_base.specs.declared.refusal.Limit.TheVariants as limit
 use Rattle.vet_base.specs.Words.{Text}
@@ -51,6 +51,7 @@ refusal_row (FieldRefused _ _) = record { number = 28; name = codes "FieldRefuse
 refusal_row NoMemory = record { number = 29; name = codes "NoMemory" }
 refusal_row StoreRefused = record { number = 30; name = codes "StoreRefused" }
 refusal_row NotARegister = record { number = 31; name = codes "NotARegister" }
+refusal_row DayGoesBack = record { number = 32; name = codes "DayGoesBack" }
 
 abbrev pub refusal_number : Refusal → ℕ
 refusal_number refusal = (refusal_row refusal).number

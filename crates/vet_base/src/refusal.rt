@@ -74,6 +74,8 @@ pub enum Refusal {
     StoreRefused,
     /// The tables are those of no register.
     NotARegister,
+    /// The day comes before the register's.
+    DayGoesBack,
 }
 
 /// What went past its limit, which `limits` gives.
@@ -134,7 +136,7 @@ impl Limit {
 }
 
 impl Refusal {
-    /// The refusal's number, from 1 to 31.
+    /// The refusal's number, from 1 to 32.
     pub fn number(&self) -> u8
         ensures { result ≡ refusal_number self.now }
     {
@@ -186,6 +188,7 @@ impl Refusal {
             Refusal::NoMemory => RefusalRow(29, "NoMemory"),
             Refusal::StoreRefused => RefusalRow(30, "StoreRefused"),
             Refusal::NotARegister => RefusalRow(31, "NotARegister"),
+            Refusal::DayGoesBack => RefusalRow(32, "DayGoesBack"),
         }
     }
 }

@@ -22,7 +22,7 @@ use Rattle.vet_documents.specs.declared.command_word.CommandWord.TheVariants as 
 use Rattle.vet_files.specs.Audits.{document_told}
 use Rattle.vet_files.specs.Field.{fault, required}
 use Rattle.vet_register.specs.declared.command.Action.{Action}
-use Rattle.vet_register.specs.declared.command.Action.TheVariants.{ClosePeriod}
+use Rattle.vet_register.specs.declared.command.Action.TheVariants.{ClosePeriod, SetDay}
 use Rattle.vet_register.specs.declared.command.Command.{Command}
 
 -- the word of the command
@@ -31,6 +31,10 @@ word_told ms = required any_text COMMAND COMMAND ms >>= λ word. found_or (fault
 
 abbrev pub close_period_told : Members → Told Action
 close_period_told ms = only [] ms >>= λ _. Ok ClosePeriod
+
+-- the day is that of the command, and no key
+abbrev pub set_day_told : Members → Told Action
+set_day_told ms = only [] ms >>= λ _. Ok SetDay
 
 -- what the command of a word asks for; who gives it matters to the desk alone
 abbrev pub action_told : Option Bytes → Members → CommandWord → Told Action
@@ -48,6 +52,7 @@ action_told giver ms command.LoadProject = load_project_told ms
 action_told giver ms command.DropProject = drop_project_told ms
 action_told giver ms command.ReplaceFiles = replace_files_told ms
 action_told giver ms command.ClosePeriod = close_period_told ms
+action_told giver ms command.SetDay = set_day_told ms
 action_told giver ms command.AddMember = add_member_told ms
 action_told giver ms command.OpenReview = open_review_told ms
 action_told giver ms command.AssignReview = assign_review_told ms

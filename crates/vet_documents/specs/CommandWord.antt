@@ -39,6 +39,7 @@ commands =
     ∷ (codes "drop-project", command.DropProject)
     ∷ (codes "replace-files", command.ReplaceFiles)
     ∷ (codes "close-period", command.ClosePeriod)
+    ∷ (codes "set-day", command.SetDay)
     ∷ desk_commands
 
 -- each kind of an entry and its word

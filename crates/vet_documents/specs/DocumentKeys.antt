@@ -15,6 +15,9 @@ CSV = codes "csv"
 abbrev pub KIND : Key
 KIND = codes "kind"
 
+abbrev pub LAST_DAY : Key
+LAST_DAY = codes "last-day"
+
 abbrev pub MEMBER : Key
 MEMBER = codes "member"
 

@@ -6,7 +6,7 @@ use Rattle.vet_base.specs.Words.{Key, Name}
 use Rattle.vet_documents.specs.CommandWord.{beside, kinds}
 use Rattle.vet_documents.specs.DocumentField.{a_day, a_delta, a_number, a_package, a_requirement, a_version}
 use Rattle.vet_documents.specs.DocumentField.{any_text, names, only}
-use Rattle.vet_documents.specs.DocumentKeys.{COMMAND, KIND, NUMBER, PACKAGE}
+use Rattle.vet_documents.specs.DocumentKeys.{COMMAND, KIND, LAST_DAY, NUMBER, PACKAGE}
 use Rattle.vet_documents.specs.declared.command_word.KindWord.{KindWord}
 use Rattle.vet_documents.specs.declared.command_word.KindWord.TheVariants as kind
 use Rattle.vet_documents.specs.declared.entry_document.Audited.{Audited}
@@ -93,7 +93,8 @@ exemption_told ms =
     required names COMMAND CRITERIA ms >>= λ criteria.
     optional a_text COMMAND NOTES ms >>= λ notes.
     optional a_flag COMMAND SUGGEST ms >>= λ suggest.
-    Ok (record { kind = entry.Exemption version suggest; criteria = criteria; notes = notes })
+    optional a_day COMMAND LAST_DAY ms >>= λ last.
+    Ok (record { kind = entry.Exemption version suggest last; criteria = criteria; notes = notes })
 
 -- ---- the commands
 
@@ -121,7 +122,7 @@ abbrev pub trusted_keys : List Key
 trusted_keys = PACKAGE ∷ KIND ∷ USER_ID ∷ START ∷ END ∷ CRITERIA ∷ NOTES ∷ []
 
 abbrev pub exemption_keys : List Key
-exemption_keys = PACKAGE ∷ KIND ∷ VERSION ∷ CRITERIA ∷ NOTES ∷ SUGGEST ∷ []
+exemption_keys = PACKAGE ∷ KIND ∷ VERSION ∷ CRITERIA ∷ NOTES ∷ SUGGEST ∷ LAST_DAY ∷ []
 
 -- the keys of each kind
 abbrev pub entry_keys : KindWord → List Key

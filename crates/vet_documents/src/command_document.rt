@@ -4,7 +4,8 @@
 ghost use Rattle.std.specs.Option.{option_copied};
 ghost use Rattle.toml.specs.View.{table_view};
 ghost use Rattle.vet_base.specs.Gives.{Gives};
-ghost use Rattle.vet_documents.specs.CommandDocument.{action_told, close_period_told, command_told, word_told};
+ghost use Rattle.vet_documents.specs.CommandDocument.{action_told, close_period_told, command_told, set_day_told};
+ghost use Rattle.vet_documents.specs.CommandDocument.{word_told};
 
 use crate::command_word::CommandWord;
 use crate::criterion_document::{read_remove_criterion, read_set_criterion};
@@ -88,6 +89,7 @@ fn read_action(
         CommandWord::DropProject => read_drop_project(alloc, document),
         CommandWord::ReplaceFiles => read_replace_files(alloc, document),
         CommandWord::ClosePeriod => read_close_period(alloc, document),
+        CommandWord::SetDay => read_set_day(alloc, document),
         CommandWord::AddMember => read_add_member(alloc, document),
         CommandWord::OpenReview => read_open_review(alloc, document),
         CommandWord::AssignReview => read_assign_review(alloc, document),
@@ -102,4 +104,13 @@ fn read_close_period(alloc: Global, document: &Table) -> Result<Action, Refusal>
 {
     refuse_others(alloc, COMMAND, document, &[COMMAND])?;
     Ok(Action::ClosePeriod)
+}
+
+/// Sets the register's day, which is that of the command.
+fn read_set_day(alloc: Global, document: &Table) -> Result<Action, Refusal>
+    ensures { Gives (λ action. action) (set_day_told (table_view document.now)) result }
+{
+    let known = [COMMAND];
+    refuse_others(alloc, COMMAND, document, &known)?;
+    Ok(Action::SetDay)
 }

@@ -19,6 +19,7 @@ pub(crate) enum CommandWord {
     DropProject,
     ReplaceFiles,
     ClosePeriod,
+    SetDay,
     AddMember,
     OpenReview,
     AssignReview,
@@ -46,6 +47,7 @@ impl CommandWord {
             "drop-project" => Some(CommandWord::DropProject),
             "replace-files" => Some(CommandWord::ReplaceFiles),
             "close-period" => Some(CommandWord::ClosePeriod),
+            "set-day" => Some(CommandWord::SetDay),
             _ => CommandWord::of_desk_word(word),
         }
     }

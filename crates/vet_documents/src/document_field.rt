@@ -8,7 +8,7 @@ ghost use Rattle.toml.specs.View.{table_view, view};
 ghost use Rattle.vet_base.specs.Gives.{Gives};
 ghost use Rattle.vet_base.specs.declared.refusal.Refusal.TheVariants.{BadDelta, BadName, BadRequirement, BadVersion};
 ghost use Rattle.vet_base.specs.declared.refusal.Refusal.{Refusal};
-ghost use Rattle.vet_files.specs.Field.{required};
+ghost use Rattle.vet_files.specs.Field.{optional, required};
 ghost use Rattle.vet_documents.specs.DocumentField.{a_day, a_number, a_policy_key, a_word, any_text, number_of};
 
 use crate::document_keys::COMMAND;
@@ -152,6 +152,21 @@ pub(crate) fn day_at(alloc: Global, path: &str, table: &Table, key: &str) -> Res
     match value_at(table, key) {
         Some(value) => read_day(alloc, path, key, value),
         None => Err(fault(alloc, path, key)),
+    }
+}
+
+/// The day at a key of the table of a path, where something stands there.
+pub(crate) fn day_if_any(
+    alloc: Global,
+    path: &str,
+    table: &Table,
+    key: &str,
+) -> Result<Option<Day>, Refusal>
+    ensures { Gives (λ d. d) (optional a_day path.now key.now (table_view table.now)) result }
+{
+    match value_at(table, key) {
+        Some(value) => Ok(Some(read_day(alloc, path, key, value)?)),
+        None => Ok(None),
     }
 }
 

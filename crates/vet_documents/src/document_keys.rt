@@ -18,6 +18,8 @@ pub(crate) const CSV: &str = "csv";
 
 pub(crate) const KIND: &str = "kind";
 
+pub(crate) const LAST_DAY: &str = "last-day";
+
 pub(crate) const MEMBER: &str = "member";
 
 pub(crate) const NAME: &str = "name";

@@ -10,8 +10,8 @@ ghost use Rattle.vet_documents.specs.EntryDocument.{trusted_told, violation_told
 ghost use Rattle.vet_documents.specs.EntryDocument.{wildcard_told, window_told};
 
 use crate::command_word::KindWord;
-use crate::document_field::{day_at, number_at, text_at, word_at};
-use crate::document_keys::{COMMAND, KIND, NUMBER, PACKAGE, refuse_others};
+use crate::document_field::{day_at, day_if_any, number_at, text_at, word_at};
+use crate::document_keys::{COMMAND, KIND, LAST_DAY, NUMBER, PACKAGE, refuse_others};
 use crate::names_at::names_at;
 use std::alloc::Global;
 use toml::Table;
@@ -148,7 +148,9 @@ fn refuse_beside_trusted(alloc: Global, document: &Table) -> Result<(), Refusal>
 fn refuse_beside_exemption(alloc: Global, document: &Table) -> Result<(), Refusal>
     ensures { Gives (λ u. u) (only exemption_keys (table_view document.now)) result }
 {
-    let known = [COMMAND, PACKAGE, KIND, VERSION, CRITERIA, NOTES, SUGGEST];
+    let known = [
+        COMMAND, PACKAGE, KIND, VERSION, CRITERIA, NOTES, SUGGEST, LAST_DAY,
+    ];
     refuse_others(alloc, COMMAND, document, &known)
 }
 
@@ -289,8 +291,13 @@ fn read_exemption(alloc: Global, document: &Table) -> Result<Stated, Refusal>
     let criteria = names_at(alloc, document, CRITERIA)?;
     let notes = optional(alloc, COMMAND, document, NOTES)?;
     let suggest = optional(alloc, COMMAND, document, SUGGEST)?;
+    let last_day = day_if_any(alloc, COMMAND, document, LAST_DAY)?;
     Ok(Stated {
-        kind: Kind::Exemption { version, suggest },
+        kind: Kind::Exemption {
+            version,
+            suggest,
+            last_day,
+        },
         criteria,
         notes,
     })

@@ -19,7 +19,7 @@ use Rattle.vet_entries.specs.HeldPeer.{as_peers}
 use Rattle.vet_entries.specs.Holding.{HoldingValue}
 use Rattle.vet_entries.specs.Import.{ComparisonValue, compared, compared_own, same_content}
 use Rattle.vet_entries.specs.PeerContent.{PeerContentValue, is_own, is_peer_entry, is_peer_kind}
-use Rattle.vet_entries.specs.Replaced.{as_of, comes_again, is_held, is_new, new_of, same_entries}
+use Rattle.vet_entries.specs.Replaced.{as_of, comes_again, is_dated, is_held, is_new, new_of, remains, same_entries}
 use Rattle.vet_entries.proofs.ImportMarks.{marks_count}
 
 -- two tests that pass alike are the same
@@ -110,16 +110,18 @@ found_not false = refl
 
 module _ (source : Source) (held : List HeldEntry) (entries : List Entry)
     (theirs : All (λ h. h.entry.source ≡ source) held) where
-  -- those that were seen come again
-  again_is : (seen : Entry → Option Bool)
+  -- those that stay do, and those that were seen come again
+  again_is : (stays : HeldEntry → Bool) (seen : Entry → Option Bool)
       → ((q : Entry) → seen q ≡ option_map (λ before. before || list_any (λ e. entry_eq (own e) q) entries)
       (cond (list_any (λ h. entry_eq (own h.entry) q) held) (Some false) None))
-      → map (λ h. unwrap_or (seen (own h.entry)) false) held ≡ map (comes_again (as_of source entries)) held
-  again_is seen is = map_alike (λ (h : HeldEntry). unwrap_or (seen (own h.entry)) false)
-      (comes_again (as_of source entries)) held (λ k d l.
-      one (get_or held k d) (theirs k d l)
+      → map (λ h. stays h || unwrap_or (seen (own h.entry)) false) held
+      ≡ map (remains stays (as_of source entries)) held
+  again_is stays seen is = map_alike (λ (h : HeldEntry). stays h || unwrap_or (seen (own h.entry)) false)
+      (remains stays (as_of source entries)) held (λ k d l.
+      ap (λ b. stays (get_or held k d) || b)
+      (one (get_or held k d) (theirs k d l)
       (any_self (λ (g h : HeldEntry). entry_eq (own g.entry) (own h.entry))
-      (λ h. (entry_eq-Decides (own h.entry) (own h.entry)).1 refl) held k d l))
+      (λ h. (entry_eq-Decides (own h.entry) (own h.entry)).1 refl) held k d l)))
     where
       one : (h : HeldEntry) → h.entry.source ≡ source → list_any (λ g. entry_eq (own g.entry) (own h.entry)) held ≡ true
           → unwrap_or (seen (own h.entry)) false ≡ comes_again (as_of source entries) h
@@ -148,14 +150,16 @@ module _ (source : Source) (held : List HeldEntry) (entries : List Entry)
       twice (e ∷ es) = ap (λ (bs : List Bool). is_new held (of_source source e) ∷ bs) (twice es)
 
   -- where a pass looks for the entries given among those held
-  pub pass_again : (hs hs' : List HeldEntry) (es : List Entry) (before after : Entry → Option Bool)
+  pub pass_again : (stays : HeldEntry → Bool) (hs hs' : List HeldEntry) (es : List Entry)
+      (before after : Entry → Option Bool)
       → hs ≡ held → hs' ≡ held → es ≡ entries
       → ((q : Entry) → before q ≡ cond (list_any (λ h. entry_eq (own h.entry) q) hs) (Some false) None)
       → ((q : Entry) → after q ≡ option_map (λ b. b || list_any (λ e. entry_eq (own e) q) es) (before q))
-      → map (λ h. unwrap_or (after (own h.entry)) false) hs' ≡ map (comes_again (as_of source entries)) held
-  pass_again hs hs' es before after eh eh' ee b a =
-      ap (map (λ h. unwrap_or (after (own h.entry)) false)) eh'
-      ∙ again_is after (λ q. a q
+      → map (λ h. stays h || unwrap_or (after (own h.entry)) false) hs'
+      ≡ map (remains stays (as_of source entries)) held
+  pass_again stays hs hs' es before after eh eh' ee b a =
+      ap (map (λ h. stays h || unwrap_or (after (own h.entry)) false)) eh'
+      ∙ again_is stays after (λ q. a q
       ∙ ap (λ l. option_map (λ x. x || list_any (λ e. entry_eq (own e) q) l) (before q)) ee
       ∙ ap (option_map (λ x. x || list_any (λ e. entry_eq (own e) q) entries))
       (b q ∙ ap (λ l. cond (list_any (λ h. entry_eq (own h.entry) q) l) (Some false) None) eh))
@@ -224,7 +228,7 @@ marks_compared name held content again fresh count same a f n s =
 -- and so with one's own entries
 pub marks_compared_own : (held : List HeldEntry) (entries : List Entry) (again fresh : List Bool) (count : ℕ)
     (same : Bool)
-    → again ≡ map (comes_again (as_of Own entries)) held
+    → again ≡ map (remains is_dated (as_of Own entries)) held
     → fresh ≡ map (is_new held) (as_of Own entries)
     → count ≡ length (filter (λ b. b) fresh)
     → same ≡ (all_of again && (count == 0))
@@ -236,9 +240,9 @@ marks_compared_own held entries again fresh count same a f n s =
     counted : count ≡ length (new_of Own held entries)
     counted = new_counted Own held entries fresh count f n
 
-    is_same : same ≡ same_entries Own held entries
+    is_same : same ≡ same_entries is_dated Own held entries
     is_same =
         s ∙ ap (λ marks. all_of marks && (count == 0)) a
-        ∙ ap (λ b. b && (count == 0)) (list_all-map (λ b. b) (comes_again (as_of Own entries)) held)
-        ∙ ap (λ k. list_all (comes_again (as_of Own entries)) held && (k == 0)) counted
-        ∙ ap (λ b. list_all (comes_again (as_of Own entries)) held && b) (none_new held (as_of Own entries))
+        ∙ ap (λ b. b && (count == 0)) (list_all-map (λ b. b) (remains is_dated (as_of Own entries)) held)
+        ∙ ap (λ k. list_all (remains is_dated (as_of Own entries)) held && (k == 0)) counted
+        ∙ ap (λ b. list_all (remains is_dated (as_of Own entries)) held && b) (none_new held (as_of Own entries))

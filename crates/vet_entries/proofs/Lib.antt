@@ -1,3 +1,4 @@
+pub mod AnotherDay
 pub mod ByNumber
 pub mod ByPackage
 pub mod Edits

@@ -34,13 +34,14 @@ use Rattle.vet_entries.proofs.PublisherLaws.{records_of-other}
 -- ---- nothing changes, and one change after another
 
 pub same_itself : (name : Name) (facts : Facts) → IsSameOf name facts facts
-same_itself name facts = record { criteria = refl; entries = refl; records = refl }
+same_itself name facts = record { criteria = refl; entries = refl; records = refl; today = refl }
 
 pub same_onward : (name : Name) (a b c : Facts) → IsSameOf name a b → IsSameOf name b c → IsSameOf name a c
 same_onward name a b c first then = record {
   criteria = first.criteria ∙ then.criteria;
   entries = first.entries ∙ then.entries;
   records = first.records ∙ then.records;
+  today = first.today ∙ then.today;
 }
 
 -- ---- what a filter keeps
@@ -84,6 +85,7 @@ own_same facts entries name same =
       criteria = refl;
       entries = ap (λ hs. map worded (map own hs ++ flat_map (taken_from name) facts.peers)) same;
       records = refl;
+      today = refl;
     }
 
 pub entry_added : (facts : Facts) (held : HeldEntry) (name : Name) → (name ≡ held.entry.«package» → ⊥)
@@ -136,6 +138,7 @@ records_set facts other records name differs = record {
   criteria = refl;
   entries = refl;
   records = sym (records_of-other other name records facts.publishers differs);
+  today = refl;
 }
 
 -- ---- peers
@@ -167,6 +170,7 @@ peers_same facts peers name same = record {
       ∙ ap (λ es. map worded (sourced None name facts.entries) ++ es) same
       ∙ sym (worded_in_parts (record facts { peers = peers }) name);
   records = refl;
+  today = refl;
 }
 
 given_is : (name : Name) (o : Option HeldPeer) → given (worded_of name) o ≡ worded_from name o

@@ -5,6 +5,7 @@ use Rattle.std.specs.List.{flat_map, list_any}
 use Rattle.std.proofs.lemmas.List.Folds.{flat_map-map}
 use Rattle.vet_base.specs.Criteria.{Criteria, closure_of, leads_to, placed}
 use Rattle.vet_base.specs.CriteriaSet.{Places}
+use Rattle.vet_base.specs.Day.{DayValue}
 use Rattle.vet_base.specs.Names.{NameSet}
 use Rattle.vet_base.specs.Version.{VersionValue}
 use Rattle.vet_base.specs.Words.{Name}
@@ -32,35 +33,38 @@ abbrev criteria_in : Criteria → Option Wording → NameSet → Places
 criteria_in table None names = placed table (closure_of table names)
 criteria_in table (Some w) names = placed table (closure_of table (mapped w.mapping (closure_of w.table names)))
 
-abbrev steps_in : Criteria → List Publisher → WordedEntry → List Step
-steps_in table records e = kind_steps (criteria_in table e.wording e.held.entry.criteria) records e.held.entry.kind
+abbrev steps_in : Option DayValue → Criteria → List Publisher → WordedEntry → List Step
+steps_in today table records e =
+    kind_steps today (criteria_in table e.wording e.held.entry.criteria) records e.held.entry.kind
 
 same_criteria : (table : Criteria) (o : Option HeldPeer) (names : NameSet) → local_criteria table o names
     ≡ criteria_in table (option_map wording_of o) names
 same_criteria table None names = refl
 same_criteria table (Some peer) names = refl
 
-worded_steps : (table : Criteria) (records : List Publisher) (e : SourcedEntry)
-    → entry_steps table records e ≡ steps_in table records (worded e)
-worded_steps table records e = ap (λ c. kind_steps c records e.held.entry.kind)
+worded_steps : (today : Option DayValue) (table : Criteria) (records : List Publisher) (e : SourcedEntry)
+    → entry_steps today table records e ≡ steps_in today table records (worded e)
+worded_steps today table records e = ap (λ c. kind_steps today c records e.held.entry.kind)
     (same_criteria table e.peer e.held.entry.criteria)
 
 -- the steps of a package are those of its worded entries
 steps_worded : (facts : Facts) (name : Name) → steps_of facts name
-    ≡ flat_map (steps_in facts.criteria (records_of facts.publishers name))
+    ≡ flat_map (steps_in facts.today facts.criteria (records_of facts.publishers name))
     (by_number number_in (worded_entries facts name))
 steps_worded facts name =
+    let today = facts.today in
     let table = facts.criteria in
     let records = records_of facts.publishers name in
     let entries = entries_of facts name in
-    ap (λ give. flat_map give (by_number number_of entries)) (λ i e. worded_steps table records e i)
-    ∙ sym (flat_map-map (steps_in table records) worded (by_number number_of entries))
-    ∙ ap (flat_map (steps_in table records)) (map-by_number worded number_of number_in (λ e. refl) entries)
+    ap (λ give. flat_map give (by_number number_of entries)) (λ i e. worded_steps today table records e i)
+    ∙ sym (flat_map-map (steps_in today table records) worded (by_number number_of entries))
+    ∙ ap (flat_map (steps_in today table records)) (map-by_number worded number_of number_in (λ e. refl) entries)
 
 pub same_steps : (name : Name) (old new : Facts) → IsSameOf name old new → steps_of old name ≡ steps_of new name
 same_steps name old new same =
     steps_worded old name
-    ∙ (λ i. flat_map (steps_in (same.criteria i) (same.records i)) (by_number number_in (same.entries i)))
+    ∙ (λ i. flat_map (steps_in (same.today i) (same.criteria i) (same.records i))
+    (by_number number_in (same.entries i)))
     ∙ sym (steps_worded new name)
 
 -- ---- what a worded entry condemns

@@ -35,7 +35,7 @@ one_kind law table places (kind.Violation r a) c v = or_last _ ∙ ap (λ b. req
     (law table places c)
 one_kind law table places (kind.Wildcard w g) c v = refl
 one_kind law table places (kind.Trusted w) c v = refl
-one_kind law table places (kind.Exemption w s) c v = refl
+one_kind law table places (kind.Exemption w s l) c v = refl
 
 entries_condemn : LedTo → (table : Criteria) (entries : List SourcedEntry) (c : ℕ) (v : VersionValue)
     → condemned_by (flat_map (violation_in table) entries) c v ≡ list_any (condemns table v c) entries

@@ -13,6 +13,7 @@ use Rattle.std.specs.Cmp.Lexicographic.{slice_cmp}
 use Rattle.std.specs.declared.cmp.Ordering.{Ordering}
 use Rattle.std.specs.declared.cmp.Ordering.TheVariants.{Less, Equal, Greater}
 use Rattle.vet_base.specs.declared.delta.Delta.{Delta as DeltaValue}
+use Rattle.vet_base.specs.Day.{DayValue}
 use Rattle.vet_base.specs.Names.{NameSet, members}
 use Rattle.vet_base.specs.VersionOrder.{version_cmp}
 use Rattle.vet_entries.specs.declared.entry.Entry.{Entry}
@@ -46,6 +47,10 @@ window_cmp = then_cmp (on (λ w. w.user) nat_cmp) (then_cmp (on (λ w. w.first) 
 abbrev pub delta_cmp : DeltaValue → DeltaValue → Ordering
 delta_cmp = then_cmp (on (λ d. d.from) version_cmp) (on (λ d. d.to) version_cmp)
 
+-- no last day, and then by the days
+abbrev pub last_day_cmp : Option DayValue → Option DayValue → Ordering
+last_day_cmp = option_cmp calendar_cmp
+
 -- the place of a kind among the kinds
 abbrev pub kind_rank : Kind → ℕ
 kind_rank (Full v a) = 0
@@ -53,13 +58,14 @@ kind_rank (Delta d a) = 1
 kind_rank (Violation r a) = 2
 kind_rank (Wildcard w g) = 3
 kind_rank (Trusted w) = 4
-kind_rank (Exemption v s) = 5
+kind_rank (Exemption v s l) = 5
 
 -- by the kind and, of two of one kind that is no audit, by what they hold
 abbrev pub grants_cmp : Kind → Kind → Ordering
 grants_cmp (Wildcard v a) (Wildcard w b) = ordering_then (window_cmp v w) (grant_cmp a b)
 grants_cmp (Trusted v) (Trusted w) = window_cmp v w
-grants_cmp (Exemption v a) (Exemption w b) = ordering_then (version_cmp v w) (flag_cmp a b)
+grants_cmp (Exemption v a l) (Exemption w b m) =
+    ordering_then (version_cmp v w) (ordering_then (flag_cmp a b) (last_day_cmp l m))
 grants_cmp a b = nat_cmp (kind_rank a) (kind_rank b)
 
 -- by the kind and, of two of one kind, by what they hold

@@ -10,6 +10,7 @@ use Rattle.std.specs.declared.cmp.Ordering.{Ordering}
 use Rattle.std.specs.declared.cmp.Ordering.TheVariants.{Less, Equal, Greater}
 use Rattle.std.proofs.Common.{refl, sym, ap, subst, ◌∙◌}
 use Rattle.std.proofs.lemmas.Option.{same_Some}
+use Rattle.vet_base.specs.Day.{DayValue}
 use Rattle.vet_base.specs.Names.{NameSet, members}
 use Rattle.vet_base.specs.NamesLaws.{same_members}
 use Rattle.vet_base.specs.OrderLaws.{then_first, then_second}
@@ -25,8 +26,8 @@ use Rattle.vet_entries.specs.declared.kind.Kind.TheVariants.{Full, Delta, Violat
 use Rattle.vet_entries.specs.declared.kind.Window.{Window}
 use Rattle.vet_entries.specs.Entry.{entry_eq}
 use Rattle.vet_entries.specs.EntryLaws.{entry_eq-Decides}
-use Rattle.vet_entries.specs.EntryOrder.{names_cmp, flag_cmp, window_cmp, kind_rank, kind_cmp, source_cmp, said_cmp}
-use Rattle.vet_entries.specs.EntryOrder.{entry_cmp}
+use Rattle.vet_entries.specs.EntryOrder.{names_cmp, flag_cmp, window_cmp, last_day_cmp, kind_rank, kind_cmp, source_cmp}
+use Rattle.vet_entries.specs.EntryOrder.{said_cmp, entry_cmp}
 use Rattle.vet_entries.specs.Publisher.{calendar_cmp}
 use Rattle.vet_entries.specs.PublisherLaws.{calendar_total, calendar_cmp-IsAntisymmetric}
 
@@ -71,7 +72,7 @@ window_tied v w e =
 abbrev first_of : Kind → Option VersionValue
 first_of (Full v a) = Some v
 first_of (Delta d a) = Some d.from
-first_of (Exemption v s) = Some v
+first_of (Exemption v s l) = Some v
 first_of _ = None
 
 abbrev second_of : Kind → Option VersionValue
@@ -94,41 +95,49 @@ who_of (Violation r a) = Some a.who
 who_of (Wildcard w g) = Some g.who
 who_of _ = None
 
+abbrev suggest_of : Kind → Option Bool
+suggest_of (Exemption v s l) = s
+suggest_of _ = None
+
+abbrev last_of : Kind → Option DayValue
+last_of (Exemption v s l) = l
+last_of _ = None
+
 abbrev flag_of : Kind → Option Bool
 flag_of (Full v a) = a.importable
 flag_of (Delta d a) = a.importable
 flag_of (Violation r a) = a.importable
 flag_of (Wildcard w g) = g.renew
-flag_of (Trusted w) = None
-flag_of (Exemption v s) = s
+flag_of _ = None
 
 -- the kind that has these parts
 kind_of : Option VersionValue → Option VersionValue → Option Text → Option Window → Option NameSet → Option Bool
-    → Option Kind
-kind_of (Some v) None None None (Some who) flag = Some (Full v (record { who = who; importable = flag }))
-kind_of (Some v) (Some w) None None (Some who) flag =
+    → Option DayValue → Option Bool → Option Kind
+kind_of (Some v) None None None (Some who) s l flag = Some (Full v (record { who = who; importable = flag }))
+kind_of (Some v) (Some w) None None (Some who) s l flag =
     Some (Delta (record { from = v; to = w }) (record { who = who; importable = flag }))
-kind_of None None (Some r) None (Some who) flag = Some (Violation r (record { who = who; importable = flag }))
-kind_of None None None (Some w) (Some who) flag = Some (Wildcard w (record { who = who; renew = flag }))
-kind_of None None None (Some w) None flag = Some (Trusted w)
-kind_of (Some v) None None None None flag = Some (Exemption v flag)
-kind_of _ _ _ _ _ _ = None
+kind_of None None (Some r) None (Some who) s l flag = Some (Violation r (record { who = who; importable = flag }))
+kind_of None None None (Some w) (Some who) s l flag = Some (Wildcard w (record { who = who; renew = flag }))
+kind_of None None None (Some w) None s l flag = Some (Trusted w)
+kind_of (Some v) None None None None s l flag = Some (Exemption v s l)
+kind_of _ _ _ _ _ _ _ _ = None
 
 put_together : (k : Kind)
-    → kind_of (first_of k) (second_of k) (requirement_of k) (window_of k) (who_of k) (flag_of k) ≡ Some k
+    → kind_of (first_of k) (second_of k) (requirement_of k) (window_of k) (who_of k) (suggest_of k) (last_of k)
+    (flag_of k) ≡ Some k
 unfolding kind_of
 put_together (Full v a) = refl
 put_together (Delta d a) = refl
 put_together (Violation r a) = refl
 put_together (Wildcard w g) = refl
 put_together (Trusted w) = refl
-put_together (Exemption v s) = refl
+put_together (Exemption v s l) = refl
 
 abbrev parts_cmp : Kind → Kind → Ordering
 parts_cmp = then_cmp (on kind_rank nat_cmp) (then_cmp (on first_of (option_cmp version_cmp))
     (then_cmp (on second_of (option_cmp version_cmp)) (then_cmp (on requirement_of (option_cmp (slice_cmp nat_cmp)))
     (then_cmp (on window_of (option_cmp window_cmp)) (then_cmp (on who_of (option_cmp names_cmp))
-    (on flag_of flag_cmp))))))
+    (then_cmp (on suggest_of flag_cmp) (then_cmp (on last_of last_day_cmp) (on flag_of flag_cmp))))))))
 
 parts_total : IsTotalOrder parts_cmp
 parts_total = then_total (on_total kind_rank nat_cmp_total)
@@ -136,7 +145,10 @@ parts_total = then_total (on_total kind_rank nat_cmp_total)
     (then_total (on_total second_of (options_total version_total))
     (then_total (on_total requirement_of (options_total nat_list_cmp_total))
     (then_total (on_total window_of (options_total window_total))
-    (then_total (on_total who_of (options_total names_total)) (on_total flag_of (options_total bool_cmp_total)))))))
+    (then_total (on_total who_of (options_total names_total))
+    (then_total (on_total suggest_of (options_total bool_cmp_total))
+    (then_total (on_total last_of (options_total calendar_total))
+    (on_total flag_of (options_total bool_cmp_total)))))))))
 
 -- only kinds of the same parts tie
 parts_tied : (a b : Kind) → parts_cmp a b ≡ Equal → a ≡ b
@@ -150,11 +162,16 @@ parts_tied a b e =
     let second = options_tied version_cmp-IsAntisymmetric (second_of a) (second_of b) (then_first _ _ e2) in
     let requirement = options_tied texts_tied (requirement_of a) (requirement_of b) (then_first _ _ e3) in
     let window = options_tied window_tied (window_of a) (window_of b) (then_first _ _ e4) in
+    let e6 = then_second (option_cmp names_cmp (who_of a) (who_of b)) _ e5 in
+    let e7 = then_second (flag_cmp (suggest_of a) (suggest_of b)) _ e6 in
     let who = options_tied names_tied (who_of a) (who_of b) (then_first _ _ e5) in
+    let suggest = options_tied flags_tied (suggest_of a) (suggest_of b) (then_first _ _ e6) in
+    let last = options_tied calendar_cmp-IsAntisymmetric (last_of a) (last_of b) (then_first _ _ e7) in
     let flag = options_tied flags_tied (flag_of a) (flag_of b)
-    (then_second (option_cmp names_cmp (who_of a) (who_of b)) _ e5) in
+    (then_second (last_day_cmp (last_of a) (last_of b)) _ e7) in
     same_Some a b (sym (put_together a)
-    ∙ (λ i. kind_of (first i) (second i) (requirement i) (window i) (who i) (flag i)) ∙ put_together b)
+    ∙ (λ i. kind_of (first i) (second i) (requirement i) (window i) (who i) (suggest i) (last i) (flag i))
+    ∙ put_together b)
 
 then_then : (r s t : Ordering) → ordering_then r (ordering_then s t) ≡ ordering_then (ordering_then r s) t
 then_then Less s t = refl
@@ -173,37 +190,38 @@ by_parts (Delta c a) (Delta d b) = then_then (version_cmp c.from d.from) (versio
 by_parts (Violation q a) (Violation r b) = refl
 by_parts (Wildcard v a) (Wildcard w b) = refl
 by_parts (Trusted v) (Trusted w) = then_nothing (window_cmp v w)
-by_parts (Exemption v a) (Exemption w b) = refl
+by_parts (Exemption v a l) (Exemption w b m) =
+    ap (λ r. ordering_then (version_cmp v w) (ordering_then (flag_cmp a b) r)) (then_nothing (last_day_cmp l m))
 by_parts (Full v a) (Delta w b) = refl
 by_parts (Full v a) (Violation w b) = refl
 by_parts (Full v a) (Wildcard w b) = refl
 by_parts (Full v a) (Trusted w) = refl
-by_parts (Full v a) (Exemption w b) = refl
+by_parts (Full v a) (Exemption w b m) = refl
 by_parts (Delta v a) (Full w b) = refl
 by_parts (Delta v a) (Violation w b) = refl
 by_parts (Delta v a) (Wildcard w b) = refl
 by_parts (Delta v a) (Trusted w) = refl
-by_parts (Delta v a) (Exemption w b) = refl
+by_parts (Delta v a) (Exemption w b m) = refl
 by_parts (Violation v a) (Full w b) = refl
 by_parts (Violation v a) (Delta w b) = refl
 by_parts (Violation v a) (Wildcard w b) = refl
 by_parts (Violation v a) (Trusted w) = refl
-by_parts (Violation v a) (Exemption w b) = refl
+by_parts (Violation v a) (Exemption w b m) = refl
 by_parts (Wildcard v a) (Full w b) = refl
 by_parts (Wildcard v a) (Delta w b) = refl
 by_parts (Wildcard v a) (Violation w b) = refl
 by_parts (Wildcard v a) (Trusted w) = refl
-by_parts (Wildcard v a) (Exemption w b) = refl
+by_parts (Wildcard v a) (Exemption w b m) = refl
 by_parts (Trusted v) (Full w b) = refl
 by_parts (Trusted v) (Delta w b) = refl
 by_parts (Trusted v) (Violation w b) = refl
 by_parts (Trusted v) (Wildcard w b) = refl
-by_parts (Trusted v) (Exemption w b) = refl
-by_parts (Exemption v a) (Full w b) = refl
-by_parts (Exemption v a) (Delta w b) = refl
-by_parts (Exemption v a) (Violation w b) = refl
-by_parts (Exemption v a) (Wildcard w b) = refl
-by_parts (Exemption v a) (Trusted w) = refl
+by_parts (Trusted v) (Exemption w b m) = refl
+by_parts (Exemption v a l) (Full w b) = refl
+by_parts (Exemption v a l) (Delta w b) = refl
+by_parts (Exemption v a l) (Violation w b) = refl
+by_parts (Exemption v a l) (Wildcard w b) = refl
+by_parts (Exemption v a l) (Trusted w) = refl
 
 pub kind_cmp_total : IsTotalOrder kind_cmp
 kind_cmp_total = subst IsTotalOrder (λ i a b. by_parts a b i) parts_total

@@ -1,18 +1,20 @@
--- What is held of packages (ours): a table of criteria, one's own entries, peers with theirs, and publisher records.
+-- What is held of packages (ours): a table of criteria, one's own entries, peers with theirs, publisher records, and
+-- the register's day.
 --
--- The facts are a table of criteria, own entries of all six kinds, peers with what is held of each, and publisher
--- records (Facts).
+-- The facts are a table of criteria, own entries of all six kinds, peers with what is held of each, publisher records,
+-- and perhaps a day (Facts). The day is the register's own, whatever the day of a command is.
 --
 -- entries_total is how many entries there are of all sources.
 --
--- No facts are the built-in criteria, no entries, no peers and no publisher records (no_facts).
-use Rattle.std.specs.Prelude.{ℕ, ◌≡◌, ◌<◌, ◌≤◌, ◌+◌, ◌-◌, ◌||◌, Bool, false, true, List, [], length, insert, is_some}
-use Rattle.std.specs.Prelude.{remove}
+-- No facts are the built-in criteria, no entries, no peers, no publisher records and no day (no_facts).
+use Rattle.std.specs.Prelude.{ℕ, ◌≡◌, ◌<◌, ◌≤◌, ◌+◌, ◌-◌, ◌||◌, Bool, false, true, List, [], Option, None, length}
+use Rattle.std.specs.Prelude.{insert, is_some, remove}
 use Rattle.std.specs.List.{list_any, sum_by}
 use Rattle.std.specs.FinSet as set
 use Rattle.std.specs.Ordering.{nat_cmp}
 use Rattle.std.specs.Cmp.Lexicographic.{slice_cmp}
 use Rattle.vet_base.specs.Criteria.{Criteria, built_in_criteria}
+use Rattle.vet_base.specs.Day.{DayValue}
 use Rattle.vet_base.specs.Words.{Name}
 use Rattle.vet_entries.specs.declared.facts.Edit.{Edit}
 use Rattle.vet_entries.specs.declared.facts.Edit.TheVariants as edit
@@ -26,14 +28,14 @@ use Rattle.vet_base.specs.Keyed as keyed
 use Rattle.vet_base.specs.Keyed.{KeyedRoom}
 use Rattle.vet_entries.specs.PublisherRecords.{FitsPublishers}
 
--- the criteria, one's own entries in the order of their numbers, the peers in the order of their names, and the
--- publisher
--- records of packages in the order of their names
+-- the criteria, one's own entries in the order of their numbers, the peers in the order of their names, the publisher
+-- records of packages in the order of their names, and the register's day, if it has one
 pub record Facts : Type 0 where
   pub criteria : Criteria
   pub entries : List HeldEntry
   pub peers : List HeldPeer
   pub publishers : List PackagePublishers
+  pub today : Option DayValue
 
 -- for how many more own entries, peers, and packages with records there is room
 pub record Room : Type 0 where
@@ -56,7 +58,7 @@ peers_room facts = record { items = facts.content.peers; room = facts.room.peers
 
 -- nothing but the built-in criteria
 abbrev pub no_facts : Facts
-no_facts = record { criteria = built_in_criteria; entries = []; peers = []; publishers = [] }
+no_facts = record { criteria = built_in_criteria; entries = []; peers = []; publishers = []; today = None }
 
 -- how many entries there are of all sources
 abbrev pub entries_of_peers : List HeldPeer → ℕ
@@ -88,6 +90,7 @@ edited (edit.Peer change) facts = record facts { peers = keyed.edited change fac
 edited (edit.Settings settings) facts = record facts { peers = with_settings settings facts.peers }
 edited (edit.Content name content) facts = record facts { peers = with_content name content facts.peers }
 edited (edit.Publishers change) facts = record facts { publishers = keyed.edited change facts.publishers }
+edited (edit.Today day) facts = record facts { today = day }
 
 -- whether the table of criteria stays
 abbrev pub keeps_criteria : Edit → Bool
@@ -98,6 +101,7 @@ keeps_criteria (edit.Peer change) = true
 keeps_criteria (edit.Settings settings) = true
 keeps_criteria (edit.Content name content) = true
 keeps_criteria (edit.Publishers change) = true
+keeps_criteria (edit.Today day) = true
 
 -- a peer of a name is held
 abbrev pub IsHeld : Name → Facts → Type 0
@@ -114,6 +118,7 @@ Fits (edit.Peer change) facts = keyed.Fits (slice_cmp nat_cmp) peer_name change 
 Fits (edit.Settings settings) facts = IsHeld settings.name facts.content
 Fits (edit.Content name content) facts = IsHeld name facts.content × AreByNumber content.entries
 Fits (edit.Publishers change) facts = FitsPublishers change (publishers_room facts)
+Fits (edit.Today day) facts = Unit {0}
 
 -- the room after an edit
 abbrev pub room_after : Edit → Room → Room
@@ -124,6 +129,7 @@ room_after (edit.Peer change) room = record room { peers = keyed.room_after chan
 room_after (edit.Settings settings) room = room
 room_after (edit.Content name content) room = room
 room_after (edit.Publishers change) room = record room { packages = keyed.room_after change room.packages }
+room_after (edit.Today day) room = room
 
 -- where there is room for something in the old, there is in the new
 abbrev pub HoldsRoomOf : Room → Room → Type 0

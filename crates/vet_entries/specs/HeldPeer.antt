@@ -23,7 +23,7 @@ use Rattle.vet_entries.specs.declared.held_peer.HeldPeer.{HeldPeer}
 use Rattle.vet_entries.specs.declared.peer_settings.PeerSettings.{PeerSettings}
 use Rattle.vet_entries.specs.Holding.{HoldingValue, no_holding}
 use Rattle.vet_entries.specs.PeerContent.{PeerContentValue}
-use Rattle.vet_entries.specs.Replaced.{as_of, entries_after, new_of}
+use Rattle.vet_entries.specs.Replaced.{as_of, entries_after, new_of, none_stays}
 pub use Rattle.vet_entries.specs.Replaced.{comes_again, is_new}
 
 -- the name of a peer
@@ -72,7 +72,7 @@ new_entries name held entries = new_of (Peer name) held entries
 
 -- the entries after an import, where this is the next number
 abbrev pub entries_after_import : Name → ℕ → List HeldEntry → List Entry → List HeldEntry
-entries_after_import name next held entries = entries_after (Peer name) next held entries
+entries_after_import name next held entries = entries_after none_stays (Peer name) next held entries
 
 -- what is held of a peer after an import
 abbrev pub imported : Name → ℕ → PeerContentValue → HoldingValue → HoldingValue

@@ -1,9 +1,10 @@
--- How the content of a peer stands to what is held of it, and some entries to one's own (ours).
+-- How the content of a peer stands to what is held of it, and the own entries of files to one's own (ours).
 --
 -- A content is the one held of a peer (same_content) by three things. Each held entry comes again, each that comes is
 -- held, and the definitions are equal. A law says that this is to have the same criteria and the same entries, in
 -- whatever order (SameItemsAreSame). compared tells which held entries come again, which of those that come are new
--- and how many, and whether the content is the one held.
+-- and how many, and whether the content is the one held. compared_own tells the same of files, but that one's own
+-- exemptions with a last day stay as if they came again.
 use Rattle.std.specs.Prelude.{ℕ, ◌&&◌, Bool, List, length, map}
 use Rattle.std.specs.List.{list_all}
 use Rattle.vet_base.specs.Defined.{defined}
@@ -15,7 +16,7 @@ use Rattle.vet_entries.specs.declared.facts.HeldEntry.{HeldEntry}
 use Rattle.vet_entries.specs.HeldPeer.{as_peers, new_entries}
 use Rattle.vet_entries.specs.Holding.{HoldingValue}
 use Rattle.vet_entries.specs.PeerContent.{PeerContentValue}
-use Rattle.vet_entries.specs.Replaced.{as_of, comes_again, is_held, is_new, new_of, same_entries}
+use Rattle.vet_entries.specs.Replaced.{as_of, comes_again, is_dated, is_held, is_new, new_of, remains, same_entries}
 
 -- a content is the one held of a peer: each held entry is among its entries, each of these, as the peer's, is held, and
 -- the criteria are the same
@@ -25,7 +26,7 @@ same_content name held content =
     && (list_all (is_held held.entries) (as_peers name content.entries) && criteria_eq (defined content.criteria)
     held.table)
 
--- which held entries come again, which entries are new and how many, and whether nothing changes
+-- which held entries stay, which entries are new and how many, and whether nothing changes
 pub record ComparisonValue : Type 0 where
   pub again : List Bool
   pub fresh : List Bool
@@ -41,11 +42,11 @@ compared name held content = record {
   is_same = same_content name held content;
 }
 
--- how some entries, as one's own, stand to those held
+-- how the entries of files, as one's own, stand to those held
 abbrev pub compared_own : List HeldEntry → List Entry → ComparisonValue
 compared_own held entries = record {
-  again = map (comes_again (as_of Own entries)) held;
+  again = map (remains is_dated (as_of Own entries)) held;
   fresh = map (is_new held) (as_of Own entries);
   new_count = length (new_of Own held entries);
-  is_same = same_entries Own held entries;
+  is_same = same_entries is_dated Own held entries;
 }

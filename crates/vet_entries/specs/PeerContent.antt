@@ -34,7 +34,7 @@ is_peer_kind (Delta d a) = may_import a.importable
 is_peer_kind (Violation r a) = may_import a.importable
 is_peer_kind (Wildcard w g) = true
 is_peer_kind (Trusted w) = false
-is_peer_kind (Exemption v s) = false
+is_peer_kind (Exemption v s l) = false
 
 -- whether an entry is one that a peer's file gives
 abbrev pub is_peer_entry : Entry → Bool

@@ -1,10 +1,16 @@
 -- Entries put in place of those held of a source (ours), one's own or a peer.
-use Rattle.std.specs.Prelude.{ℕ, ◌&&◌, Bool, not, List, ◌++◌, filter, map}
+--
+-- Some held entries may stay whatever comes: none where an import replaces those of a peer (none_stays), and the
+-- exemptions with a last day where files replace one's own (is_dated), as no file can have one. All others stay only if
+-- they come again (remains).
+use Rattle.std.specs.Prelude.{ℕ, ◌&&◌, ◌||◌, Bool, false, not, List, ◌++◌, filter, is_some, map}
 use Rattle.std.specs.List.{list_all, list_any}
+use Rattle.vet_base.specs.Criteria.{Criteria, least_unknown}
 use Rattle.vet_entries.specs.declared.entry.Entry.{Entry}
 use Rattle.vet_entries.specs.declared.entry.Source.{Source}
 use Rattle.vet_entries.specs.declared.facts.HeldEntry.{HeldEntry}
 use Rattle.vet_entries.specs.Entry.{entry_eq, of_source}
+use Rattle.vet_entries.specs.Kind.{has_last_day}
 use Rattle.vet_entries.specs.Numbered.{numbered}
 
 -- entries as those of a source
@@ -14,6 +20,26 @@ as_of source entries = map (of_source source) entries
 -- a held entry is among some
 abbrev pub comes_again : List Entry → HeldEntry → Bool
 comes_again entries held = list_any (entry_eq held.entry) entries
+
+-- no held entry stays whatever comes
+abbrev pub none_stays : HeldEntry → Bool
+none_stays held = false
+
+-- a held entry is an exemption with a last day
+abbrev pub is_dated : HeldEntry → Bool
+is_dated held = has_last_day held.entry.kind
+
+-- a held entry stays, or is among some
+abbrev pub remains : (HeldEntry → Bool) → List Entry → HeldEntry → Bool
+remains stays entries held = stays held || comes_again entries held
+
+-- a held entry stays, and is not among some
+abbrev pub stays_alone : (HeldEntry → Bool) → List Entry → HeldEntry → Bool
+stays_alone stays entries held = stays held && not (comes_again entries held)
+
+-- an exemption with a last day names a criterion that a table lacks
+abbrev pub is_dated_beyond : Criteria → HeldEntry → Bool
+is_dated_beyond table held = is_dated held && is_some (least_unknown table held.entry.criteria)
 
 -- an entry is held
 abbrev pub is_held : List HeldEntry → Entry → Bool
@@ -27,13 +53,13 @@ is_new held entry = not (is_held held entry)
 abbrev pub new_of : Source → List HeldEntry → List Entry → List Entry
 new_of source held entries = filter (is_new held) (as_of source entries)
 
--- the entries after, where this is the next number: those held that come again keep their numbers, and the new ones get
--- the next numbers in their order
-abbrev pub entries_after : Source → ℕ → List HeldEntry → List Entry → List HeldEntry
-entries_after source next held entries = filter (comes_again (as_of source entries)) held ++ numbered next
-    (new_of source held entries)
+-- the entries after, where this is the next number: those held that stay or come again keep their places and numbers,
+-- and the new ones get the next numbers in their order
+abbrev pub entries_after : (HeldEntry → Bool) → Source → ℕ → List HeldEntry → List Entry → List HeldEntry
+entries_after stays source next held entries =
+    filter (remains stays (as_of source entries)) held ++ numbered next (new_of source held entries)
 
--- some entries, as of a source, are those held: each held one is among them, and each of them is held
-abbrev pub same_entries : Source → List HeldEntry → List Entry → Bool
-same_entries source held entries = list_all (comes_again (as_of source entries)) held && list_all (is_held held)
-    (as_of source entries)
+-- some entries, as of a source, are those held: each held one is among them, or stays, and each of them is held
+abbrev pub same_entries : (HeldEntry → Bool) → Source → List HeldEntry → List Entry → Bool
+same_entries stays source held entries =
+    list_all (remains stays (as_of source entries)) held && list_all (is_held held) (as_of source entries)

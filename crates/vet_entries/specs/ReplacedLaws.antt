@@ -1,5 +1,5 @@
--- What is held of a source after entries were put in place of those held (ours).
-use Rattle.std.specs.Prelude.{ℕ, ◌≡◌, ◌≢◌, ◌<◌, ◌≤◌, ◌+◌, ◌⊎◌, true, List, [], length, map}
+-- What is held of a source after entries were put in place of those held (ours), where some of these may stay.
+use Rattle.std.specs.Prelude.{ℕ, ◌≡◌, ◌≢◌, ◌<◌, ◌≤◌, ◌+◌, ◌⊎◌, Bool, true, List, [], ◌++◌, filter, length, map}
 use Rattle.std.specs.List.{All, AllPairs}
 use Rattle.vet_base.specs.Items.{IsIn, SameItems}
 use Rattle.vet_entries.specs.declared.entry.Entry.{Entry}
@@ -8,7 +8,7 @@ use Rattle.vet_entries.specs.declared.facts.HeldEntry.{HeldEntry}
 use Rattle.vet_entries.specs.Distinct.{distinct}
 use Rattle.vet_entries.specs.Numbered.{AreByNumber}
 use Rattle.vet_entries.specs.PeerContent.{is_own}
-use Rattle.vet_entries.specs.Replaced.{as_of, entries_after, new_of, same_entries}
+use Rattle.vet_entries.specs.Replaced.{as_of, entries_after, new_of, same_entries, stays_alone}
 
 -- no two held entries are the same
 abbrev pub AllDiffer : List HeldEntry → Type 0
@@ -21,46 +21,47 @@ entries_of held = map (λ h. h.entry) held
 -- where the numbers rise below the next one, they still do after, below the next one after it
 abbrev pub EntriesKeepOrder : Type 0
 EntriesKeepOrder =
-    (source : Source) (next : ℕ) (held : List HeldEntry) (entries : List Entry)
+    (stays : HeldEntry → Bool) (source : Source) (next : ℕ) (held : List HeldEntry) (entries : List Entry)
     → AreByNumber held
     → All (λ h. h.number < next) held
-    → AreByNumber (entries_after source next held entries)
-    × All (λ h. h.number < next + length (new_of source held entries)) (entries_after source next held entries)
+    → AreByNumber (entries_after stays source next held entries)
+    × All (λ h. h.number < next + length (new_of source held entries)) (entries_after stays source next held entries)
 
 -- each entry after was held with its number, or has a new number
 abbrev pub EntriesKeepNumbers : Type 0
 EntriesKeepNumbers =
-    (source : Source) (next : ℕ) (held : List HeldEntry) (entries : List Entry)
-    → All (λ h. IsIn h held ⊎ (next ≤ h.number)) (entries_after source next held entries)
+    (stays : HeldEntry → Bool) (source : Source) (next : ℕ) (held : List HeldEntry) (entries : List Entry)
+    → All (λ h. IsIn h held ⊎ (next ≤ h.number)) (entries_after stays source next held entries)
 
--- each entry after is one of those given, as of the source
+-- each entry after was held and stays, or is one of those given, as of the source
 abbrev pub EntriesAreTaken : Type 0
 EntriesAreTaken =
-    (source : Source) (next : ℕ) (held : List HeldEntry) (entries : List Entry)
-    → All (λ h. IsIn h.entry (as_of source entries) × (h.entry.source ≡ source))
-    (entries_after source next held entries)
+    (stays : HeldEntry → Bool) (source : Source) (next : ℕ) (held : List HeldEntry) (entries : List Entry)
+    → All (λ h. (IsIn h held × (stays h ≡ true)) ⊎ (IsIn h.entry (as_of source entries) × (h.entry.source ≡ source)))
+    (entries_after stays source next held entries)
 
--- after, the entries given are held, as of the source, and nothing else
+-- after, the entries given are held, as of the source, and those that stay, and nothing else
 abbrev pub EntriesAreHeld : Type 0
 EntriesAreHeld =
-    (source : Source) (next : ℕ) (held : List HeldEntry) (entries : List Entry)
-    → SameItems (as_of source entries) (entries_of (entries_after source next held entries))
+    (stays : HeldEntry → Bool) (source : Source) (next : ℕ) (held : List HeldEntry) (entries : List Entry)
+    → SameItems (as_of source entries ++ entries_of (filter stays held))
+    (entries_of (entries_after stays source next held entries))
 
 -- where each entry given is written as one's own and stands once, and no two held ones are the same, no two are after,
--- and
--- there are as many as were given
+-- and there are as many as were given, and those that stay and were not
 abbrev pub EntriesStandOnce : Type 0
 EntriesStandOnce =
-    (source : Source) (next : ℕ) (held : List HeldEntry) (entries : List Entry)
+    (stays : HeldEntry → Bool) (source : Source) (next : ℕ) (held : List HeldEntry) (entries : List Entry)
     → All (λ e. is_own e.source ≡ true) entries
     → distinct entries ≡ entries
     → AllDiffer held
-    → AllDiffer (entries_after source next held entries)
-    × (length (entries_after source next held entries) ≡ length entries)
+    → AllDiffer (entries_after stays source next held entries)
+    × (length (entries_after stays source next held entries)
+    ≡ length entries + length (filter (stays_alone stays (as_of source entries)) held))
 
--- where the entries given are those held, all stays, and nothing is new
+-- where the entries given are those held, but for those that stay, all stays, and nothing is new
 abbrev pub NothingNew : Type 0
 NothingNew =
-    (source : Source) (next : ℕ) (held : List HeldEntry) (entries : List Entry)
-    → same_entries source held entries ≡ true
-    → (entries_after source next held entries ≡ held) × (new_of source held entries ≡ [])
+    (stays : HeldEntry → Bool) (source : Source) (next : ℕ) (held : List HeldEntry) (entries : List Entry)
+    → same_entries stays source held entries ≡ true
+    → (entries_after stays source next held entries ≡ held) × (new_of source held entries ≡ [])

@@ -1,9 +1,10 @@
 -- What follows for a package that is the same in two facts, and which changes leave a package the same (ours).
-use Rattle.std.specs.Prelude.{ℕ, ◌≡◌, ◌≢◌, ◌++◌, ◌∷◌, [], List, Some, Contains, false, filter, not}
+use Rattle.std.specs.Prelude.{ℕ, ◌≡◌, ◌≢◌, ◌++◌, ◌∷◌, [], List, Option, Some, Contains, false, filter, not}
 use Rattle.std.specs.FinSet as set
-use Rattle.std.specs.List.{list_any}
+use Rattle.std.specs.List.{All, list_any}
 use Rattle.std.specs.Ordering.{nat_cmp}
 use Rattle.std.specs.Cmp.Lexicographic.{slice_cmp}
+use Rattle.vet_base.specs.Day.{DayValue}
 use Rattle.vet_base.specs.Keyed.{IsByKey}
 use Rattle.vet_base.specs.Version.{VersionValue}
 use Rattle.vet_base.specs.Words.{Name}
@@ -17,10 +18,11 @@ use Rattle.vet_entries.specs.Facts.{Facts}
 use Rattle.vet_entries.specs.HeldPeer.{holding_or_none, peer_name, peer_of, with_content, with_peer, with_settings}
 use Rattle.vet_entries.specs.HeldPeer.{without_peer}
 use Rattle.vet_entries.specs.Holding.{HoldingValue}
+use Rattle.vet_entries.specs.Kind.{has_lapsed}
 use Rattle.vet_entries.specs.Numbered.{AreByNumber, has_number}
 use Rattle.vet_entries.specs.PublisherRecords.{with_records}
 use Rattle.vet_entries.specs.SameOf.{IsSameOf, worded_from}
-use Rattle.vet_entries.specs.Step.{steps_of}
+use Rattle.vet_entries.specs.Step.{SourcedEntry, entries_of, steps_of}
 
 -- a package that is the same has the same steps
 abbrev pub SameHasSameSteps : Type 0
@@ -38,6 +40,23 @@ SameByItself = (name : Name) (facts : Facts) → IsSameOf name facts facts
 -- and after two changes that each leave it the same
 abbrev pub SameOnward : Type 0
 SameOnward = (name : Name) (a b c : Facts) → IsSameOf name a b → IsSameOf name b c → IsSameOf name a c
+
+-- ---- the register's day
+
+-- an entry has lapsed by both of two days, or by neither
+abbrev pub LapsesAlike : Option DayValue → Option DayValue → SourcedEntry → Type 0
+LapsesAlike before after e = has_lapsed e.held.entry.kind before ≡ has_lapsed e.held.entry.kind after
+
+-- another day leaves the steps of a package each of whose entries has lapsed by both days or by neither
+abbrev pub DayKeepsSteps : Type 0
+DayKeepsSteps = (facts : Facts) (day : Option DayValue) (name : Name)
+    → All (LapsesAlike facts.today day) (entries_of facts name)
+    → steps_of facts name ≡ steps_of (record facts { today = day }) name
+
+-- and the same versions of each package are condemned by any day
+abbrev pub DayCondemnsTheSame : Type 0
+DayCondemnsTheSame = (facts : Facts) (day : Option DayValue) (name : Name) (c : ℕ) (v : VersionValue)
+    → is_condemned facts name c v ≡ is_condemned (record facts { today = day }) name c v
 
 -- ---- own entries and records
 

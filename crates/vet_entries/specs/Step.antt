@@ -3,7 +3,8 @@
 -- The rows are first_step, delta_step, window_steps, kind_steps, entry_steps and steps_of. The entries of a package
 -- are one's own, and those of each peer that does not exclude it (SourcedEntry, entries_of). Those of all sources
 -- stand by their numbers (by_number). A window covers a record of its user and of a day from its first to its last
--- (is_covered). Nothing is asked of the facts: what a table lacks has no place in it.
+-- (is_covered). An exemption gives no step once its last day is over by the register's day (is_over); of the other
+-- kinds none depends on that day. Nothing is asked of the facts: what a table lacks has no place in it.
 use Rattle.std.specs.Prelude.{ℕ, ◌≡◌, ◌&&◌, ◌==◌, Bool, true, false, List, Option, Some, None, filter, if◌then◌else◌}
 use Rattle.std.specs.Prelude.{map, nat_lt, [], ◌∷◌, ◌++◌}
 use Rattle.std.specs.FinSet as set
@@ -11,7 +12,7 @@ use Rattle.std.specs.List.{All, flat_map}
 use Rattle.std.specs.Ordering.{is_le}
 use Rattle.vet_base.specs.CriteriaSet.{Places}
 use Rattle.vet_base.specs.Criteria.{Criteria, least_unknown}
-use Rattle.vet_base.specs.Day.{day_cmp}
+use Rattle.vet_base.specs.Day.{DayValue, day_cmp}
 use Rattle.vet_base.specs.Words.{Name}
 use Rattle.vet_base.specs.declared.delta.Delta.{Delta}
 use Rattle.vet_base.specs.Version.{VersionValue}
@@ -25,6 +26,7 @@ use Rattle.vet_entries.specs.declared.publisher.Publisher.{Publisher}
 use Rattle.vet_entries.specs.declared.step.Step.{Step}
 use Rattle.vet_entries.specs.ByPackage.{is_of}
 use Rattle.vet_entries.specs.Facts.{Facts}
+use Rattle.vet_entries.specs.Kind.{is_over}
 use Rattle.vet_entries.specs.PeerWords.{local_criteria, targets}
 use Rattle.vet_entries.specs.PublisherRecords.{records_of}
 
@@ -44,15 +46,17 @@ window_steps criteria records w = map (λ p. first_step criteria false p.version
 abbrev pub delta_step : Places → Delta → Step
 delta_step criteria delta = record { origin = Some delta.from; target = delta.to; criteria = criteria; exempt = false }
 
--- the steps of a kind: a full entry gives one, from nothing to its version, and an exemption the same, exempt; a delta
--- gives one between its versions; a wildcard entry and a trusted one give those of their windows; and a violation none
-abbrev pub kind_steps : Places → List Publisher → Kind → List Step
-kind_steps criteria records (Full version audit) = first_step criteria false version ∷ []
-kind_steps criteria records (kind.Delta delta audit) = delta_step criteria delta ∷ []
-kind_steps criteria records (Violation requirement audit) = []
-kind_steps criteria records (Wildcard window grant) = window_steps criteria records window
-kind_steps criteria records (Trusted window) = window_steps criteria records window
-kind_steps criteria records (Exemption version suggest) = first_step criteria true version ∷ []
+-- the steps of a kind on the register's day: a full entry gives one, from nothing to its version, and an exemption the
+-- same, exempt, unless its last day is over; a delta gives one between its versions; a wildcard entry and a trusted one
+-- give those of their windows; and a violation none
+abbrev pub kind_steps : Option DayValue → Places → List Publisher → Kind → List Step
+kind_steps today criteria records (Full version audit) = first_step criteria false version ∷ []
+kind_steps today criteria records (kind.Delta delta audit) = delta_step criteria delta ∷ []
+kind_steps today criteria records (Violation requirement audit) = []
+kind_steps today criteria records (Wildcard window grant) = window_steps criteria records window
+kind_steps today criteria records (Trusted window) = window_steps criteria records window
+kind_steps today criteria records (Exemption version suggest last) =
+    if is_over last today then [] else first_step criteria true version ∷ []
 
 -- a held entry, and the peer whose it is, or none for one of one's own
 pub record SourcedEntry : Type 0 where
@@ -82,14 +86,15 @@ abbrev pub by_number : {X : Type 0} → (X → ℕ) → List X → List X
 by_number number [] = []
 by_number number (x ∷ xs) = put_by_number number x (by_number number xs)
 
--- the steps of an entry, where these are its package's publisher records
-abbrev pub entry_steps : Criteria → List Publisher → SourcedEntry → List Step
-entry_steps table records e = kind_steps (local_criteria table e.peer e.held.entry.criteria) records e.held.entry.kind
+-- the steps of an entry on the register's day, where these are its package's publisher records
+abbrev pub entry_steps : Option DayValue → Criteria → List Publisher → SourcedEntry → List Step
+entry_steps today table records e =
+    kind_steps today (local_criteria table e.peer e.held.entry.criteria) records e.held.entry.kind
 
 -- the steps of a package, by the numbers of the entries
 abbrev pub steps_of : Facts → Name → List Step
 steps_of facts name =
-    flat_map (entry_steps facts.criteria (records_of facts.publishers name))
+    flat_map (entry_steps facts.today facts.criteria (records_of facts.publishers name))
     (by_number (λ (e : SourcedEntry). e.held.number) (entries_of facts name))
 
 -- the table has each criterion that an own entry names

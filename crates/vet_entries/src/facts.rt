@@ -1,34 +1,33 @@
 //! What is held of packages.
-ghost use Rattle.std.specs.Prelude.{◌≡◌, ◌<◌, ◌+◌, ◌^◌, ◌++◌, ◌∷◌, [], IfOk, IfErr, IsOk, OnErr, filter, length};
-ghost use Rattle.std.specs.Prelude.{nat_lt, remove};
-ghost use Rattle.std.specs.List.{All};
+ghost use Rattle.std.specs.Prelude.{◌≡◌, ◌<◌, ◌+◌, ◌^◌, [], IfOk, IfErr, None, filter, length, nat_lt};
+ghost use Rattle.std.specs.List.{All, list_any};
 ghost use Rattle.std.specs.Option.{option_copied};
 ghost use Rattle.std.specs.Ordering.{nat_cmp};
 ghost use Rattle.std.specs.Cmp.Lexicographic.{slice_cmp};
 ghost use Rattle.vet_base.specs.Criteria.{IsTable};
 ghost use Rattle.vet_base.specs.Keyed.{IsByKey};
 ghost use Rattle.vet_entries.specs.ByPackage.{gathered, is_of};
-ghost use Rattle.vet_entries.specs.Facts.{Fits, HoldsRoomOf, IsHeld, edited, entries_of_peers, entries_total};
-ghost use Rattle.vet_entries.specs.Facts.{is_named, no_facts, peers_room, publishers_room, room_after};
-ghost use Rattle.vet_entries.specs.HeldPeer.{holding_or_none, peer_name, peer_of, with_content, with_settings};
-ghost use Rattle.vet_entries.specs.HeldPeer.{without_peer};
+ghost use Rattle.vet_entries.specs.Facts.{entries_of_peers, entries_total, is_named, no_facts};
+ghost use Rattle.vet_entries.specs.HeldPeer.{holding_or_none, peer_name, peer_of, without_peer};
 ghost use Rattle.vet_entries.specs.Numbered.{AreByNumber, number_of, numbered, place_of};
 ghost use Rattle.vet_entries.specs.PublisherRecords.{IsByName, records_of, records_total, with_records};
 ghost use Rattle.vet_entries.specs.Publishers.{IsInOrder};
+ghost use Rattle.vet_entries.specs.Replaced.{is_dated, is_dated_beyond};
 
 use crate::by_package::ByPackage;
 use crate::entry::Entry;
-use crate::held_entries::{names, numbered};
+use crate::held_entries::{dated_count, has_dated_beyond, names, numbered};
 use crate::held_peer::HeldPeer;
 use crate::holding::Holding;
 use crate::peer_settings::PeerSettings;
-use crate::peers::{exchange_content, exchange_settings, leads_to};
+use crate::peers::leads_to;
 use crate::publisher::Publisher;
 use crate::publisher_records::{PackagePublishers, PublisherRecords, records_after_setting};
 use crate::publishers::Publishers;
 use std::alloc::Global;
 use std::marker::Model;
 use vet_base::criteria_table::CriteriaTable;
+use vet_base::day::Day;
 use vet_base::keyed::{Keyed, KeyedEdit};
 use vet_base::name::{Name, PackageName};
 use vet_base::refusal::Refusal;
@@ -48,13 +47,14 @@ impl Drop for HeldEntry {
     }
 }
 
-/// A table of criteria, one's own entries in the order of their numbers, peers by name, and publisher records by
-/// package.
+/// A table of criteria, one's own entries in the order of their numbers, peers by name, publisher records by package,
+/// and the register's day, if it has one.
 pub struct EntryFacts {
-    criteria: CriteriaTable,
-    entries: ByPackage,
-    peers: Keyed<HeldPeer>,
-    publishers: PublisherRecords,
+    pub(crate) criteria: CriteriaTable,
+    pub(crate) entries: ByPackage,
+    pub(crate) peers: Keyed<HeldPeer>,
+    pub(crate) publishers: PublisherRecords,
+    pub(crate) today: Option<Day>,
 }
 
 impl Drop for EntryFacts {
@@ -64,6 +64,7 @@ impl Drop for EntryFacts {
             entries: _,
             peers: _,
             publishers: _,
+            today: _,
         } = self;
     }
 }
@@ -85,6 +86,8 @@ pub enum Edit {
     Content(Name, Holding),
     /// The publisher records of a package change.
     Publishers(KeyedEdit<PackagePublishers>),
+    /// This day in place of the register's, or none.
+    Today(Option<Day>),
 }
 
 impl Model for EntryFacts {
@@ -104,6 +107,7 @@ impl Model for EntryFacts {
         entries = f.entries.entries;
         peers = f.peers.items;
         publishers = f.publishers.items;
+        today = f.today;
       };
       room = record {
         entries = f.entries.room;
@@ -114,7 +118,7 @@ impl Model for EntryFacts {
 }
 
 impl EntryFacts {
-    /// The built-in criteria, no entries, no peers and no publisher records. Refused: `NoMemory`.
+    /// The built-in criteria, no entries, no peers, no publisher records and no day. Refused: `NoMemory`.
     pub fn new(alloc: Global) -> Result<EntryFacts, Refusal>
         ensures ok { IfOk result (λ f. f.content ≡ no_facts) }
         ensures table { IfOk result (λ f. IsTable f.content.criteria) }
@@ -125,19 +129,24 @@ impl EntryFacts {
             entries: ByPackage::new(alloc),
             peers: Keyed::new(alloc),
             publishers: PublisherRecords::new(alloc),
+            today: None,
         })
     }
 
-    /// A table of criteria, and some own entries, which are given the numbers from one on, without peers and
-    /// publisher records. Refused: `NoMemory`.
+    /// A table of criteria, and some own entries, which are given the numbers from one on, without peers, publisher
+    /// records and a day. Refused: `NoMemory`.
     pub fn of(
         alloc: Global,
         criteria: CriteriaTable,
         entries: Vec<Entry>,
     ) -> Result<EntryFacts, Refusal>
-        ensures ok { IfOk result (λ f.
-            f.content
-            ≡ record { criteria = criteria; entries = numbered 1 entries.items; peers = []; publishers = [] }) }
+        ensures ok { IfOk result (λ f. f.content ≡ record {
+          criteria = criteria;
+          entries = numbered 1 entries.items;
+          peers = [];
+          publishers = [];
+          today = None;
+        }) }
         ensures memory { IfErr result (λ e. e ≡ Refusal.NoMemory) }
     {
         Ok(EntryFacts {
@@ -145,17 +154,19 @@ impl EntryFacts {
             entries: ByPackage::of(alloc, numbered(alloc, entries)?)?,
             peers: Keyed::new(alloc),
             publishers: PublisherRecords::new(alloc),
+            today: None,
         })
     }
 
-    /// This table of criteria, own entries in the order of their numbers, peers in the order of their names, and
-    /// publisher records of packages in the order of their names. Takes a time of n log n. Refused: `NoMemory`.
+    /// This table of criteria, own entries in the order of their numbers, peers in the order of their names, publisher
+    /// records of packages in the order of their names, and this day. Takes a time of n log n. Refused: `NoMemory`.
     pub fn of_parts(
         alloc: Global,
         criteria: CriteriaTable,
         entries: Vec<HeldEntry>,
         peers: Vec<HeldPeer>,
         publishers: Vec<PackagePublishers>,
+        today: Option<Day>,
     ) -> Result<EntryFacts, Refusal>
         requires by_number { AreByNumber entries.items }
         requires peers { IsByKey (slice_cmp nat_cmp) peer_name peers.items }
@@ -166,6 +177,7 @@ impl EntryFacts {
           entries = entries.items;
           peers = peers.items;
           publishers = publishers.items;
+          today = today;
         }) }
         ensures table { IfOk result (λ f. IsTable f.content.criteria) }
         ensures memory { IfErr result (λ e. e ≡ Refusal.NoMemory) }
@@ -179,6 +191,7 @@ impl EntryFacts {
             entries,
             peers,
             publishers,
+            today,
         })
     }
 
@@ -197,6 +210,13 @@ impl EntryFacts {
         ensures by_number { AreByNumber self.now.content.entries }
     {
         self.entries.entries()
+    }
+
+    /// The register's day, if it has one.
+    pub fn today(&self) -> Option<Day>
+        ensures { result ≡ self.now.content.today }
+    {
+        self.today
     }
 
     /// The peers in the order of their names.
@@ -313,6 +333,20 @@ impl EntryFacts {
         leads_to(self.peers(), name)
     }
 
+    /// How many own entries are exemptions with a last day. Costs a look at each own entry.
+    pub fn dated_count(&self) -> usize
+        ensures { result ≡ length (filter is_dated self.now.content.entries) }
+    {
+        dated_count(self.entries())
+    }
+
+    /// Whether an own exemption with a last day names a criterion that a table lacks. Costs a look at each own entry.
+    pub fn has_dated_beyond(&self, table: &CriteriaTable) -> bool
+        ensures { result ≡ list_any (is_dated_beyond table.now) self.now.content.entries }
+    {
+        has_dated_beyond(self.entries(), table)
+    }
+
     /// Whether there would be more publisher records than this, if these were set for a package. Costs a binary
     /// search among the packages that have some.
     pub fn records_would_pass(
@@ -340,155 +374,5 @@ impl EntryFacts {
     {
         records_after_setting(&self.publishers, package, publishers);
         let _ = publishers.as_slice();
-    }
-
-    /// The edit that puts an own entry with this number behind all others, and room for it. Asks that the number
-    /// is higher than theirs. Costs nothing where
-    /// there is room; else a move of all entries to twice the room. Refused: `NoMemory`.
-    pub fn edit_adding(&mut self, number: u64, entry: Entry) -> Result<Edit, Refusal>
-        requires { All (λ h. h.number < number) self.old.content.entries }
-        ensures edit { IfOk result (λ e. edited e self.old.content ≡ record self.old.content {
-          entries = self.old.content.entries ++ (record { number = number; entry = entry }) ∷ [];
-        }) }
-        ensures fits { IfOk result (λ e. Fits e self.new) }
-        ensures content { self.new.content ≡ self.old.content }
-        ensures kept { HoldsRoomOf self.old.room self.new.room }
-        ensures err { OnErr result (self.new.room ≡ self.old.room) }
-        ensures succeeds { 0 < self.old.room.entries → IsOk result }
-        ensures memory { IfErr result (λ e. e ≡ Refusal.NoMemory) }
-    {
-        self.entries.reserve()?;
-        let place = self.entries.entries().len();
-        Ok(Edit::Insert(place, HeldEntry { number, entry }))
-    }
-
-    /// The edit by which the own entry at a place goes. Asks that there is one. Takes no memory.
-    pub fn edit_dropping(&self, at: usize) -> Edit
-        requires { at < length self.now.content.entries }
-        ensures edit { edited result self.now.content ≡ record self.now.content {
-          entries = remove self.now.content.entries at;
-        } }
-        ensures fits { Fits result self.now }
-    {
-        Edit::Remove(at)
-    }
-
-    /// The edit that puts a table of criteria in place of the one held. Takes no memory.
-    pub fn edit_of_criteria(&self, criteria: CriteriaTable) -> Edit
-        ensures edit { edited result self.now.content ≡ record self.now.content { criteria = criteria } }
-        ensures fits { Fits result self.now }
-    {
-        Edit::Criteria(criteria)
-    }
-
-    /// The edit that puts these settings in place of those of the peer of their name, or adds the peer with nothing
-    /// imported, and room for it. Costs a binary search among the peers; for a new one a move of those behind it.
-    /// Refused: `NoMemory`, and never where the peer is held.
-    pub fn edit_of_settings(
-        &mut self,
-        alloc: Global,
-        settings: PeerSettings,
-    ) -> Result<Edit, Refusal>
-        ensures edit { IfOk result (λ e. edited e self.old.content ≡ record self.old.content {
-          peers = with_settings settings self.old.content.peers;
-        }) }
-        ensures fits { IfOk result (λ e. Fits e self.new) }
-        ensures content { self.new.content ≡ self.old.content }
-        ensures kept { HoldsRoomOf self.old.room self.new.room }
-        ensures memory { IfErr result (λ e. e ≡ Refusal.NoMemory) }
-        ensures held { IsHeld settings.name self.old.content → IsOk result }
-    {
-        if self.peers.has(&settings.name) {
-            return Ok(Edit::Settings(settings));
-        }
-        self.peers.reserve()?;
-        let content = Holding::new(alloc)?;
-        Ok(Edit::Peer(self.peers.edit_setting(HeldPeer { settings, content })))
-    }
-
-    /// The edit by which the peer of a name goes, with all that was imported from it. Asks that it is held. Takes no
-    /// memory.
-    pub fn edit_dropping_peer(&self, name: &Name) -> Edit
-        requires { IsHeld name.now self.now.content }
-        ensures edit { edited result self.now.content ≡ record self.now.content {
-          peers = without_peer name.now self.now.content.peers;
-        } }
-        ensures fits { Fits result self.now }
-    {
-        match self.peers.edit_dropping(name) {
-            Some(edit) => Edit::Peer(edit),
-            None => unreachable!(),
-        }
-    }
-
-    /// The edit that puts a content in place of that of the peer of a name. Asks that the peer is held. Takes no
-    /// memory.
-    pub fn edit_of_content(&self, name: Name, content: Holding) -> Edit
-        requires { IsHeld name self.now.content }
-        ensures edit { edited result self.now.content ≡ record self.now.content {
-          peers = with_content name content self.now.content.peers;
-        } }
-        ensures fits { Fits result self.now }
-    {
-        let _ = content.entries();
-        Edit::Content(name, content)
-    }
-
-    /// The edit that puts these publisher records in place of those of a package, and room for it. Asks that
-    /// there are some in one or the other, and that all records together can be counted. Costs a binary search
-    /// among the packages that have records, and a copy of these; for a new package at times a move of all
-    /// packages to twice the room. Refused: `NoMemory`.
-    pub fn publishers_edit(
-        &mut self,
-        package: &PackageName,
-        publishers: &Publishers,
-    ) -> Result<Edit, Refusal>
-        requires some { records_of self.old.content.publishers «package».now ≡ []
-            → publishers.now ≡ [] → ⊥ }
-        requires counted { records_total
-            (with_records «package».now publishers.now self.old.content.publishers) < 2 ^ 64 }
-        ensures edit { IfOk result (λ e. edited e self.old.content ≡ record self.old.content {
-          publishers = with_records «package».now publishers.now self.old.content.publishers;
-        }) }
-        ensures fits { IfOk result (λ e. Fits e self.new) }
-        ensures content { self.new.content ≡ self.old.content }
-        ensures kept { HoldsRoomOf self.old.room self.new.room }
-        ensures memory { IfErr result (λ e. e ≡ Refusal.NoMemory) }
-    {
-        let change = self.publishers.edit_for(package, publishers)?;
-        Ok(Edit::Publishers(change))
-    }
-
-    /// Makes an edit, and answers the one that undoes it. An insert behind all entries costs three binary searches, and
-    /// a move of the places behind its own in the order of packages, which are numbers; a remove of the last one costs
-    /// two and such a move. In front of entries either passes over the places of all, and moves those behind it.
-    /// Records of a package are exchanged as a whole; a package or a peer that comes or goes moves those behind it,
-    /// and so does a peer whose settings or content are exchanged.
-    pub fn apply(&mut self, edit: Edit) -> Edit
-        requires { Fits edit self.old }
-        ensures content { self.new.content ≡ edited edit self.old.content }
-        ensures room { self.new.room ≡ room_after edit self.old.room }
-        ensures fits { Fits result self.new }
-        ensures back { edited result self.new.content ≡ self.old.content }
-        ensures room_back { room_after result self.new.room ≡ self.old.room }
-    {
-        match edit {
-            Edit::Criteria(table) => Edit::Criteria(std::mem::replace(&mut self.criteria, table)),
-            Edit::Insert(place, held) => {
-                self.entries.insert(place, held);
-                Edit::Remove(place)
-            }
-            Edit::Remove(place) => Edit::Insert(place, self.entries.remove(place)),
-            Edit::Peer(change) => Edit::Peer(self.peers.apply(change)),
-            Edit::Settings(settings) => Edit::Settings(exchange_settings(
-                &mut self.peers,
-                settings,
-            )),
-            Edit::Content(name, content) => {
-                let content = exchange_content(&mut self.peers, &name, content);
-                Edit::Content(name, content)
-            }
-            Edit::Publishers(change) => Edit::Publishers(self.publishers.apply(change)),
-        }
     }
 }

@@ -2,7 +2,8 @@
 //! their place.
 //!
 //! **An import holds the content's entries, each once: those that come again keep their numbers, and the new ones
-//! get the next numbers in the order of reading. The same holds of one's own entries.**
+//! get the next numbers in the order of reading. The same holds of one's own entries, of which the exemptions with a
+//! last day stay too.**
 ghost use Rattle.std.specs.BTreeMap.{get};
 ghost use Rattle.std.specs.List.{All, list_all, list_any};
 ghost use Rattle.std.specs.Option.{unwrap_or};
@@ -20,7 +21,7 @@ ghost use Rattle.vet_entries.specs.Import.{compared, compared_own};
 ghost use Rattle.vet_entries.specs.ImportLaws.{ImportHoldsEachOnce, ImportHoldsItsContent, ImportKeepsNumbers};
 ghost use Rattle.vet_entries.specs.ImportLaws.{ImportKeepsOrder, ImportTakesEntries, SameItemsAreSame};
 ghost use Rattle.vet_entries.specs.Numbered.{numbered};
-ghost use Rattle.vet_entries.specs.Replaced.{as_of, entries_after};
+ghost use Rattle.vet_entries.specs.Replaced.{as_of, entries_after, is_dated};
 
 use crate::entry::{Entry, Source};
 use crate::facts::HeldEntry;
@@ -34,7 +35,7 @@ use vet_base::definitions::Definitions;
 use vet_base::name::Name;
 use vet_base::refusal::Refusal;
 
-/// How some entries stand to those held of a source: which held ones come again, and which of them are new.
+/// How some entries stand to those held of a source: which held ones stay or come again, and which of them are new.
 pub struct Comparison {
     again: Vec<bool>,
     fresh: Vec<bool>,
@@ -77,8 +78,8 @@ impl Comparison {
         self.new_count
     }
 
-    /// Whether nothing changes: of a peer the same criteria and the same entries, of one's own the same entries, in
-    /// whatever order.
+    /// Whether nothing changes: of a peer the same criteria and the same entries, of one's own the same entries but for
+    /// the exemptions with a last day, in whatever order.
     pub fn is_same(&self) -> bool
         ensures { result ≡ self.now.is_same }
     {
@@ -136,8 +137,9 @@ pub fn holding_after(
     Holding::of(alloc, definitions_of(alloc, content)?, entries)
 }
 
-/// How some entries, as one's own, stand to one's own that are held. Costs two searches among those held for each held
-/// entry, and one for each entry; copies no entry. Refused: `NoMemory`.
+/// How the entries of files, as one's own, stand to one's own that are held, of which the exemptions with a last day
+/// stay whatever comes. Costs two searches among those held for each held entry, and one for each entry; copies no
+/// entry. Refused: `NoMemory`.
 pub fn compare_own(
     alloc: Global,
     held: &[HeldEntry],
@@ -149,7 +151,7 @@ pub fn compare_own(
 {
     let mut seen = unseen(alloc, held)?;
     let fresh = see(alloc, &mut seen, entries)?;
-    let again = seen_again(alloc, &seen, held)?;
+    let again = remaining(alloc, &seen, held)?;
     let new_count = count(fresh.as_slice());
     let is_same = are_all(again.as_slice()) && new_count == 0;
     Ok(Comparison {
@@ -160,8 +162,8 @@ pub fn compare_own(
     })
 }
 
-/// One's own entries after some take their place, where this is the next number. Costs a copy of each entry that comes
-/// again or is new. Refused: `NoMemory`.
+/// One's own entries after those of files take their place, where this is the next number. Costs a copy of each entry
+/// that stays, comes again or is new. Refused: `NoMemory`.
 pub fn own_entries_after(
     alloc: Global,
     next: u64,
@@ -171,7 +173,7 @@ pub fn own_entries_after(
 ) -> Result<Vec<HeldEntry>, Refusal>
     requires compared { comparison.now ≡ compared_own held.now entries.now }
     requires numbers { next + comparison.now.new_count < 2 ^ 64 }
-    ensures ok { IfOk result (λ v. v.items ≡ entries_after Own next held.now entries.now) }
+    ensures ok { IfOk result (λ v. v.items ≡ entries_after is_dated Own next held.now entries.now) }
     ensures memory { IfErr result (λ e. e ≡ Refusal.NoMemory) }
 {
     let mut after = Vec::with_capacity(alloc, entries.len())?;
@@ -281,6 +283,33 @@ fn was_seen<'a>(seen: &BTreeMap<Said<'a>, bool>, held: &'a HeldEntry) -> bool
         Some(seen) => *seen,
         None => false,
     }
+}
+
+// Of each held entry, whether it is an exemption with a last day, or was seen.
+fn remaining<'a>(
+    alloc: Global,
+    seen: &BTreeMap<Said<'a>, bool>,
+    held: &'a [HeldEntry],
+) -> Result<Vec<bool>, AllocError>
+    ensures { IfOk result (λ again. again.items
+        ≡ map (λ h. is_dated h || unwrap_or (get entry_cmp seen.now (own h.entry)) false) held.now) }
+{
+    let mut again = Vec::new(alloc);
+    'entries: for entry in held {
+        again.push(remains(seen, entry))?;
+    }
+    Ok(again)
+}
+
+// Whether a held entry is an exemption with a last day, or was seen.
+fn remains<'a>(seen: &BTreeMap<Said<'a>, bool>, held: &'a HeldEntry) -> bool
+    ensures { result
+        ≡ (is_dated held.now || unwrap_or (get entry_cmp seen.now (own held.now.entry)) false) }
+{
+    if held.entry.kind.has_last_day() {
+        return true;
+    }
+    was_seen(seen, held)
 }
 
 // How many of some answers are yes.

@@ -1,6 +1,7 @@
 //! What an entry says of its package.
 ghost use Rattle.std.specs.Prelude.{◌≡◌};
-ghost use Rattle.vet_entries.specs.Kind.{grants_same, no_audit};
+ghost use Rattle.vet_entries.specs.Kind.{grants_same, has_lapsed, has_last_day, is_exemption, is_over, last_day_of};
+ghost use Rattle.vet_entries.specs.Kind.{no_audit, same_last_day};
 
 use crate::user::User;
 use std::alloc::{AllocError, Global};
@@ -106,6 +107,8 @@ pub enum Kind {
         version: VetVersion,
         /// Whether to suggest a review in its place, where the entry says so.
         suggest: Option<bool>,
+        /// The last day on which it vouches, if it has one. No file has a key for it.
+        last_day: Option<Day>,
     },
 }
 
@@ -120,12 +123,48 @@ impl Drop for Kind {
             Kind::Exemption {
                 version: _,
                 suggest: _,
+                last_day: _,
             } => {}
         }
     }
 }
 
 impl Kind {
+    /// Whether it is an exemption, with a last day or without.
+    pub fn is_exemption(&self) -> bool
+        ensures { result ≡ is_exemption self.now }
+    {
+        matches!(self, Kind::Exemption { .. })
+    }
+
+    /// The last day of an exemption, if it has one.
+    pub fn last_day(&self) -> Option<Day>
+        ensures { result ≡ last_day_of self.now }
+    {
+        match self {
+            Kind::Exemption {
+                version: _,
+                suggest: _,
+                last_day,
+            } => *last_day,
+            _ => None,
+        }
+    }
+
+    /// Whether it is an exemption with a last day.
+    pub fn has_last_day(&self) -> bool
+        ensures { result ≡ has_last_day self.now }
+    {
+        self.last_day().is_some()
+    }
+
+    /// Whether it is an exemption whose last day is over by a day.
+    pub fn has_lapsed(&self, day: Option<Day>) -> bool
+        ensures { result ≡ has_lapsed self.now day }
+    {
+        is_over(self.last_day(), day)
+    }
+
     // Whether both are of one kind that is no audit, and the same.
     fn grants_the_same(&self, other: &Kind) -> bool
         ensures { result ≡ grants_same self.now other.now }
@@ -137,14 +176,41 @@ impl Kind {
                 Kind::Exemption {
                     version: v,
                     suggest,
+                    last_day,
                 },
                 Kind::Exemption {
                     version: w,
                     suggest: other,
+                    last_day: other_last,
                 },
-            ) => v == w && suggest == other,
+            ) => v == w && suggest == other && same_last_day(*last_day, *other_last),
             _ => false,
         }
+    }
+}
+
+/// Whether a last day is over by a day: whether the day comes after it. Without a last day, or without a day, none is
+/// over.
+pub fn is_over(last: Option<Day>, day: Option<Day>) -> bool
+    ensures { result ≡ is_over last day }
+{
+    match (last, day) {
+        (None, None) => false,
+        (None, Some(_)) => false,
+        (Some(_), None) => false,
+        (Some(last), Some(day)) => last < day,
+    }
+}
+
+// Whether two exemptions have the same last day, or none.
+fn same_last_day(a: Option<Day>, b: Option<Day>) -> bool
+    ensures { result ≡ same_last_day a b }
+{
+    match (a, b) {
+        (None, None) => true,
+        (None, Some(_)) => false,
+        (Some(_), None) => false,
+        (Some(a), Some(b)) => a == b,
     }
 }
 
@@ -160,9 +226,14 @@ impl Clone for Kind {
             Kind::Violation(req, audit) => Ok(Kind::Violation(req.clone()?, audit.clone()?)),
             Kind::Wildcard(window, grant) => Ok(Kind::Wildcard(*window, grant.clone()?)),
             Kind::Trusted(window) => Ok(Kind::Trusted(*window)),
-            Kind::Exemption { version, suggest } => Ok(Kind::Exemption {
+            Kind::Exemption {
+                version,
+                suggest,
+                last_day,
+            } => Ok(Kind::Exemption {
                 version: version.clone()?,
                 suggest: *suggest,
+                last_day: *last_day,
             }),
         }
     }

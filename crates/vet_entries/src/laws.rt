@@ -1,7 +1,8 @@
 //! Laws of what is held of packages. Each does nothing.
 ghost use Rattle.vet_entries.specs.Facts.{FitsWithMoreRoom, RoomHoldsItself, RoomHoldsOnward};
-ghost use Rattle.vet_entries.specs.SameOfLaws.{ContentKeepsOthers, ContentKeepsSameEntries, EntryAddedKeepsOthers};
-ghost use Rattle.vet_entries.specs.SameOfLaws.{EntryDroppedKeepsOthers, ExclusionsKeepOthers, PeerDroppedKeepsOthers};
+ghost use Rattle.vet_entries.specs.SameOfLaws.{ContentKeepsOthers, ContentKeepsSameEntries, DayCondemnsTheSame};
+ghost use Rattle.vet_entries.specs.SameOfLaws.{DayKeepsSteps, EntryAddedKeepsOthers, EntryDroppedKeepsOthers};
+ghost use Rattle.vet_entries.specs.SameOfLaws.{ExclusionsKeepOthers, PeerDroppedKeepsOthers};
 ghost use Rattle.vet_entries.specs.SameOfLaws.{PeerKeepsWhatIsWordedTheSame, RecordsKeepOthers, SameByItself};
 ghost use Rattle.vet_entries.specs.SameOfLaws.{SameHasSameSteps, SameIsCondemnedTheSame, SameOnward};
 ghost use Rattle.vet_entries.specs.SameOfLaws.{SettingsKeepOthers};
@@ -14,13 +15,20 @@ pub fn edits_fit_with_more_room()
     ensures onward { RoomHoldsOnward }
 {}
 
-/// A package that has the same entries in the same wording and the same publisher records, by the same table, has the
-/// same steps, and the same versions of it are condemned. Does nothing.
+/// A package that has the same entries in the same wording and the same publisher records, by the same table and on the
+/// same day, has the same steps, and the same versions of it are condemned. Does nothing.
 pub fn same_packages_have_same_steps()
     ensures steps { SameHasSameSteps }
     ensures condemned { SameIsCondemnedTheSame }
     ensures itself { SameByItself }
     ensures onward { SameOnward }
+{}
+
+/// Another day leaves the steps of a package each of whose entries has lapsed by both days or by neither, and what is
+/// condemned of every package. Does nothing.
+pub fn another_day_keeps_steps()
+    ensures steps { DayKeepsSteps }
+    ensures condemned { DayCondemnsTheSame }
 {}
 
 /// An own entry more or less leaves all packages but its own the same, and so do publisher records of one package.

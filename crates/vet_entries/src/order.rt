@@ -4,12 +4,13 @@
 //! could make entries that all have the same hash.
 ghost use Rattle.std.specs.Prelude.{◌≡◌};
 ghost use Rattle.vet_entries.specs.EntryOrder.{audit_cmp, delta_cmp, flag_cmp, grant_cmp, grants_cmp, kind_cmp};
-ghost use Rattle.vet_entries.specs.EntryOrder.{kind_rank, names_cmp, said_cmp, source_cmp, window_cmp};
+ghost use Rattle.vet_entries.specs.EntryOrder.{kind_rank, last_day_cmp, names_cmp, said_cmp, source_cmp, window_cmp};
 
 use crate::entry::{Entry, Source};
 use crate::kind::{Audit, Grant, Kind, Window};
 use crate::publisher::{day_cmp, text_cmp};
 use std::cmp::Ordering;
+use vet_base::day::Day;
 use vet_base::delta::Delta;
 use vet_base::names::Names;
 use vet_base::texts::Texts;
@@ -59,12 +60,14 @@ fn grants_cmp(a: &Kind, b: &Kind) -> Ordering
             Kind::Exemption {
                 version: v,
                 suggest: a,
+                last_day: l,
             },
             Kind::Exemption {
                 version: w,
                 suggest: b,
+                last_day: m,
             },
-        ) => v.cmp(w).then(flag_cmp(*a, *b)),
+        ) => v.cmp(w).then(flag_cmp(*a, *b)).then(last_day_cmp(*l, *m)),
         _ => rank(a).cmp(&rank(b)),
     }
 }
@@ -82,6 +85,7 @@ fn rank(kind: &Kind) -> u8
         Kind::Exemption {
             version: _,
             suggest: _,
+            last_day: _,
         } => 5,
     }
 }
@@ -124,6 +128,18 @@ fn texts_cmp(a: &Texts, b: &Texts) -> Ordering
     ensures { result ≡ names_cmp a.now b.now }
 {
     a.as_slice().cmp(b.as_slice())
+}
+
+// How two last days compare: none, and then by the days.
+fn last_day_cmp(a: Option<Day>, b: Option<Day>) -> Ordering
+    ensures { result ≡ last_day_cmp a b }
+{
+    match (a, b) {
+        (None, None) => Ordering::Equal,
+        (None, Some(_)) => Ordering::Less,
+        (Some(_), None) => Ordering::Greater,
+        (Some(a), Some(b)) => day_cmp(a, b),
+    }
 }
 
 // How two answers compare: none, then no, then yes.

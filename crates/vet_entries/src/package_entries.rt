@@ -194,14 +194,16 @@ fn all_steps(
 ) -> Result<Vec<Step>, AllocError>
     requires local { AreLocal facts.now.content local.old }
     requires peers { All (HasPeer facts.now.content.peers) taken.now }
-    ensures steps { IfOk result (λ steps. steps.items ≡ flat_map (entry_steps facts.now.content.criteria records.now)
+    ensures steps { IfOk result (λ steps. steps.items
+        ≡ flat_map (entry_steps facts.now.content.today facts.now.content.criteria records.now)
         (all_sourced facts.now.content.peers taken.now)) }
     ensures local { AreLocal facts.now.content local.new }
 {
     let mut steps = Vec::new(alloc);
     for entry in taken {
         let criteria = criteria_of(entry, facts, local);
-        add_kind_steps(&mut steps, &entry.held.entry.kind, records, criteria)?;
+        let today = facts.today();
+        add_kind_steps(&mut steps, &entry.held.entry.kind, today, records, criteria)?;
     }
     Ok(steps)
 }

@@ -1,14 +1,15 @@
 //! Steps of trust, and those that entries give.
-ghost use Rattle.std.specs.Prelude.{◌≡◌, ◌++◌, ◌∷◌, [], IfOk, IfErr, OnOk};
+ghost use Rattle.std.specs.Prelude.{◌≡◌, ◌++◌, ◌∷◌, [], IfOk, IfErr, OnOk, if◌then◌else◌, true};
 ghost use Rattle.vet_entries.specs.Step.{delta_step, first_step, is_covered, kind_steps, steps_of, window_steps};
 
 use crate::facts::EntryFacts;
-use crate::kind::{Kind, Window};
+use crate::kind::{Kind, Window, is_over};
 use crate::local_criteria::LocalCriteria;
 use crate::package_entries::PackageEntries;
 use crate::publisher::Publisher;
 use std::alloc::{AllocError, Global};
 use vet_base::criteria_set::CriteriaSet;
+use vet_base::day::Day;
 use vet_base::delta::Delta;
 use vet_base::name::PackageName;
 use vet_base::refusal::Refusal;
@@ -53,14 +54,15 @@ pub fn steps_of(
     entries.into_steps(alloc, facts, &mut local)
 }
 
-/// Adds the steps of a kind.
+/// Adds the steps of a kind on a day, the register's.
 pub(crate) fn add_kind_steps(
     steps: &mut Vec<Step>,
     kind: &Kind,
+    today: Option<Day>,
     records: &[Publisher],
     criteria: CriteriaSet,
 ) -> Result<(), AllocError>
-    ensures { OnOk result (steps.new.items ≡ steps.old.items ++ kind_steps criteria records.now kind.now) }
+    ensures { OnOk result (steps.new.items ≡ steps.old.items ++ kind_steps today criteria records.now kind.now) }
 {
     match kind {
         Kind::Full(version, _) => add(steps, first_step(version, criteria, false)?),
@@ -68,8 +70,28 @@ pub(crate) fn add_kind_steps(
         Kind::Violation(_, _) => Ok(()),
         Kind::Wildcard(window, _) => add_window(steps, window, records, criteria),
         Kind::Trusted(window) => add_window(steps, window, records, criteria),
-        Kind::Exemption { version, .. } => add(steps, first_step(version, criteria, true)?),
+        Kind::Exemption {
+            version,
+            suggest: _,
+            last_day,
+        } => add_exemption(steps, version, is_over(*last_day, today), criteria),
     }
+}
+
+// Adds the step of an exemption, unless its last day is over.
+fn add_exemption(
+    steps: &mut Vec<Step>,
+    version: &VetVersion,
+    over: bool,
+    criteria: CriteriaSet,
+) -> Result<(), AllocError>
+    ensures { OnOk result (steps.new.items
+        ≡ steps.old.items ++ (if over then [] else first_step criteria true version.now ∷ [])) }
+{
+    if over {
+        return Ok(());
+    }
+    add(steps, first_step(version, criteria, true)?)
 }
 
 // Adds a step.

@@ -104,11 +104,16 @@ read_there whose Audits (Delta d a) h = refl
 read_there whose Audits (Violation r a) h = refl
 read_there whose WildcardAudits (Wildcard w g) h = refl
 read_there whose Trusted (kinds.Trusted w) h = refl
-read_there whose Exemptions (Exemption v s) h = refl
+read_there whose Exemptions (Exemption v s l) h = refl
 read_there whose which k h = absurd (false≢true h)
 
 is_kind-taken : (whose : Whose) (k : Kind) → is_kind_of whose k ≡ true → is_taken whose k ≡ true
-is_kind-taken Ours k h = refl
+is_kind-taken Ours (Full v a) h = refl
+is_kind-taken Ours (Delta d a) h = refl
+is_kind-taken Ours (Violation r a) h = refl
+is_kind-taken Ours (Wildcard w g) h = refl
+is_kind-taken Ours (kinds.Trusted w) h = refl
+is_kind-taken Ours (Exemption v s l) h = absurd (false≢true h)
 is_kind-taken Peers k h = h
 
 -- each kind stands in one of the three tables
@@ -119,8 +124,8 @@ stands whose (Delta d a) h = inl refl
 stands whose (Violation r a) h = inl refl
 stands whose (Wildcard w g) h = inr (inl refl)
 stands whose (kinds.Trusted w) h = inr (inr refl)
-stands Ours (Exemption v s) h = absurd (false≢true h)
-stands Peers (Exemption v s) h = absurd (false≢true h)
+stands Ours (Exemption v s l) h = absurd (false≢true h)
+stands Peers (Exemption v s l) h = absurd (false≢true h)
 
 -- ---- what stands at the keys
 

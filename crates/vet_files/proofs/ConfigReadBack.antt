@@ -1,16 +1,16 @@
 -- The table of a config file is read again as the same settings, policies and exemptions.
-use Rattle.std.proofs.Common.{◌≡◌, ℕ, true, List, [], ◌∷◌, codes, refl, ap, subst}
+use Rattle.std.proofs.Common.{◌≡◌, ◌&&◌, not, ℕ, Bool, true, false, cond, List, [], ◌∷◌, codes, refl, ap, subst, ◌∙◌}
 use Rattle.std.specs.Prelude.{Option, Some, None, Ok, IfSome, option_map}
 use Rattle.std.specs.FinSet as set
 use Rattle.std.specs.FinSet.{contains-empty}
 use Rattle.std.specs.Cmp.Lexicographic.{slice_cmp}
 use Rattle.std.specs.Ordering.{nat_cmp}
 use Rattle.std.specs.List.{All}
-use Rattle.std.proofs.lemmas.Bool.{and_parts}
+use Rattle.std.proofs.lemmas.Bool.{and_parts, false≢true}
 use Rattle.std.proofs.lemmas.List.Elements.{All-head, All-tail}
 use Rattle.toml.specs.Data.{Data, Members, get_member, string, table}
 use Rattle.vet_base.specs.Gives.{Told, ◌>>=◌}
-use Rattle.vet_base.specs.Items.{SameItems}
+use Rattle.vet_base.specs.Items.{IsIn, SameItems}
 use Rattle.vet_base.specs.Names.{NameSet}
 use Rattle.vet_demand.specs.declared.policies.KeyedPolicy.{KeyedPolicy}
 use Rattle.vet_entries.specs.Distinct.{distinct}
@@ -18,6 +18,7 @@ use Rattle.vet_entries.specs.declared.entry.Entry.{Entry}
 use Rattle.vet_entries.specs.declared.kind.Kind.{Kind}
 use Rattle.vet_entries.specs.declared.kind.Kind.TheVariants.{Full, Delta, Violation, Wildcard, Trusted, Exemption}
 use Rattle.vet_entries.specs.declared.peer_settings.PeerSettings.{PeerSettings}
+use Rattle.vet_entries.specs.Kind.{has_last_day, is_exemption}
 use Rattle.vet_entries.specs.PeerContent.{is_own}
 use Rattle.vet_files.specs.declared.found.Found.{Found}
 use Rattle.vet_files.specs.declared.config_file.ConfigContent.{ConfigContent}
@@ -34,12 +35,13 @@ use Rattle.vet_files.specs.Field.{a_text, names, optional}
 use Rattle.vet_files.specs.Keys.{unknown_keys}
 use Rattle.vet_files.specs.Lists.{nothing, found_one, next_named, table_at}
 use Rattle.vet_files.specs.Notices.{no_notices}
-use Rattle.vet_files.specs.ReadAgain.{IsReadAs, ReadsConfig, ReadsEntry, ReadsPeer, ReadsPolicy, reading_of}
-use Rattle.vet_files.specs.SameContent.{IsConfig, SameConfig, is_own_exemption}
+use Rattle.vet_files.specs.ReadAgain.{IsReadAs, ReadsConfig, ReadsEntry, ReadsPeer, ReadsPolicy, is_taken, reading_of}
+use Rattle.vet_files.specs.SameContent.{IsConfig, SameConfig, is_own_exemption, undated}
 use Rattle.vet_files.specs.Tables.{set_data, unless_empty}
 use Rattle.vet_files.specs.Walk.{each_member}
 use Rattle.vet_files.proofs.Fields.{field_at, get_field, none_unknown}
-use Rattle.vet_files.proofs.PackagesRead.{IsReadBy, all_of, package_lists_read, unless_empty-read}
+use Rattle.vet_files.proofs.NamedOnce.{All-IsIn, All-each_IsIn, IsIn-of_filter}
+use Rattle.vet_files.proofs.PackagesRead.{IsReadBy, all_of, distinct-filter, package_lists_read, unless_empty-read}
 use Rattle.vet_files.proofs.PoliciesRead.{policies_read}
 use Rattle.vet_files.proofs.TablesRead.{IsNext, by_name-read, same_items}
 
@@ -88,36 +90,77 @@ exemption_reading (Delta d a) h = cc h
 exemption_reading (Violation r a) h = cc h
 exemption_reading (Wildcard w g) h = cc h
 exemption_reading (Trusted w) h = cc h
-exemption_reading (Exemption v s) h = refl
+exemption_reading (Exemption v s l) h = refl
+
+listed_taken : (k : Kind) → is_listed Exemptions k ≡ true → is_taken Ours k ≡ true
+listed_taken (Full v a) h = refl
+listed_taken (Delta d a) h = refl
+listed_taken (Violation r a) h = refl
+listed_taken (Wildcard w g) h = refl
+listed_taken (Trusted w) h = refl
+listed_taken (Exemption v s None) h = refl
+listed_taken (Exemption v s (Some day)) h = absurd (false≢true h)
 
 -- an exemption's table is read as it
-reads_exemption : (e : Entry) → is_own_exemption e ≡ true → ReadsEntry e → IsReadBy exemption_told e
-reads_exemption e stands reads =
-    let (own, exempts) = and_parts (is_own e.source) (is_listed Exemptions e.kind) stands in (
-      reads.named,
-      λ path. subst (λ read. read e.«package» path (entry_table e) ≡ Ok (found_one e 0))
-          (exemption_reading e.kind exempts) (reads.read Ours own refl path),
-    )
+reads_exemption : (e : Entry) → is_own e.source ≡ true → is_listed Exemptions e.kind ≡ true → ReadsEntry e
+    → IsReadBy exemption_told e
+reads_exemption e own there reads = (
+  reads.named,
+  λ path. subst (λ read. read e.«package» path (entry_table e) ≡ Ok (found_one e 0)) (exemption_reading e.kind there)
+      (reads.read Ours own (listed_taken e.kind there) path),
+)
 
--- exemptions all stand in their table
-all_listed : (es : List Entry) → All (λ e. is_own_exemption e ≡ true) es → listed_entries Exemptions set.empty es ≡ es
-all_listed [] stand = refl
-all_listed (e ∷ rest) stand =
-    let (own, exempts) = and_parts (is_own e.source) (is_listed Exemptions e.kind)
-    (All-head (λ e. is_own_exemption e ≡ true) e rest stand) in
-    rw (exempts, contains-empty (slice_cmp nat_cmp) e.«package»)
-    (ap (λ (es : List Entry). e ∷ es) (all_listed rest (All-tail (λ e. is_own_exemption e ≡ true) e rest stand)))
+abbrev no_names : NameSet
+no_names = set.empty
 
-exemptions_read : (es : List Entry) → distinct es ≡ es → All (λ e. is_own_exemption e ≡ true) es
-    → All ReadsEntry (listed_entries Exemptions set.empty es)
+-- an exemption that is written: no package is left out
+abbrev is_written : Entry → Bool
+is_written e = is_listed Exemptions e.kind && not (set.contains no_names e.«package»)
+
+abbrev listed : List Entry → List Entry
+listed es = listed_entries Exemptions no_names es
+
+abbrev IsOwn : Entry → Type 0
+IsOwn e = is_own_exemption e ≡ true
+
+-- those that are written are those without a last day
+exempt_written : (k : Kind) → is_exemption k ≡ true → (is_listed Exemptions k && true) ≡ not (has_last_day k)
+exempt_written (Full v a) h = absurd (false≢true h)
+exempt_written (Delta d a) h = absurd (false≢true h)
+exempt_written (Violation r a) h = absurd (false≢true h)
+exempt_written (Wildcard w g) h = absurd (false≢true h)
+exempt_written (Trusted w) h = absurd (false≢true h)
+exempt_written (Exemption v s None) h = refl
+exempt_written (Exemption v s (Some day)) h = refl
+
+all_written : (es : List Entry) → All IsOwn es → listed es ≡ undated es
+all_written [] stand = refl
+all_written (e ∷ rest) stand =
+    let (own, exempts) = and_parts (is_own e.source) (is_exemption e.kind) (All-head IsOwn e rest stand) in
+    let first : is_written e ≡ not (has_last_day e.kind) =
+    ap (λ b. is_listed Exemptions e.kind && not b) (contains-empty (slice_cmp nat_cmp) e.«package»)
+    ∙ exempt_written e.kind exempts in
+    let more = all_written rest (All-tail IsOwn e rest stand) in
+    λ i. cond (first i) (e ∷ more i) (more i)
+
+listed_read : (es : List Entry) → All IsOwn es → All ReadsEntry (listed es) → All (IsReadBy exemption_told) (listed es)
+listed_read es stand reads = All-each_IsIn (IsReadBy exemption_told) (listed es) each
+  where
+    each : (e : Entry) → IsIn e (listed es) → IsReadBy exemption_told e
+    each e among =
+        let (held, passes) = IsIn-of_filter is_written e es among in
+        let (there, kept) = and_parts (is_listed Exemptions e.kind) (not (set.contains no_names e.«package»)) passes in
+        let (own, exempts) = and_parts (is_own e.source) (is_exemption e.kind) (All-IsIn IsOwn e es stand held) in
+        reads_exemption e own there (All-IsIn ReadsEntry e (listed es) reads among)
+
+exemptions_read : (es : List Entry) → distinct es ≡ es → All IsOwn es → All ReadsEntry (listed es)
     → (found : List Entry)
     × ((each_member (next_package exemption_told (codes "exemptions")) nothing (exemptions_table es)
-    ≡ Ok (all_of found)) × SameItems es found)
+    ≡ Ok (all_of found)) × SameItems (undated es) found)
 exemptions_read es once stand reads =
-    let all = all_listed es stand in
-    let each : All ReadsEntry es = subst (All ReadsEntry) all reads in
-    rw all (package_lists_read exemption_told (codes "exemptions") es once
-    (λ k d l. reads_exemption _ (stand k d l) (each k d l)))
+    let (found, (told, same)) = package_lists_read exemption_told (codes "exemptions") (listed es)
+    (distinct-filter is_written es once) (listed_read es stand reads) in
+    (found, (told, subst (λ all. SameItems all found) (all_written es stand) same))
 
 -- ---- the file
 

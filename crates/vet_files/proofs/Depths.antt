@@ -160,7 +160,7 @@ entry_kind_within c n (Wildcard w g) h k = fields_within 1 (entry_fields c n (Wi
     (h, (omega arith, (k, (flag_within g.renew, (omega arith, (omega arith, (some_set_within g.who, tt)))))))
 entry_kind_within c n (Trusted w) h k = fields_within 1 (entry_fields c n (Trusted w))
     (h, (omega arith, (k, (omega arith, (omega arith, tt)))))
-entry_kind_within c n (Exemption v s) h k = fields_within 1 (entry_fields c n (Exemption v s))
+entry_kind_within c n (Exemption v s l) h k = fields_within 1 (entry_fields c n (Exemption v s l))
     (h, (k, (flag_within s, (omega arith, tt))))
 
 entry_within : (e : Entry) → members_depth (entry_table e) ≤ 1

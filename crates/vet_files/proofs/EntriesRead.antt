@@ -4,7 +4,7 @@ use Rattle.std.proofs.Common.{if◌then◌else◌, refl, sym, ap, subst, ◌∙�
 use Rattle.std.proofs.lemmas.Bool.{false≢true}
 use Rattle.std.specs.Option.{IfSome}
 use Rattle.toml.specs.Data.{string, integer, boolean, Members, get_member}
-use Rattle.vet_base.specs.Day.{day_text}
+use Rattle.vet_base.specs.Day.{DayValue, day_text}
 use Rattle.vet_base.specs.Delta.{delta_text}
 use Rattle.vet_base.specs.Name.{is_package_name}
 use Rattle.vet_base.specs.Names.{NameSet}
@@ -269,9 +269,10 @@ trusted_read e w values window = of_own e (Trusted w) values.named by
 
 pub exemption_read : (e : Entry) (v : VersionValue) (suggest : Option Bool) → ValuesRead e
     → IsReadAs a_version (string (version_text v)) v → FlagRead suggest
-    → ReadsEntry (of_kind e (Exemption v suggest))
-exemption_read e v suggest values version suggested = of_own e (Exemption v suggest) values.named (λ whose taken path. (
-    let fs = fields_of e (Exemption v suggest) in
+    → ReadsEntry (of_kind e (Exemption v suggest None))
+exemption_read e v suggest values version suggested =
+    of_own e (Exemption v suggest None) values.named (λ whose taken path. (
+    let fs = fields_of e (Exemption v suggest None) in
     let ms = fields fs in
     rw (
       required_read a_version (λ x. string (version_text x)) path (codes "version") ms v
@@ -283,3 +284,22 @@ exemption_read e v suggest values version suggested = of_own e (Exemption v sugg
       none_unknown kind.Exemption fs refl,
     )
     refl))
+
+-- of one with a last day nothing is asked: no file gives it
+any_exemption_read : (e : Entry) (v : VersionValue) (suggest : Option Bool) (last : Option DayValue)
+    → ReadsEntry (of_kind e (Exemption v suggest None)) → ReadsEntry (of_kind e (Exemption v suggest last))
+any_exemption_read e v suggest None reads = reads
+any_exemption_read e v suggest (Some day) reads = record {
+  named = reads.named;
+  read = λ whose own taken path. absurd (false≢true (sym (none whose) ∙ taken));
+}
+  where
+    none : (whose : Whose) → is_taken whose (Exemption v suggest (Some day)) ≡ false
+    none Ours = refl
+    none Peers = refl
+
+-- so an entry is read as it, if it would be without its last day
+pub exemption_entry_read : (e : Entry) (v : VersionValue) (suggest : Option Bool) (last : Option DayValue)
+    → e.kind ≡ Exemption v suggest last → ReadsEntry (of_kind e (Exemption v suggest None)) → ReadsEntry e
+exemption_entry_read e v suggest last is reads =
+    subst (λ (k : Kind). ReadsEntry (of_kind e k)) (sym is) (any_exemption_read e v suggest last reads)

@@ -1,6 +1,6 @@
 -- Files whose lists are the same as sets hold the same.
-use Rattle.std.proofs.Common.{◌≡◌, ◌⊎◌, ◌||◌, ℕ, inl, inr, Bool, true, false, cond, List, [], ◌∷◌, ◌++◌, Some, refl}
-use Rattle.std.proofs.Common.{sym, ap, ◌∙◌, Less}
+use Rattle.std.proofs.Common.{◌≡◌, ◌⊎◌, ◌||◌, ℕ, inl, inr, Bool, true, false, cond, not, List, [], ◌∷◌, ◌++◌, Some}
+use Rattle.std.proofs.Common.{refl, sym, ap, subst, ◌∙◌, Less}
 use Rattle.std.specs.List.{list_any}
 use Rattle.std.proofs.lemmas.Bool.{false≢true, true≢false}
 use Rattle.std.proofs.lemmas.Cmp.{nat_list_cmp_total, tied_itself}
@@ -11,14 +11,17 @@ use Rattle.vet_base.proofs.ItemLemmas.{any_in, in_all, in_any, in_append, in_bac
 use Rattle.vet_base.proofs.ItemLemmas.{pairs_tail}
 use Rattle.vet_base.proofs.KeyedLemmas.{IsByKey-all_set, item_of-other, item_of-own, same_items}
 use Rattle.vet_base.proofs.Comparisons.{equal}
+use Rattle.vet_base.proofs.ListLemmas.{filter_keeps}
 use Rattle.vet_base.proofs.Rising.{R, only_equal}
 use Rattle.vet_entries.specs.Distinct.{distinct, firsts}
 use Rattle.vet_entries.specs.Entry.{entry_eq}
 use Rattle.vet_entries.specs.EntryLaws.{entry_eq-Decides}
+use Rattle.vet_entries.specs.Kind.{has_last_day}
 use Rattle.vet_entries.specs.PeerSettings.{settings_name}
 use Rattle.vet_entries.specs.PublisherRecords.{package_of}
 use Rattle.vet_entries.specs.declared.entry.Entry.{Entry}
 use Rattle.vet_files.specs.Imports.{imported_name}
+use Rattle.vet_files.specs.SameContent.{AreUndated, undated}
 use Rattle.vet_files.specs.SameFiles.{SameListsAreSame}
 
 -- ---- items set one after another, of which no two have the same key
@@ -135,17 +138,23 @@ of_both es fs xs ys x first second among =
 
 -- ---- the files
 
+-- where none has a last day, none is left out
+all_undated : (es : List Entry) → AreUndated es → undated es ≡ es
+all_undated es none = filter_keeps (λ e. not (has_last_day e.kind)) es (λ k d l. ap not (none k d l))
+
 pub same-lists-same : SameListsAreSame
-same-lists-same a b c d i j is_c is_d is_i is_j audits config imports = record {
-  criteria = audits.0;
-  entries = (
-    λ x. of_both a.entries b.entries c.exemptions d.exemptions x (audits.1.0 x) (config.exemptions.0 x),
-    λ x. of_both b.entries a.entries d.exemptions c.exemptions x (audits.1.1 x) (config.exemptions.1 x),
-  );
-  settings = same_by_name settings_name c.peers d.peers is_c.named_once is_d.named_once config.peers;
-  contents = same_by_name imported_name i.peers j.peers is_i.named_once is_j.named_once imports.0;
-  publishers = same_by_name package_of i.publishers j.publishers is_i.published_once is_j.published_once imports.1;
-  policies = config.policies;
-  vet_version = config.vet_version;
-  default_criteria = config.default_criteria;
-}
+same-lists-same a b c d i j is_c none is_d is_i is_j audits config imports =
+    let exemptions : SameItems c.exemptions d.exemptions = subst (λ es. SameItems es d.exemptions)
+    (all_undated c.exemptions none) config.exemptions in record {
+      criteria = audits.0;
+      entries = (
+        λ x. of_both a.entries b.entries c.exemptions d.exemptions x (audits.1.0 x) (exemptions.0 x),
+        λ x. of_both b.entries a.entries d.exemptions c.exemptions x (audits.1.1 x) (exemptions.1 x),
+      );
+      settings = same_by_name settings_name c.peers d.peers is_c.named_once is_d.named_once config.peers;
+      contents = same_by_name imported_name i.peers j.peers is_i.named_once is_j.named_once imports.0;
+      publishers = same_by_name package_of i.publishers j.publishers is_i.published_once is_j.published_once imports.1;
+      policies = config.policies;
+      vet_version = config.vet_version;
+      default_criteria = config.default_criteria;
+    }

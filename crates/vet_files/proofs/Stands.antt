@@ -10,11 +10,13 @@ use Rattle.std.proofs.lemmas.List.Elements.{All-append, All-cons, All-nil, All-w
 use Rattle.std.proofs.lemmas.Result.{IfOk-at_ok}
 use Rattle.toml.specs.Data.{Data, Members, as_table}
 use Rattle.vet_base.specs.CriteriaChanges.{is_built_in}
+use Rattle.vet_base.specs.Day.{DayValue}
 use Rattle.vet_base.specs.Gives.{Gives, Told, found_or}
 use Rattle.vet_base.specs.Name.{is_name}
 use Rattle.vet_base.specs.Version.{VersionValue}
 use Rattle.vet_base.specs.declared.criterion.Criterion.{Criterion}
 use Rattle.vet_base.specs.declared.refusal.Refusal.{Refusal}
+use Rattle.vet_entries.specs.Kind.{is_exemption}
 use Rattle.vet_entries.specs.PeerContent.{PeerContentValue, is_own}
 use Rattle.vet_entries.specs.declared.entry.Entry.{Entry}
 use Rattle.vet_entries.specs.declared.kind.Kind.{Kind}
@@ -129,7 +131,7 @@ in_one (Delta d a) = (λ h g. cc g, λ h g. cc g, λ h g. cc h)
 in_one (Violation r a) = (λ h g. cc g, λ h g. cc g, λ h g. cc h)
 in_one (Wildcard w g) = (λ h g. cc h, λ h g. cc h, λ h g. cc g)
 in_one (Trusted w) = (λ h g. cc h, λ h g. cc h, λ h g. cc h)
-in_one (Exemption v s) = (λ h g. cc h, λ h g. cc h, λ h g. cc h)
+in_one (Exemption v s l) = (λ h g. cc h, λ h g. cc h, λ h g. cc h)
 
 -- an own entry that is no exemption
 abbrev IsGiven : Entry → Type 0
@@ -140,18 +142,19 @@ both true true h g = refl
 both true false h g = g
 both false b h g = h
 
-listed-given : (l : Listing) → ((v : VersionValue) (s : Option Bool) → is_listed l (Exemption v s) ≡ false)
+listed-given : (l : Listing)
+    → ((v : VersionValue) (s : Option Bool) (last : Option DayValue) → is_listed l (Exemption v s last) ≡ false)
     → (e : Entry) → IsOf l e → IsGiven e
 listed-given l none e h =
-    both (is_own e.source) (not (is_listed listing.Exemptions e.kind)) h.0 (other e.kind h.1)
+    both (is_own e.source) (not (is_exemption e.kind)) h.0 (other e.kind h.1)
   where
-    other : (k : Kind) → is_listed l k ≡ true → not (is_listed listing.Exemptions k) ≡ true
+    other : (k : Kind) → is_listed l k ≡ true → not (is_exemption k) ≡ true
     other (Full v a) g = refl
     other (Delta d a) g = refl
     other (Violation r a) g = refl
     other (Wildcard w a) g = refl
     other (Trusted w) g = refl
-    other (Exemption v s) g = absurd (false≢true (sym (none v s) ∙ g))
+    other (Exemption v s last) g = absurd (false≢true (sym (none v s last) ∙ g))
 
 -- ---- the file
 
@@ -172,10 +175,11 @@ three-tables audits wildcards trusted a w t =
       apart-append IsOther (audits.content ++ wildcards.content) trusted.content both_apart t.0 across,
       All-append IsGiven (audits.content ++ wildcards.content) trusted.content
           (All-append IsGiven audits.content wildcards.content
-          (All-weaker (IsOf listing.Audits) IsGiven (listed-given listing.Audits (λ v s. refl)) audits.content a.1)
-          (All-weaker (IsOf listing.WildcardAudits) IsGiven (listed-given listing.WildcardAudits (λ v s. refl))
+          (All-weaker (IsOf listing.Audits) IsGiven (listed-given listing.Audits (λ v s l. refl)) audits.content a.1)
+          (All-weaker (IsOf listing.WildcardAudits) IsGiven (listed-given listing.WildcardAudits (λ v s l. refl))
           wildcards.content w.1))
-          (All-weaker (IsOf listing.Trusted) IsGiven (listed-given listing.Trusted (λ v s. refl)) trusted.content t.1),
+          (All-weaker (IsOf listing.Trusted) IsGiven (listed-given listing.Trusted (λ v s l. refl)) trusted.content
+          t.1),
     )
 
 abbrev AreApartAll : Found AuditsContent → Type 0

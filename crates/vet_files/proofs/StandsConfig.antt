@@ -1,9 +1,9 @@
 -- What a config file gives can be written again.
-use Rattle.std.proofs.Common.{◌≡◌, ℕ, true, List, [], refl, IfOk, arith}
-use Rattle.std.specs.Prelude.{Ok, Err, Option, codes}
+use Rattle.std.proofs.Common.{◌≡◌, ℕ, true, false, List, [], refl, IfOk, arith}
+use Rattle.std.specs.Prelude.{Ok, Err, Option, Some, None, codes}
 use Rattle.std.specs.List.{All}
 use Rattle.std.specs.Option.{option_to_list}
-use Rattle.std.proofs.lemmas.Bool.{cond_both}
+use Rattle.std.proofs.lemmas.Bool.{cond_both, false≢true}
 use Rattle.std.proofs.lemmas.List.Elements.{All-cons, All-nil, All-weaker}
 use Rattle.toml.specs.Data.{Data, Members, as_table}
 use Rattle.vet_base.specs.Gives.{Told, found_or, ◌>>=◌}
@@ -13,8 +13,11 @@ use Rattle.vet_demand.specs.PolicyKey.{policy_key_cmp, read_key}
 use Rattle.vet_demand.specs.PolicyKeyLaws.{policy_key_cmp-IsAntisymmetric, policy_key_total}
 use Rattle.vet_demand.specs.declared.policies.KeyedPolicy.{KeyedPolicy}
 use Rattle.vet_base.proofs.KeyedLemmas.{IsByKey-with_item}
+use Rattle.vet_entries.specs.Kind.{has_last_day, is_exemption}
 use Rattle.vet_entries.specs.PeerContent.{is_own}
 use Rattle.vet_entries.specs.declared.entry.Entry.{Entry}
+use Rattle.vet_entries.specs.declared.kind.Kind.{Kind}
+use Rattle.vet_entries.specs.declared.kind.Kind.TheVariants.{Full, Delta, Violation, Wildcard, Trusted, Exemption}
 use Rattle.vet_entries.specs.declared.peer_settings.PeerSettings.{PeerSettings}
 use Rattle.vet_files.specs.declared.config_file.ConfigContent.{ConfigContent}
 use Rattle.vet_files.specs.declared.found.Found.{Found}
@@ -27,7 +30,7 @@ use Rattle.vet_files.specs.Field.{fault, names, optional, package_names, require
 use Rattle.vet_files.specs.Lists.{listed, found_with, named_table, next_named, path_below, table_at}
 use Rattle.vet_files.specs.Maps.{criteria_map, or_no_map}
 use Rattle.vet_files.specs.Notices.{no_notices}
-use Rattle.vet_files.specs.SameContent.{IsConfig, is_own_exemption}
+use Rattle.vet_files.specs.SameContent.{AreUndated, IsConfig, is_own_exemption}
 use Rattle.vet_files.specs.Walk.{each_member}
 use Rattle.vet_files.proofs.Apart.{Appends, AreApart, HasOther, Holds, apart-pairs, other-name, table-apart}
 use Rattle.vet_files.proofs.Once.{distinct-apart}
@@ -115,11 +118,29 @@ policies-in_order ms =
 
 -- ---- the file
 
+-- what stands in the table of exemptions is one, without a last day
+listed-exempts : (k : Kind) → is_listed listing.Exemptions k ≡ true → is_exemption k ≡ true
+listed-exempts (Full v a) h = absurd (false≢true h)
+listed-exempts (Delta d a) h = absurd (false≢true h)
+listed-exempts (Violation r a) h = absurd (false≢true h)
+listed-exempts (Wildcard w g) h = absurd (false≢true h)
+listed-exempts (Trusted w) h = absurd (false≢true h)
+listed-exempts (Exemption v s l) h = refl
+
+listed-undated : (k : Kind) → is_listed listing.Exemptions k ≡ true → has_last_day k ≡ false
+listed-undated (Full v a) h = refl
+listed-undated (Delta d a) h = refl
+listed-undated (Violation r a) h = refl
+listed-undated (Wildcard w g) h = refl
+listed-undated (Trusted w) h = refl
+listed-undated (Exemption v s None) h = refl
+listed-undated (Exemption v s (Some day)) h = absurd (false≢true h)
+
 own-exemption : (e : Entry) → IsOf listing.Exemptions e → is_own_exemption e ≡ true
-own-exemption e h = both (is_own e.source) (is_listed listing.Exemptions e.kind) h.0 h.1
+own-exemption e h = both (is_own e.source) (is_exemption e.kind) h.0 (listed-exempts e.kind h.1)
 
 abbrev pub ConfigStands : Found ConfigContent → Type 0
-ConfigStands found = IsConfig found.content
+ConfigStands found = IsConfig found.content × AreUndated found.content.exemptions
 
 pub config-stands : (ms : Members) → Rising ms → IfOk (config_file_told ms) ConfigStands
 config-stands ms rise =
@@ -130,10 +151,14 @@ config-stands ms rise =
     bind-keeps (StandOnce listing.Exemptions) ConfigStands
     (entries_of exemption_told (codes "top") [] (codes "exemptions") ms) _
     (entries-once listing.Exemptions exemption_told exemptions-listed (codes "top") [] (codes "exemptions") ms
-    (rising-at (codes "top") (codes "exemptions") ms rise)) (λ exemptions once. record {
-      named_once = apart-pairs (HasOther peer_name) peers.content named.0;
-      by_key = up;
-      kinds = All-weaker (IsOf listing.Exemptions) (λ e. is_own_exemption e ≡ true) own-exemption exemptions.content
-          once.1;
-      once = distinct-apart exemptions.content once.0;
-    })))))
+    (rising-at (codes "top") (codes "exemptions") ms rise)) (λ exemptions once. (
+      record {
+        named_once = apart-pairs (HasOther peer_name) peers.content named.0;
+        by_key = up;
+        kinds = All-weaker (IsOf listing.Exemptions) (λ e. is_own_exemption e ≡ true) own-exemption exemptions.content
+            once.1;
+        once = distinct-apart exemptions.content once.0;
+      },
+      All-weaker (IsOf listing.Exemptions) (λ e. has_last_day e.kind ≡ false) (λ e h. listed-undated e.kind h.1)
+          exemptions.content once.1,
+    ))))))

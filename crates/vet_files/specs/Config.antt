@@ -1,5 +1,5 @@
 -- The tables of a config file (The Cargo Vet Book, config file; what is counted is ours).
-use Rattle.std.specs.Prelude.{Bool, List, [], Option, Ok, Err, if◌then◌else◌}
+use Rattle.std.specs.Prelude.{Bool, List, [], Option, None, Ok, Err, if◌then◌else◌}
 use Rattle.toml.specs.Data.{Data, Members, as_table}
 use Rattle.vet_base.specs.Gives.{Told, found_or, ◌>>=◌}
 use Rattle.vet_base.specs.Names.{NameSet}
@@ -106,12 +106,13 @@ policies_told ms = table_at TOP POLICY ms >>= all_policies_told
 
 -- ---- `exemptions`
 
+-- the exemption of a table, which has no last day: `last-day` is a key that is not known, and is counted
 abbrev pub exemption_told : Reading Entry
 exemption_told name path ms =
     required a_version path VERSION ms >>= λ version.
     required names path CRITERIA ms >>= λ criteria.
     optional a_flag path SUGGEST ms >>= λ suggest. optional a_text path NOTES ms >>= λ notes.
-    Ok (found_one (own_entry name (Exemption version suggest) criteria notes) (unknown_keys kind.Exemption ms))
+    Ok (found_one (own_entry name (Exemption version suggest None) criteria notes) (unknown_keys kind.Exemption ms))
 
 -- ---- the file
 

@@ -1,5 +1,6 @@
 -- The tables in which entries are written (The Cargo Vet Book, audits and config files).
-use Rattle.std.specs.Prelude.{pos, ◌&&◌, not, Bool, true, false, List, [], ◌∷◌, Option, Some, filter, map, option_map}
+use Rattle.std.specs.Prelude.{pos, ◌&&◌, not, Bool, true, false, List, [], ◌∷◌, Option, Some, None, filter, map}
+use Rattle.std.specs.Prelude.{option_map}
 use Rattle.std.specs.FinSet as set
 use Rattle.std.specs.Str.{bytes_eq}
 use Rattle.toml.specs.Data.{Data, string, integer, boolean, array, table, Items, Members}
@@ -47,7 +48,7 @@ entry_fields criteria notes (Wildcard window grant) =
 entry_fields criteria notes (Trusted window) =
     (CRITERIA, Some criteria) ∷ (END, Some (string (day_text window.last))) ∷ (NOTES, notes)
     ∷ (START, Some (string (day_text window.first))) ∷ (USER_ID, Some (integer (pos window.user))) ∷ []
-entry_fields criteria notes (Exemption version suggest) =
+entry_fields criteria notes (Exemption version suggest last) =
     (CRITERIA, Some criteria) ∷ (NOTES, notes) ∷ (SUGGEST, some_flag suggest)
     ∷ (VERSION, Some (string (version_text version))) ∷ []
 
@@ -66,14 +67,14 @@ entry_table e = fields (entry_fields (set_data e.criteria) (some_text e.notes) e
 
 -- ---- lists of entries, by package
 
--- the kinds whose entries stand in a table of lists
+-- the kinds whose entries stand in a table of lists; no table has exemptions with a last day, for which there is no key
 abbrev pub is_listed : Listing → Kind → Bool
 is_listed listing.Audits (Full v a) = true
 is_listed listing.Audits (Delta d a) = true
 is_listed listing.Audits (Violation r a) = true
 is_listed listing.WildcardAudits (Wildcard w g) = true
 is_listed listing.Trusted (Trusted w) = true
-is_listed listing.Exemptions (Exemption v s) = true
+is_listed listing.Exemptions (Exemption v s None) = true
 is_listed _ _ = false
 
 -- the entries that stand there, less those of excluded packages, in order

@@ -24,14 +24,15 @@ use Rattle.vet_entries.specs.declared.entry.Entry.{Entry}
 use Rattle.vet_entries.specs.declared.peer_settings.PeerSettings.{PeerSettings}
 use Rattle.vet_entries.specs.declared.publisher_records.PackagePublishers.{PackagePublishers}
 use Rattle.vet_files.specs.Imports.{imported_name}
+use Rattle.vet_files.specs.SameContent.{AreUndated}
 use Rattle.vet_files.specs.declared.audits_file.AuditsContent.{AuditsContent}
 use Rattle.vet_files.specs.declared.config_file.ConfigContent.{ConfigContent}
 use Rattle.vet_files.specs.declared.imports_file.ImportedPeer.{ImportedPeer}
 use Rattle.vet_files.specs.declared.imports_file.ImportsContent.{ImportsContent}
 
 -- the criteria of the audits file; its entries and then the exemptions, each once; the peers of the config file and
--- those of
--- the imports file, by name; the publisher records by package, the policies by key; and what else the config file says
+-- those of the imports file, by name; the publisher records by package, the policies by key; and what else the config
+-- file says
 pub record FilesValue : Type 0 where
   pub criteria : List Criterion
   pub entries : List Entry
@@ -91,6 +92,7 @@ pub record IsFiles (f : FilesValue) : Type 0 where
   pub further : All (λ c. is_built_in c.name ≡ false) f.criteria
   pub named_once : NamedOnce (λ (c : Criterion). c.name) f.criteria
   pub own : All (λ e. is_own e.source ≡ true) f.entries
+  pub undated : AreUndated f.entries
   pub once : distinct f.entries ≡ f.entries
   pub settings_by_name : IsByKey (slice_cmp nat_cmp) settings_name f.settings
   pub contents_by_name : IsByKey (slice_cmp nat_cmp) imported_name f.contents

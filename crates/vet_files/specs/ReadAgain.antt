@@ -1,5 +1,5 @@
 -- What is written is read again as what it was written of (ours).
-use Rattle.std.specs.Prelude.{◌≡◌, Bool, true, List, Some, Ok}
+use Rattle.std.specs.Prelude.{◌≡◌, Bool, true, not, List, Some, Ok}
 use Rattle.std.specs.FinSet as set
 use Rattle.std.specs.List.{All}
 use Rattle.std.specs.Option.{IfSome}
@@ -11,6 +11,7 @@ use Rattle.vet_base.specs.Words.{Bytes, Key, Name, Path}
 use Rattle.vet_base.specs.declared.criterion.Criterion.{Criterion}
 use Rattle.vet_demand.specs.PolicyKey.{key_text, read_key}
 use Rattle.vet_demand.specs.declared.policies.KeyedPolicy.{KeyedPolicy}
+use Rattle.vet_entries.specs.Kind.{has_last_day}
 use Rattle.vet_entries.specs.PeerContent.{is_own, is_peer_kind}
 use Rattle.vet_entries.specs.declared.entry.Entry.{Entry}
 use Rattle.vet_entries.specs.declared.kind.Audit.{Audit}
@@ -54,11 +55,11 @@ reading_of whose (Delta d a) = audit_told whose
 reading_of whose (Violation r a) = audit_told whose
 reading_of whose (Wildcard w g) = wildcard_told
 reading_of whose (Trusted w) = trusted_told whose
-reading_of whose (Exemption v s) = exemption_told
+reading_of whose (Exemption v s l) = exemption_told
 
--- whether entries of a kind are taken: of a peer not all
+-- whether entries of a kind are taken: of a peer not all, and of one's own none with a last day, which no file says
 abbrev pub is_taken : Whose → Kind → Bool
-is_taken Ours kind = true
+is_taken Ours kind = not (has_last_day kind)
 is_taken Peers kind = is_peer_kind kind
 
 -- an entry's table is read as the entry, and nothing in it is passed over

@@ -9,19 +9,18 @@ use Rattle.vet_base.specs.declared.criterion.Criterion.{Criterion}
 use Rattle.vet_base.specs.declared.limits.TheConstants.{MOST_PEER_CRITERIA}
 use Rattle.vet_demand.specs.Policies.{IsInKeyOrder}
 use Rattle.vet_entries.specs.Distinct.{distinct}
+use Rattle.vet_entries.specs.Kind.{has_last_day, is_exemption}
 use Rattle.vet_entries.specs.PeerContent.{is_own, is_peer_kind}
 use Rattle.vet_entries.specs.declared.entry.Entry.{Entry}
 use Rattle.vet_entries.specs.declared.kind.Kind.{Kind}
 use Rattle.vet_entries.specs.declared.peer_settings.PeerSettings.{PeerSettings}
 use Rattle.vet_entries.specs.declared.publisher_records.PackagePublishers.{PackagePublishers}
-use Rattle.vet_files.specs.EntryTables.{is_listed}
 use Rattle.vet_files.specs.ImportsTable.{excluded_of}
 use Rattle.vet_files.specs.Publishers.{in_order}
 use Rattle.vet_files.specs.declared.audits_file.AuditsContent.{AuditsContent}
 use Rattle.vet_files.specs.declared.config_file.ConfigContent.{ConfigContent}
 use Rattle.vet_files.specs.declared.imports_file.ImportedPeer.{ImportedPeer}
 use Rattle.vet_files.specs.declared.imports_file.ImportsContent.{ImportsContent}
-use Rattle.vet_files.specs.declared.write.sections.Listing.TheVariants.{Exemptions}
 use Rattle.vet_files.specs.declared.read.whose.Whose.{Whose}
 use Rattle.vet_files.specs.declared.read.whose.Whose.TheVariants.{Ours, Peers}
 
@@ -29,7 +28,7 @@ use Rattle.vet_files.specs.declared.read.whose.Whose.TheVariants.{Ours, Peers}
 
 -- the entries that an audits file can give: own ones, as each speaks of its own, of a kind that it may have
 abbrev pub is_kind_of : Whose → Kind → Bool
-is_kind_of Ours kind = not (is_listed Exemptions kind)
+is_kind_of Ours kind = not (is_exemption kind)
 is_kind_of Peers kind = is_peer_kind kind
 
 abbrev pub is_entry_of : Whose → Entry → Bool
@@ -57,24 +56,32 @@ SameAudits a b = SameItems a.criteria b.criteria × SameItems a.entries b.entrie
 
 -- ---- config files
 
--- an exemption of one's own
+-- an exemption of one's own, with a last day or without
 abbrev pub is_own_exemption : Entry → Bool
-is_own_exemption e = is_own e.source && is_listed Exemptions e.kind
+is_own_exemption e = is_own e.source && is_exemption e.kind
 
--- what a config file can give, in any order
+-- entries but for those with a last day, which no file can have
+abbrev pub undated : List Entry → List Entry
+undated entries = filter (λ e. not (has_last_day e.kind)) entries
+
+-- none of some entries has a last day
+abbrev pub AreUndated : List Entry → Type 0
+AreUndated entries = All (λ e. has_last_day e.kind ≡ false) entries
+
+-- what a config file can give, in any order, and exemptions with a last day, which it leaves out
 pub record IsConfig (content : ConfigContent) : Type 0 where
   pub named_once : NamedOnce (λ (p : PeerSettings). p.name) content.peers
   pub by_key : IsInKeyOrder content.policies
   pub kinds : All (λ e. is_own_exemption e ≡ true) content.exemptions
   pub once : distinct content.exemptions ≡ content.exemptions
 
--- the same settings, policies and exemptions
+-- settings, policies and exemptions as they are, and as they are read again: less the exemptions with a last day
 pub record SameConfig (a b : ConfigContent) : Type 0 where
   pub vet_version : a.vet_version ≡ b.vet_version
   pub default_criteria : a.default_criteria ≡ b.default_criteria
   pub peers : SameItems a.peers b.peers
   pub policies : a.policies ≡ b.policies
-  pub exemptions : SameItems a.exemptions b.exemptions
+  pub exemptions : SameItems (undated a.exemptions) b.exemptions
 
 -- ---- imports files
 

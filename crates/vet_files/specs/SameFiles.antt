@@ -2,7 +2,7 @@
 use Rattle.std.specs.Prelude.{◌≡◌}
 use Rattle.vet_base.specs.Items.{SameItems}
 use Rattle.vet_files.specs.FilesContent.{FilesValue, files_of}
-use Rattle.vet_files.specs.SameContent.{IsConfig, IsImports, SameAudits, SameConfig}
+use Rattle.vet_files.specs.SameContent.{AreUndated, IsConfig, IsImports, SameAudits, SameConfig}
 use Rattle.vet_files.specs.declared.audits_file.AuditsContent.{AuditsContent}
 use Rattle.vet_files.specs.declared.config_file.ConfigContent.{ConfigContent}
 use Rattle.vet_files.specs.declared.imports_file.ImportsContent.{ImportsContent}
@@ -25,6 +25,6 @@ SameLists i j = SameItems i.peers j.peers × SameItems i.publishers j.publishers
 -- files whose lists are the same as sets hold the same
 abbrev pub SameListsAreSame : Type 0
 SameListsAreSame =
-    (a b : AuditsContent) (c d : ConfigContent) (i j : ImportsContent) → IsConfig c → IsConfig d → IsImports i
-    → IsImports j
+    (a b : AuditsContent) (c d : ConfigContent) (i j : ImportsContent) → IsConfig c → AreUndated c.exemptions
+    → IsConfig d → IsImports i → IsImports j
     → SameAudits a b → SameConfig c d → SameLists i j → SameFiles (files_of a c i) (files_of b d j)

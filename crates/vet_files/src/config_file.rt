@@ -7,7 +7,7 @@ ghost use Rattle.vet_files.specs.Config.{config_file_told, config_lists_told, co
 ghost use Rattle.vet_files.specs.ConfigTable.{config_table};
 ghost use Rattle.vet_files.specs.Notices.{sum_of_notices};
 ghost use Rattle.vet_files.specs.ReadAgain.{GivesBack};
-ghost use Rattle.vet_files.specs.SameContent.{IsConfig, SameConfig};
+ghost use Rattle.vet_files.specs.SameContent.{AreUndated, IsConfig, SameConfig};
 
 use crate::field::optional;
 use crate::found::Found;
@@ -30,7 +30,7 @@ use vet_entries::entry::Entry;
 use vet_entries::peer_settings::PeerSettings;
 
 /// What a config file holds: peers in the order of their names' bytes, policies in the order of their keys,
-/// and exemptions in the order of reading, each once.
+/// and exemptions in the order of reading, each once. Exemptions with a last day may be among them, which no file says.
 #[derive(Drop)]
 pub struct ConfigContent {
     /// The version of cargo-vet that the file names.
@@ -50,6 +50,7 @@ pub struct ConfigContent {
 pub fn read_config(alloc: Global, bytes: &[u8]) -> Result<Found<ConfigContent>, Refusal>
     ensures told { Gives (λ f. f) (config_told bytes.now) result }
     ensures stands { IfOk result (λ f. IsConfig f.content) }
+    ensures undated { IfOk result (λ f. AreUndated f.content.exemptions) }
 {
     let file = read_document(alloc, bytes)?;
     read_config_file(alloc, &file)
@@ -57,6 +58,7 @@ pub fn read_config(alloc: Global, bytes: &[u8]) -> Result<Found<ConfigContent>, 
 
 /// A config file of some content (The Cargo Vet Book, config file; its layout is that of `toml`). What it says is
 /// `config_table` of the content; where a config file can give the content, it is read again as the same one.
+/// Exemptions with a last day are left out.
 ///
 /// Refused for want of memory alone.
 pub fn write_config(alloc: Global, content: &ConfigContent) -> Result<String, Refusal>

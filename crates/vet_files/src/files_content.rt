@@ -13,7 +13,7 @@ ghost use Rattle.vet_entries.specs.PeerSettings.{settings_name};
 ghost use Rattle.vet_entries.specs.PublisherRecords.{package_of, records_total};
 ghost use Rattle.vet_files.specs.FilesContent.{IsFiles, each_is_set, files_of, is_set};
 ghost use Rattle.vet_files.specs.Imports.{imported_name};
-ghost use Rattle.vet_files.specs.SameContent.{IsAudits, IsConfig, IsImports};
+ghost use Rattle.vet_files.specs.SameContent.{AreUndated, IsAudits, IsConfig, IsImports};
 ghost use Rattle.vet_files.specs.SameFiles.{SameListsAreSame};
 
 use crate::audits_file::AuditsContent;
@@ -35,7 +35,8 @@ use vet_entries::peer_settings::PeerSettings;
 use vet_entries::publisher_records::PackagePublishers;
 
 /// What three files hold: an audits file, a config file and an imports file. One's own entries and then the
-/// exemptions stand in the order of reading, each once; no criterion is named as a built-in one or as another.
+/// exemptions stand in the order of reading, each once, and none has a last day; no criterion is named as a built-in
+/// one or as another.
 pub struct FilesContent {
     criteria: Vec<Criterion>,
     entries: Vec<Entry>,
@@ -99,8 +100,9 @@ impl Drop for FilesContent {
 }
 
 impl FilesContent {
-    /// What three files hold. Asks that each is what its reader can give. Takes a time of n log n, moves what it is
-    /// given, and holds a copy of each entry while it looks for doubles. Refused: `NoMemory`.
+    /// What three files hold. Asks that each is what its reader can give, so that no exemption has a last day. Takes a
+    /// time of n log n, moves what it is given, and holds a copy of each entry while it looks for doubles. Refused:
+    /// `NoMemory`.
     pub fn of(
         alloc: Global,
         audits: AuditsContent,
@@ -109,6 +111,7 @@ impl FilesContent {
     ) -> Result<FilesContent, Refusal>
         requires audits { IsAudits audits }
         requires config { IsConfig config }
+        requires undated { AreUndated config.exemptions }
         requires imports { IsImports imports }
         ensures ok { IfOk result (λ f. f ≡ files_of audits config imports) }
         ensures memory { IfErr result (λ e. e ≡ Refusal.NoMemory) }
@@ -147,7 +150,8 @@ impl FilesContent {
         self.criteria.as_slice()
     }
 
-    /// The entries of the audits file and then the exemptions, in the order of reading, each once. Takes no memory.
+    /// The entries of the audits file and then the exemptions, in the order of reading, each once. None has a last day.
+    /// Takes no memory.
     pub fn entries(&self) -> &[Entry]
         ensures { result.now ≡ self.now.entries }
     {
@@ -317,7 +321,7 @@ fn has_more_records(packages: &[PackagePublishers], most: usize) -> bool
     false
 }
 
-/// Files whose lists are the same as sets hold the same: a law, which does nothing.
+/// Files whose lists are the same as sets hold the same, where no exemption has a last day: a law, which does nothing.
 pub fn same_lists_are_same()
     ensures { SameListsAreSame }
 {}

@@ -1,8 +1,9 @@
 -- Facts, made of what is read of their rows.
-use Rattle.std.proofs.Common.{◌≡◌, List, [], ◌∷◌, ◌++◌, ◌∙◌, map, refl, sym, ap, subst, inl, inr}
+use Rattle.std.proofs.Common.{◌≡◌, List, [], ◌∷◌, ◌++◌, ◌∙◌, Option, map, refl, sym, ap, subst, inl, inr}
 use Rattle.std.specs.List.{All, flat_map}
 use Rattle.std.proofs.lemmas.List.{map-append}
 use Rattle.vet_base.specs.Criteria.{Criteria}
+use Rattle.vet_base.specs.Day.{DayValue}
 use Rattle.vet_base.specs.FurtherCriteria.{further}
 use Rattle.vet_base.specs.Items.{IsIn, SameItems}
 use Rattle.vet_base.specs.Words.{Name}
@@ -21,10 +22,11 @@ use Rattle.vet_entries.specs.declared.peer_settings.PeerSettings.{PeerSettings}
 use Rattle.vet_entries.specs.declared.publisher.Publisher.{Publisher}
 use Rattle.vet_entries.specs.declared.publisher_records.PackagePublishers.{PackagePublishers}
 use Rattle.vet_item_rows.specs.Columns.{peer_of_source}
+use Rattle.vet_item_rows.specs.DayRows.{IsPlain}
 use Rattle.vet_item_rows.specs.EntryRows.{all_entries, entry_row, package_rows}
 use Rattle.vet_item_rows.specs.Gathered.{items_at}
-use Rattle.vet_item_rows.specs.ReadFacts.{IsFiledPublisher, IsPeerSettings, IsSourcedCriterion, filed_publisher_row}
-use Rattle.vet_item_rows.specs.ReadFacts.{sourced_criterion_row}
+use Rattle.vet_item_rows.specs.ReadFacts.{IsFiledPublisher, IsPeerSettings, IsRowEntry, IsSourcedCriterion}
+use Rattle.vet_item_rows.specs.ReadFacts.{filed_publisher_row, sourced_criterion_row}
 use Rattle.vet_item_rows.specs.ReadHeld.{AreFactsValues, AreInForm, AreItemsOf, HasItsEntries}
 use Rattle.vet_item_rows.specs.ReadHeld.{IsPackageValue, IsPeerValue, entries_of_peer, peer_sourced, settings_of}
 use Rattle.vet_item_rows.specs.ReadHeld.{sourced}
@@ -173,15 +175,18 @@ module _ (facts : Facts) (values : AreFactsValues facts) where
             (can.settings.name, in_all IsCriterion (further p.0.content.table) can.criteria x.0 x.1.0)
       ])
 
-  all_entries_can : All IsHeldEntry (sourced_entries facts)
-  all_entries_can =
-      all_in IsHeldEntry (sourced_entries facts)
-      (λ h i. elim (in_append facts.entries (flat_map entries_of_peer facts.peers) h i) [
-        | inl own ↦ in_all IsHeldEntry facts.entries values.entries h own
-        | inr other ↦ let p = in_flat entries_of_peer facts.peers h other in
-            in_all IsHeldEntry p.0.content.entries (in_all IsPeerValue facts.peers values.peers p.0
-            p.1.0).entries h p.1.1
-      ])
+  entry_can : (h : HeldEntry) → IsIn h (sourced_entries facts) → IsHeldEntry h
+  entry_can h i = elim (in_append facts.entries (flat_map entries_of_peer facts.peers) h i) [
+    | inl own ↦ in_all IsHeldEntry facts.entries values.entries h own
+    | inr other ↦ let p = in_flat entries_of_peer facts.peers h other in
+        in_all IsHeldEntry p.0.content.entries (in_all IsPeerValue facts.peers values.peers p.0
+        p.1.0).entries h p.1.1
+  ]
+
+  all_entries_can : All IsPlain (sourced_entries facts) → All IsRowEntry (sourced_entries facts)
+  all_entries_can plain =
+      all_in IsRowEntry (sourced_entries facts)
+      (λ h i. (entry_can h i, in_all IsPlain (sourced_entries facts) plain h i))
 
   all_settings_can : All IsPeerSettings (map settings_of facts.peers)
   all_settings_can =
@@ -199,7 +204,7 @@ module _ (facts : Facts) (values : AreFactsValues facts) where
 
 -- ---- so they are read
 
-these_rows : (written table shown rows : List Row) → shown ≡ rows → written ≡ table → SameItems rows table
+pub these_rows : (written table shown rows : List Row) → shown ≡ rows → written ≡ table → SameItems rows table
     → SameItems shown written
 these_rows written table shown rows is are same =
     subst (λ (rs : List Row). SameItems rs written) (sym is) (subst (SameItems rows) (sym are) same)
@@ -225,20 +230,20 @@ module _ (facts : Facts) (values : AreFactsValues facts) where
         they_stand IsSourcedCriterion sourced_criterion_row shown (sourced_criteria facts)
         (all_criteria_can facts values) criteria_same
 
-  module _ (shown rows : List Row) (is : shown ≡ rows)
+  module _ (plain : All IsPlain (sourced_entries facts)) (shown rows : List Row) (is : shown ≡ rows)
       (same : SameItems rows (all_entries facts)) where
     entries_same : SameItems shown (map entry_row (sourced_entries facts))
     entries_same = these_rows (map entry_row (sourced_entries facts)) _ shown rows is (entry_rows_are facts) same
 
     pub entries_read : (found : List HeldEntry)
-        → AreThose (IsWritten IsHeldEntry entry_row) shown found → SameItems found (sourced_entries facts)
+        → AreThose (IsWritten IsRowEntry entry_row) shown found → SameItems found (sourced_entries facts)
     entries_read =
-        items_read IsHeldEntry entry_row shown (sourced_entries facts) (all_entries_can facts values) entries_same
+        items_read IsRowEntry entry_row shown (sourced_entries facts) (all_entries_can facts values plain) entries_same
 
     pub entries_stand : (xs : List HeldEntry)
-        × EachStandsFor (IsWritten IsHeldEntry entry_row) shown xs
+        × EachStandsFor (IsWritten IsRowEntry entry_row) shown xs
     entries_stand =
-        they_stand IsHeldEntry entry_row shown (sourced_entries facts) (all_entries_can facts values) entries_same
+        they_stand IsRowEntry entry_row shown (sourced_entries facts) (all_entries_can facts values plain) entries_same
 
   module _ (shown rows : List Row) (is : shown ≡ rows)
       (same : SameItems rows (map (λ (p : HeldPeer). peer_row p.settings) facts.peers)) where
@@ -281,8 +286,9 @@ module _ (facts : Facts) (values : AreFactsValues facts) where
 
 -- facts are those of their parts
 pub same_facts : (facts : Facts) {criteria : Criteria} {entries : List HeldEntry} {peers : List HeldPeer}
-    {publishers : List PackagePublishers} → criteria ≡ facts.criteria → entries ≡ facts.entries → peers ≡ facts.peers
-    → publishers ≡ facts.publishers
+    {publishers : List PackagePublishers} {today : Option DayValue} → criteria ≡ facts.criteria
+    → entries ≡ facts.entries → peers ≡ facts.peers → publishers ≡ facts.publishers → today ≡ facts.today
     → ◌≡◌ {A = Facts}
-    (record { criteria = criteria; entries = entries; peers = peers; publishers = publishers }) facts
-same_facts facts a b c d = λ i. record { criteria = a i; entries = b i; peers = c i; publishers = d i }
+    (record { criteria = criteria; entries = entries; peers = peers; publishers = publishers; today = today }) facts
+same_facts facts a b c d e =
+    λ i. record { criteria = a i; entries = b i; peers = c i; publishers = d i; today = e i }

@@ -1,5 +1,6 @@
 pub mod CellsRead
 pub mod ColumnsRead
+pub mod DaysRead
 pub mod DependenciesRead
 pub mod DesksRead
 pub mod FactsMade

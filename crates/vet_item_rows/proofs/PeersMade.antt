@@ -44,7 +44,7 @@ use Rattle.vet_item_rows.proofs.Gathering.{pairs_mapped}
 pub by_number : (xs : List HeldEntry) → IsByKey nat_cmp entry_number xs → AreByNumber xs
 by_number xs up i j d l m = ranked (get_or xs i d).number (get_or xs j d).number Less (sym (up i j d l m))
 
-by_key : (xs : List HeldEntry) → AreByNumber xs → IsByKey nat_cmp entry_number xs
+pub by_key : (xs : List HeldEntry) → AreByNumber xs → IsByKey nat_cmp entry_number xs
 by_key xs up i j d l m = sym (nat_cmp_is (get_or xs i d).number (get_or xs j d).number Less (up i j d l m))
 
 -- entries in whatever order are those in the order of their numbers

@@ -50,7 +50,7 @@ abbrev pub with_window : Window → KindColumns → KindColumns
 with_window window said =
     record said { user = pos window.user; day1 = day_number window.first; day2 = day_number window.last }
 
--- with what the entry says of its package
+-- with what the entry says of its package, but for a last day
 abbrev pub with_kind : Kind → KindColumns → KindColumns
 with_kind (kind.Full v audit) said = with_audit audit (record said { kind = pos 0; a = version_text v })
 with_kind (kind.Delta d audit) said =
@@ -58,7 +58,7 @@ with_kind (kind.Delta d audit) said =
 with_kind (kind.Violation r audit) said = with_audit audit (record said { kind = pos 2; a = r })
 with_kind (kind.Wildcard window grant) said = with_grant grant (with_window window (record said { kind = pos 3 }))
 with_kind (kind.Trusted window) said = with_window window (record said { kind = pos 4 })
-with_kind (kind.Exemption v s) said = record said { kind = pos 5; a = version_text v; suggest = flag s }
+with_kind (kind.Exemption v s last) said = record said { kind = pos 5; a = version_text v; suggest = flag s }
 
 -- the row of an entry of whose kind these are the columns
 abbrev pub row_saying : HeldEntry → KindColumns → Row

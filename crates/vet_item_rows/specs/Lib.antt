@@ -1,4 +1,5 @@
 pub mod Columns
+pub mod DayRows
 pub mod DeskRows
 pub mod EntryRows
 pub mod Gathered

@@ -1,21 +1,23 @@
 -- What rows of criteria, entries, publishers and peers stand for (ours).
-use Rattle.std.specs.Prelude.{◌≡◌}
+use Rattle.std.specs.Prelude.{◌≡◌, ℕ}
 use Rattle.std.specs.FinMap as map
 use Rattle.std.specs.List.{All}
+use Rattle.vet_base.specs.Day.{DayValue}
 use Rattle.vet_base.specs.Names.{NameSet}
 use Rattle.vet_base.specs.Words.{Bytes, Name}
 use Rattle.vet_entries.specs.CriteriaMap.{NamesByName}
 use Rattle.vet_entries.specs.declared.criteria_map.MappedCriterion.{MappedCriterion}
+use Rattle.vet_entries.specs.declared.facts.HeldEntry.{HeldEntry}
 use Rattle.vet_entries.specs.declared.kind.Kind.{Kind}
 use Rattle.vet_entries.specs.declared.peer_settings.PeerSettings.{PeerSettings}
 use Rattle.vet_entries.specs.declared.publisher.Publisher.{Publisher}
 use Rattle.vet_item_rows.specs.Columns.{packed_map, peer_of_source}
+use Rattle.vet_item_rows.specs.DayRows.{IsPlain}
 use Rattle.vet_item_rows.specs.EntryRows.{publisher_row, with_kind}
 use Rattle.vet_item_rows.specs.KindColumns.{KindColumns}
 use Rattle.vet_item_rows.specs.SettingRows.{criterion_row}
-use Rattle.vet_item_rows.specs.Values.{AreNames, ArePackages, AreTexts, IsCriterion, IsKind, IsName, IsPackage}
-use Rattle.vet_item_rows.specs.Values.{IsPublisher}
-use Rattle.vet_item_rows.specs.Values.{IsSource}
+use Rattle.vet_item_rows.specs.Values.{AreNames, ArePackages, AreTexts, IsCriterion, IsDay, IsHeldEntry, IsKind, IsName}
+use Rattle.vet_item_rows.specs.Values.{IsPackage, IsPublisher, IsSource}
 use Rattle.vet_item_rows.specs.declared.read.criteria.SourcedCriterion.{SourcedCriterion}
 use Rattle.vet_item_rows.specs.declared.read.gathered.WithKey.{WithKey}
 use Rattle.vet_tables.specs.Cells.{Row}
@@ -30,9 +32,19 @@ sourced_criterion_row c = criterion_row (peer_of_source c.source) c.criterion
 
 -- ---- entries
 
+-- an entry can be held, and its row says all of it: it has no last day
+abbrev pub IsRowEntry : HeldEntry → Type 0
+IsRowEntry held = IsHeldEntry held × IsPlain held
+
 -- columns say this of a package, whatever those hold that the kind doesn't use
 abbrev pub IsSaidIn : KindColumns → Kind → Type 0
 IsSaidIn said kind = IsKind kind × ((plain : KindColumns) × (said ≡ with_kind kind plain))
+
+-- ---- last days
+
+-- a day under a number
+abbrev pub IsFiledDay : WithKey ℕ DayValue → Type 0
+IsFiledDay filed = IsDay filed.item
 
 -- ---- publisher records
 

@@ -1,4 +1,4 @@
--- What the rows of criteria, entries, publishers and peers stand for together (ours).
+-- What the rows of criteria, entries, publishers, peers and days stand for together (ours).
 use Rattle.std.specs.Prelude.{◌≡◌, ◌≤◌, List, ◌++◌, map}
 use Rattle.std.specs.Cmp.Lexicographic.{slice_cmp}
 use Rattle.std.specs.List.{All, flat_map}
@@ -20,13 +20,15 @@ use Rattle.vet_entries.specs.declared.facts.HeldEntry.{HeldEntry}
 use Rattle.vet_entries.specs.declared.held_peer.HeldPeer.{HeldPeer}
 use Rattle.vet_entries.specs.declared.peer_settings.PeerSettings.{PeerSettings}
 use Rattle.vet_entries.specs.declared.publisher_records.PackagePublishers.{PackagePublishers}
+use Rattle.vet_item_rows.specs.DayRows.{IsPlain, last_rows, today_rows}
 use Rattle.vet_item_rows.specs.EntryRows.{all_entries, package_rows}
 use Rattle.vet_item_rows.specs.ReadFacts.{IsPeerSettings}
 use Rattle.vet_item_rows.specs.ReadPeers.{IsHeldPeer}
 use Rattle.vet_item_rows.specs.SettingRows.{all_criteria, peer_row}
-use Rattle.vet_item_rows.specs.Values.{IsCriterion, IsHeldEntry, IsPackage, IsPublisher}
+use Rattle.vet_item_rows.specs.Values.{IsCriterion, IsDay, IsHeldEntry, IsPackage, IsPublisher, MayBe}
 use Rattle.vet_item_rows.specs.declared.read.criteria.SourcedCriterion.{SourcedCriterion}
 use Rattle.vet_tables.specs.Cells.{RowsValue}
+use Rattle.vet_tables.specs.declared.table_name.DaysTable.TheVariants.{Lasts, Today}
 use Rattle.vet_tables.specs.declared.table_name.FactsTable.TheVariants.{Criteria as CriteriaTable, Entries, Peers}
 use Rattle.vet_tables.specs.declared.table_name.FactsTable.TheVariants.{Publishers}
 use Rattle.vet_tables.specs.declared.table_name.TableName.TheVariants as table
@@ -41,8 +43,12 @@ AreFrom source entries = All (λ h. h.entry.source ≡ source) entries
 abbrev pub HasItsEntries : HeldPeer → Type 0
 HasItsEntries p = AreFrom (Peer p.settings.name) p.content.entries
 
--- criteria are a table; entries, peers and records are in their order, each entry is of its source, and there are not
--- too many records
+-- no entry of a peer has a last day
+abbrev pub HasNoLastDays : HeldPeer → Type 0
+HasNoLastDays p = All IsPlain p.content.entries
+
+-- criteria are a table; entries, peers and records are in their order, each entry is of its source, only own ones
+-- have a last day, and there are not too many records
 pub record AreInForm (facts : Facts) : Type 0 where
   pub criteria : IsTable facts.criteria
   pub by_number : AreByNumber facts.entries
@@ -50,6 +56,7 @@ pub record AreInForm (facts : Facts) : Type 0 where
   pub by_name : IsByKey (slice_cmp nat_cmp) peer_name facts.peers
   pub peers : All IsHeldPeer facts.peers
   pub theirs : All HasItsEntries facts.peers
+  pub plain : All HasNoLastDays facts.peers
   pub packages : IsByName facts.publishers
   pub in_order : All (λ p. IsInOrder p.publishers) facts.publishers
   pub few : records_total facts.publishers ≤ MOST_PUBLISHERS
@@ -73,6 +80,7 @@ pub record AreFactsValues (facts : Facts) : Type 0 where
   pub entries : All IsHeldEntry facts.entries
   pub peers : All IsPeerValue facts.peers
   pub publishers : All IsPackageValue facts.publishers
+  pub today : MayBe IsDay facts.today
 
 -- ---- what is read of them
 
@@ -105,9 +113,11 @@ pub record AreItemsOf (criteria : List SourcedCriterion) (entries : List HeldEnt
 
 -- ---- rows
 
--- the rows of four tables are those of some facts, in whatever order
+-- the rows of six tables are those of some facts, in whatever order
 pub record AreRowsOf (rows : RowsValue) (facts : Facts) : Type 0 where
   pub criteria : SameItems (rows (table.Facts CriteriaTable)) (all_criteria facts)
   pub entries : SameItems (rows (table.Facts Entries)) (all_entries facts)
   pub publishers : SameItems (rows (table.Facts Publishers)) (flat_map package_rows facts.publishers)
   pub peers : SameItems (rows (table.Facts Peers)) (map (λ peer. peer_row peer.settings) facts.peers)
+  pub today : SameItems (rows (table.Days Today)) (today_rows facts.today)
+  pub lasts : SameItems (rows (table.Days Lasts)) (flat_map last_rows facts.entries)

@@ -78,7 +78,7 @@ IsKind (Delta d a) = (IsVersion d.from × IsVersion d.to) × AreTexts a.who
 IsKind (Violation r a) = IsReq r × AreTexts a.who
 IsKind (Wildcard w g) = IsWindow w × AreTexts g.who
 IsKind (Trusted w) = IsWindow w
-IsKind (Exemption v s) = IsVersion v
+IsKind (Exemption v s last) = IsVersion v × MayBe IsDay last
 
 pub record IsEntry (e : Entry) : Type 0 where
   pub source : IsSource e.source

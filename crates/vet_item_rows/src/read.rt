@@ -3,6 +3,7 @@
 pub(crate) mod cells;
 pub mod columns;
 mod criteria;
+mod days;
 pub(crate) mod desk;
 mod entries;
 pub mod facts;

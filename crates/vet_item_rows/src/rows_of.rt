@@ -1,5 +1,6 @@
 //! The row of each thing that is held, and what its columns hold.
 pub mod columns;
+pub mod day_rows;
 pub mod desk_rows;
 pub mod entry_rows;
 pub mod maps;

@@ -230,6 +230,6 @@ held-nowhere k facts demand name none kept pairs entries = record {
   stands = stands-none k.standing name none
       ∙ sym (ap (stands_by facts.criteria (steps_of facts name) (condemned_of facts name)) pairs);
   kept = subst (λ o. IfSome o (IsKeptOf facts name)) (sym kept) tt;
-  steps = λ _. ap (λ l. flat_map (entry_steps facts.criteria (records_of facts.publishers name))
+  steps = λ _. ap (λ l. flat_map (entry_steps facts.today facts.criteria (records_of facts.publishers name))
       (by_number (λ (e : SourcedEntry). e.held.number) l)) entries;
 }

@@ -5,18 +5,15 @@ use Rattle.std.specs.List.{All, find}
 use Rattle.std.specs.Option.{option_map_or, unwrap_or}
 use Rattle.std.proofs.lemmas.Bool.{cases_Bool}
 use Rattle.std.proofs.lemmas.List.Elements.{All-head, All-tail, All-weaker}
-use Rattle.vet_base.specs.declared.refusal.Refusal.TheVariants.{CriterionInUse}
 use Rattle.vet_base.specs.Criteria.{Criteria}
 use Rattle.vet_base.specs.Day.{DayValue}
 use Rattle.vet_base.specs.Defined.{defined}
 use Rattle.vet_base.specs.Names.{NameSet}
-use Rattle.vet_base.proofs.Telling.{not_refused}
 use Rattle.vet_desk.specs.declared.command.DeskCommand.{DeskCommand}
 use Rattle.vet_desk.specs.declared.review.Review.{Review}
 use Rattle.vet_desk.specs.declared.review.ReviewState.{ReviewState}
 use Rattle.vet_desk.specs.declared.review.ReviewState.TheVariants.{Waiting, Assigned, Finished, Withdrawn}
 use Rattle.vet_desk.specs.Desk.{entry_of}
-use Rattle.vet_desk.specs.Review.{are_open_beyond}
 use Rattle.vet_desk.specs.SoundDesk.{AreKnownTo, HasEntryGiven, HaveEntriesGiven, IsEntryGiven, IsKnownTo}
 use Rattle.vet_desk.proofs.DeskLaws.{known_is_not_beyond, stay_given, stay_known, stays_sound, unnamed_may_go}
 use Rattle.vet_entries.specs.declared.entry.Entry.{Entry}
@@ -27,12 +24,13 @@ use Rattle.vet_register.specs.declared.command.Action.{Action}
 use Rattle.vet_register.specs.declared.command.Action.TheVariants.{SetCriterion, RemoveCriterion, AddEntry, DropEntry}
 use Rattle.vet_register.specs.declared.command.Action.TheVariants.{SetPeer, DropPeer, ImportPeer, SetPublishers}
 use Rattle.vet_register.specs.declared.command.Action.TheVariants.{SetPolicy, DropPolicy, LoadProject, DropProject}
-use Rattle.vet_register.specs.declared.command.Action.TheVariants.{ReplaceFiles, Desk, ClosePeriod}
+use Rattle.vet_register.specs.declared.command.Action.TheVariants.{ReplaceFiles, Desk, ClosePeriod, SetDay}
 use Rattle.vet_register.specs.AtDesk.{added_by, entry_number, if_new, unless_held}
 use Rattle.vet_register.specs.Machine.{desk_by, facts_after, number_after}
 use Rattle.vet_register.specs.Sound.{IsGiven, IsSound, IsSoundAtDesk}
 use Rattle.vet_register.specs.State.{State, demanded}
 use Rattle.vet_register.proofs.Effects.{Passed, passed_at_desk}
+use Rattle.vet_register.proofs.FilesPassed.{what_stays}
 use Rattle.vet_register.proofs.HeldEffects.{same_criteria}
 use Rattle.vet_register.proofs.Known.{known_without, stays_known, unused}
 
@@ -118,8 +116,7 @@ module _ (s : State) (day : DayValue) (h : IsSound s) where
   sound_desk (DropProject n) p = same_desk s _ _ h.desk (omega arith) h.desk.known
   sound_desk (ReplaceFiles f) p =
       same_desk s _ _ h.desk (omega arith)
-      ((known_is_not_beyond (defined f.criteria) s.desk.reviews).0
-      (not_refused (are_open_beyond (defined f.criteria) s.desk.reviews) CriterionInUse p.rules))
+      ((known_is_not_beyond (defined f.criteria) s.desk.reviews).0 (what_stays s day f p.rules).0)
   sound_desk (Desk command) p =
       let checked = (passed_at_desk s day command p).checked in
       let entry = entry_number s command in
@@ -132,3 +129,4 @@ module _ (s : State) (day : DayValue) (h : IsSound s) where
             (entry_given s command h.held.facts.entries.numbers_given) h.desk.entries_given;
       })
   sound_desk ClosePeriod p = same_desk s _ _ h.desk (omega arith) h.desk.known
+  sound_desk SetDay p = same_desk s _ _ h.desk (omega arith) h.desk.known

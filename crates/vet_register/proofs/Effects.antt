@@ -41,7 +41,7 @@ use Rattle.vet_register.specs.declared.command.Action.{Action}
 use Rattle.vet_register.specs.declared.command.Action.TheVariants.{SetCriterion, RemoveCriterion, AddEntry, DropEntry}
 use Rattle.vet_register.specs.declared.command.Action.TheVariants.{SetPeer, DropPeer, ImportPeer, SetPublishers}
 use Rattle.vet_register.specs.declared.command.Action.TheVariants.{SetPolicy, DropPolicy, LoadProject, DropProject}
-use Rattle.vet_register.specs.declared.command.Action.TheVariants.{ReplaceFiles, Desk, ClosePeriod}
+use Rattle.vet_register.specs.declared.command.Action.TheVariants.{ReplaceFiles, Desk, ClosePeriod, SetDay}
 use Rattle.vet_register.specs.declared.verdict.Answer.{Answer}
 use Rattle.vet_register.specs.declared.verdict.Answer.TheVariants.{Already, Accepted}
 use Rattle.vet_register.specs.AtDesk.{added_by, finishes, if_new, unless_held}
@@ -186,6 +186,7 @@ step_passed s day (DropProject n) p = p.limits
 step_passed s day (ReplaceFiles f) p = (files_fit s f p.limits).step
 step_passed s day (Desk command) p = (passed_at_desk s day command p).step
 step_passed s day ClosePeriod p = p.limits
+step_passed s day SetDay p = p.limits
 
 pub step_follows : (s : State) → step_limit s ≡ Ok tt → s.step + 1 ≤ LAST_STEP
 step_follows s h = ltb-false LAST_STEP (s.step + 1) (not_refused _ (TooLarge limit.Step) h)
@@ -211,6 +212,7 @@ next_number_follows s day (Desk command) p h = by (added_by s command) refl
     by None made = omega (arith, h)
     by (Some e) made = ((passed_at_desk s day command p).entry e made).number
 next_number_follows s day ClosePeriod p h = omega (arith, h)
+next_number_follows s day SetDay p h = omega (arith, h)
 
 -- ---- own entries
 
@@ -338,6 +340,7 @@ entries_after s day (ReplaceFiles f) p given h = files_entries s f given h
 entries_after s day (Desk command) p given h = added_entries s (added_by s command)
     (new_is_unheld s.held.facts (entry_of s.desk command)) h
 entries_after s day ClosePeriod p given h = later_entries Own s.held.facts.entries s.next_entry _ (omega arith) h
+entries_after s day SetDay p given h = later_entries Own s.held.facts.entries s.next_entry _ (omega arith) h
 
 -- ---- peers
 
@@ -377,6 +380,7 @@ peers_after s day (DropProject n) p own given h = stay s _ (omega arith) h
 peers_after s day (ReplaceFiles f) p own given h = files_peers s f given own h (files_fit s f p.limits).peers
 peers_after s day (Desk command) p own given h = added_beside s (added_by s command) h
 peers_after s day ClosePeriod p own given h = stay s _ (omega arith) h
+peers_after s day SetDay p own given h = stay s _ (omega arith) h
 
 -- ---- how many entries there are
 
@@ -430,6 +434,7 @@ counted_after s day (ReplaceFiles f) p own given h few = omega
 counted_after s day (Desk command) p own given h few = added_counted s (added_by s command)
     (passed_at_desk s day command p).entry few
 counted_after s day ClosePeriod p own given h few = few
+counted_after s day SetDay p own given h few = few
 
 -- what is held after a command, if its criteria and its publisher records are sound, and what is imported or put in
 -- place is what a reader gives

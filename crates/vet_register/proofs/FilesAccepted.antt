@@ -1,6 +1,6 @@
 -- What is judged of three files, and how their contents stand to what is held of peers.
-use Rattle.std.proofs.Common.{◌≡◌, ◌⊎◌, ◌∙◌, ℕ, ◌+◌, ◌≤◌, ◌&&◌, Bool, true, false, cond, is_some, not, List, [], ◌∷◌}
-use Rattle.std.proofs.Common.{map, Option, Some, None, Result, Ok, Err, inl, inr, refl, sym, ap, subst, arith}
+use Rattle.std.proofs.Common.{◌≡◌, ◌⊎◌, ◌∙◌, ℕ, ◌+◌, ◌≤◌, ◌&&◌, ◌||◌, Bool, true, false, cond, is_some, not, List, []}
+use Rattle.std.proofs.Common.{◌∷◌, map, Option, Some, None, Result, Ok, Err, inl, inr, refl, sym, ap, subst, arith}
 use Rattle.std.specs.FinMap as table
 use Rattle.std.specs.List.{find, list_all, list_any, sum_by}
 use Rattle.std.specs.Option.{option_map_or}
@@ -16,8 +16,9 @@ use Rattle.vet_base.specs.Day.{DayValue}
 use Rattle.vet_base.specs.Gives.{Answers, Gives, Told, ◌>>=◌}
 use Rattle.vet_base.specs.Names.{members}
 use Rattle.vet_desk.specs.declared.review.Review.{Review}
-use Rattle.vet_desk.specs.Review.{are_open_beyond, is_closed}
+use Rattle.vet_desk.specs.Review.{is_closed}
 use Rattle.vet_entries.specs.declared.entry.Source.TheVariants.{Own, Peer}
+use Rattle.vet_entries.specs.declared.facts.HeldEntry.{HeldEntry}
 use Rattle.vet_entries.specs.declared.held_peer.HeldPeer.{HeldPeer}
 use Rattle.vet_entries.specs.declared.peer_settings.PeerSettings.{PeerSettings}
 use Rattle.vet_entries.specs.Entry.{of_source}
@@ -25,7 +26,7 @@ use Rattle.vet_entries.specs.Facts.{Facts}
 use Rattle.vet_entries.specs.HeldPeer.{as_peers, holding_or_none, peer_of}
 use Rattle.vet_entries.specs.Import.{ComparisonValue, same_content}
 use Rattle.vet_entries.specs.PeerSettings.{settings_eq}
-use Rattle.vet_entries.specs.Replaced.{as_of, is_new}
+use Rattle.vet_entries.specs.Replaced.{as_of, is_dated, is_new}
 use Rattle.vet_files.specs.FilesContent.{FilesValue, content_for}
 use Rattle.vet_files.specs.declared.imports_file.ImportedPeer.{ImportedPeer}
 use Rattle.vet_register.specs.declared.command.Action.TheVariants.{ReplaceFiles}
@@ -33,11 +34,11 @@ use Rattle.vet_register.specs.declared.files_comparison.FilesComparison.{FilesCo
 use Rattle.vet_register.specs.declared.verdict.Answer.TheVariants.{Already, Accepted}
 use Rattle.vet_register.specs.Already.{has_files, has_peer, has_settings}
 use Rattle.vet_register.specs.Machine.{numbers_given}
-use Rattle.vet_register.specs.Replacing.{compared_peer, count_of_peer, entries_of_files, held_of_peer, new_of_files}
+use Rattle.vet_register.specs.Replacing.{compared_peer, count_of_peer, entries_in_files, held_of_peer, new_of_files}
 use Rattle.vet_register.specs.Replacing.{new_of_peer}
 use Rattle.vet_register.specs.ReplacingFound.{AreAccepted, IsCompared}
 use Rattle.vet_register.specs.State.{State}
-use Rattle.vet_register.specs.Verdict.{checked, held_or, judged}
+use Rattle.vet_register.specs.Verdict.{checked, held_or, judged, names_beyond}
 use Rattle.vet_register.proofs.Effects.{passed}
 use Rattle.vet_register.proofs.FilesPassed.{files_fit}
 use Rattle.vet_register.proofs.Lists.{filter-fewer}
@@ -140,11 +141,15 @@ pub gives_itself : (t : Told (Unit {0})) (answer : Result (Unit {0}) Refusal) �
 gives_itself (Ok u) answer h = rw h refl
 gives_itself (Err e) answer h = rw h (inr refl)
 
--- reviews name what a table lacks just where another of the same names lacks it
-pub same_beyond : (a b : Criteria) → ((n : List ℕ) → table.contains_key a n ≡ table.contains_key b n) →
-    (reviews : List Review) → are_open_beyond a reviews ≡ are_open_beyond b reviews
-same_beyond a b keys reviews = λ i. list_any
-    (λ (r : Review). not (is_closed r.state) && is_some (find (λ n. not (keys n i)) (members r.criteria))) reviews
+-- what stays names what a table lacks just where another of the same names lacks it
+pub same_beyond : (s : State) (a b : Criteria) → ((n : List ℕ) → table.contains_key a n ≡ table.contains_key b n)
+    → names_beyond s a ≡ names_beyond s b
+same_beyond s a b keys = λ i.
+    list_any (λ (r : Review). not (is_closed r.state) && is_some (find (λ n. not (keys n i)) (members r.criteria)))
+    s.desk.reviews
+    || list_any
+    (λ (h : HeldEntry). is_dated h && is_some (find (λ n. not (keys n i)) (members h.entry.criteria)))
+    s.held.facts.entries
 
 -- what files are asked is what is judged of them, where they are not held
 pub judged_by : (s : State) (day : DayValue) (f : FilesValue) → has_files s.held f ≡ false
@@ -159,7 +164,7 @@ refused_files s day f e none (inl lacks) = inl lacks
 refused_files s day f e none (inr refused) = inr (judged_by s day f none ∙ ap (λ t. t >>= λ _. Ok Accepted) refused)
 
 -- no more entries are new than there are
-pub no_more_new : (facts : Facts) (f : FilesValue) → new_of_files facts f ≤ entries_of_files f
+pub no_more_new : (facts : Facts) (f : FilesValue) → new_of_files facts f ≤ entries_in_files f
 no_more_new facts f =
     omega (
       arith,

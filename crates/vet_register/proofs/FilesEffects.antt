@@ -1,6 +1,6 @@
 -- What entries and peers are after three files took the place of what is held.
-use Rattle.std.proofs.Common.{◌≡◌, ◌⊎◌, ℕ, ◌+◌, ◌≤◌, List, [], ◌∷◌, length, map, Option, Some, None, inl, inr, refl}
-use Rattle.std.proofs.Common.{sym, ap, subst, ◌∙◌, arith}
+use Rattle.std.proofs.Common.{◌≡◌, ◌⊎◌, ℕ, ◌+◌, ◌≤◌, true, List, [], ◌∷◌, length, map, Option, Some, None, inl, inr}
+use Rattle.std.proofs.Common.{refl, sym, ap, subst, ◌∙◌, arith}
 use Rattle.std.specs.List.{All, AllPairs, sum_by}
 use Rattle.std.specs.declared.cmp.Ordering.TheVariants.{Less}
 use Rattle.std.proofs.lemmas.List.Elements.{All-nil, All-cons, All-weaker}
@@ -20,7 +20,7 @@ use Rattle.vet_entries.specs.Facts.{entries_of_peers, entries_total}
 use Rattle.vet_entries.specs.HeldPeer.{holding_or_none, peer_name, peer_of}
 use Rattle.vet_entries.specs.PeerContent.{IsPeerContent}
 use Rattle.vet_entries.specs.PeerSettings.{settings_name}
-use Rattle.vet_entries.specs.Replaced.{as_of, entries_after}
+use Rattle.vet_entries.specs.Replaced.{as_of, entries_after, is_dated}
 use Rattle.vet_entries.proofs.ImportLaws.{entries_are_taken, entries_keep_order, entries_stand_once, entry_keeps_number}
 use Rattle.vet_entries.proofs.ImportLaws.{holds_each_once, number_kept}
 use Rattle.vet_entries.proofs.PeerLaws.{found_name}
@@ -31,6 +31,7 @@ use Rattle.vet_register.specs.Replacing.{count_of_peer, entries_of_files, facts_
 use Rattle.vet_register.specs.Replacing.{new_of_peer, new_own, peer_after, peers_after}
 use Rattle.vet_register.specs.Sound.{AreEntries, ArePeers, IsFrom, IsGiven, IsSoundPeer, ShareNone}
 use Rattle.vet_register.specs.State.{State}
+use Rattle.vet_register.proofs.DatedEntries.{dated_alone}
 use Rattle.vet_register.proofs.PeerEffects.{PeersSound, found_in, found_sound, imported_sound, later_entries}
 use Rattle.vet_register.proofs.PeerEffects.{later_peer, none_shared, nothing_readable, other_names, peers_apart}
 use Rattle.vet_register.proofs.PeerEffects.{set_from_own, set_sound, set_to, share_none, shared, theirs}
@@ -74,21 +75,27 @@ both_apart k m hs xs is ys from_xs from_ys apart given below =
 -- ---- one's own entries
 
 pub files_entries : (s : State) (f : FilesValue) → IsFiles f → AreEntries Own s.held.facts.entries s.next_entry
-    → AreEntries Own (entries_after Own s.next_entry s.held.facts.entries f.entries)
+    → AreEntries Own (entries_after is_dated Own s.next_entry s.held.facts.entries f.entries)
     (s.next_entry + new_of_files s.held.facts f)
 files_entries s f is h =
     let own = s.held.facts.entries in
     let end = s.next_entry + new_own s.held.facts f in
-    let after = entries_after Own s.next_entry own f.entries in
-    let order = entries_keep_order Own s.next_entry own f.entries h.numbers_rise h.numbers_given in
+    let after = entries_after is_dated Own s.next_entry own f.entries in
+    let order = entries_keep_order is_dated Own s.next_entry own f.entries h.numbers_rise h.numbers_given in
     later_entries Own after end (s.next_entry + new_of_files s.held.facts f) (omega arith) (record {
-      from = All-weaker (λ (e : HeldEntry). IsIn e.entry (as_of Own f.entries) × (e.entry.source ≡ Own)) (IsFrom Own)
-          (λ e t. t.1) after
-          (entries_are_taken Own s.next_entry own f.entries);
-      different = (entries_stand_once Own s.next_entry own f.entries is.own is.once h.different).0;
+      from = All-weaker IsTaken (IsFrom Own) from after (entries_are_taken is_dated Own s.next_entry own f.entries);
+      different = (entries_stand_once is_dated Own s.next_entry own f.entries is.own is.once h.different).0;
       numbers_rise = order.0;
       numbers_given = order.1;
     })
+  where
+    IsTaken : HeldEntry → Type 0
+    IsTaken e = (IsIn e s.held.facts.entries × (is_dated e ≡ true))
+        ⊎ (IsIn e.entry (as_of Own f.entries) × (e.entry.source ≡ Own))
+
+    from : (e : HeldEntry) → IsTaken e → IsFrom Own e
+    from e (inl stays) = in_all (IsFrom Own) s.held.facts.entries h.from e stays.0
+    from e (inr given) = given.1
 
 -- ---- peers
 
@@ -231,7 +238,7 @@ files_peers s f is mine h few =
     let k = next + new_own facts f in
     let end = next + new_of_files facts f in
     let sum = sum_by (new_of_peer facts.peers f.contents) f.settings in
-    let own_after = entries_after Own next facts.entries f.entries in
+    let own_after = entries_after is_dated Own next facts.entries f.entries in
     let after = peers_after k facts.peers f.contents f.settings in
     let above : next ≤ k = omega arith in
     record {
@@ -246,21 +253,23 @@ files_peers s f is mine h few =
           (let m = in_map theirs after ys i in
           subst (ShareNone own_after) (sym m.1.1)
           (own_and_each facts.entries facts.peers next h f.contents readable k above f.settings own_after
-          (entry_keeps_number Own next facts.entries f.entries)
-          (entries_keep_order Own next facts.entries f.entries mine.numbers_rise mine.numbers_given).1 m.0 m.1.0))))
+          (entry_keeps_number is_dated Own next facts.entries f.entries)
+          (entries_keep_order is_dated Own next facts.entries f.entries mine.numbers_rise mine.numbers_given).1 m.0
+          m.1.0))))
           (each_apart facts.entries facts.peers next h f.contents readable k above f.settings is.settings_by_name);
     }
 
--- as many entries are held as the files hold
+-- as many entries are held as the files hold, and exemptions with a last day
 pub files_counted : (s : State) (f : FilesValue) → IsFiles f → AreEntries Own s.held.facts.entries s.next_entry →
     PeersSound s.held.facts.entries s.held.facts.peers s.next_entry
-    → entries_total (facts_of_files s.next_entry f s.held.facts) ≡ entries_of_files f
+    → entries_total (facts_of_files s.next_entry f s.held.facts) ≡ entries_of_files s.held.facts f
 files_counted s f is mine h =
     let facts = s.held.facts in
     let k = s.next_entry + new_own facts f in
     omega (
       arith,
-      (entries_stand_once Own s.next_entry facts.entries f.entries is.own is.once mine.different).1,
+      (entries_stand_once is_dated Own s.next_entry facts.entries f.entries is.own is.once mine.different).1,
+      ap (λ (hs : List HeldEntry). length hs) (dated_alone f.entries is.undated facts.entries),
       each_counted facts.entries facts.peers s.next_entry h f.contents (content_readable f is) k (omega arith)
           f.settings,
     )

@@ -1,16 +1,18 @@
--- What three files passed that are accepted: limits, and each name is known.
-use Rattle.std.proofs.Common.{◌≡◌, ◌∙◌, ℕ, ◌+◌, ◌≤◌, not, List, [], ◌∷◌, length, None, Ok, ap}
+-- What three files passed that are accepted: limits, and each name is known, of what they hold and of what stays.
+use Rattle.std.proofs.Common.{◌≡◌, ◌∙◌, ◌⊎◌, ℕ, ◌+◌, ◌≤◌, true, false, not, List, [], ◌∷◌, length, None, Ok, ap}
+use Rattle.std.proofs.Common.{inl, inr}
 use Rattle.std.specs.FinMap as map
-use Rattle.std.specs.List.{All}
+use Rattle.std.specs.List.{All, list_any}
 use Rattle.std.specs.Prelude.{nat_lt}
-use Rattle.std.proofs.lemmas.Bool.{ltb-false}
+use Rattle.std.proofs.lemmas.Bool.{ltb-false, or_parts}
 use Rattle.std.proofs.lemmas.List.Elements.{All-cons, All-head, All-nil, All-tail, All-weaker}
 use Rattle.vet_base.specs.declared.limits.TheConstants.{LAST_NUMBER, MOST_ENTRIES, MOST_PEERS, MOST_POLICIES}
 use Rattle.vet_base.specs.declared.limits.TheConstants.{MOST_PUBLISHERS}
 use Rattle.vet_base.specs.declared.refusal.Limit.TheVariants as limit
-use Rattle.vet_base.specs.declared.refusal.Refusal.TheVariants.{TooLarge, UnknownPeer}
+use Rattle.vet_base.specs.declared.refusal.Refusal.TheVariants.{CriterionInUse, TooLarge, UnknownPeer}
 use Rattle.vet_base.specs.Criteria.{Criteria, least_unknown}
 use Rattle.vet_base.specs.CriteriaChanges.{known}
+use Rattle.vet_base.specs.Day.{DayValue}
 use Rattle.vet_base.specs.Defined.{defined, least_undefined, table_told}
 use Rattle.vet_base.specs.Gives.{Told, refuse_if, ◌>>=◌}
 use Rattle.vet_base.specs.Items.{IsIn}
@@ -20,6 +22,7 @@ use Rattle.vet_demand.specs.declared.policies.KeyedPolicy.{KeyedPolicy}
 use Rattle.vet_demand.specs.DemandOf.{PoliciesAreKnown, PolicyIsKnown}
 use Rattle.vet_demand.specs.PolicyNames.{names_in}
 use Rattle.vet_demand.proofs.Naming.{known_with}
+use Rattle.vet_desk.specs.Review.{are_open_beyond}
 use Rattle.vet_entries.specs.declared.entry.Entry.{Entry}
 use Rattle.vet_entries.specs.declared.entry.Source.TheVariants.{Own}
 use Rattle.vet_entries.specs.declared.facts.HeldEntry.{HeldEntry}
@@ -29,7 +32,7 @@ use Rattle.vet_entries.specs.Entry.{of_source}
 use Rattle.vet_entries.specs.Facts.{Facts}
 use Rattle.vet_entries.specs.PeerWords.{targets}
 use Rattle.vet_entries.specs.PublisherRecords.{records_total}
-use Rattle.vet_entries.specs.Replaced.{as_of, entries_after}
+use Rattle.vet_entries.specs.Replaced.{as_of, entries_after, is_dated, is_dated_beyond}
 use Rattle.vet_entries.specs.Step.{AreKnown, HasKnownCriteria, HasKnownTargets}
 use Rattle.vet_entries.proofs.ImportLaws.{entries_are_taken}
 use Rattle.vet_files.specs.FilesContent.{FilesValue, IsFiles, each_is_set}
@@ -40,7 +43,9 @@ use Rattle.vet_register.specs.Replacing.{entries_of_files, facts_of_files, new_o
 use Rattle.vet_register.specs.Replacing.{peers_after}
 use Rattle.vet_register.specs.Sound.{ArePublishers}
 use Rattle.vet_register.specs.State.{State}
-use Rattle.vet_register.specs.Verdict.{entry_limit, files_limits, files_references, limits, number_limit, step_limit}
+use Rattle.vet_register.specs.Verdict.{entry_limit, files_limits, files_references, limits, names_beyond, number_limit}
+use Rattle.vet_register.specs.Verdict.{rules, step_limit}
+use Rattle.vet_register.proofs.DatedEntries.{dated_known}
 use Rattle.vet_register.proofs.UnknownNames.{few_counted, none_left, table_of}
 
 -- ---- limits
@@ -48,7 +53,7 @@ use Rattle.vet_register.proofs.UnknownNames.{few_counted, none_left, table_of}
 pub record FilesFit (s : State) (f : FilesValue) : Type 0 where
   pub criteria : counted (defined f.criteria) ≡ Ok tt
   pub peers : length f.settings ≤ MOST_PEERS
-  pub entries : entries_of_files f ≤ MOST_ENTRIES
+  pub entries : entries_of_files s.held.facts f ≤ MOST_ENTRIES
   pub records : records_total f.publishers ≤ MOST_PUBLISHERS
   pub policies : length f.policies ≤ MOST_POLICIES
   pub step : step_limit s ≡ Ok tt
@@ -66,14 +71,14 @@ module _ (s : State) (f : FilesValue) where
       of_policies
 
   abbrev of_entries : Told (Unit {0})
-  of_entries = entry_limit (entries_of_files f) >>= λ _. of_publishers
+  of_entries = entry_limit (entries_of_files s.held.facts f) >>= λ _. of_publishers
 
   pub files_fit : limits s (ReplaceFiles f) ≡ Ok tt → FilesFit s f
   files_fit h =
       let first = then_told (counted (defined f.criteria)) (λ _. files_limits s f) tt h in
       let peers = then_told (refuse_if (nat_lt MOST_PEERS (length f.settings)) (TooLarge limit.Peers))
       (λ _. of_entries) tt first.1 in
-      let entries = then_told (entry_limit (entries_of_files f)) (λ _. of_publishers) tt peers.1 in
+      let entries = then_told (entry_limit (entries_of_files s.held.facts f)) (λ _. of_publishers) tt peers.1 in
       let records = then_told
       (refuse_if (nat_lt MOST_PUBLISHERS (records_total f.publishers)) (TooLarge limit.Publishers))
       (λ _. of_policies) tt entries.1 in
@@ -83,7 +88,8 @@ module _ (s : State) (f : FilesValue) where
       record {
         criteria = first.0;
         peers = ltb-false MOST_PEERS (length f.settings) (not_refused _ (TooLarge limit.Peers) peers.0);
-        entries = ltb-false MOST_ENTRIES (entries_of_files f) (not_refused _ (TooLarge limit.Entries) entries.0);
+        entries = ltb-false MOST_ENTRIES (entries_of_files s.held.facts f)
+            (not_refused _ (TooLarge limit.Entries) entries.0);
         records = ltb-false MOST_PUBLISHERS (records_total f.publishers)
             (not_refused _ (TooLarge limit.Publishers) records.0);
         policies = ltb-false MOST_POLICIES (length f.policies) (not_refused _ (TooLarge limit.Policies) policies.0);
@@ -119,6 +125,15 @@ files_know f h =
     let entries = none_left has (λ (e : Entry). e.criteria) implied f.entries policies.0 in
     record { implied = entries.0; own = entries.1; policies = policies.1; targets = all.1 }
 
+-- what stays names only criteria that the files define: reviews that aren't closed, and exemptions with a last day
+pub what_stays : (s : State) (day : DayValue) (f : FilesValue) → rules s day (ReplaceFiles f) ≡ Ok tt
+    → (are_open_beyond (defined f.criteria) s.desk.reviews ≡ false)
+    × (list_any (is_dated_beyond (defined f.criteria)) s.held.facts.entries ≡ false)
+what_stays s day f h =
+    or_parts (are_open_beyond (defined f.criteria) s.desk.reviews)
+    (list_any (is_dated_beyond (defined f.criteria)) s.held.facts.entries)
+    (not_refused (names_beyond s (defined f.criteria)) CriterionInUse h)
+
 -- the criteria of files that know what they name have a table
 pub files_table : (f : FilesValue) → IsFiles f → counted (defined f.criteria) ≡ Ok tt → FilesKnow f → table_told
     f.criteria ≡ Ok (defined f.criteria)
@@ -136,19 +151,27 @@ targets_stay t peers contents k (p ∷ ps) h =
     (targets_stay t peers contents next ps (All-tail IsKnown p ps h))
 
 -- what is named is known after
-pub files_known : (f : FilesValue) → FilesKnow f → (next : ℕ) (facts : Facts) → AreKnown (facts_of_files next f facts)
-files_known f know next facts =
-    let t = defined f.criteria in
-    record {
-      own = All-weaker (λ (h : HeldEntry). IsIn h.entry (as_of Own f.entries) × (h.entry.source ≡ Own))
-          (HasKnownCriteria t)
-          (λ h taken.
-          (let e = in_map (of_source Own) f.entries h.entry taken.0 in
-          ap (λ (x : Entry). least_unknown t x.criteria) e.1.1 ∙ in_all
-          (λ (e : Entry). least_unknown t e.criteria ≡ None) f.entries know.own e.0 e.1.0))
-          (entries_after Own next facts.entries f.entries) (entries_are_taken Own next facts.entries f.entries);
-      targets = targets_stay t facts.peers f.contents _ f.settings know.targets;
-    }
+pub files_known : (f : FilesValue) → FilesKnow f → (next : ℕ) (facts : Facts)
+    → list_any (is_dated_beyond (defined f.criteria)) facts.entries ≡ false → AreKnown (facts_of_files next f facts)
+files_known f know next facts none = record {
+  own = All-weaker IsTaken (HasKnownCriteria t) taken_known (entries_after is_dated Own next facts.entries f.entries)
+      (entries_are_taken is_dated Own next facts.entries f.entries);
+  targets = targets_stay t facts.peers f.contents _ f.settings know.targets;
+}
+  where
+    t : Criteria
+    t = defined f.criteria
+
+    IsTaken : HeldEntry → Type 0
+    IsTaken h = (IsIn h facts.entries × (is_dated h ≡ true))
+        ⊎ (IsIn h.entry (as_of Own f.entries) × (h.entry.source ≡ Own))
+
+    taken_known : (h : HeldEntry) → IsTaken h → HasKnownCriteria t h
+    taken_known h (inl stays) = dated_known t facts.entries none h stays.0 stays.1
+    taken_known h (inr given) =
+        let e = in_map (of_source Own) f.entries h.entry given.0 in
+        ap (λ (x : Entry). least_unknown t x.criteria) e.1.1
+        ∙ in_all (λ (e : Entry). least_unknown t e.criteria ≡ None) f.entries know.own e.0 e.1.0
 
 -- and so is what policies name
 pub files_policies_known : (f : FilesValue) → FilesKnow f → PoliciesAreKnown (defined f.criteria) f.policies

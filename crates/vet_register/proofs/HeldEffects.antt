@@ -26,7 +26,7 @@ use Rattle.vet_register.specs.declared.command.Action.{Action}
 use Rattle.vet_register.specs.declared.command.Action.TheVariants.{SetCriterion, RemoveCriterion, AddEntry, DropEntry}
 use Rattle.vet_register.specs.declared.command.Action.TheVariants.{SetPeer, DropPeer, ImportPeer, SetPublishers}
 use Rattle.vet_register.specs.declared.command.Action.TheVariants.{SetPolicy, DropPolicy, LoadProject, DropProject}
-use Rattle.vet_register.specs.declared.command.Action.TheVariants.{ReplaceFiles, Desk, ClosePeriod}
+use Rattle.vet_register.specs.declared.command.Action.TheVariants.{ReplaceFiles, Desk, ClosePeriod, SetDay}
 use Rattle.vet_register.specs.declared.verdict.Answer.TheVariants.{Accepted}
 use Rattle.vet_register.specs.Held.{policy_at, project_at}
 use Rattle.vet_register.specs.AtDesk.{added_by}
@@ -99,6 +99,7 @@ policies_after s day (Desk command) p given h =
     subst (λ (t : Criteria). ArePolicies t s.held.policies)
     (sym (same_criteria s.next_entry (added_by s command) s.held.facts)) h
 policies_after s day ClosePeriod p given h = h
+policies_after s day SetDay p given h = h
 
 -- the projects after a command
 projects_after : (s : State) (day : DayValue) (a : Action) → Passed s day a → AreProjects s.held.projects →
@@ -128,6 +129,7 @@ projects_after s day (DropProject n) p h = record {
 projects_after s day (ReplaceFiles f) p h = h
 projects_after s day (Desk command) p h = h
 projects_after s day ClosePeriod p h = h
+projects_after s day SetDay p h = h
 
 -- all that is held after a command, if its criteria and its publisher records are sound, and what is imported is
 -- what a reader gives

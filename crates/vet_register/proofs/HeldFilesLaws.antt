@@ -1,6 +1,6 @@
 -- When files say what is held, one part after the other.
-use Rattle.std.proofs.Common.{◌≡◌, ◌≢◌, ◌∙◌, ℕ, ◌≤◌, ◌==◌, ◌&&◌, Bool, true, false, cond, not, List, [], ◌∷◌, get_or}
-use Rattle.std.proofs.Common.{length, map, Option, Some, None, refl, sym, ap, subst, inl, inr, arith}
+use Rattle.std.proofs.Common.{◌≡◌, ◌≢◌, ◌∙◌, ℕ, ◌≤◌, ◌==◌, ◌&&◌, ◌||◌, Bool, true, false, cond, not, List, [], ◌∷◌}
+use Rattle.std.proofs.Common.{get_or, length, map, Option, Some, None, refl, sym, ap, subst, inl, inr, arith}
 use Rattle.std.specs.Bool.{Decides}
 use Rattle.std.specs.Cmp.Lexicographic.{pointwise_decides}
 use Rattle.std.specs.FinMap as table
@@ -36,7 +36,6 @@ use Rattle.vet_base.proofs.Rising.{R, only_equal}
 use Rattle.vet_base.proofs.Tables.{rising_keys}
 use Rattle.vet_demand.specs.PoliciesLaws.{policies_eq-Decides}
 use Rattle.vet_entries.specs.declared.entry.Entry.{Entry}
-use Rattle.vet_entries.specs.declared.entry.Source.{Source}
 use Rattle.vet_entries.specs.declared.entry.Source.TheVariants.{Own}
 use Rattle.vet_entries.specs.declared.facts.HeldEntry.{HeldEntry}
 use Rattle.vet_entries.specs.declared.held_peer.HeldPeer.{HeldPeer}
@@ -45,20 +44,23 @@ use Rattle.vet_entries.specs.Entry.{entry_eq}
 use Rattle.vet_entries.specs.EntryLaws.{entry_eq-Decides}
 use Rattle.vet_entries.specs.HeldPeer.{comes_again, peer_name, peer_of}
 use Rattle.vet_entries.specs.Import.{same_content}
+use Rattle.vet_entries.specs.Kind.{has_last_day}
 use Rattle.vet_entries.specs.PeerSettings.{settings_eq, settings_name}
 use Rattle.vet_entries.specs.PeerSettingsLaws.{settings_eq-Decides}
 use Rattle.vet_entries.specs.PublisherRecordsLaws.{package_eq-Decides}
 use Rattle.vet_entries.specs.Replaced as replaced
-use Rattle.vet_entries.specs.Replaced.{as_of, same_entries}
+use Rattle.vet_entries.specs.Replaced.{as_of, is_dated, remains, same_entries}
 use Rattle.vet_entries.specs.ReplacedLaws.{entries_of}
 use Rattle.vet_entries.proofs.SameContent.{same_items_are_same}
 use Rattle.vet_files.specs.FilesContent.{FilesValue, IsFiles, content_for, each_is_set}
+use Rattle.vet_files.specs.SameContent.{AreUndated, undated}
 use Rattle.vet_register.specs.Already.{has_criteria, has_files, has_peer, has_peers, is_held}
 use Rattle.vet_register.specs.Held.{HeldValue}
 use Rattle.vet_register.specs.RepeatedFiles.{SayWhatIsHeld, SaysWhatIsHeld}
 use Rattle.vet_register.specs.Replacing.{tool_of_files}
 use Rattle.vet_register.specs.Sound.{ArePeers, IsSoundHeld, IsSoundPeer}
 use Rattle.vet_register.specs.ToolSettingsLaws.{tool_eq-Decides}
+use Rattle.vet_register.proofs.DatedEntries.{IsUndated, undated_as_of}
 use Rattle.vet_register.proofs.FilesEffects.{content_readable}
 use Rattle.vet_register.proofs.FurtherCriteria.{named_once, none_built_in}
 use Rattle.vet_register.proofs.Lists.{AllPairs-map}
@@ -233,21 +235,55 @@ entry_decided held e = (
       in_any (λ (g : HeldEntry). entry_eq g.entry e) held h.0 h.1.0 ((entry_eq-Decides h.0.entry e).1 (sym h.1.1))),
 )
 
--- some entries, as of a source, are those held, in whatever order
-entries_decided : (source : Source) (held : List HeldEntry) (entries : List Entry) → Decides
-    (same_entries source held entries) (SameItems (as_of source entries) (entries_of held))
-entries_decided source held entries =
-    let theirs = as_of source entries in
-    Decides-like (same_entries source held entries)
-    (λ h. (
-      h.1,
-      λ e i. (let x = in_map (λ (g : HeldEntry). g.entry) held e i in subst (λ y. IsIn y theirs) (sym x.1.1)
-          (h.0 x.0 x.1.0)),
-    ))
-    (λ same. (λ h i. same.1 h.entry (map_in (λ (g : HeldEntry). g.entry) held h i), same.0))
-    (Decides-and (list_all (comes_again theirs) held) (list_all (replaced.is_held held) theirs)
-    (each_decides (comes_again theirs) (λ h. IsIn h.entry theirs) (again_decided theirs) held)
-    (each_decides (replaced.is_held held) (λ e. IsIn e (entries_of held)) (entry_decided held) theirs))
+-- a held entry remains just where it is an exemption with a last day, or among those that come
+remains_decided : (theirs : List Entry) (h : HeldEntry)
+    → Decides (remains is_dated theirs h) ((is_dated h ≡ false) → IsIn h.entry theirs)
+remains_decided theirs h = by (is_dated h)
+  where
+    by : (b : Bool) → Decides (b || comes_again theirs h) ((b ≡ false) → IsIn h.entry theirs)
+    by true = (λ t none. absurd (false≢true (sym none)), λ there. refl)
+    by false = (λ t none. (again_decided theirs h).0 t, λ there. (again_decided theirs h).1 (there refl))
+
+-- the entries of files are the own ones that are held, but for exemptions with a last day, in whatever order
+module _ (held : List HeldEntry) (entries : List Entry) (none : AreUndated entries) where
+  abbrev theirs : List Entry
+  theirs = as_of Own entries
+
+  abbrev Undated : Entry → Bool
+  Undated e = not (has_last_day e.kind)
+
+  abbrev AllRemain : Type 0
+  AllRemain = (h : HeldEntry) → IsIn h held → (is_dated h ≡ false) → IsIn h.entry theirs
+
+  abbrev AllHeld : Type 0
+  AllHeld = (e : Entry) → IsIn e theirs → IsIn e (entries_of held)
+
+  same_but_for_dated : AllRemain × AllHeld → SameItems theirs (undated (entries_of held))
+  same_but_for_dated h = (
+    λ e i. filter_in Undated (entries_of held) e (h.1 e i)
+        (ap not (in_all IsUndated theirs (undated_as_of Own entries none) e i)),
+    λ e i. (let among = in_filter Undated (entries_of held) e i in
+        let x = in_map (λ (g : HeldEntry). g.entry) held e among.0 in
+        let plain : is_dated x.0 ≡ false = ap (λ (y : Entry). has_last_day y.kind) (sym x.1.1)
+        ∙ not-true (has_last_day e.kind) among.1 in
+        subst (λ y. IsIn y theirs) (sym x.1.1) (h.0 x.0 x.1.0 plain)),
+  )
+
+  all_but_for_dated : SameItems theirs (undated (entries_of held)) → AllRemain × AllHeld
+  all_but_for_dated same = (
+    λ h i plain. same.1 h.entry (filter_in Undated (entries_of held) h.entry
+        (map_in (λ (g : HeldEntry). g.entry) held h i) (ap not plain)),
+    λ e i. (in_filter Undated (entries_of held) e (same.0 e i)).0,
+  )
+
+  entries_decided : Decides (same_entries is_dated Own held entries)
+      (SameItems (as_of Own entries) (undated (entries_of held)))
+  entries_decided =
+      Decides-like (same_entries is_dated Own held entries) same_but_for_dated all_but_for_dated
+      (Decides-and (list_all (remains is_dated theirs) held) (list_all (replaced.is_held held) theirs)
+      (each_decides (remains is_dated theirs) (λ h. (is_dated h ≡ false) → IsIn h.entry theirs)
+      (remains_decided theirs) held)
+      (each_decides (replaced.is_held held) (λ e. IsIn e (entries_of held)) (entry_decided held) theirs))
 
 -- ---- peers
 
@@ -375,7 +411,7 @@ files_decided held next sound f is =
       ),
     ))
     (Decides-and _ _ (criteria_decided facts.criteria sound.facts.criteria f.criteria is.named_once)
-    (Decides-and _ _ (entries_decided Own facts.entries f.entries)
+    (Decides-and _ _ (entries_decided facts.entries f.entries is.undated)
     (Decides-and _ _ (peers_decided facts.peers next sound.facts.peers f is)
     (Decides-and _ _ (pointwise_decides package_eq-Decides facts.publishers f.publishers)
     (Decides-and _ _ (policies_eq-Decides held.policies f.policies)

@@ -43,12 +43,12 @@ use Rattle.vet_register.specs.declared.command.Action.{Action}
 use Rattle.vet_register.specs.declared.command.Action.TheVariants.{SetCriterion, RemoveCriterion, AddEntry, DropEntry}
 use Rattle.vet_register.specs.declared.command.Action.TheVariants.{SetPeer, DropPeer, ImportPeer, SetPublishers}
 use Rattle.vet_register.specs.declared.command.Action.TheVariants.{SetPolicy, DropPolicy, LoadProject, DropProject}
-use Rattle.vet_register.specs.declared.command.Action.TheVariants.{ReplaceFiles, Desk, ClosePeriod}
+use Rattle.vet_register.specs.declared.command.Action.TheVariants.{ReplaceFiles, Desk, ClosePeriod, SetDay}
 use Rattle.vet_register.specs.AtDesk.{added_by, if_new, unless_held}
 use Rattle.vet_register.specs.Machine.{facts_after, held_of, with_entry}
 use Rattle.vet_register.specs.State.{State, demanded}
 use Rattle.vet_register.specs.Verdict.{is_used, limits_after_rules, references, rules}
-use Rattle.vet_register.proofs.FilesPassed.{files_know, files_known}
+use Rattle.vet_register.proofs.FilesPassed.{files_know, files_known, what_stays}
 use Rattle.vet_register.proofs.Lists.{find-none, find-none_among, none_pass}
 
 -- what a table has, it has after one more criterion
@@ -204,9 +204,11 @@ known_after s day (SetPolicy policy) k at r u = record { own = k.own; targets = 
 known_after s day (DropPolicy key) k at r u = record { own = k.own; targets = k.targets }
 known_after s day (LoadProject project) k at r u = record { own = k.own; targets = k.targets }
 known_after s day (DropProject name) k at r u = record { own = k.own; targets = k.targets }
-known_after s day (ReplaceFiles f) k at r u = files_known f (files_know f r) s.next_entry s.held.facts
+known_after s day (ReplaceFiles f) k at r u =
+    files_known f (files_know f r) s.next_entry s.held.facts (what_stays s day f u).1
 known_after s day (Desk command) k at r u =
     let rules = then_told (desk_rules (demanded s) s.desk command) (λ _. limits_after_rules s command) tt u in
     with_known s.held.facts s.next_entry (added_by s command)
     (λ e new. entry_known s command at rules.0 e (of_new s.held.facts (entry_of s.desk command) e new)) k
 known_after s day ClosePeriod k at r u = k
+known_after s day SetDay k at r u = record { own = k.own; targets = k.targets }

@@ -5,6 +5,8 @@ pub mod Balancing
 pub mod Beginnings
 pub mod Checked
 pub mod ClassOfFileLemmas
+pub mod DatedEntries
+pub mod DayTouches
 pub mod DemandsWalked
 pub mod DeskAsked
 pub mod DeskEffects

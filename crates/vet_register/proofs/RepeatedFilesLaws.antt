@@ -22,7 +22,7 @@ use Rattle.vet_entries.specs.declared.entry.Source.TheVariants.{Own, Peer}
 use Rattle.vet_entries.specs.declared.held_peer.HeldPeer.{HeldPeer}
 use Rattle.vet_entries.specs.declared.peer_settings.PeerSettings.{PeerSettings}
 use Rattle.vet_entries.specs.PeerSettings.{settings_name}
-use Rattle.vet_entries.proofs.ImportLaws.{entries_are_held, holds_its_content}
+use Rattle.vet_entries.proofs.ImportLaws.{holds_its_content}
 use Rattle.vet_files.specs.FilesContent.{FilesValue, IsFiles, content_for, each_is_set}
 use Rattle.vet_files.specs.declared.imports_file.ImportedPeer.{ImportedPeer}
 use Rattle.vet_register.specs.declared.command.Action.TheVariants.{ReplaceFiles}
@@ -34,6 +34,7 @@ use Rattle.vet_register.specs.RepeatedFiles.{SayWhatIsHeld, SaysWhatIsHeld, repl
 use Rattle.vet_register.specs.Replacing.{held_of_peer, new_of_peer, new_own, peer_after, peers_after}
 use Rattle.vet_register.specs.State.{State}
 use Rattle.vet_register.specs.Verdict.{files_references, judged}
+use Rattle.vet_register.proofs.DatedEntries.{left_undated}
 use Rattle.vet_register.proofs.Effects.{passed}
 use Rattle.vet_register.proofs.FilesPassed.{files_fit, files_know, files_records, files_table}
 use Rattle.vet_register.proofs.HeldEffects.{sound_held}
@@ -115,7 +116,7 @@ say_what_is_left s day f again is same set =
     record {
       criteria = same_as_defined again.criteria f.criteria is.named_once is.further same.criteria;
       entries = same_through _ _ _ (same_as_of Own again.entries f.entries same.entries)
-          (entries_are_held Own s.next_entry facts.entries f.entries);
+          (left_undated f.entries is.undated s.next_entry facts.entries);
       settings = same.settings ∙ sym (settings_stay k facts.peers f.contents f.settings);
       set = set_by_name f again same set;
       contents = each_says facts.peers f again is same.contents k f.settings;

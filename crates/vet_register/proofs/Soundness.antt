@@ -26,7 +26,7 @@ use Rattle.vet_register.specs.declared.command.Action.{Action}
 use Rattle.vet_register.specs.declared.command.Action.TheVariants.{SetCriterion, RemoveCriterion, AddEntry, DropEntry}
 use Rattle.vet_register.specs.declared.command.Action.TheVariants.{SetPeer, DropPeer, ImportPeer, SetPublishers}
 use Rattle.vet_register.specs.declared.command.Action.TheVariants.{SetPolicy, DropPolicy, LoadProject, DropProject}
-use Rattle.vet_register.specs.declared.command.Action.TheVariants.{ReplaceFiles, Desk, ClosePeriod}
+use Rattle.vet_register.specs.declared.command.Action.TheVariants.{ReplaceFiles, Desk, ClosePeriod, SetDay}
 use Rattle.vet_register.specs.declared.command.Command.{Command}
 use Rattle.vet_register.specs.declared.moves.RecordedMove.{RecordedMove}
 use Rattle.vet_register.specs.declared.verdict.Answer.TheVariants.{Accepted}
@@ -135,6 +135,7 @@ ends_only s day (DropProject n) h = cc h
 ends_only s day (ReplaceFiles f) h = cc h
 ends_only s day (Desk command) h = cc h
 ends_only s day ClosePeriod h = refl
+ends_only s day SetDay h = cc h
 
 pub counted_in : (class : Class) (stands : List Stand) → count_in class (counts_of stands) ≡ count_of class stands
 counted_in Conflicting stands = refl

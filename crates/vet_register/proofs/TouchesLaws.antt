@@ -34,7 +34,7 @@ use Rattle.vet_graph.specs.Touched.{SameOutside, pairs_at}
 use Rattle.vet_register.specs.declared.command.Action.TheVariants.{SetCriterion, RemoveCriterion, AddEntry, DropEntry}
 use Rattle.vet_register.specs.declared.command.Action.TheVariants.{SetPeer, DropPeer, ImportPeer, SetPublishers}
 use Rattle.vet_register.specs.declared.command.Action.TheVariants.{SetPolicy, DropPolicy, LoadProject, DropProject}
-use Rattle.vet_register.specs.declared.command.Action.TheVariants.{ReplaceFiles, Desk, ClosePeriod}
+use Rattle.vet_register.specs.declared.command.Action.TheVariants.{ReplaceFiles, Desk, ClosePeriod, SetDay}
 use Rattle.vet_register.specs.AtDesk.{added_by}
 use Rattle.vet_register.specs.Held.{HeldValue, demand_in}
 use Rattle.vet_register.specs.Machine.{held_after, touched_by, with_entry}
@@ -42,6 +42,7 @@ use Rattle.vet_register.specs.State.{demanded}
 use Rattle.vet_register.specs.Touches.{entry_package, held_package, only_at, package_added, packages_between}
 use Rattle.vet_register.specs.Touches.{packages_of_peer}
 use Rattle.vet_register.specs.Untouched.{IsUntouched, UntouchedClassesStay, UntouchedStays}
+use Rattle.vet_register.proofs.DayTouches.{day_touches}
 use Rattle.vet_register.proofs.Untouched.{Other, SameSources, apart, give-with, give-without, same_condemned}
 use Rattle.vet_register.proofs.Untouched.{same_pairs, same_steps, with_other, without_others}
 
@@ -79,7 +80,7 @@ module _ (held : HeldValue) (next : ℕ) where
   added : (o : Option Entry) → SameOutside (only_at (package_added o)) held.facts (demand_in held)
       (with_entry next o held.facts) (demand_in (record held { facts = with_entry next o held.facts }))
   added None = outside [] held held refl (λ name others. record
-      { sources = record { criteria = refl; entries = refl; records = refl }; pairs = refl })
+      { sources = record { criteria = refl; entries = refl; records = refl; today = refl }; pairs = refl })
   added (Some e) =
       let new : HeldEntry = record { number = next; entry = own e } in
       let entries = held.facts.entries ++ new ∷ [] in
@@ -90,6 +91,7 @@ module _ (held : HeldValue) (next : ℕ) where
           entries = same_entries held.facts entries name
               (with_other name held.facts.entries new (All-head (Other name) (entry_package e) [] others));
           records = refl;
+          today = refl;
         };
         pairs = refl;
       })
@@ -158,6 +160,7 @@ module _ (held : HeldValue) (up : AreByName held.facts.peers) where
       criteria = refl;
       entries = ap (λ es. sourced None name facts.entries ++ es) same;
       records = refl;
+      today = refl;
     };
     pairs = refl;
   }
@@ -186,7 +189,7 @@ module _ (held : HeldValue) (up : AreByName held.facts.peers) where
         };
       }) name
   imported_in of next content None found name others =
-      record { sources = record { criteria = refl; entries = refl; records = refl }; pairs = refl }
+      record { sources = record { criteria = refl; entries = refl; records = refl; today = refl }; pairs = refl }
   imported_in of next content (Some x) found name others =
       let after = imported of next content (holding_or_none (peer_of facts.peers of)) in
       let parts = front (packages_of_peer facts of) (map entry_package content.entries) name others in
@@ -208,6 +211,7 @@ by_demand old new same =
         criteria = ap (λ (f : Facts). f.criteria) same;
         entries = ap (λ (f : Facts). entries_of f name) same;
         records = ap (λ (f : Facts). records_of f.publishers name) same;
+        today = ap (λ (f : Facts). f.today) same;
       };
       pairs = same_pairs name (demand_in old) (demand_in new) others;
     })
@@ -226,6 +230,7 @@ untouched_stays s day (DropEntry n) sound =
         criteria = refl;
         entries = same_entries s.held.facts entries name (without_others name n s.held.facts.entries others);
         records = refl;
+        today = refl;
       };
       pairs = refl;
     })
@@ -248,6 +253,7 @@ untouched_stays s day (SetPublishers of records) sound =
         entries = refl;
         records = sym (records_of-other of name records s.held.facts.publishers
             (λ same. false≢true (sym (All-head (Other name) of [] others) ∙ (bytes_decides of name).1 (sym same))));
+        today = refl;
       };
       pairs = refl;
     })
@@ -258,6 +264,7 @@ untouched_stays s day (DropProject n) sound = by_demand s.held (held_after s day
 untouched_stays s day (ReplaceFiles f) sound = tt
 untouched_stays s day (Desk command) sound = added s.held s.next_entry (added_by s command)
 untouched_stays s day ClosePeriod sound = added s.held s.next_entry None
+untouched_stays s day SetDay sound = day_touches s day sound
 
 -- a pair that is not touched has the same class by both
 same_class : (t : Touched) (old new : Facts) (before after : List Pair) → SameOutside t old before new after

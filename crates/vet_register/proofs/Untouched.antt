@@ -54,14 +54,16 @@ apart names name out =
 
 -- ---- steps and condemned versions
 
--- what a package's steps and its condemned versions depend on: the criteria, its entries and its publisher records
+-- what a package's steps and its condemned versions depend on: the criteria, its entries, its publisher records and the
+-- register's day
 pub record SameSources (old new : Facts) (name : List ℕ) : Type 0 where
   pub criteria : old.criteria ≡ new.criteria
   pub entries : entries_of old name ≡ entries_of new name
   pub records : records_of old.publishers name ≡ records_of new.publishers name
+  pub today : old.today ≡ new.today
 
 pub same_steps : (old new : Facts) (name : List ℕ) → SameSources old new name → steps_of old name ≡ steps_of new name
-same_steps old new name same = λ i. flat_map (entry_steps (same.criteria i) (same.records i))
+same_steps old new name same = λ i. flat_map (entry_steps (same.today i) (same.criteria i) (same.records i))
     (by_number (λ (e : SourcedEntry). e.held.number) (same.entries i))
 
 pub same_condemned : (old new : Facts) (name : List ℕ) → SameSources old new name → (c : ℕ) (v : VersionValue)

@@ -21,7 +21,7 @@ use Rattle.vet_entries.specs.Import.{same_content}
 use Rattle.vet_entries.specs.PeerContent.{PeerContentValue}
 use Rattle.vet_entries.specs.PeerSettings.{settings_eq}
 use Rattle.vet_entries.specs.PublisherRecords.{package_eq}
-use Rattle.vet_entries.specs.Replaced.{same_entries}
+use Rattle.vet_entries.specs.Replaced.{is_dated, same_entries}
 use Rattle.vet_files.specs.FilesContent.{FilesValue, content_for, each_is_set}
 use Rattle.vet_files.specs.declared.imports_file.ImportedPeer.{ImportedPeer}
 use Rattle.vet_register.specs.Held.{HeldValue, policy_at, project_at}
@@ -74,8 +74,8 @@ has_lists held f =
     pointwise package_eq held.facts.publishers f.publishers
     && (policies_eq held.policies f.policies && tool_eq held.settings (tool_of_files f))
 
--- whether all that files hold is held, as sets, and nothing else but projects
+-- whether all that files hold is held, as sets, and nothing else but projects and own exemptions with a last day
 abbrev pub has_files : HeldValue → FilesValue → Bool
 has_files held f =
     has_criteria held.facts.criteria f.criteria
-    && (same_entries Own held.facts.entries f.entries && (has_peers held.facts.peers f && has_lists held f))
+    && (same_entries is_dated Own held.facts.entries f.entries && (has_peers held.facts.peers f && has_lists held f))

@@ -8,7 +8,7 @@
 -- What is held is then the table of the file's criteria and its entries, as own ones, numbered from 1 as they are
 -- read (facts_of). The class is that of the pair by these facts (IsClassOfFile). There are no publisher records
 -- among them, so no wildcard or trusted entry gives a step. There are no exemptions, so the class is never Partial
--- or Exempted.
+-- or Exempted, and no day matters.
 use Rattle.std.specs.Prelude.{◌≡◌, Bool, [], Option, Some, None, Ok, if◌then◌else◌}
 use Rattle.std.specs.FinMap as map
 use Rattle.vet_base.specs.CriteriaChanges.{known}
@@ -46,8 +46,13 @@ checked word content =
 
 -- all that is held, where this is the file's content
 abbrev pub facts_of : AuditsContent → Facts
-facts_of content =
-    record { criteria = defined content.criteria; entries = numbered 1 content.entries; peers = []; publishers = [] }
+facts_of content = record {
+  criteria = defined content.criteria;
+  entries = numbered 1 content.entries;
+  peers = [];
+  publishers = [];
+  today = None;
+}
 
 -- the class of a pair by a file's content
 abbrev pub class_in : AuditsContent → Pair → Told Class

@@ -23,6 +23,7 @@ pub mod SoundMoves
 pub mod SoundPeers
 pub mod State
 pub mod StateEncodings
+pub mod Today
 pub mod ToldInOrder
 pub mod ToolSettings
 pub mod ToolSettingsLaws

@@ -15,14 +15,14 @@
 --
 -- A command is a day and an action (Command, Action). The actions are SetCriterion, RemoveCriterion, AddEntry,
 -- DropEntry, SetPeer, DropPeer, ImportPeer, SetPublishers, SetPolicy, DropPolicy, LoadProject, DropProject,
--- ReplaceFiles, Desk and ClosePeriod. Desk holds a command to the review desk. AddEntry puts its entry at the end of
--- the list under the next number, as an own one whatever source it names. DropEntry takes out the own entry of its
--- number. SetPeer sets the settings of a peer. DropPeer takes the peer out with all that is held of it. ImportPeer
--- imports its content, as the peer's whatever source the entries name. SetPublishers sets the records of its package
--- (effect). SetPolicy and LoadProject put a policy or a project where its key or name belongs, in place of the one
--- that is there. DropPolicy and DropProject take it out (policies_by, projects_by, held_after). What a command does is
--- told its day beside its action; what is held after it is the same on each day. The keeper is told which packages it
--- touches (touched_by).
+-- ReplaceFiles, Desk, ClosePeriod and SetDay. Desk holds a command to the review desk. AddEntry puts its entry at the
+-- end of the list under the next number, as an own one whatever source it names. DropEntry takes out the own entry of
+-- its number. SetPeer sets the settings of a peer. DropPeer takes the peer out with all that is held of it. ImportPeer
+-- imports its content, as the peer's whatever source the entries name. SetPublishers sets the records of its package.
+-- SetDay makes the day of the command the register's (effect). SetPolicy and LoadProject put a policy or a project
+-- where its key or name belongs, in place of the one that is there. DropPolicy and DropProject take it out
+-- (policies_by, projects_by, held_after). What a command does is told its day beside its action. What is held after it
+-- is the same on each day, except after SetDay. The keeper is told which packages it touches (touched_by).
 use Rattle.std.specs.Prelude.{ℕ, ◌+◌, ◌++◌, not, Bool, true, false, List, [], ◌∷◌, Option, Some, None, if◌then◌else◌}
 use Rattle.std.specs.Prelude.{length, filter, map}
 use Rattle.std.specs.Option.{option_map_or}
@@ -50,7 +50,7 @@ use Rattle.vet_register.specs.declared.command.Action.{Action}
 use Rattle.vet_register.specs.declared.command.Action.TheVariants.{SetCriterion, RemoveCriterion, AddEntry, DropEntry}
 use Rattle.vet_register.specs.declared.command.Action.TheVariants.{SetPeer, DropPeer, ImportPeer, SetPublishers}
 use Rattle.vet_register.specs.declared.command.Action.TheVariants.{SetPolicy, DropPolicy, LoadProject, DropProject}
-use Rattle.vet_register.specs.declared.command.Action.TheVariants.{ReplaceFiles, Desk, ClosePeriod}
+use Rattle.vet_register.specs.declared.command.Action.TheVariants.{ReplaceFiles, Desk, ClosePeriod, SetDay}
 use Rattle.vet_register.specs.declared.command.Command.{Command}
 use Rattle.vet_register.specs.declared.command.Outcome.{Outcome}
 use Rattle.vet_register.specs.declared.command.Outcome.TheVariants.{Done}
@@ -61,7 +61,7 @@ use Rattle.vet_register.specs.Held.{without_project}
 use Rattle.vet_register.specs.Replacing.{facts_of_files, new_of_files, tool_of_files}
 use Rattle.vet_register.specs.State.{State, demanded, standing}
 use Rattle.vet_register.specs.Touches.{entry_package, held_package, only_at, package_added, packages_between}
-use Rattle.vet_register.specs.Touches.{packages_of_peer}
+use Rattle.vet_register.specs.Touches.{packages_lapsing, packages_of_peer}
 use Rattle.vet_register.specs.declared.tool_settings.ToolSettings.{ToolSettings}
 
 -- a command and what it asks for, as values
@@ -100,6 +100,7 @@ effect s day (DropProject name) facts = facts
 effect s day (ReplaceFiles files) facts = facts_of_files s.next_entry files facts
 effect s day (Desk command) facts = with_entry s.next_entry (added_by s command) facts
 effect s day ClosePeriod facts = facts
+effect s day SetDay facts = record facts { today = Some day }
 
 -- its effect on the policies
 abbrev pub policies_by : Action → List KeyedPolicy → List KeyedPolicy
@@ -163,6 +164,7 @@ touched_by s day (DropProject name) = demand_touched s day (DropProject name)
 touched_by s day (ReplaceFiles files) = touched.All
 touched_by s day (Desk command) = only_at (package_added (added_by s command))
 touched_by s day ClosePeriod = only_at []
+touched_by s day SetDay = only_at (packages_lapsing s.held.facts day)
 
 -- the number that a command is told: that of the entry that it makes, of a review that it opens, or of the entry of one
 -- that it finishes; an import tells none, nor do files

@@ -1,11 +1,11 @@
 -- When files are told that what they hold is held already (ours).
 --
 -- Files say what is held (SayWhatIsHeld) where all of this holds. Their criteria are those held beside the built-in
--- ones, and their entries the own ones, each in any order. The peers of the config file are those held, with these
--- settings. The imports file says of each what is held of it and of no other peer anything (SaysWhatIsHeld,
--- each_is_set). Publisher records, policies and what is said to the tool alone are equal. Of two sets of three files
--- this may hold of one as of the other, and their imports files may have the same peers. Then they say the same
--- (SayTheSame).
+-- ones, and their entries the own ones but for exemptions with a last day, each in any order. The peers of the config
+-- file are those held, with these settings. The imports file says of each what is held of it and of no other peer
+-- anything (SaysWhatIsHeld, each_is_set). Publisher records, policies and what is said to the tool alone are equal. Of
+-- two sets of three files this may hold of one as of the other, and their imports files may have the same peers. Then
+-- they say the same (SayTheSame).
 use Rattle.std.specs.Prelude.{◌≡◌, ◌↔◌, true, List, Ok, map}
 use Rattle.std.specs.List.{All}
 use Rattle.vet_base.specs.Day.{DayValue}
@@ -19,6 +19,7 @@ use Rattle.vet_entries.specs.PeerContent.{PeerContentValue}
 use Rattle.vet_entries.specs.Replaced.{as_of}
 use Rattle.vet_entries.specs.ReplacedLaws.{entries_of}
 use Rattle.vet_files.specs.FilesContent.{FilesValue, IsFiles, content_for, each_is_set}
+use Rattle.vet_files.specs.SameContent.{undated}
 use Rattle.vet_files.specs.declared.imports_file.ImportedPeer.{ImportedPeer}
 use Rattle.vet_register.specs.declared.command.Action.TheVariants.{ReplaceFiles}
 use Rattle.vet_register.specs.declared.command.Command.{Command}
@@ -42,10 +43,10 @@ SaysWhatIsHeld contents peer =
     × SameItems (as_peers peer.settings.name (content_for contents peer.settings.name).entries)
     (entries_of peer.content.entries)
 
--- files say what is held, each list in whatever order, and nothing else
+-- files say what is held, each list in whatever order, and nothing else; exemptions with a last day are passed over
 pub record SayWhatIsHeld (held : HeldValue) (f : FilesValue) : Type 0 where
   pub criteria : SameItems f.criteria (further held.facts.criteria)
-  pub entries : SameItems (as_of Own f.entries) (entries_of held.facts.entries)
+  pub entries : SameItems (as_of Own f.entries) (undated (entries_of held.facts.entries))
   pub settings : f.settings ≡ map (λ (p : HeldPeer). p.settings) held.facts.peers
   pub set : each_is_set f ≡ true
   pub contents : All (SaysWhatIsHeld f.contents) held.facts.peers

@@ -1,12 +1,13 @@
 -- What three files put in place of what is held (ours).
 --
--- ReplaceFiles puts the content of three files (FilesValue) in place of all that is held but projects
--- (facts_of_files, tool_of_files). Own entries are those of the audits file and then the exemptions, each once. A
--- peer is held for each of the config file, with what the imports file says of it. That is nothing if it is not there
--- (peers_after, content_for). Of each source, entries that come again keep their numbers and stand first
+-- ReplaceFiles puts the content of three files (FilesValue) in place of all that is held but projects, own exemptions
+-- with a last day and the register's day (facts_of_files, tool_of_files). Own entries are those of the audits file and
+-- then the exemptions, each once. A peer is held for each of the config file, with what the imports file says of it.
+-- That is nothing if it is not there (peers_after, content_for). Of each source, entries that come again keep their
+-- numbers and stand first; and among one's own so do the exemptions with a last day, each at its place
 -- (entries_after). The new ones get the next numbers in the order of reading. One's own come first, and then peer by
 -- peer in the order of their names (new_of_files). The desk stays.
-use Rattle.std.specs.Prelude.{ℕ, ◌+◌, List, [], ◌∷◌, length}
+use Rattle.std.specs.Prelude.{ℕ, ◌+◌, List, [], ◌∷◌, filter, length}
 use Rattle.std.specs.List.{sum_by}
 use Rattle.vet_base.specs.Defined.{defined}
 use Rattle.vet_entries.specs.declared.entry.Source.TheVariants.{Own}
@@ -16,7 +17,7 @@ use Rattle.vet_entries.specs.Facts.{Facts}
 use Rattle.vet_entries.specs.HeldPeer.{holding_or_none, imported, new_entries, peer_of}
 use Rattle.vet_entries.specs.Holding.{HoldingValue}
 use Rattle.vet_entries.specs.Import.{ComparisonValue, compared}
-use Rattle.vet_entries.specs.Replaced.{entries_after, new_of}
+use Rattle.vet_entries.specs.Replaced.{entries_after, is_dated, new_of}
 use Rattle.vet_files.specs.FilesContent.{FilesValue, content_for}
 use Rattle.vet_files.specs.declared.imports_file.ImportedPeer.{ImportedPeer}
 use Rattle.vet_register.specs.declared.tool_settings.ToolSettings.{ToolSettings}
@@ -58,21 +59,26 @@ new_of_files facts f = new_own facts f + sum_by (new_of_peer facts.peers f.conte
 abbrev pub facts_of_files : ℕ → FilesValue → Facts → Facts
 facts_of_files next f facts = record {
   criteria = defined f.criteria;
-  entries = entries_after Own next facts.entries f.entries;
+  entries = entries_after is_dated Own next facts.entries f.entries;
   peers = peers_after (next + new_own facts f) facts.peers f.contents f.settings;
   publishers = f.publishers;
+  today = facts.today;
 }
 
 -- what they say to the tool alone
 abbrev pub tool_of_files : FilesValue → ToolSettings
 tool_of_files f = record { vet_version = f.vet_version; default_criteria = f.default_criteria }
 
--- how many entries are held after: one's own, and those of each peer of the config file
+-- how many entries files hold: one's own, and those of each peer of the config file
 abbrev pub count_of_peer : List ImportedPeer → PeerSettings → ℕ
 count_of_peer contents settings = length (content_for contents settings.name).entries
 
-abbrev pub entries_of_files : FilesValue → ℕ
-entries_of_files f = length f.entries + sum_by (count_of_peer f.contents) f.settings
+abbrev pub entries_in_files : FilesValue → ℕ
+entries_in_files f = length f.entries + sum_by (count_of_peer f.contents) f.settings
+
+-- how many entries are held after: those, and one's own exemptions with a last day
+abbrev pub entries_of_files : Facts → FilesValue → ℕ
+entries_of_files facts f = length (filter is_dated facts.entries) + entries_in_files f
 
 -- how the content of a peer stands to what is held of it
 abbrev pub compared_peer : List HeldPeer → List ImportedPeer → PeerSettings → ComparisonValue

@@ -4,14 +4,17 @@
 -- (touched_by). An own entry touches its package, and publisher records touch theirs. A peer touches the packages of
 -- its entries, by its content before and after. A policy or a project touches the packages at which the demand before
 -- differs from the demand after: those of the pairs that only one of the two has (pairs_between), which a walk along
--- both in order finds. A criterion touches all packages, and so do files. Everything else touches none.
+-- both in order finds. A criterion touches all packages, and so do files. Another day touches the packages of the own
+-- entries that have lapsed by only one of the two days (packages_lapsing). Everything else touches none.
 --
 -- Before the edit of a command is made, either the touched packages are known, or it is known that the demand will
 -- tell them (Touching, touched_with).
-use Rattle.std.specs.Prelude.{List, [], ◌∷◌, map, Option, Some, None}
+use Rattle.std.specs.Prelude.{Bool, not, List, [], ◌∷◌, filter, map, Option, Some, None}
+use Rattle.std.specs.Bool.{beq}
 use Rattle.std.specs.FinSet as set
 use Rattle.std.specs.declared.cmp.Ordering.{Ordering}
 use Rattle.std.specs.declared.cmp.Ordering.TheVariants.{Less, Equal, Greater}
+use Rattle.vet_base.specs.Day.{DayValue}
 use Rattle.vet_base.specs.Words.{Name}
 use Rattle.vet_demand.specs.declared.pair.Pair.{Pair}
 use Rattle.vet_demand.specs.Pair.{pair_cmp}
@@ -19,6 +22,7 @@ use Rattle.vet_entries.specs.declared.entry.Entry.{Entry}
 use Rattle.vet_entries.specs.declared.facts.HeldEntry.{HeldEntry}
 use Rattle.vet_entries.specs.Facts.{Facts}
 use Rattle.vet_entries.specs.HeldPeer.{holding_or_none, peer_of}
+use Rattle.vet_entries.specs.Kind.{has_lapsed}
 use Rattle.vet_graph.specs.declared.touched.Touched.{Touched}
 use Rattle.vet_graph.specs.declared.touched.Touched.TheVariants as touched
 use Rattle.vet_register.specs.declared.touching.Touching.{Touching}
@@ -46,6 +50,15 @@ package_added (Some entry) = entry_package entry ∷ []
 -- the packages of the entries that are held of a peer
 abbrev pub packages_of_peer : Facts → Name → List Name
 packages_of_peer facts name = map held_package (holding_or_none (peer_of facts.peers name)).entries
+
+-- a held entry has lapsed by only one of two days
+abbrev pub lapses_between : Option DayValue → Option DayValue → HeldEntry → Bool
+lapses_between before after held =
+    not (beq (has_lapsed held.entry.kind before) (has_lapsed held.entry.kind after))
+
+-- the packages of the own entries that have lapsed by only one of the register's day and another
+abbrev pub packages_lapsing : Facts → DayValue → List Name
+packages_lapsing facts day = map held_package (filter (lapses_between facts.today (Some day)) facts.entries)
 
 -- ---- the pairs that only one of two demands has
 

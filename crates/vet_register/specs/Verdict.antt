@@ -16,7 +16,8 @@
 --   18 number. 6 with the least of its criteria that the table lacks. For a wildcard or trusted entry, 11 where its
 --   last day comes before its first (ends_before_it_begins). For such a one, 12 where its last day comes more than
 --   366 days after the day of the command (ends_too_late). Days are compared by number, so that where the sum is
---   past 9999-12-31 no day comes too late.
+--   past 9999-12-31 no day comes too late. For an exemption, 11 where it has a last day, which comes before the day of
+--   the command (is_over); the register's day doesn't matter.
 -- - DropEntry: 18 step; 10 where no own entry has the number.
 -- - SetPeer: Already where a peer of its name is held with equal settings (has_settings). 18 peers, where its name
 --   is new and 64 are held (peer_limit). 18 step. 6 with the least target of its map that the table lacks.
@@ -34,18 +35,19 @@
 -- - LoadProject: Already where the project of its name is held and equal to it (has_project). 18 projects, where
 --   its name is new and 64 are held (project_limit). 18 step.
 -- - DropProject: 18 step; 15 where no project has the name (held_project).
--- - ReplaceFiles: Already where all that the files hold is held as sets, and nothing else except projects
---   (has_files). Each criterion is held and there are as many (has_criteria), and the own entries are those held
---   (same_entries). Each peer of the config file is held with these settings and this content and there are as many
---   (has_peers). Publisher records, policies and what is said to the tool alone are equal (has_lists). It is never
---   Already where the imports file has a peer that the config file lacks (each_is_set). 9 where with the built-in
---   ones there are more than 64 criteria (counted). Then what there would be after it (files_limits). 18 peers, of
---   the config file. 18 entries, own ones and those of the config file's peers (entries_of_files). 18 publishers;
---   18 policies; 18 step; 18 number. 6 with the least name that the files' own criteria and the built-in ones lack,
---   whatever was held (unknown_of_files). The names are of what criteria imply, and of what own entries,
---   exemptions, policies and targets of maps name. 13 where the imports file has a peer that the config file lacks.
---   8 where a review that is not closed names a criterion that the files' own and the built-in ones lack
---   (are_open_beyond). Windows are not judged.
+-- - ReplaceFiles: Already where all that the files hold is held as sets, and nothing else except projects and own
+--   exemptions with a last day (has_files). Each criterion is held and there are as many (has_criteria), and the own
+--   entries are those held, but for these exemptions (same_entries). Each peer of the config file is held with these
+--   settings and this content and there are as many (has_peers). Publisher records, policies and what is said to the
+--   tool alone are equal (has_lists). It is never Already where the imports file has a peer that the config file lacks
+--   (each_is_set). 9 where with the built-in ones there are more than 64 criteria (counted). Then what there would be
+--   after it (files_limits). 18 peers, of the config file. 18 entries: own ones, those of the config file's peers, and
+--   the exemptions with a last day, which stay (entries_of_files). 18 publishers; 18 policies; 18 step; 18 number. 6
+--   with the least name that the files' own criteria and the built-in ones lack, whatever was held
+--   (unknown_of_files). The names are of what criteria imply, and of what own entries, exemptions, policies and
+--   targets of maps name. 13 where the imports file has a peer that the config file lacks. 8 where a review that is not
+--   closed, or an exemption that stays, names a criterion that the files' own and the built-in ones lack
+--   (names_beyond). Windows are not judged.
 -- - Desk: the parts of the desk's verdict, by the table of criteria and the demand as they stand, and what the
 --   register asks between them. Already where the desk has what is set or added (desk_held), without a number. 18
 --   members or reviews (desk_limits). 18 step, except for FinishReview (step_before_rules). 18 number of a review
@@ -53,16 +55,18 @@
 --   all these (limits_after_rules). It is of entries, step and number where its entry is added (entry_limits), and
 --   of the step alone where an equal own one is held.
 -- - ClosePeriod: 18 step, and nothing else; it leaves no moves, so 25 never comes.
+-- - SetDay: Already where the day of the command is the register's (is_today). 18 step. 32 where it comes before the
+--   register's (goes_back).
 --
 -- After these, for each: 25 where after it more moves would be recorded than the limit (moves_fit, count_after).
--- Else it is accepted. Group by group these are held_as, limits, references, rules (which alone depend on the day)
--- and moves_fit. Limits, references and rules together are checked, and with held_as before them judged. That is
--- what is told before the moves are known. What is told where nothing refuses is an Answer, already or accepted. 29
--- may come in place of 6, whose name is copied, and of what is told once all checks are passed. It comes in place
--- of neither Already nor another check (IsExactly). To compare an import or files with what is held takes memory
--- (wants_memory). Of these two commands alone 29 may come in place of anything (IsExact). To compare the entry of a
--- finished review takes memory too, once all but the limits after its rules is passed (asked_before). So 29 may
--- stand in place of 18 there, and in place of nothing that comes before.
+-- Else it is accepted. Group by group these are held_as, limits, references, rules and moves_fit; of these, limits
+-- and references never depend on the day. Limits, references and rules together are checked, and with held_as before
+-- them judged. That is what is told before the moves are known. What is told where nothing refuses is an Answer,
+-- already or accepted. 29 may come in place of 6, whose name is copied, and of what is told once all checks are
+-- passed. It comes in place of neither Already nor another check (IsExactly). To compare an import or files with what
+-- is held takes memory (wants_memory). Of these two commands alone 29 may come in place of anything (IsExact). To
+-- compare the entry of a finished review takes memory too, once all but the limits after its rules is passed
+-- (asked_before). So 29 may stand in place of 18 there, and in place of nothing that comes before.
 use Rattle.std.specs.Prelude.{ℕ, ◌+◌, ◌&&◌, ◌||◌, not, nat_lt, Bool, true, false, is_none, is_ok, List, Option, Some}
 use Rattle.std.specs.Prelude.{None, Ok, if◌then◌else◌, length, option_map, ◌+ℤ◌, pos}
 use Rattle.std.specs.List.{list_any}
@@ -74,8 +78,8 @@ use Rattle.vet_base.specs.declared.limits.TheConstants.{MOST_PUBLISHERS, MOST_WI
 use Rattle.vet_base.specs.declared.refusal.Limit.TheVariants as limit
 use Rattle.vet_base.specs.declared.refusal.Refusal.TheVariants.{CriterionInUse, UnknownEntry, UnknownPeer}
 use Rattle.vet_base.specs.declared.refusal.Refusal.TheVariants.{UnknownPolicy, UnknownProject, EmptyWindow}
-use Rattle.vet_base.specs.declared.refusal.Refusal.TheVariants.{WindowTooLong, TooLarge, MovesFull}
-use Rattle.vet_base.specs.Criteria.{least_unknown}
+use Rattle.vet_base.specs.declared.refusal.Refusal.TheVariants.{WindowTooLong, TooLarge, MovesFull, DayGoesBack}
+use Rattle.vet_base.specs.Criteria.{Criteria, least_unknown}
 use Rattle.vet_base.specs.CriteriaChanges.{known, remove_references, remove_rules, set_limits, set_references}
 use Rattle.vet_base.specs.CriteriaChanges.{set_rules}
 use Rattle.vet_base.specs.Day.{DayValue, day_cmp, day_number}
@@ -88,21 +92,23 @@ use Rattle.vet_desk.specs.DeskVerdict.{desk_held, desk_limits, desk_number, desk
 use Rattle.vet_desk.specs.Review.{are_open_beyond, are_open_for}
 use Rattle.vet_entries.specs.declared.entry.Entry.{Entry}
 use Rattle.vet_entries.specs.declared.kind.Kind.{Kind}
-use Rattle.vet_entries.specs.declared.kind.Kind.TheVariants.{Wildcard, Trusted}
+use Rattle.vet_entries.specs.declared.kind.Kind.TheVariants.{Wildcard, Trusted, Exemption}
 use Rattle.vet_entries.specs.declared.kind.Window.{Window}
 use Rattle.vet_entries.specs.declared.publisher.Publisher.{Publisher}
 use Rattle.vet_entries.specs.Facts.{Facts, entries_of_peers, entries_total, is_named}
 use Rattle.vet_entries.specs.HeldPeer.{peer_of, without_peer}
+use Rattle.vet_entries.specs.Kind.{is_over}
 use Rattle.vet_entries.specs.Numbered.{has_number, number_of}
 use Rattle.vet_entries.specs.PeerWords.{targets}
 use Rattle.vet_entries.specs.PublisherRecords.{records_of, records_total, with_records}
 use Rattle.vet_entries.specs.Publishers.{publishers_eq}
+use Rattle.vet_entries.specs.Replaced.{is_dated_beyond}
 use Rattle.vet_files.specs.FilesContent.{FilesValue, each_is_set}
 use Rattle.vet_register.specs.declared.command.Action.{Action}
 use Rattle.vet_register.specs.declared.command.Action.TheVariants.{SetCriterion, RemoveCriterion, AddEntry, DropEntry}
 use Rattle.vet_register.specs.declared.command.Action.TheVariants.{SetPeer, DropPeer, ImportPeer, SetPublishers}
 use Rattle.vet_register.specs.declared.command.Action.TheVariants.{SetPolicy, DropPolicy, LoadProject, DropProject}
-use Rattle.vet_register.specs.declared.command.Action.TheVariants.{ReplaceFiles, Desk, ClosePeriod}
+use Rattle.vet_register.specs.declared.command.Action.TheVariants.{ReplaceFiles, Desk, ClosePeriod, SetDay}
 use Rattle.vet_register.specs.declared.command.Command.{Command}
 use Rattle.vet_register.specs.declared.verdict.Answer.{Answer}
 use Rattle.vet_register.specs.declared.verdict.Answer.TheVariants.{Already, Accepted}
@@ -113,6 +119,7 @@ use Rattle.vet_register.specs.NamesOfFiles.{counted, unknown_of_files}
 use Rattle.vet_register.specs.Replacing.{entries_of_files, new_of_files}
 use Rattle.vet_register.specs.State.{State, demanded}
 use Rattle.vet_register.specs.Machine.{count_after, numbers_given}
+use Rattle.vet_register.specs.Today.{goes_back, is_today}
 
 -- under which number a command's content is held already
 abbrev pub held_as : State → DayValue → Action → Option (Option ℕ)
@@ -126,6 +133,7 @@ held_as s day (SetPolicy policy) = if has_policy s.held.policies policy then Som
 held_as s day (LoadProject project) = if has_project s.held.projects project then Some None else None
 held_as s day (ReplaceFiles files) = if has_files s.held files then Some None else None
 held_as s day (Desk command) = if desk_held s.desk command then Some None else None
+held_as s day SetDay = if is_today s.held.facts.today day then Some None else None
 held_as s day _ = None
 
 -- there is a step for a command
@@ -176,11 +184,12 @@ project_limit s name =
     (is_none (project_at s.held.projects name) && nat_lt MOST_PROJECTS (length s.held.projects + 1))
     (TooLarge limit.Projects)
 
--- what files hold is not too much: too many criteria come first, then as much as there would be of each thing
+-- what files hold is not too much, with what stays: too many criteria come first, then as much as there would be of
+-- each thing
 abbrev pub files_limits : State → FilesValue → Told (Unit {0})
 files_limits s f =
     refuse_if (nat_lt MOST_PEERS (length f.settings)) (TooLarge limit.Peers) >>= λ _.
-    entry_limit (entries_of_files f) >>= λ _.
+    entry_limit (entries_of_files s.held.facts f) >>= λ _.
     refuse_if (nat_lt MOST_PUBLISHERS (records_total f.publishers)) (TooLarge limit.Publishers) >>= λ _.
     refuse_if (nat_lt MOST_POLICIES (length f.policies)) (TooLarge limit.Policies) >>= λ _.
     step_limit s >>= λ _. number_limit s (new_of_files s.held.facts f)
@@ -250,6 +259,7 @@ references s (DropProject name) = held_project s name
 references s (ReplaceFiles files) = files_references files
 references s (Desk command) = desk_references s.held.facts.criteria s.desk command
 references s ClosePeriod = Ok tt
+references s SetDay = Ok tt
 
 -- the last day of a window comes before its first
 abbrev pub ends_before_it_begins : Window → Bool
@@ -264,10 +274,11 @@ abbrev pub window_rules : DayValue → Window → Told (Unit {0})
 window_rules day w =
     refuse_if (ends_before_it_begins w) EmptyWindow >>= λ _. refuse_if (ends_too_late day w) WindowTooLong
 
--- only wildcard and trusted entries have a window
+-- only wildcard and trusted entries have a window; the last day of an exemption isn't over by the day of the command
 abbrev pub kind_rules : DayValue → Kind → Told (Unit {0})
 kind_rules day (Wildcard window grant) = window_rules day window
 kind_rules day (Trusted window) = window_rules day window
+kind_rules day (Exemption version suggest last) = refuse_if (is_over last (Some day)) EmptyWindow
 kind_rules day _ = Ok tt
 
 -- an own entry, a target of a peer's map or a policy names a criterion, or a review that isn't closed
@@ -275,16 +286,22 @@ abbrev pub is_used : State → Name → Bool
 is_used s name =
     is_named s.held.facts name || (list_any (policy_names name) s.held.policies || are_open_for s.desk.reviews name)
 
+-- what files leave names a criterion that a table lacks: a review that isn't closed, or an own exemption with a last
+-- day
+abbrev pub names_beyond : State → Criteria → Bool
+names_beyond s table = are_open_beyond table s.desk.reviews || list_any (is_dated_beyond table) s.held.facts.entries
+
 -- a built-in criterion is neither set nor removed, nor one removed that another implies, or that an own entry, a target
--- of a peer's map, a policy or an open review names; files lack none that an open review names; a window keeps its
--- rules, and a command to the desk those of the desk, by the demand as it stands
+-- of a peer's map, a policy or an open review names; files lack none that what they leave names; a window keeps its
+-- rules, and a command to the desk those of the desk, by the demand as it stands; the register's day doesn't go back
 abbrev pub rules : State → DayValue → Action → Told (Unit {0})
 rules s day (SetCriterion c) = set_rules c.name
 rules s day (RemoveCriterion name) =
     remove_rules s.held.facts.criteria name >>= λ _. refuse_if (is_used s name) CriterionInUse
 rules s day (AddEntry entry) = kind_rules day entry.kind
-rules s day (ReplaceFiles files) = refuse_if (are_open_beyond (defined files.criteria) s.desk.reviews) CriterionInUse
+rules s day (ReplaceFiles files) = refuse_if (names_beyond s (defined files.criteria)) CriterionInUse
 rules s day (Desk command) = desk_rules (demanded s) s.desk command >>= λ _. limits_after_rules s command
+rules s day SetDay = refuse_if (goes_back s.held.facts.today day) DayGoesBack
 rules s day _ = Ok tt
 
 -- what is asked of a command to the desk but for the limits that come after rules

@@ -54,14 +54,16 @@ pub enum Action {
     LoadProject(NamedProject),
     /// Drops the project of this name.
     DropProject(PackageName),
-    /// Puts what three files hold in place of all that is held but projects; the desk stays. An entry that was held
-    /// before, of the same source, keeps its number; a peer of the config file that the imports file lacks is held with
-    /// nothing imported.
+    /// Puts what three files hold in place of all that is held but projects, own exemptions with a last day and the
+    /// register's day; the desk stays. An entry that was held before, of the same source, keeps its number; a peer of
+    /// the config file that the imports file lacks is held with nothing imported.
     ReplaceFiles(FilesContent),
     /// What is asked of the desk. A review that is finished adds an own entry, unless an equal one is held.
     Desk(DeskCommand),
     /// Begins another period: the counts at first are those that are present, and no move is recorded any more.
     ClosePeriod,
+    /// Makes the day of the command the register's own, by which exemptions lapse.
+    SetDay,
 }
 
 impl Drop for Action {
@@ -82,6 +84,7 @@ impl Drop for Action {
             Action::ReplaceFiles(_) => {}
             Action::Desk(_) => {}
             Action::ClosePeriod => {}
+            Action::SetDay => {}
         }
     }
 }

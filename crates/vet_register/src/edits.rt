@@ -88,6 +88,7 @@ impl<K: Keeper> Register<K> {
             Action::ReplaceFiles(files) => self.replace_files(alloc, files),
             Action::Desk(asked) => self.ask_desk(alloc, command.day, asked),
             Action::ClosePeriod => self.close_period(alloc),
+            Action::SetDay => self.set_day(alloc, command.day),
         }
     }
 

@@ -1,4 +1,4 @@
-//! What is held after three files take the place of what was held.
+//! What is held after three files take the place of what was held. The register's day stays.
 //!
 //! **An entry that was held before, of the same source, keeps its number, and the new ones get the next numbers in the
 //! order of reading: one's own, and then those of the peers in the order of their names.**
@@ -82,7 +82,7 @@ fn facts_after(
         files.entries(),
         &comparison.own,
     )?;
-    EntryFacts::of_parts(alloc, criteria, entries, peers, publishers)
+    EntryFacts::of_parts(alloc, criteria, entries, peers, publishers, facts.today())
 }
 
 // The peers after, whose new entries are numbered behind one's own.

@@ -1,27 +1,28 @@
 //! The verdict on a command that replaces what is held by three files.
 //!
-//! Except for the room for its moves, it depends only on the files and on the numbers that are left, so nothing has to
-//! be built of them before.
+//! Except for the room for its moves, it depends only on the files, on what stays and on the numbers that are left, so
+//! nothing has to be built of them before.
 ghost use Rattle.std.specs.FinMap as map;
 ghost use Rattle.std.specs.FinSet as set;
 ghost use Rattle.std.specs.List.{All, list_all};
 ghost use Rattle.std.specs.Option.{option_copied};
-ghost use Rattle.std.specs.Prelude.{◌≡◌, ◌&&◌, ℕ, List, IfErr, IfOk, filter, false, length, map as mapped, nat_lt, not};
+ghost use Rattle.std.specs.Prelude.{◌≡◌, ◌≤◌, ◌+◌, ◌&&◌, ℕ, List, IfErr, IfOk, filter, false, length, map as mapped};
+ghost use Rattle.std.specs.Prelude.{nat_lt, not};
 ghost use Rattle.vet_base.specs.CriteriaChanges.{is_built_in};
 ghost use Rattle.vet_base.specs.Day.{DayValue};
 ghost use Rattle.vet_base.specs.Defined.{defined, least_undefined};
 ghost use Rattle.vet_base.specs.Gives.{Answers, Gives, refuse_if};
 ghost use Rattle.vet_base.specs.declared.refusal.Refusal.TheVariants.{CriterionInUse};
-ghost use Rattle.vet_desk.specs.Review.{are_open_beyond};
 ghost use Rattle.vet_register.specs.Already.{has_criteria, has_files, has_lists, has_peers, has_settings, is_held};
 ghost use Rattle.vet_register.specs.NamesOfFiles.{counted, named_alone, unknown_of_files, unknown_of_policies};
 ghost use Rattle.vet_register.specs.NamesOfFiles.{unknown_of_targets};
-ghost use Rattle.vet_register.specs.Replacing.{compared_peer, entries_of_files, tool_of_files};
+ghost use Rattle.vet_register.specs.Replacing.{compared_peer, entries_in_files, tool_of_files};
 ghost use Rattle.vet_register.specs.ReplacingFound.{AreJudged, IsCompared};
 ghost use Rattle.vet_register.specs.ToolSettings.{tool_eq};
 ghost use Rattle.vet_files.specs.FilesContent.{content_for};
 ghost use Rattle.vet_entries.specs.Import.{ComparisonValue};
-ghost use Rattle.vet_register.specs.Verdict.{checked, files_limits, files_references};
+ghost use Rattle.vet_entries.specs.Replaced.{is_dated};
+ghost use Rattle.vet_register.specs.Verdict.{checked, files_limits, files_references, names_beyond};
 ghost use Rattle.vet_register.specs.declared.command.Action.TheVariants as action;
 ghost use Rattle.vet_register.specs.Held.{content_of};
 
@@ -88,20 +89,24 @@ impl<K: Keeper> Register<K> {
         let known = defined_names(alloc, files.criteria())?;
         self.check_files_limits(files, comparison)?;
         check_references(&known, files)?;
-        self.check_reviews(&known)
+        self.check_what_stays(&known)
     }
 
-    // Whether reviews that aren't closed name criteria of these alone.
-    fn check_reviews(&self, known: &DefinedNames) -> Result<(), Refusal>
-        ensures { result ≡ refuse_if (are_open_beyond known.now.table self.now.state.desk.reviews) CriterionInUse }
+    // Whether what files leave names criteria of these alone: reviews that aren't closed, and own exemptions with a
+    // last day.
+    fn check_what_stays(&self, known: &DefinedNames) -> Result<(), Refusal>
+        ensures { result ≡ refuse_if (names_beyond self.now.state known.now.table) CriterionInUse }
     {
         if self.desk.names_beyond(&known.table) {
+            return Err(Refusal::CriterionInUse);
+        }
+        if self.held.facts.has_dated_beyond(&known.table) {
             return Err(Refusal::CriterionInUse);
         }
         Ok(())
     }
 
-    // Whether files hold too much, where so many of their entries are new.
+    // Whether files hold too much with what stays, where so many of their entries are new.
     fn check_files_limits(
         &self,
         files: &FilesContent,
@@ -113,7 +118,7 @@ impl<K: Keeper> Register<K> {
         if files.settings().len() > MOST_PEERS {
             return Err(Refusal::TooLarge(Limit::Peers));
         }
-        if has_more_entries(files, MOST_ENTRIES) {
+        if has_more_entries(files, self.dated_count(), MOST_ENTRIES) {
             return Err(Refusal::TooLarge(Limit::Entries));
         }
         if files.has_more_records_than(MOST_PUBLISHERS) {
@@ -125,11 +130,20 @@ impl<K: Keeper> Register<K> {
         self.check_step()?;
         self.check_number_limit(comparison.new_count())
     }
+
+    // How many own entries are exemptions with a last day, which stay.
+    fn dated_count(&self) -> usize
+        ensures value { result ≡ length (filter is_dated self.now.state.held.facts.entries) }
+        ensures few { result ≤ MOST_ENTRIES }
+    {
+        self.state_is_sound();
+        self.held.facts.dated_count()
+    }
 }
 
 // ---- whether all is held already
 
-// Whether all that files hold is held, as sets, and nothing else but projects.
+// Whether all that files hold is held, as sets, and nothing else but projects and own exemptions with a last day.
 fn has_files(held: &Held, files: &FilesContent, comparison: &FilesComparison) -> bool
     requires { IsCompared held.now.facts.content files.now comparison.now }
     ensures { result ≡ has_files (content_of held.now) files.now }
@@ -224,15 +238,17 @@ fn says_as(settings: &ToolSettings, files: &FilesContent) -> bool
 
 // ---- limits
 
-// Whether files hold more entries than so many: own ones, and those of the peers of the config file.
-fn has_more_entries(files: &FilesContent, most: usize) -> bool
-    ensures { result ≡ nat_lt most (entries_of_files files.now) }
+// Whether there are more entries than so many: these that stay, the own ones of files, and those of the peers of the
+// config file.
+fn has_more_entries(files: &FilesContent, staying: usize, most: usize) -> bool
+    requires { staying ≤ most }
+    ensures { result ≡ nat_lt most (staying + entries_in_files files.now) }
 {
-    if files.entries().len() > most {
+    if files.entries().len() > most - staying {
         return true;
     }
     let peers = files.settings();
-    let mut room = most - files.entries().len();
+    let mut room = most - staying - files.entries().len();
     'peers: for settings in peers {
         let count = entries_of(files, &settings.name);
         if count > room {

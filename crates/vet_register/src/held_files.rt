@@ -1,7 +1,8 @@
 //! What the files of a register hold, as copies.
 //!
 //! **What each file of a register is written from is what is held, and what such a file can give: so it is read
-//! again as the same content, which in an imports file has no entries of excluded packages.**
+//! again as the same content, which in an imports file has no entries of excluded packages, and in a config file no
+//! exemptions with a last day.**
 ghost use Rattle.std.specs.List.{All, filter, filter_map};
 ghost use Rattle.std.specs.Option.{option_copied};
 ghost use Rattle.std.specs.Prelude.{◌≡◌, IfErr, IfOk, map};
@@ -25,7 +26,6 @@ use vet_demand::policies::{KeyedPolicy, Policies};
 use vet_entries::entry::Entry;
 use vet_entries::facts::HeldEntry;
 use vet_entries::held_peer::HeldPeer;
-use vet_entries::kind::Kind;
 use vet_entries::peer_content::PeerContent;
 use vet_entries::peer_settings::PeerSettings;
 use vet_files::audits_file::AuditsContent;
@@ -61,7 +61,8 @@ impl<K: Keeper> Register<K> {
 
     /// Copies of what a config file holds of the register (The Cargo Vet Book, config file): the version of cargo-vet
     /// and the default criteria, how each peer is imported, in the order of their names, the policies in that of
-    /// their keys, and its own exemptions in that of their numbers. Refused: `NoMemory`.
+    /// their keys, and its own exemptions in that of their numbers. Those with a last day are among them; the writer
+    /// leaves them out. Refused: `NoMemory`.
     pub fn held_config(&self, alloc: Global) -> Result<ConfigContent, Refusal>
         ensures content { IfOk result (λ c. c ≡ config_of self.now.state.held) }
         ensures readable { IfOk result IsConfig }
@@ -166,11 +167,11 @@ fn exemptions_among(alloc: Global, held: &[HeldEntry]) -> Result<Vec<Entry>, All
     Ok(copies)
 }
 
-// Whether an entry is an exemption.
+// Whether an entry is an exemption, with a last day or without.
 fn is_exemption(entry: &Entry) -> bool
     ensures { result ≡ is_exemption entry.now }
 {
-    matches!(&entry.kind, Kind::Exemption { .. })
+    entry.kind.is_exemption()
 }
 
 /// A copy of a version of cargo-vet, if there is one.

@@ -2,7 +2,7 @@
 //!
 //! **The verdict on an import is that its content is held already exactly if its criteria and entries are those held of
 //! the peer, in whatever order. So after an import the same content changes nothing. Likewise three files change
-//! nothing exactly if they say what is held, each list in whatever order.**
+//! nothing exactly if they say what is held but for own exemptions with a last day, each list in whatever order.**
 //!
 //! **For a review that is opened, too many reviews are found first, then the step, then its number, and then what it
 //! refers to; for one that is finished, first what it refers to. A period that is closed is checked for its step
@@ -24,7 +24,8 @@ pub fn repeated_import_is_already()
     ensures { RepeatedImportIsAlready }
 {}
 
-/// Files change nothing just where they say what is held, each list in whatever order, and nothing else but projects.
+/// Files change nothing just where they say what is held, each list in whatever order, and nothing else is held but
+/// projects and own exemptions with a last day.
 pub fn held_files_are_already()
     ensures { HeldFilesAreAlready }
 {}

@@ -33,6 +33,7 @@ mod sound_moves;
 mod sound_numbers;
 mod sound_peers;
 pub mod state;
+mod today;
 pub mod tool_settings;
 mod touching;
 mod verdict;

@@ -19,12 +19,12 @@
 //!
 //! The parts of `prepare`, in their order, and where each takes memory:
 //!
-//! - The verdict (`verdict`; of files `files_verdict`, of the desk `at_desk`): is it held already, limits, references,
-//!   rules. It takes memory for the name of an unknown criterion. To compare an import or files, and to make the entry
-//!   of a finished review, it takes more.
-//! - The edit (`edits`, `at_desk`): copies of what is set or added, and room for it, and the names of the packages that
-//!   are touched (`touching`). Commands that drop a policy, a project or a criterion take none here, nor does
-//!   ClosePeriod.
+//! - The verdict (`verdict`; of files `files_verdict`, of the desk `at_desk`, of a day `today`): is it held already,
+//!   limits, references, rules. It takes memory for the name of an unknown criterion. To compare an import or files,
+//!   and to make the entry of a finished review, it takes more.
+//! - The edit (`edits`, `at_desk`, `today`): copies of what is set or added, and room for it, and the names of the
+//!   packages that are touched (`touching`). Commands that drop a policy, a project or a criterion take none here, nor
+//!   does ClosePeriod.
 //! - The plan (`plan`): the demand after the edit, the standing by it, and the moves to that. Between an edit and its
 //!   undo the demand is found anew, unless the edit keeps it (`keeps_demand`).
 //! - The change (`plan`): whether the moves fit, copies of those to record, and room for them.
@@ -210,11 +210,11 @@ impl<K: Keeper> Register<K> {
     /// `publishers`, `policies`, `projects`, `members`, `reviews`, `step` or `number`; `UnknownCriterion`,
     /// `UnknownEntry`, `UnknownPeer`, `UnknownPolicy`, `UnknownProject`, `UnknownMember`, `UnknownReview`;
     /// `BuiltInCriterion`, `CriterionInUse`, `EmptyWindow`, `WindowTooLong`, `ReviewClosed`, `NotYours`, `WrongTarget`,
-    /// `NotDemanded`; `MovesFull`. Of a review that is finished `TooLarge` comes after the rules. `NoMemory` comes in
-    /// place of `UnknownCriterion`, or if none before `MovesFull` holds. A command whose content is held never meets
-    /// it, except an import and files: to compare these with what is held takes memory, so it comes in place of
-    /// anything. The entry of a review that is finished is compared too, once the rules of the desk are passed: it
-    /// comes in place of what would be found after these, and of nothing before.
+    /// `NotDemanded`, `DayGoesBack`; `MovesFull`. Of a review that is finished `TooLarge` comes after the rules.
+    /// `NoMemory` comes in place of `UnknownCriterion`, or if none before `MovesFull` holds. A command whose content is
+    /// held never meets it, except an import and files: to compare these with what is held takes memory, so it comes in
+    /// place of anything. The entry of a review that is finished is compared too, once the rules of the desk are
+    /// passed: it comes in place of what would be found after these, and of nothing before.
     pub fn prepare(&mut self, alloc: Global, command: &Command) -> Result<Prepared<K>, Refusal>
         ensures told { Gives answer_of (verdict self.old.state command.now) result }
         ensures exact { IsExact (wants_memory self.old.state command.now.action)

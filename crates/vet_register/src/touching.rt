@@ -1,20 +1,22 @@
 //! The packages that a command touches.
 //!
-//! An entry, a peer and publisher records tell their packages before their edit is made. A policy and a project do not:
-//! they touch the packages at which the demand after the edit differs from the demand before it.
-ghost use Rattle.std.specs.Prelude.{◌≡◌, ◌++◌, ◌∷◌, [], IfErr, IfOk, OnOk, map};
+//! An entry, a peer, publisher records and a day tell their packages before their edit is made. A policy and a project
+//! do not: they touch the packages at which the demand after the edit differs from the demand before it.
+ghost use Rattle.std.specs.Prelude.{◌≡◌, ◌++◌, ◌∷◌, [], IfErr, IfOk, OnOk, filter, map};
 ghost use Rattle.std.specs.FinSet as set;
-ghost use Rattle.vet_register.specs.Touches.{entry_package, held_package, only_at, packages_between, pair_package};
+ghost use Rattle.vet_register.specs.Touches.{entry_package, held_package, lapses_between, only_at, packages_between};
+ghost use Rattle.vet_register.specs.Touches.{packages_lapsing, pair_package};
 ghost use Rattle.vet_register.specs.declared.touching.Touching.TheVariants as touch;
 
 use std::alloc::{AllocError, Global};
 use std::cmp::Ordering;
+use vet_base::day::Day;
 use vet_base::name::PackageName;
 use vet_base::package_names::PackageNames;
 use vet_base::refusal::Refusal;
 use vet_demand::pair::Pair;
 use vet_entries::entry::Entry;
-use vet_entries::facts::HeldEntry;
+use vet_entries::facts::{EntryFacts, HeldEntry};
 use vet_graph::touched::Touched;
 
 /// The packages that a command touches, as far as they are known before its edit is made.
@@ -59,6 +61,21 @@ pub(crate) fn entries_touched(
     Ok(only_at(alloc, names)?)
 }
 
+/// The packages of the own entries that have lapsed by only one of the register's day and another are touched. Costs a
+/// look at each own entry. Refused: `NoMemory`.
+pub(crate) fn lapsing_touched(
+    alloc: Global,
+    facts: &EntryFacts,
+    day: Day,
+) -> Result<Touching, Refusal>
+    ensures ok { IfOk result (λ t. t ≡ touch.Known (only_at (packages_lapsing facts.now.content day))) }
+    ensures memory { IfErr result (λ e. e ≡ Refusal.NoMemory) }
+{
+    let mut names = Vec::new(alloc);
+    push_of_lapsing(&mut names, facts.entries(), facts.today(), Some(day))?;
+    Ok(only_at(alloc, names)?)
+}
+
 // These packages, and no others, are touched.
 fn only_at(alloc: Global, names: Vec<PackageName>) -> Result<Touching, AllocError>
     ensures { IfOk result (λ t. t ≡ touch.Known (only_at names.items)) }
@@ -75,6 +92,31 @@ fn push_of_held(names: &mut Vec<PackageName>, entries: &[HeldEntry]) -> Result<(
         names.push(held.entry.package.clone()?)?;
     }
     Ok(())
+}
+
+// Adds the packages of those held entries that have lapsed by only one of two days.
+fn push_of_lapsing(
+    names: &mut Vec<PackageName>,
+    entries: &[HeldEntry],
+    before: Option<Day>,
+    after: Option<Day>,
+) -> Result<(), AllocError>
+    ensures { OnOk result (names.new.items
+        ≡ names.old.items ++ map held_package (filter (lapses_between before after) entries.now)) }
+{
+    for held in entries {
+        if lapses_between(held, before, after) {
+            names.push(held.entry.package.clone()?)?;
+        }
+    }
+    Ok(())
+}
+
+// Whether a held entry has lapsed by only one of two days.
+fn lapses_between(held: &HeldEntry, before: Option<Day>, after: Option<Day>) -> bool
+    ensures { result ≡ lapses_between before after held.now }
+{
+    held.entry.kind.has_lapsed(before) != held.entry.kind.has_lapsed(after)
 }
 
 // Adds the packages of entries.

@@ -36,7 +36,7 @@ use vet_demand::project::NamedProject;
 use vet_entries::entry::Entry;
 use vet_entries::facts::EntryFacts;
 use vet_entries::import::{Comparison, compare};
-use vet_entries::kind::{Kind, Window};
+use vet_entries::kind::{Kind, Window, is_over};
 use vet_entries::peer_content::PeerContent;
 use vet_entries::peer_settings::PeerSettings;
 use vet_entries::publishers::Publishers;
@@ -444,13 +444,24 @@ fn check_built_in(name: &Name) -> Result<(), Refusal>
     Ok(())
 }
 
-// A window does not end before it begins, and ends soon enough after the day of the command.
+// A window does not end before it begins, and ends soon enough after the day of the command. The last day of an
+// exemption isn't over by that day.
 fn check_kind(day: Day, kind: &Kind) -> Result<(), Refusal>
     ensures { result ≡ kind_rules day kind.now }
 {
     match kind {
         Kind::Wildcard(window, _) => check_window(day, *window),
         Kind::Trusted(window) => check_window(day, *window),
+        Kind::Exemption {
+            version: _,
+            suggest: _,
+            last_day,
+        } => {
+            if is_over(*last_day, Some(day)) {
+                return Err(Refusal::EmptyWindow);
+            }
+            Ok(())
+        }
         _ => Ok(()),
     }
 }

@@ -1,4 +1,5 @@
 pub mod ColumnLemmas
 pub mod CsvLemmas
+pub mod LapseLemmas
 pub mod ReviewLemmas
 pub mod StandingLemmas

@@ -7,6 +7,9 @@ use Rattle.vet_base.specs.Words.{Name, Text}
 use Rattle.vet_demand.specs.declared.pair.Pair.{Pair}
 use Rattle.vet_desk.specs.declared.review.Review.{Review}
 use Rattle.vet_desk.specs.declared.review.ReviewState.{ReviewState}
+use Rattle.vet_entries.specs.declared.entry.Source.TheVariants.{Own}
+use Rattle.vet_entries.specs.declared.facts.HeldEntry.{HeldEntry}
+use Rattle.vet_entries.specs.declared.kind.Kind.TheVariants.{Exemption}
 use Rattle.vet_graph.specs.declared.class.Class.{Class}
 use Rattle.vet_graph.specs.declared.class.Class.TheVariants.{Full, Unvetted}
 use Rattle.vet_graph.specs.declared.standing.Stand.{Stand}
@@ -91,6 +94,22 @@ review_in state = record {
   state = state;
 }
 
+-- an exemption without a last day, and a day that may be its last; its criteria are told beside it
+abbrev pub exemption : HeldEntry
+exemption = record {
+  number = 1;
+  entry = record {
+    source = Own;
+    «package» = codes "serde";
+    kind = Exemption version None None;
+    criteria = set.empty;
+    notes = None;
+  };
+}
+
+abbrev pub last_of_may : DayValue
+last_of_may = in_may 31
+
 -- ---- their texts
 
 abbrev pub counts_report : Text
@@ -140,6 +159,16 @@ abbrev pub finished_line : Text
 finished_line =
     codes "       1 2024-05-01 serde                    1.0.1                "
     ++ codes "finished  -                       1 safe-to-deploy\n"
+
+abbrev pub held_line : Text
+held_line =
+    codes "       1 2024-05-31 serde                    1.0.1                "
+    ++ codes "held   safe-to-deploy,safe-to-run\n"
+
+abbrev pub lapsed_line : Text
+lapsed_line =
+    codes "       1 2024-05-31 serde                    1.0.1                "
+    ++ codes "lapsed safe-to-deploy\n"
 
 abbrev pub csv_report : Text
 csv_report =

@@ -1,6 +1,7 @@
 -- Columns of reports, and lines of them (ours). A width counts characters, and cuts nothing.
 use Rattle.std.specs.Prelude.{ℕ, ◌-◌, List, [], ◌∷◌, ◌++◌, codes, replicate}
 use Rattle.std.specs.Fmt.{char_count}
+use Rattle.std.specs.List.{flat_map}
 use Rattle.vet_base.specs.Version.{VersionValue, version_text}
 use Rattle.vet_base.specs.Words.{Name, Text}
 use Rattle.vet_demand.specs.declared.pair.Pair.{Pair}
@@ -40,3 +41,11 @@ version_columns name version = left_in 24 name ∷ left_in 20 (version_text vers
 
 abbrev pub pair_columns : Pair → List Text
 pair_columns p = version_columns p.«package» p.version ++ left_in 20 p.criterion ∷ []
+
+-- names, each but the first behind a comma
+abbrev pub others_text : List Name → Text
+others_text names = flat_map (λ name. codes "," ++ name) names
+
+unfoldable pub comma_list : List Name → Text
+comma_list [] = []
+comma_list (first ∷ rest) = first ++ others_text rest

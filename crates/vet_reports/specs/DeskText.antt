@@ -9,7 +9,7 @@ use Rattle.vet_desk.specs.declared.review.Review.{Review}
 use Rattle.vet_desk.specs.declared.review.ReviewState.{ReviewState}
 use Rattle.vet_desk.specs.declared.review.ReviewState.TheVariants.{Waiting, Assigned, Finished, Withdrawn}
 use Rattle.vet_register.specs.State.{State}
-use Rattle.vet_reports.specs.Columns.{left_in, line, right_in, version_columns}
+use Rattle.vet_reports.specs.Columns.{comma_list, left_in, line, right_in, version_columns}
 
 -- the word of a state
 abbrev pub state_word : ReviewState → Text
@@ -32,14 +32,6 @@ entry_word _ = codes "-"
 abbrev pub state_columns : ReviewState → List Text
 state_columns state =
     left_in 9 (state_word state) ∷ left_in 16 (member_word state) ∷ right_in 8 (entry_word state) ∷ []
-
--- names, each but the first behind a comma
-abbrev pub others_text : List Name → Text
-others_text names = flat_map (λ name. codes "," ++ name) names
-
-unfoldable pub comma_list : List Name → Text
-comma_list [] = []
-comma_list (first ∷ rest) = first ++ others_text rest
 
 -- the line of a review for these criteria: its number, the day on which it was opened, what is reviewed, its state, and
 -- the criteria

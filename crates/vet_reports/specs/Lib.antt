@@ -2,6 +2,7 @@ pub mod ByExample
 pub mod Columns
 pub mod CountsText
 pub mod DeskText
+pub mod LapsesText
 pub mod MovesText
 pub mod OutcomeText
 pub mod RefusalText

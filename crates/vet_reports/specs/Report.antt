@@ -5,13 +5,15 @@ use Rattle.vet_base.specs.Words.{Text}
 use Rattle.vet_register.specs.State.{State}
 use Rattle.vet_reports.specs.CountsText.{counts_text}
 use Rattle.vet_reports.specs.DeskText.{desk_text}
+use Rattle.vet_reports.specs.LapsesText.{lapses_text}
 use Rattle.vet_reports.specs.MovesText.{moves_text}
 use Rattle.vet_reports.specs.StandingCsv.{standing_csv}
 use Rattle.vet_reports.specs.StandingText.{standing_text}
 use Rattle.vet_reports.specs.declared.report.Layout.{Layout}
 use Rattle.vet_reports.specs.declared.report.Layout.TheVariants.{Csv, Lines}
 use Rattle.vet_reports.specs.declared.report.Report.{Report}
-use Rattle.vet_reports.specs.declared.report.Report.TheVariants.{Counts, Desk, Moves, Standing, StandingCsv}
+use Rattle.vet_reports.specs.declared.report.Report.TheVariants.{Counts, Desk, Lapses, Moves, Standing}
+use Rattle.vet_reports.specs.declared.report.Report.TheVariants.{StandingCsv}
 
 -- the report that a word names
 abbrev pub report_named : Text → Option Report
@@ -20,7 +22,8 @@ report_named word =
     else (if bytes_eq word (codes "standing") then Some Standing
     else (if bytes_eq word (codes "standing-csv") then Some StandingCsv
     else (if bytes_eq word (codes "moves") then Some Moves
-    else (if bytes_eq word (codes "desk") then Some Desk else None))))
+    else (if bytes_eq word (codes "desk") then Some Desk
+    else (if bytes_eq word (codes "lapses") then Some Lapses else None)))))
 
 -- how its text is laid out
 abbrev pub layout_of : Report → Layout
@@ -34,3 +37,4 @@ report_text Standing s = standing_text (record { «package» = None; class = Non
 report_text StandingCsv s = standing_csv s
 report_text Moves s = moves_text s
 report_text Desk s = desk_text s
+report_text Lapses s = lapses_text s

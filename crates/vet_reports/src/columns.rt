@@ -1,10 +1,11 @@
 //! Columns of reports.
 ghost use Rattle.std.specs.Prelude.{◌≡◌, ◌++◌, OnOk, string_bytes};
 ghost use Rattle.std.specs.Fmt.{decimal};
-ghost use Rattle.vet_reports.specs.Columns.{begun, left_in, pair_columns, right_in, version_columns};
+ghost use Rattle.vet_reports.specs.Columns.{begun, comma_list, left_in, others_text, pair_columns, right_in};
+ghost use Rattle.vet_reports.specs.Columns.{version_columns};
 
 use std::alloc::{AllocError, Global};
-use vet_base::name::PackageName;
+use vet_base::name::{Name, PackageName};
 use vet_base::version::VetVersion;
 use vet_demand::pair::Pair;
 
@@ -53,4 +54,26 @@ pub(crate) fn push_pair(alloc: Global, text: &mut String, pair: &Pair) -> Result
     push_version(alloc, text, &pair.package, &pair.version)?;
     push_left(text, 20, pair.criterion.as_str())?;
     text.push(' ')
+}
+
+/// Adds names, with a comma between two of them.
+pub(crate) fn push_names(text: &mut String, names: &[Name]) -> Result<(), AllocError>
+    ensures { OnOk result (string_bytes text.new ≡ string_bytes text.old ++ comma_list names.now) }
+{
+    let Some((first, others)) = names.split_first() else {
+        return Ok(());
+    };
+    text.push_str(first.as_str())?;
+    push_others(text, others)
+}
+
+// Adds names, each behind a comma.
+fn push_others(text: &mut String, names: &[Name]) -> Result<(), AllocError>
+    ensures { OnOk result (string_bytes text.new ≡ string_bytes text.old ++ others_text names.now) }
+{
+    'names: for name in names {
+        text.push(',')?;
+        text.push_str(name.as_str())?;
+    }
+    Ok(())
 }

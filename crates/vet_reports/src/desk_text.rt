@@ -3,12 +3,11 @@ ghost use Rattle.std.specs.Prelude.{◌≡◌, ◌++◌, IfErr, IfOk, OnOk, code
 ghost use Rattle.std.specs.List.{flat_map};
 ghost use Rattle.vet_reports.specs.ByExample as example;
 ghost use Rattle.vet_reports.specs.Columns.{begun, right_in};
-ghost use Rattle.vet_reports.specs.DeskText.{comma_list, desk_text, entry_word, line_for, member_word, others_text};
-ghost use Rattle.vet_reports.specs.DeskText.{review_line, state_columns, state_word};
+ghost use Rattle.vet_reports.specs.DeskText.{desk_text, entry_word, line_for, member_word, review_line, state_columns};
+ghost use Rattle.vet_reports.specs.DeskText.{state_word};
 
-use crate::columns::{push_left, push_number, push_right, push_version};
+use crate::columns::{push_left, push_names, push_number, push_right, push_version};
 use std::alloc::{AllocError, Global};
-use vet_base::name::Name;
 use vet_base::refusal::Refusal;
 use vet_desk::review::{Review, ReviewState};
 use vet_graph::keeper::Keeper;
@@ -91,28 +90,6 @@ fn push_entry(text: &mut String, state: &ReviewState) -> Result<(), AllocError>
         ReviewState::Finished(entry) => push_number(text, 8, *entry),
         _ => push_right(text, 8, "-"),
     }
-}
-
-// Adds names, with a comma between two of them.
-fn push_names(text: &mut String, names: &[Name]) -> Result<(), AllocError>
-    ensures { OnOk result (string_bytes text.new ≡ string_bytes text.old ++ comma_list names.now) }
-{
-    let Some((first, others)) = names.split_first() else {
-        return Ok(());
-    };
-    text.push_str(first.as_str())?;
-    push_others(text, others)
-}
-
-// Adds names, each behind a comma.
-fn push_others(text: &mut String, names: &[Name]) -> Result<(), AllocError>
-    ensures { OnOk result (string_bytes text.new ≡ string_bytes text.old ++ others_text names.now) }
-{
-    'names: for name in names {
-        text.push(',')?;
-        text.push_str(name.as_str())?;
-    }
-    Ok(())
 }
 
 /// The line of a review by example, in each state, for one criterion or two. Does nothing.

@@ -13,6 +13,7 @@
 mod columns;
 pub mod counts_text;
 pub mod desk_text;
+pub mod lapses_text;
 pub mod moves_text;
 pub mod outcome_text;
 pub mod refusal_text;

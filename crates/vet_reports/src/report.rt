@@ -4,6 +4,7 @@ ghost use Rattle.vet_reports.specs.Report.{layout_of, report_named, report_text}
 
 use crate::counts_text::counts_text;
 use crate::desk_text::desk_text;
+use crate::lapses_text::lapses_text;
 use crate::moves_text::moves_text;
 use crate::standing_csv::standing_csv;
 use crate::standing_text::{Filter, standing_text};
@@ -13,7 +14,7 @@ use vet_graph::keeper::Keeper;
 use vet_register::register::Register;
 
 /// The words for the reports, as an error lists them.
-pub const REPORT_WORDS: &str = "counts, standing, standing-csv, moves, desk";
+pub const REPORT_WORDS: &str = "counts, standing, standing-csv, moves, desk, lapses";
 
 /// A report of a register. A further one is a row here and in each function below.
 #[derive(Clone, Copy)]
@@ -23,6 +24,7 @@ pub enum Report {
     StandingCsv,
     Moves,
     Desk,
+    Lapses,
 }
 
 /// How the text of a report is laid out.
@@ -35,7 +37,7 @@ pub enum Layout {
 }
 
 impl Report {
-    /// The report that a word names: `counts`, `standing`, `standing-csv`, `moves` or `desk`.
+    /// The report that a word names: `counts`, `standing`, `standing-csv`, `moves`, `desk` or `lapses`.
     pub fn named(word: &str) -> Option<Report>
         ensures { result ≡ report_named word.now }
     {
@@ -49,6 +51,8 @@ impl Report {
             Some(Report::Moves)
         } else if word == "desk" {
             Some(Report::Desk)
+        } else if word == "lapses" {
+            Some(Report::Lapses)
         } else {
             None
         }
@@ -75,6 +79,7 @@ impl Report {
             Report::StandingCsv => standing_csv(alloc, register),
             Report::Moves => moves_text(alloc, register),
             Report::Desk => desk_text(alloc, register),
+            Report::Lapses => lapses_text(alloc, register),
         }
     }
 }

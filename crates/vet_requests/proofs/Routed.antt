@@ -91,6 +91,10 @@ module _ (path : List ℕ) (r : Route) (bytes : AreBytes path) where
   unfolding matchit_on_literals table
   desk_found = refl
 
+  lapses_found : routed_at (47 ∷ codes "lapses") ≡ Some (Report report.Lapses)
+  unfolding matchit_on_literals table
+  lapses_found = refl
+
   commands_found : routed_at (47 ∷ codes "commands") ≡ Some Commands
   unfolding matchit_on_literals table
   commands_found = refl
@@ -116,29 +120,36 @@ module _ (path : List ℕ) (r : Route) (bytes : AreBytes path) where
                                   | inl it ↦ plain (codes "desk") (Report report.Desk) desk_found parts it does
                                   | inr at ↦
                                       (elim at [
-                                        | inl it ↦ by_three (codes "class") Class class path bytes
-                                            (fits_own (word (codes "class") ∷ parameter ∷ parameter ∷ parameter ∷ [])
-                                            parts Class it does) ∙ ap Some it.1
+                                        | inl it ↦ plain (codes "lapses") (Report report.Lapses)
+                                            lapses_found parts it does
                                         | inr at ↦
                                             (elim at [
-                                              | inl it ↦ by_one (codes "files") File files path bytes
-                                                  (fits_own (word (codes "files") ∷ parameter ∷ []) parts File it
-                                                  does) ∙ ap Some it.1
+                                              | inl it ↦ by_three (codes "class") Class class path bytes
+                                                  (fits_own
+                                                  (word (codes "class") ∷ parameter ∷ parameter ∷ parameter ∷ [])
+                                                  parts Class it does) ∙ ap Some it.1
                                               | inr at ↦
                                                   (elim at [
-                                                    | inl it ↦ by_one (codes "projects") Project projects path bytes
-                                                        (fits_own (word (codes "projects") ∷ parameter ∷ []) parts
-                                                        Project it does) ∙ ap Some it.1
+                                                    | inl it ↦ by_one (codes "files") File files path bytes
+                                                        (fits_own (word (codes "files") ∷ parameter ∷ []) parts File it
+                                                        does) ∙ ap Some it.1
                                                     | inr at ↦
                                                         (elim at [
-                                                          | inl it ↦ by_one (codes "peers") Peer peers path bytes
-                                                              (fits_own (word (codes "peers") ∷ parameter ∷ []) parts
-                                                              Peer it does) ∙ ap Some it.1
+                                                          | inl it ↦ by_one (codes "projects") Project projects
+                                                              path bytes
+                                                              (fits_own (word (codes "projects") ∷ parameter ∷ []) parts
+                                                              Project it does) ∙ ap Some it.1
                                                           | inr at ↦
                                                               (elim at [
-                                                                | inl it ↦ plain (codes "commands") Commands
-                                                                    commands_found parts it does
-                                                                | inr at ↦ absurd at
+                                                                | inl it ↦ by_one (codes "peers") Peer peers path bytes
+                                                                    (fits_own (word (codes "peers") ∷ parameter ∷ [])
+                                                                    parts Peer it does) ∙ ap Some it.1
+                                                                | inr at ↦
+                                                                    (elim at [
+                                                                      | inl it ↦ plain (codes "commands") Commands
+                                                                          commands_found parts it does
+                                                                      | inr at ↦ absurd at
+                                                                    ])
                                                               ])
                                                         ])
                                                   ])
@@ -173,11 +184,12 @@ module _ (target : List ℕ) where
   row_has_route pattern k at m none =
       (elim at [
         | inl it ↦ has_route (word (codes "class")) (parameter ∷ parameter ∷ parameter ∷ []) Class refl
-            (inr (inr (inr (inr (inr (inr (inl (refl, refl)))))))) pattern it.0 m none
+            (inr (inr (inr (inr (inr (inr (inr (inl (refl, refl))))))))) pattern it.0 m none
         | inr at ↦
             (elim at [
               | inl it ↦ has_route (word (codes "commands")) [] Commands refl
-                  (inr (inr (inr (inr (inr (inr (inr (inr (inr (inr (inl (refl, refl)))))))))))) pattern it.0 m none
+                  (inr (inr (inr (inr (inr (inr (inr (inr (inr (inr (inr (inl (refl, refl))))))))))))) pattern it.0
+                  m none
               | inr at ↦
                   (elim at [
                     | inl it ↦ has_route (word (codes "counts")) [] (Report report.Counts) refl
@@ -189,38 +201,49 @@ module _ (target : List ℕ) where
                           | inr at ↦
                               (elim at [
                                 | inl it ↦ has_route (word (codes "files")) (parameter ∷ []) File refl
-                                    (inr (inr (inr (inr (inr (inr (inr (inl (refl, refl))))))))) pattern it.0 m none
+                                    (inr (inr (inr (inr (inr (inr (inr (inr (inl (refl, refl)))))))))) pattern it.0
+                                    m none
                                 | inr at ↦
                                     (elim at [
-                                      | inl it ↦ has_route (word (codes "moves")) [] (Report report.Moves) refl
-                                          (inr (inr (inr (inr (inl (refl, refl)))))) pattern it.0 m none
+                                      | inl it ↦ has_route (word (codes "lapses")) [] (Report report.Lapses) refl
+                                          (inr (inr (inr (inr (inr (inr (inl (refl, refl)))))))) pattern it.0 m none
                                       | inr at ↦
                                           (elim at [
-                                            | inl it ↦ has_route (word (codes "peers")) (parameter ∷ []) Peer refl
-                                                (inr (inr (inr (inr (inr
-                                                (inr (inr (inr (inr (inl (refl, refl))))))))))) pattern it.0 m none
+                                            | inl it ↦ has_route (word (codes "moves")) [] (Report report.Moves) refl
+                                                (inr (inr (inr (inr (inl (refl, refl)))))) pattern it.0 m none
                                             | inr at ↦
                                                 (elim at [
-                                                  | inl it ↦ has_route (word (codes "projects")) (parameter ∷ [])
-                                                      Project refl
-                                                      (inr (inr (inr (inr (inr
-                                                      (inr (inr (inr (inl (refl, refl)))))))))) pattern it.0 m none
+                                                  | inl it ↦ has_route (word (codes "peers")) (parameter ∷ []) Peer refl
+                                                      (inr (inr (inr (inr (inr (inr
+                                                      (inr (inr (inr (inr (inl (refl, refl)))))))))))) pattern it.0
+                                                      m none
                                                   | inr at ↦
                                                       (elim at [
-                                                        | inl it ↦ has_route (word (codes "standing.csv")) []
-                                                            (Report report.StandingCsv) refl
-                                                            (inr (inr (inr (inl (refl, refl))))) pattern it.0 m none
+                                                        | inl it ↦ has_route (word (codes "projects")) (parameter ∷ [])
+                                                            Project refl
+                                                            (inr (inr (inr (inr (inr (inr
+                                                            (inr (inr (inr (inl (refl, refl))))))))))) pattern it.0
+                                                            m none
                                                         | inr at ↦
                                                             (elim at [
-                                                              | inl it ↦ has_route (word (codes "standing"))
-                                                                  (parameter ∷ []) StandingOf refl
-                                                                  (inr (inr (inl (refl, refl)))) pattern it.0 m none
+                                                              | inl it ↦ has_route (word (codes "standing.csv")) []
+                                                                  (Report report.StandingCsv) refl
+                                                                  (inr (inr (inr (inl (refl, refl))))) pattern it.0
+                                                                  m none
                                                               | inr at ↦
                                                                   (elim at [
-                                                                    | inl it ↦ has_route (word (codes "standing")) []
-                                                                        (Report report.Standing) refl
-                                                                        (inr (inl (refl, refl))) pattern it.0 m none
-                                                                    | inr at ↦ absurd at
+                                                                    | inl it ↦ has_route (word (codes "standing"))
+                                                                        (parameter ∷ []) StandingOf refl
+                                                                        (inr (inr (inl (refl, refl)))) pattern it.0
+                                                                        m none
+                                                                    | inr at ↦
+                                                                        (elim at [
+                                                                          | inl it ↦ has_route (word (codes "standing"))
+                                                                              [] (Report report.Standing) refl
+                                                                              (inr (inl (refl, refl))) pattern it.0
+                                                                              m none
+                                                                          | inr at ↦ absurd at
+                                                                        ])
                                                                   ])
                                                             ])
                                                       ])

@@ -29,6 +29,7 @@ paths =
     ∷ path (word (codes "standing.csv") ∷ []) (Report report.StandingCsv)
     ∷ path (word (codes "moves") ∷ []) (Report report.Moves)
     ∷ path (word (codes "desk") ∷ []) (Report report.Desk)
+    ∷ path (word (codes "lapses") ∷ []) (Report report.Lapses)
     ∷ path (word (codes "class") ∷ parameter ∷ parameter ∷ parameter ∷ []) Class
     ∷ path (word (codes "files") ∷ parameter ∷ []) File
     ∷ path (word (codes "projects") ∷ parameter ∷ []) Project

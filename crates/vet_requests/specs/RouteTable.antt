@@ -38,12 +38,13 @@ table =
     (placed (with_names (codes "/files/" ++ one_parameter) (codes "/files/{file}") ((8, 12) ∷ []) File)
     (placed (with_names (codes "/class/" ++ three_parameters) (codes "/class/{package}/{version}/{criterion}")
     ((8, 15) ∷ (18, 25) ∷ (28, 37) ∷ []) Class)
+    (placed (plain (codes "/lapses") (Report report.Lapses))
     (placed (plain (codes "/desk") (Report report.Desk))
     (placed (plain (codes "/moves") (Report report.Moves))
     (placed (plain (codes "/standing.csv") (Report report.StandingCsv))
     (placed (with_names (codes "/standing/" ++ one_parameter) (codes "/standing/{package}") ((11, 18) ∷ []) StandingOf)
     (placed (plain (codes "/standing") (Report report.Standing))
-    (placed (plain (codes "/counts") (Report report.Counts)) []))))))))))
+    (placed (plain (codes "/counts") (Report report.Counts)) [])))))))))))
 
 -- the route that `matchit` finds of a target by these rows
 abbrev pub routed_at : Text → Option Route

@@ -110,6 +110,7 @@ fn router(alloc: Global) -> Result<Router<Route>, InsertError>
     router.insert("/standing.csv", Route::Report(Report::StandingCsv))?;
     router.insert("/moves", Route::Report(Report::Moves))?;
     router.insert("/desk", Route::Report(Report::Desk))?;
+    router.insert("/lapses", Route::Report(Report::Lapses))?;
     router.insert("/class/{package}/{version}/{criterion}", Route::Class)?;
     router.insert("/files/{file}", Route::File)?;
     router.insert("/projects/{project}", Route::Project)?;

@@ -19,6 +19,7 @@ pub fn plain_paths_have_routes()
     ensures standing_csv { route_at (codes "/standing.csv") ≡ Some (Report report.StandingCsv) }
     ensures moves { route_at (codes "/moves") ≡ Some (Report report.Moves) }
     ensures desk { route_at (codes "/desk") ≡ Some (Report report.Desk) }
+    ensures lapses { route_at (codes "/lapses") ≡ Some (Report report.Lapses) }
     ensures commands { route_at (codes "/commands") ≡ Some Commands }
 {}
 

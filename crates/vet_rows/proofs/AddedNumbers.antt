@@ -56,6 +56,7 @@ module _ (old : Facts) (room : Room) (k : HaveKeys old) where
           (name_of old.peers k.peers name p at)).come_in (record p { content = content }) refl)
       by None at there fit = absurd (cc there)
   entries_come (edit.Publishers change) fits entries peers = tt
+  entries_come (edit.Today day) fits entries peers = tt
 
 pub held_entries_come : (old : HeldValue) (room : HeldRoom) → HaveKeys old.facts → (e : HeldEdit)
     → holds.Fits e (held_with old room) → All EntryFits (holds.edited e old).facts.entries

@@ -1,4 +1,4 @@
--- The exchanges of a change are of tables one behind the other, and each table's is in one of their four parts.
+-- The exchanges of a change are of tables one behind the other, and each table's is in one of their five parts.
 use Rattle.std.proofs.Common.{◌≡◌, ℕ, ◌+◌, ◌<◌, ◌≤◌, List, [], ◌∷◌, ◌++◌, Option, Some, None, arith, refl, rules, ◌∙◌}
 use Rattle.std.specs.Bool.{⊤}
 use Rattle.std.specs.List.{AllByRecursion}
@@ -17,6 +17,7 @@ use Rattle.vet_register.specs.Held.{HeldValue}
 use Rattle.vet_register.specs.State.{State}
 use Rattle.vet_rows.proofs.ExchangeParts.{Rise, both, of_back, of_front, of_table, rises}
 use Rattle.vet_rows.specs.ChangedRows.{change_exchanges, meta_exchange}
+use Rattle.vet_rows.specs.DayChanges.{day_exchanges, fact_day_exchanges}
 use Rattle.vet_rows.specs.DeskChanges.{desk_change_exchanges, desk_exchanges}
 use Rattle.vet_rows.specs.FactsRows.{fact_exchanges}
 use Rattle.vet_rows.specs.HeldChanges.{held_exchanges}
@@ -25,6 +26,7 @@ use Rattle.vet_rows.specs.StandingChanges.{move_exchanges}
 use Rattle.vet_rows.specs.declared.row_changes.exchange.Exchange.{Exchange}
 use Rattle.vet_tables.proofs.TablePlaces.{each}
 use Rattle.vet_tables.specs.Forms.{code}
+use Rattle.vet_tables.specs.declared.table_name.DaysTable.TheVariants.{Lasts}
 use Rattle.vet_tables.specs.declared.table_name.DemandTable.TheVariants.{Edges, Nodes, Policies}
 use Rattle.vet_tables.specs.declared.table_name.DeskTable.TheVariants.{Reviews}
 use Rattle.vet_tables.specs.declared.table_name.TableName.{TableName}
@@ -32,7 +34,7 @@ use Rattle.vet_tables.specs.declared.table_name.TableName.TheVariants as table
 
 -- ---- places of the parts
 
--- the places behind the tables of what is held, behind the standing and moves, and behind the desk
+-- the places behind the tables of what is held, behind the standing and moves, behind the desk, and behind days
 abbrev pub held_end : ℕ
 held_end = code table.Standing
 
@@ -42,8 +44,14 @@ moves_end = code table.Moves + 1
 abbrev pub desk_end : ℕ
 desk_end = code (table.Desk Reviews) + 1
 
+abbrev pub days_end : ℕ
+days_end = code (table.Days Lasts) + 1
+
 held_first : held_end ≤ moves_end
 held_first = omega arith
+
+moves_first : moves_end ≤ desk_end
+moves_first = omega arith
 
 abbrev pub IsHeldPlace : ℕ → Type 0
 IsHeldPlace at = (1 ≤ at) × (at < held_end)
@@ -52,7 +60,8 @@ IsHeldPlace at = (1 ≤ at) × (at < held_end)
 abbrev pub IsInPlace : TableName → Type 0
 IsInPlace (table.Facts t) = IsHeldPlace (code (table.Facts t))
 IsInPlace (table.Demand t) = IsHeldPlace (code (table.Demand t))
-IsInPlace (table.Desk t) = moves_end ≤ code (table.Desk t)
+IsInPlace (table.Desk t) = (moves_end ≤ code (table.Desk t)) × (code (table.Desk t) < desk_end)
+IsInPlace (table.Days t) = desk_end ≤ code (table.Days t)
 IsInPlace _ = ⊤
 
 pub in_place : (name : TableName) → IsInPlace name
@@ -68,6 +77,7 @@ facts_rise (edit.Peer change) f = (omega arith, (omega arith, (omega arith, omeg
 facts_rise (edit.Settings settings) f = (omega arith, omega arith)
 facts_rise (edit.Content name content) f = (omega arith, (omega arith, omega arith))
 facts_rise (edit.Publishers change) f = (omega arith, omega arith)
+facts_rise (edit.Today day) f = omega arith
 
 pub held_rise : (e : HeldEdit) (h : HeldValue) → Rise 1 held_end (held_exchanges e h)
 held_rise held.Nothing h = omega arith
@@ -92,6 +102,23 @@ pub desk_rise : (e : Option DeskEdit) (d : DeskState) → Rise moves_end desk_en
 desk_rise None d = omega arith
 desk_rise (Some e) d = desk_change_rises e.change e.entry d
 
+fact_days_rise : (e : Edit) (f : Facts) → Rise desk_end days_end (fact_day_exchanges e f)
+fact_days_rise (edit.Criteria criteria) f = omega arith
+fact_days_rise (edit.Insert place h) f = (omega arith, omega arith)
+fact_days_rise (edit.Remove place) f = (omega arith, omega arith)
+fact_days_rise (edit.Peer change) f = omega arith
+fact_days_rise (edit.Settings settings) f = omega arith
+fact_days_rise (edit.Content name content) f = omega arith
+fact_days_rise (edit.Publishers change) f = omega arith
+fact_days_rise (edit.Today day) f = (omega arith, omega arith)
+
+pub days_rise : (e : HeldEdit) (h : HeldValue) → Rise desk_end days_end (day_exchanges e h)
+days_rise held.Nothing h = omega arith
+days_rise (held.Facts e) h = fact_days_rise e h.facts
+days_rise (held.Policies e) h = omega arith
+days_rise (held.Projects e) h = omega arith
+days_rise (held.Files files) h = (omega arith, (omega arith, omega arith))
+
 -- an edit of facts leaves policies, nodes and edges
 pub facts_leave : (e : Edit) (f : Facts)
     → (of_table (fact_exchanges e f) (table.Demand Policies) ≡ exchange_of (table.Demand Policies) [] [])
@@ -104,6 +131,7 @@ facts_leave (edit.Peer change) f = (refl, (refl, refl))
 facts_leave (edit.Settings settings) f = (refl, (refl, refl))
 facts_leave (edit.Content name content) f = (refl, (refl, refl))
 facts_leave (edit.Publishers change) f = (refl, (refl, refl))
+facts_leave (edit.Today day) f = (refl, (refl, refl))
 
 -- ---- of a change
 
@@ -129,15 +157,31 @@ module _ {K U : Type 0} (s : State) (change : Change K U) where
   moves_then : Rise 0 moves_end ((of_meta ++ of_held) ++ of_moves)
   moves_then = rises (of_meta ++ of_held) of_moves 0 held_end moves_end held_then (moves_rise change.recording)
 
-  pub all_rise : Rise 0 desk_end (change_exchanges s change)
-  all_rise =
+  abbrev of_days : List Exchange
+  of_days = day_exchanges change.edit s.held
+
+  desk_then : Rise 0 desk_end (((of_meta ++ of_held) ++ of_moves) ++ of_desk)
+  desk_then =
       rises ((of_meta ++ of_held) ++ of_moves) of_desk 0 moves_end desk_end moves_then (desk_rise change.desk s.desk)
 
-  -- what is held, the standing and moves, and the desk
+  pub all_rise : Rise 0 days_end (change_exchanges s change)
+  all_rise =
+      rises (((of_meta ++ of_held) ++ of_moves) ++ of_desk) of_days 0 desk_end days_end desk_then
+      (days_rise change.edit s.held)
+
+  -- a table that isn't of days
+  before_days : (name : TableName) → code name < desk_end
+      → of_table (change_exchanges s change) name ≡ of_table (((of_meta ++ of_held) ++ of_moves) ++ of_desk) name
+  before_days name high =
+      of_front (((of_meta ++ of_held) ++ of_moves) ++ of_desk) of_days desk_end days_end name
+      (days_rise change.edit s.held) high
+
+  -- what is held, the standing and moves, the desk, and days
   pub held_part : (name : TableName) → 1 ≤ code name → code name < held_end
       → of_table (change_exchanges s change) name ≡ of_table (held_exchanges change.edit s.held) name
   held_part name low high =
-      of_front ((of_meta ++ of_held) ++ of_moves) of_desk moves_end desk_end name (desk_rise change.desk s.desk)
+      before_days name (omega (arith, high, held_first, moves_first))
+      ∙ of_front ((of_meta ++ of_held) ++ of_moves) of_desk moves_end desk_end name (desk_rise change.desk s.desk)
       (omega (arith, high, held_first))
       ∙ of_front (of_meta ++ of_held) of_moves held_end moves_end name (moves_rise change.recording) high
       ∙ of_back of_meta of_held 0 1 name meta_rises low
@@ -145,16 +189,24 @@ module _ {K U : Type 0} (s : State) (change : Change K U) where
   pub moves_part : (name : TableName) → held_end ≤ code name → code name < moves_end
       → of_table (change_exchanges s change) name ≡ of_table (move_exchanges change.recording) name
   moves_part name low high =
-      of_front ((of_meta ++ of_held) ++ of_moves) of_desk moves_end desk_end name (desk_rise change.desk s.desk) high
+      before_days name (omega (arith, high, moves_first))
+      ∙ of_front ((of_meta ++ of_held) ++ of_moves) of_desk moves_end desk_end name (desk_rise change.desk s.desk) high
       ∙ of_back (of_meta ++ of_held) of_moves 0 held_end name held_then low
 
-  pub desk_part : (name : TableName) → moves_end ≤ code name
+  pub desk_part : (name : TableName) → moves_end ≤ code name → code name < desk_end
       → of_table (change_exchanges s change) name ≡ of_table (desk_exchanges change.desk s.desk) name
-  desk_part name low = of_back ((of_meta ++ of_held) ++ of_moves) of_desk 0 moves_end name moves_then low
+  desk_part name low high =
+      before_days name high ∙ of_back ((of_meta ++ of_held) ++ of_moves) of_desk 0 moves_end name moves_then low
+
+  pub days_part : (name : TableName) → desk_end ≤ code name
+      → of_table (change_exchanges s change) name ≡ of_table (day_exchanges change.edit s.held) name
+  days_part name low = of_back (((of_meta ++ of_held) ++ of_moves) ++ of_desk) of_days 0 desk_end name desk_then low
 
   -- what holds of each exchange of the parts holds of all
   pub of_parts : (Q : Exchange → Type 0) → Q (meta_exchange s change) → AllByRecursion Q of_held
-      → AllByRecursion Q of_moves → AllByRecursion Q of_desk → AllByRecursion Q (change_exchanges s change)
-  of_parts Q first then_held then_moves then_desk =
-      both Q ((of_meta ++ of_held) ++ of_moves) of_desk
-      (both Q (of_meta ++ of_held) of_moves (first, then_held) then_moves) then_desk
+      → AllByRecursion Q of_moves → AllByRecursion Q of_desk → AllByRecursion Q of_days
+      → AllByRecursion Q (change_exchanges s change)
+  of_parts Q first then_held then_moves then_desk then_days =
+      both Q (((of_meta ++ of_held) ++ of_moves) ++ of_desk) of_days
+      (both Q ((of_meta ++ of_held) ++ of_moves) of_desk
+      (both Q (of_meta ++ of_held) of_moves (first, then_held) then_moves) then_desk) then_days

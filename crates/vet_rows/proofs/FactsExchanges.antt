@@ -236,6 +236,7 @@ module _ (old : Facts) (room : Room) (k : HaveKeys old) where
           (put_for old.peers k.peers name p (record p { content = content }) at (name_of old.peers k.peers name p at))
       by None at there m = absurd (cc there)
   entries_become (edit.Publishers change) fits l = unchanged old (edited (edit.Publishers change) old) refl refl
+  entries_become (edit.Today day) fits l = unchanged old (edited (edit.Today day) old) refl refl
 
   -- the rows that go are there
   pub entries_there : (e : Edit) → Fits e (record { content = old; room = room }) → (r : Row)
@@ -255,3 +256,4 @@ module _ (old : Facts) (room : Room) (k : HaveKeys old) where
       (flat_rows peer_entries old.peers (map entry_row old.entries))
       (λ p at. (found_in (slice_cmp nat_cmp) nat_list_cmp_total only_equal peer_name old.peers name p at).0) r i
   entries_there (edit.Publishers change) fits r i = absurd i
+  entries_there (edit.Today day) fits r i = absurd i

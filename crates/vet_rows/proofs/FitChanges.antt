@@ -14,6 +14,7 @@ use Rattle.vet_register.specs.declared.moves.Recording.{Recording}
 use Rattle.vet_register.specs.declared.moves.Recording.TheVariants.{Behind, Anew}
 use Rattle.vet_rows.proofs.ChangeParts.{of_parts}
 use Rattle.vet_rows.proofs.ExchangeParts.{Makes, made_by}
+use Rattle.vet_rows.proofs.FitDays.{days_fit}
 use Rattle.vet_rows.proofs.FitDemand.{policies_fit, project_edges_fit, project_nodes_fit, the_policy_fits}
 use Rattle.vet_rows.proofs.FitDesk.{desk_fit}
 use Rattle.vet_rows.proofs.FitFacts.{criteria_fit, entries_fit, facts_fit, peers_fit, publishers_fit}
@@ -28,6 +29,7 @@ use Rattle.vet_rows.specs.StandingChanges.{clear_moves, leaves, move_exchanges, 
 use Rattle.vet_rows.specs.declared.row_change.RowChange.{RowChange}
 use Rattle.vet_tables.specs.declared.table_name.DemandTable.TheVariants.{Edges, Nodes, Policies}
 use Rattle.vet_tables.specs.declared.table_name.TableName.TheVariants as table
+use Rattle.vet_tables.specs.declared.version.TablesVersion.TheVariants.{Second}
 
 -- ---- by an edit of what is held, and by what is recorded
 
@@ -69,8 +71,9 @@ clears_fit (Anew counts) c (inr none) = absurd none
 module _ {K U : Type 0} (s : State) (change : Change K U) where
   all_fit : AllFit (change_exchanges s change)
   all_fit =
-      of_parts s change (Makes Fits) (none_fit table.Meta, rows_fit (changed change s) table.Meta)
+      of_parts s change (Makes Fits) (none_fit table.Meta, rows_fit Second (changed change s) table.Meta)
       (held_fit change.edit s.held) (moves_made_fit change.recording) (desk_fit change.desk s.desk)
+      (days_fit change.edit s.held)
 
   pub changes_fit : (c : RowChange)
       → IsIn c (clear_moves change.recording ++ flat_map row_changes_of (change_exchanges s change)) → Fits c

@@ -123,3 +123,4 @@ facts_fit (edit.Content name content) f = (
 )
 facts_fit (edit.Publishers change) f =
     (item_fits (table.Facts Publishers) package_rows package_fit change f.publishers, tt)
+facts_fit (edit.Today day) f = tt

@@ -48,7 +48,7 @@ use Rattle.vet_rows.proofs.SettingExchanges.{publishers_become, publishers_keyed
 abbrev same_in : TableName → Row → Row → Bool
 same_in table = same_key (form_of table)
 
-rows_decide : (a b : Row) → Decides (same_row a b) (a ≡ b)
+pub rows_decide : (a b : Row) → Decides (same_row a b) (a ≡ b)
 rows_decide = pointwise_decides cell_eq-Decides
 
 -- what rows of what is held rest on

@@ -1,5 +1,6 @@
 pub mod AddedNumbers
 pub mod ChangeParts
+pub mod DayExchanges
 pub mod DemandExchanges
 pub mod DeskExchanges
 pub mod ExchangeParts
@@ -8,6 +9,7 @@ pub mod FactsExchanges
 pub mod FactsInForm
 pub mod FirstRead
 pub mod FitChanges
+pub mod FitDays
 pub mod FitDemand
 pub mod FitDesk
 pub mod FitFacts

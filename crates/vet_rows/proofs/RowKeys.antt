@@ -20,6 +20,7 @@ use Rattle.vet_item_rows.specs.StandingRows.{standing_row}
 use Rattle.vet_register.specs.Sound.{IsSound}
 use Rattle.vet_register.specs.State.{State, demanded, standing}
 use Rattle.vet_register.specs.declared.moves.RecordedMove.{RecordedMove}
+use Rattle.vet_rows.proofs.DayExchanges.{days_keyed}
 use Rattle.vet_rows.proofs.FitDesk.{members_fit}
 use Rattle.vet_rows.proofs.HeldExchanges.{HaveTexts, demand_keyed, facts_keyed}
 use Rattle.vet_rows.proofs.HeldKeys.{have_keys}
@@ -152,3 +153,4 @@ module _ (s : State) (sound : IsSound s) (named : ArePeersNamed s.held.facts.pee
   keys_differ table.Standing r x i j e = standing_keyed r x i j e
   keys_differ table.Moves r x i j e = moves_keyed r x i j e
   keys_differ (table.Desk t) r x i j e = desk_keyed t r x i j e
+  keys_differ (table.Days t) r x i j e = days_keyed s.held.facts texts.facts t r x i j e

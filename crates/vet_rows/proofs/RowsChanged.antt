@@ -47,6 +47,7 @@ use Rattle.vet_register.specs.Sound.{IsSound, IsSoundHeld}
 use Rattle.vet_register.specs.State.{State, changes_of, demanded, standing}
 use Rattle.vet_register.proofs.Soundness.{standing_in_order}
 use Rattle.vet_rows.specs.ChangedRows.{change_exchanges}
+use Rattle.vet_rows.specs.DayChanges.{day_exchanges}
 use Rattle.vet_rows.specs.DeskChanges.{desk_exchanges}
 use Rattle.vet_rows.specs.DeskRows.{rows_of_desk}
 use Rattle.vet_rows.specs.HeldChanges.{held_exchanges}
@@ -62,8 +63,9 @@ use Rattle.vet_rows.proofs.NumbersFit.{numbers_fit}
 use Rattle.vet_rows.proofs.OnlyStanding.{others_named}
 use Rattle.std.specs.List.{AllByRecursion, filter, flat_map}
 use Rattle.vet_base.proofs.ItemLemmas.{in_filter}
-use Rattle.vet_rows.proofs.ChangeParts.{all_rise, desk_end, desk_part, desk_rise, held_end, held_part, held_rise}
-use Rattle.vet_rows.proofs.ChangeParts.{in_place, moves_end, moves_part, of_parts}
+use Rattle.vet_rows.proofs.ChangeParts.{all_rise, days_end, days_part, days_rise, desk_end, desk_part, desk_rise}
+use Rattle.vet_rows.proofs.ChangeParts.{held_end, held_part, held_rise, in_place, moves_end, moves_part, of_parts}
+use Rattle.vet_rows.proofs.DayExchanges.{days_become}
 use Rattle.vet_rows.proofs.DeskExchanges.{members_become, reviews_become}
 use Rattle.vet_rows.proofs.ExchangeParts.{Leads, LeadsByDifference, Makes, made_by, of_table}
 use Rattle.vet_rows.proofs.Exchanges.{IsExchange, stays}
@@ -137,6 +139,7 @@ ends_only s day (action.LoadProject project) h = cc h
 ends_only s day (action.DropProject n) h = cc h
 ends_only s day (action.ReplaceFiles f) h = cc h
 ends_only s day (action.Desk command) h = cc h
+ends_only s day action.SetDay h = cc h
 ends_only s day action.ClosePeriod h = refl
 
 -- pairs of what is told of items are pairs of the items
@@ -340,12 +343,19 @@ module _ {K U : Type 0} (differences : MovesAreDifferences) (least : DemandIsLea
       subst (λ (e : Exchange). LeadsByDifference name e old (rows_of after name))
       (sym (moves_part s change name low high))
 
-  by_desk : (name : TableName) → moves_end ≤ code name
+  by_desk : (name : TableName) → moves_end ≤ code name → code name < desk_end
       → LeadsByDifference name (of_table (desk_exchanges change.desk s.desk) name) (rows_of s name) (rows_of after name)
       → Becomes name (rows_of s name)
-  by_desk name low =
+  by_desk name low high =
       subst (λ (e : Exchange). LeadsByDifference name e (rows_of s name) (rows_of after name))
-      (sym (desk_part s change name low))
+      (sym (desk_part s change name low high))
+
+  by_days : (name : TableName) → desk_end ≤ code name
+      → LeadsByDifference name (of_table (day_exchanges change.edit s.held) name) (rows_of s name) (rows_of after name)
+      → Becomes name (rows_of s name)
+  by_days name low =
+      subst (λ (e : Exchange). LeadsByDifference name e (rows_of s name) (rows_of after name))
+      (sym (days_part s change name low))
 
   desk_become : (t : DeskTable)
       → LeadsByDifference (table.Desk t) (of_table (desk_exchanges change.desk s.desk) (table.Desk t))
@@ -367,7 +377,11 @@ module _ {K U : Type 0} (differences : MovesAreDifferences) (least : DemandIsLea
       by_moves table.Standing (rows_of s table.Standing) (omega arith) (omega arith)
       (standing_becomes (standing s) (standing after) more standing_up after_up are_moves read_stands read.moves)
   others_become table.Moves apart = absurd (apart refl)
-  others_become (table.Desk t) apart = by_desk (table.Desk t) (in_place (table.Desk t)) (desk_become t)
+  others_become (table.Desk t) apart =
+      let at = in_place (table.Desk t) in by_desk (table.Desk t) at.0 at.1 (desk_become t)
+  others_become (table.Days t) apart =
+      by_days (table.Days t) (in_place (table.Days t))
+      (days_become s.held r.room.held texts change.edit is.fits texts_after t)
 
   rows_become : (name : TableName) → Becomes name (cleared_rows name)
   rows_become name = elim (same_or_other name table.Moves) [
@@ -386,7 +400,7 @@ module _ {K U : Type 0} (differences : MovesAreDifferences) (least : DemandIsLea
       subst (λ rows. SameRows rows (rows_of (next s c))) (sym made)
       (subst (λ t. SameRows (all_changed (flat_map row_changes_of exchanges) cleared_rows) (rows_of t))
       is.step.becomes
-      (exchanges_lead exchanges 0 desk_end (all_rise s change) cleared_rows (rows_of after) rows_become))
+      (exchanges_lead exchanges 0 days_end (all_rise s change) cleared_rows (rows_of after) rows_become))
 
   -- ---- numbers of rows that come
 
@@ -448,6 +462,8 @@ module _ {K U : Type 0} (differences : MovesAreDifferences) (least : DemandIsLea
       moves_named
       (others_named (moves_of s c.day c.action) (desk_exchanges change.desk s.desk) moves_end desk_end
       (desk_rise change.desk s.desk) (inr (omega arith)))
+      (others_named (moves_of s c.day c.action) (day_exchanges change.edit s.held) desk_end days_end
+      (days_rise change.edit s.held) (inr (omega arith)))
 
   pub standing_named : (x : RowChange) → IsIn x the_changes → IsOfMoves (moves_of s c.day c.action) x
   standing_named x i = elim (in_append (clear_moves change.recording) (flat_map row_changes_of exchanges) x i) [

@@ -277,6 +277,7 @@ module _ (old : Facts) (room : Room) (k : HaveKeys old) where
           (put_for old.peers k.peers name p (record p { content = content }) at its))
       by None at there m = absurd (cc there)
   criteria_become (edit.Publishers change) fits l = same_tables old (edited (edit.Publishers change) old) refl refl
+  criteria_become (edit.Today day) fits l = same_tables old (edited (edit.Today day) old) refl refl
 
   pub peers_become : (e : Edit) → Fits e (record { content = old; room = room }) → HaveKeys (edited e old)
       → Leads (table.Facts Peers) (fact_exchanges e old) (peer_rows old.peers) (peer_rows (edited e old).peers)
@@ -317,6 +318,7 @@ module _ (old : Facts) (room : Room) (k : HaveKeys old) where
           refl)
       by None at there = absurd (cc there)
   peers_become (edit.Publishers change) fits l = stays same_peer (peer_rows old.peers)
+  peers_become (edit.Today day) fits l = stays same_peer (peer_rows old.peers)
 
   pub publishers_become : (e : Edit) → Fits e (record { content = old; room = room })
       → Leads (table.Facts Publishers) (fact_exchanges e old) (flat_map package_rows old.publishers)
@@ -339,6 +341,7 @@ module _ (old : Facts) (room : Room) (k : HaveKeys old) where
       ∙ package_is x s b)
       (λ g r s i a none e. none)
       (λ c r s i a j e. publishers_keyed new r s (flat_in package_rows new c r i a) j e)
+  publishers_become (edit.Today day) fits = stays same_publisher (flat_map package_rows old.publishers)
 
   -- the rows that go are there
   pub publishers_there : (e : Edit) → Fits e (record { content = old; room = room }) → (r : Row)
@@ -355,3 +358,4 @@ module _ (old : Facts) (room : Room) (k : HaveKeys old) where
       (only_flat package_rows old.publishers)
       (edit_is (slice_cmp nat_cmp) nat_list_cmp_total only_equal package_of change
       (record { items = old.publishers; room = room.packages }) k.packages fits.place).gone_from r i
+  publishers_there (edit.Today day) fits r i = absurd i

@@ -60,3 +60,4 @@ peers_after (facts_edit.Content name content) old named new = by (peer_of old.pe
         (named p (found_in (slice_cmp nat_cmp) nat_list_cmp_total only_equal peer_name old.peers name p at).0)
     by None at = named
 peers_after (facts_edit.Publishers change) old named new = named
+peers_after (facts_edit.Today day) old named new = named

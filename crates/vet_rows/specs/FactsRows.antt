@@ -37,6 +37,7 @@ the_peer = one_row (λ (peer : HeldPeer). peer_row peer.settings)
 -- ---- what an edit changes
 
 -- If a peer is removed or added, so are its criteria and entries. If its content is exchanged, all of them are removed.
+-- The rows of days are in DayChanges.
 abbrev pub fact_exchanges : Edit → Facts → List Exchange
 fact_exchanges (edit.Criteria criteria) facts =
     exchange_of (table.Facts Criteria) (criteria_rows own_peer facts.criteria) (criteria_rows own_peer criteria) ∷ []
@@ -56,3 +57,4 @@ fact_exchanges (edit.Content name content) facts =
     (map entry_row content.entries) ∷ []
 fact_exchanges (edit.Publishers change) facts =
     item_exchange (table.Facts Publishers) package_rows change facts.publishers ∷ []
+fact_exchanges (edit.Today day) facts = []

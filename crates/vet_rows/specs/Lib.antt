@@ -1,5 +1,7 @@
 pub mod ChangedRows
 pub mod AddedNumbers
+pub mod DayChanges
+pub mod DayRows
 pub mod DemandRows
 pub mod DeskChanges
 pub mod DeskRows

@@ -7,10 +7,12 @@ use Rattle.vet_entries.specs.Facts.{Facts}
 use Rattle.vet_register.specs.State.{State}
 use Rattle.vet_register.specs.declared.moves.RecordedMove.{RecordedMove}
 use Rattle.vet_rows.specs.declared.meta.Meta.{Meta}
+use Rattle.vet_tables.specs.declared.version.TablesVersion.{TablesVersion}
 
--- everything that a state has only one of
-abbrev pub meta_in : State → Meta
-meta_in s = record {
+-- everything that a state has only one of, in tables of a version
+abbrev pub meta_in : TablesVersion → State → Meta
+meta_in version s = record {
+  version = version;
   numbers = record {
     step = s.step;
     next_entry = s.next_entry;

@@ -40,13 +40,14 @@ unmarked [] marks = []
 unmarked (r ∷ rows) [] = r ∷ unmarked rows []
 unmarked (r ∷ rows) (mark ∷ marks) = cond mark (unmarked rows marks) (r ∷ unmarked rows marks)
 
--- There may be thousands of entries, publishers, nodes and edges. One of their rows that would be removed and added
--- again stays.
+-- There may be thousands of entries, publishers, nodes, edges and last days. One of their rows that would be removed
+-- and added again stays, and so does the row of the register's day.
 abbrev pub is_compared : TableName → Bool
 is_compared (table.Facts Entries) = true
 is_compared (table.Facts Publishers) = true
 is_compared (table.Demand Nodes) = true
 is_compared (table.Demand Edges) = true
+is_compared (table.Days t) = true
 is_compared _ = false
 
 -- so of rows that are exchanged for others, these are the ones that are written

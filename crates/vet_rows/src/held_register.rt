@@ -43,4 +43,6 @@ fn facts_are_held(facts: &EntryFacts)
     are_held(facts.entries());
     are_held(facts.peers());
     are_held(facts.publishers());
+    let day = facts.today();
+    day.is_held();
 }

@@ -4,7 +4,7 @@
 //!
 //! An edit of what is held, or of the desk, says in one place which rows it removes and which it adds: it has an
 //! exchange for each table that it touches (`fact_changes`, `held_changes`, `desk_changes`). So has what is recorded
-//! (`standing_changes`), and the row of `meta` (`meta_change`).
+//! (`standing_changes`), the row of `meta` (`meta_change`), and the rows of days (`day_changes`).
 //!
 //! If a period begins, all moves are removed at once. Then each exchange removes some rows, each by its key, and adds
 //! others. If one thing is exchanged for another, the rows of the one are removed and those of the other are added.
@@ -31,6 +31,7 @@ ghost use Rattle.vet_rows.specs.StandingChanges.{IsOfMoves, clear_moves};
 ghost use Rattle.vet_rows.specs.declared.row_change.RowChange.{RowChange};
 ghost use Rattle.vet_tables.specs.Cells.{SameRows};
 
+mod day_changes;
 mod desk_changes;
 mod difference;
 mod exchange;
@@ -42,6 +43,7 @@ mod meta_change;
 mod standing_changes;
 
 use crate::row_change::RowChange;
+use crate::row_changes::day_changes::day_exchanges;
 use crate::row_changes::desk_changes::desk_exchanges;
 use crate::row_changes::exchange::Exchange;
 use crate::row_changes::held_changes::held_exchanges;
@@ -131,7 +133,8 @@ fn all_changes<K: Keeper>(
     Ok(changes)
 }
 
-// The rows that a change removes and adds: of `meta`, of what is held, of the standing and moves, and of the desk.
+// The rows that a change removes and adds: of `meta`, of what is held, of the standing and moves, of the desk, and of
+// days.
 fn change_exchanges<K: Keeper>(
     alloc: Global,
     register: &Register<K>,
@@ -149,6 +152,8 @@ fn change_exchanges<K: Keeper>(
     exchanges.append(&mut moves)?;
     let mut desk = desk_exchanges(alloc, change.desk(), register.desk())?;
     exchanges.append(&mut desk)?;
+    let mut days = day_exchanges(alloc, change.edit(), register)?;
+    exchanges.append(&mut days)?;
     Ok(exchanges)
 }
 

@@ -3,12 +3,13 @@
 //! **`rows_of` gives the rows of a register's state, each once.**
 //!
 //! Each thing that is held has its row (`ToRow`), and each table its list of rows. The tables of facts, of policies and
-//! projects, and of the desk are in a file each. A column of numbers holds numbers below 2^63, and all numbers of a
-//! sound state are below it (`numbers_fit`, `counts_fit`).
+//! projects, of the desk and of days are in a file each. A column of numbers holds numbers below 2^63, and all numbers
+//! of a sound state are below it (`numbers_fit`, `counts_fit`).
 ghost use Rattle.std.specs.Prelude.{◌≡◌, IfErr, IfOk};
-ghost use Rattle.vet_rows.specs.RowsOf.{rows_of};
+ghost use Rattle.vet_rows.specs.RowsOf.{rows_by, rows_of};
 ghost use Rattle.vet_tables.specs.Cells.{rows_in};
 
+mod day_rows;
 mod demand_rows;
 pub mod desk_rows;
 pub mod entry_rows;
@@ -18,6 +19,7 @@ pub mod setting_rows;
 pub mod standing_rows;
 pub mod to_row;
 
+use crate::rows_of::day_rows::rows_of_days;
 use crate::rows_of::demand_rows::rows_of_demand;
 use crate::rows_of::desk_rows::rows_of_desk;
 use crate::rows_of::facts_rows::rows_of_facts;
@@ -31,6 +33,7 @@ use vet_register::register::Register;
 use vet_tables::rows::Rows;
 use vet_tables::sequence::Row;
 use vet_tables::table_name::{TABLE_COUNT, TableName, table_at};
+use vet_tables::version::TablesVersion;
 
 /// The rows of a register's state: a list for each table, each row once. Costs a look at each thing that is held, and a
 /// binary search for each demanded pair. Refused: `NoMemory`.
@@ -38,28 +41,42 @@ pub fn rows_of<K: Keeper>(alloc: Global, register: &Register<K>) -> Result<Rows,
     ensures ok { IfOk result (λ rows. rows_in rows ≡ rows_of register.now.state) }
     ensures memory { IfErr result (λ e. e ≡ Refusal.NoMemory) }
 {
+    rows_by(alloc, TablesVersion::Second, register)
+}
+
+/// The same in tables of a version, whose number is in the row of `meta`. Refused: `NoMemory`.
+pub fn rows_by<K: Keeper>(
+    alloc: Global,
+    version: TablesVersion,
+    register: &Register<K>,
+) -> Result<Rows, Refusal>
+    ensures ok { IfOk result (λ rows. rows_in rows ≡ rows_by version register.now.state) }
+    ensures memory { IfErr result (λ e. e ≡ Refusal.NoMemory) }
+{
     let mut rows = Rows::new(alloc);
     'tables: for at in 0..TABLE_COUNT {
-        rows.push(rows_in(alloc, register, table_at(at))?)?;
+        rows.push(rows_in(alloc, version, register, table_at(at))?)?;
     }
     Ok(rows)
 }
 
-/// The rows of one table. Fails only if memory runs out.
+/// The rows of one table, in tables of a version. Fails only if memory runs out.
 pub fn rows_in<K: Keeper>(
     alloc: Global,
+    version: TablesVersion,
     register: &Register<K>,
     table: TableName,
 ) -> Result<Vec<Row>, AllocError>
-    ensures { IfOk result (λ rows. rows.items ≡ rows_of register.now.state table) }
+    ensures { IfOk result (λ rows. rows.items ≡ rows_by version register.now.state table) }
 {
     numbers_fit(register);
     match table {
-        TableName::Meta => Ok(vec![in alloc; meta_row(alloc, register)?]?),
+        TableName::Meta => Ok(vec![in alloc; meta_row(alloc, version, register)?]?),
         TableName::Facts(table) => rows_of_facts(alloc, register.facts(), table),
         TableName::Demand(table) => rows_of_demand(alloc, register, table),
         TableName::Standing => all_standing(alloc, register),
         TableName::Moves => rows_each(alloc, register.moves()),
         TableName::Desk(table) => rows_of_desk(alloc, register.desk(), table),
+        TableName::Days(table) => rows_of_days(alloc, register.facts(), table),
     }
 }

@@ -1,6 +1,6 @@
 //! The state of rows.
 //!
-//! **Rows of a sound state, in any order, give that state.**
+//! **Rows of a sound state in tables of some version, in any order, give that state.**
 //!
 //! Other rows give `NotARegister` or some state, and no clause says which. A caller that has to know compares the rows
 //! of that state with those that it passed in. The rows of `standing` are ignored, since they follow from the others.
@@ -18,8 +18,9 @@ ghost use Rattle.vet_register.specs.Sound.{IsSound};
 ghost use Rattle.vet_register.specs.State as machine;
 ghost use Rattle.vet_rows.specs.HeldState.{IsHeldState, SameButStanding};
 ghost use Rattle.vet_rows.specs.ReadState.{state_in};
-ghost use Rattle.vet_rows.specs.RowsOf.{rows_of};
+ghost use Rattle.vet_rows.specs.RowsOf.{rows_by};
 ghost use Rattle.vet_tables.specs.Cells.{rows_in};
+ghost use Rattle.vet_tables.specs.declared.version.TablesVersion.{TablesVersion as Version};
 
 use crate::meta::Meta;
 use crate::read::meta::read_meta;
@@ -40,10 +41,11 @@ use vet_register::state::State;
 use vet_tables::rows::Rows;
 use vet_tables::table_name::{DemandTable, DeskTable, TableName};
 
-/// The state of which these are the rows, in any order; those of `standing` are ignored. Takes a time of n log n.
-/// Refused: `NotARegister`, only if they are the rows of no sound state, and `NoMemory`.
+/// The state of which these are the rows in tables of some version, in any order; those of `standing` are ignored.
+/// Takes a time of n log n. Refused: `NotARegister`, only if they are the rows of no sound state, and `NoMemory`.
 pub fn state_of(alloc: Global, rows: &Rows) -> Result<State, Refusal>
-    ensures back { (s : machine.State) → IsSound s → IsHeldState s → SameButStanding (rows_in rows.now) (rows_of s)
+    ensures back { (version : Version) (s : machine.State) → IsSound s → IsHeldState s
+        → SameButStanding (rows_in rows.now) (rows_by version s)
         → MatchResult result (λ found. found ≡ s) (λ e. e ≡ Refusal.NoMemory) }
     ensures refused { IfErr result (λ e. (e ≡ Refusal.NoMemory) ⊎ (e ≡ Refusal.NotARegister)) }
 {
@@ -59,8 +61,8 @@ pub fn found_register<T>(found: Option<T>) -> Result<T, Refusal>
 
 // The state of which these are the rows.
 fn read_state(alloc: Global, rows: &Rows) -> Result<State, ReadError>
-    ensures { (s : machine.State) → IsSound s → IsHeldState s → SameButStanding (rows_in rows.now) (rows_of s)
-        → Reads result s }
+    ensures { (version : Version) (s : machine.State) → IsSound s → IsHeldState s
+        → SameButStanding (rows_in rows.now) (rows_by version s) → Reads result s }
 {
     let meta = read_meta(alloc, rows.of(TableName::Meta))?;
     let facts = facts_of(alloc, rows)?;
@@ -101,6 +103,7 @@ fn made(
         ≡ state_in meta facts.content policies.items projects.items desk.content moves.items }
 {
     let Meta {
+        version: _,
         numbers,
         first,
         settings,

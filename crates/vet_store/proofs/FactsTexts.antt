@@ -43,7 +43,7 @@ kind_texts (kind.Delta d audit) h = (version_is_text d.from h.0.0, version_is_te
 kind_texts (kind.Violation req audit) h = (req_text req h.0, no_text)
 kind_texts (kind.Wildcard w g) h = (no_text, no_text)
 kind_texts (kind.Trusted w) h = (no_text, no_text)
-kind_texts (kind.Exemption v g) h = (version_is_text v h, no_text)
+kind_texts (kind.Exemption v g l) h = (version_is_text v h.0, no_text)
 
 entry_told : (h : HeldEntry) (said : KindColumns) → IsHeldEntry h → IsUtf8 said.a → IsUtf8 said.b
     → AreTold (row_saying h said)

@@ -1,6 +1,5 @@
 -- What the next open finds: the same trees are the same database.
-use Rattle.std.proofs.Common.{◌≡◌, ◌⊎◌, ◌<◌, ◌≤◌, ℕ, IsTrue, inl, inr, None, Option, Some, refl, sym, ap, ap₂, subst}
-use Rattle.std.proofs.Common.{◌∙◌}
+use Rattle.std.proofs.Common.{◌≡◌, ℕ, IsTrue, arith, inl, inr, refl, sym, ap, ap₂, subst, ◌∙◌}
 use Rattle.std.specs.List.{All}
 use Rattle.std.proofs.lemmas.List.Elements.{All-nil}
 use Rattle.sqlite.proofs.Callers.{finds_again}
@@ -29,16 +28,19 @@ use Rattle.vet_rows.specs.HeldState.{IsHeldState}
 use Rattle.vet_rows.specs.RowsOf.{rows_of}
 use Rattle.vet_store.proofs.OneRows.{one_rows}
 use Rattle.vet_store.proofs.StartRows.{none_further}
+use Rattle.vet_store.proofs.Versions.{holds_second, in_second}
 use Rattle.vet_store.specs.Committed.{AreTreesOf}
-use Rattle.vet_store.specs.CrashLaws.{CreateLeaves, IsState, OpenLeaves, RunLeaves, TiedLeaves}
+use Rattle.vet_store.specs.CrashLaws.{CreateLeaves, HasOnly, IsState, OpenLeaves, RunLeaves, TiedLeaves}
 use Rattle.vet_store.specs.Opened.{IsStored}
 use Rattle.vet_store.specs.Stands.{Holds}
+use Rattle.vet_store.specs.TakenOver.{TakesOver}
 use Rattle.vet_store.specs.Tied.{IsTied}
-use Rattle.vet_tables.proofs.Extends.{unused}
+use Rattle.vet_tables.proofs.Versions.{not_free, some_tables}
+use Rattle.vet_tables.specs.Cells.{RowsValue}
 use Rattle.vet_tables.specs.Extends.{SparesOthers}
 use Rattle.vet_tables.specs.Free.{AreFree}
-use Rattle.vet_tables.specs.Has.{HasTables}
 use Rattle.vet_tables.specs.declared.table_name.TableName.TheVariants.{Meta}
+use Rattle.vet_tables.specs.declared.version.TablesVersion.TheVariants.{First, Second}
 
 -- ---- one database for the same trees
 
@@ -52,20 +54,33 @@ same_database a b trees p q =
 -- ---- what is stored
 
 stored : (db : Database) (s : State) → IsState s → Holds db (rows_of s) → IsStored db s
-stored db s is holds = record { sound = is.sound; held = is.held; holds = holds }
+stored db s is holds = record {
+  sound = is.sound;
+  held = is.held;
+  version = Second;
+  holds = holds_second db (rows_of s) holds;
+}
+
+-- so it has no state with other rows
+stored_only : (db : Database) (s : State) → IsState s → Holds db (rows_of s) → HasOnly db s
+stored_only db s is holds = record {
+  stored = stored db s is holds;
+  only = λ t there. one_rows db (rows_of s) (rows_of t) holds (in_second db (rows_of s) holds t there);
+}
 
 -- a database with these trees
-left_of : (db : Database) (s : State) → IsDatabase db → IsState s → AreTreesOf (rows_of s) db.trees → IsStored db s
-left_of db s sound is h =
+left_holds : (db : Database) (rows : RowsValue) → IsDatabase db → AreTreesOf rows db.trees → Holds db rows
+left_holds db rows sound h =
     let same = same_database db h.0 h.1 sound h.2.sound in
-    stored db s is (subst (λ d. Holds d (rows_of s)) (sym same) h.2)
+    subst (λ d. Holds d rows) (sym same) h.2
+
+left_of : (db : Database) (s : State) → IsDatabase db → IsState s → AreTreesOf (rows_of s) db.trees → IsStored db s
+left_of db s sound is h = stored db s is (left_holds db (rows_of s) sound h)
 
 -- where the names are free there are no tables
 free_has_none : (db : Database) → AreFree db.schema → (s : State) → IsStored db s → ⊥
 free_has_none db free s is =
-    let has = is.holds.has Meta in
-    let none = (unused db.schema _ (free Meta).unused).0 in
-    absurd (let e : ◌≡◌ {A = Option ℕ} None (Some has.at) = sym none ∙ has.named in cc)
+    not_free db.schema _ (free Meta (omega arith)) (is.holds.first.has Meta (some_tables is.version))
 
 start_is_held : (limit : ℕ) → IsHeldState (start limit)
 start_is_held limit = record {
@@ -74,6 +89,7 @@ start_is_held limit = record {
     entries = All-nil _;
     peers = All-nil _;
     publishers = All-nil _;
+    today = tt;
   };
   policies = All-nil _;
   projects = All-nil _;
@@ -106,8 +122,18 @@ module _ {S : Type 0} (g : Ghosts S) where
 
   pub open_leaves : OpenLeaves g
   open_leaves old new db live shown survives clean is = elim (survives.crash clean db.trees is.left) [
-    | inl before ↦ same_database db (state g old).now (shown db.trees before) is.sound live
-    | inr none ↦ absurd none
+    | inl before ↦ inl (same_database db (state g old).now (shown db.trees before) is.sound live)
+    | inr taken ↦
+        (let same = same_database db taken.db taken.trees_are is.sound taken.over.has.sound in
+        let s = taken.state in
+        let over : TakesOver (state g old).now db s =
+        subst (λ (d : Database). TakesOver (state g old).now d s) (sym same) taken.over in
+        inr (record {
+          state = s;
+          was = record { sound = taken.sound; held = taken.held; version = First; holds = over.was };
+          has = stored_only db s (record { sound = taken.sound; held = taken.held }) over.has;
+          over = over;
+        }))
   ]
 
   pub run_leaves : RunLeaves g
@@ -120,11 +146,8 @@ module _ {S : Type 0} (g : Ghosts S) where
   pub tied_leaves : ((store : S) (trees : Trees) → IsTrue (g.view store).is_open → g.recovers store trees
       → trees ≡ (g.view store).committed) → TiedLeaves g
   tied_leaves settled c s db is tied clean left =
-      let here = left_of db s left.sound is (tied.leaves clean refl db.trees left.left) in (
-        record {
-          stored = here;
-          only = λ t there. one_rows db (rows_of s) (rows_of t) here.holds there.holds;
-        },
+      let here = left_holds db (rows_of s) left.sound (tied.leaves clean refl db.trees left.left) in (
+        stored_only db s is here,
         λ serves.
             let stands = tied.stands clean serves in
             same_database db (state g c).now
@@ -144,8 +167,5 @@ stored_again old again files shut s tied sound held closed found opened =
     let same = same_database (file_state again).now (file_state old).now
     (ap (λ (d : Database). d.trees) opened.0.clean ∙ finds_again old again files (λ _. closed) found
     ∙ ap (λ (d : Database). d.trees) (sym stands.rests.settled)) live.0 stands.holds.sound in
-    record {
-      sound = sound;
-      held = held;
-      holds = subst (λ d. Holds d (rows_of s)) (sym same) stands.holds;
-    }
+    stored (file_state again).now s (record { sound = sound; held = held })
+    (subst (λ d. Holds d (rows_of s)) (sym same) stands.holds)

@@ -32,8 +32,9 @@ use Rattle.vet_register.specs.declared.moves.RecordedMove.{RecordedMove}
 use Rattle.vet_rows.proofs.FitRows.{rows_fit}
 use Rattle.vet_rows.specs.HeldState.{IsHeldState}
 use Rattle.vet_rows.specs.HeldValues.{IsRecordedMove}
-use Rattle.vet_rows.specs.RowsOf.{rows_of}
+use Rattle.vet_rows.specs.RowsOf.{rows_by}
 use Rattle.vet_rows.specs.StandingRows.{move_row}
+use Rattle.vet_store.proofs.DaysTexts.{days_told}
 use Rattle.vet_store.proofs.DemandTexts.{demand_told}
 use Rattle.vet_store.proofs.DeskTexts.{desk_told}
 use Rattle.vet_store.proofs.FactsTexts.{facts_told}
@@ -43,6 +44,7 @@ use Rattle.vet_store.specs.Readable.{AreReadable}
 use Rattle.vet_tables.specs.Cells.{Row}
 use Rattle.vet_tables.specs.declared.table_name.TableName.{TableName}
 use Rattle.vet_tables.specs.declared.table_name.TableName.TheVariants as table
+use Rattle.vet_tables.specs.declared.version.TablesVersion.{TablesVersion}
 
 -- ---- rows of moves
 
@@ -141,15 +143,17 @@ module _ (s : State) (sound : IsSound s) (held : IsHeldState s) where
 
   -- ---- all rows
 
-  rows_told : (n : TableName) (r : Row) → IsIn r (rows_of s n) → AreTold r
-  rows_told table.Meta r (inl is) =
+  rows_told : (version : TablesVersion) (n : TableName) (r : Row) → IsIn r (rows_by version s n) → AreTold r
+  rows_told version table.Meta r (inl is) =
       subst AreTold (sym is) (tt, (tt, (tt, (tt, (tt, (tt, (tt, (tt, (tt, (tt, (tt, (tt, (tt, tt)))))))))))))
-  rows_told table.Meta r (inr none) = absurd none
-  rows_told (table.Facts t) r i = facts_told s.held.facts held.facts t r i
-  rows_told (table.Demand t) r i = demand_told s.held held.policies held.projects t r i
-  rows_told table.Standing r i = standing_told r i
-  rows_told table.Moves r i = each_row IsRecordedMove move_row move_told s.moves held.moves r i
-  rows_told (table.Desk t) r i = desk_told s.desk held.members held.reviews t r i
+  rows_told version table.Meta r (inr none) = absurd none
+  rows_told version (table.Facts t) r i = facts_told s.held.facts held.facts t r i
+  rows_told version (table.Demand t) r i = demand_told s.held held.policies held.projects t r i
+  rows_told version table.Standing r i = standing_told r i
+  rows_told version table.Moves r i = each_row IsRecordedMove move_row move_told s.moves held.moves r i
+  rows_told version (table.Desk t) r i = desk_told s.desk held.members held.reviews t r i
+  rows_told version (table.Days t) r i = days_told s.held.facts t r i
 
-  pub rows_readable : AreReadable (rows_of s)
-  rows_readable n r i = record { fits = rows_fit s n r i; texts = told_at r (rows_told n r i) }
+  pub rows_readable : (version : TablesVersion) → AreReadable (rows_by version s)
+  rows_readable version n r i =
+      record { fits = rows_fit version s n r i; texts = told_at r (rows_told version n r i) }

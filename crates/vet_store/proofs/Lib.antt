@@ -1,4 +1,5 @@
 pub mod Crashes
+pub mod DaysTexts
 pub mod DemandTexts
 pub mod DeskTexts
 pub mod Exactness
@@ -19,5 +20,7 @@ pub mod RowTexts
 pub mod Running
 pub mod StartRows
 pub mod Steps
+pub mod TakingOver
 pub mod Tying
 pub mod TypedCells
+pub mod Versions

@@ -50,4 +50,4 @@ shows_nothing files c none opened finds =
 
 -- in a schema with nothing in it no name is taken
 pub free_of_nothing : (schema : Schema) → schema ≡ record { tables = []; indexes = []; views = [] } → AreFree schema
-free_of_nothing schema none name = rw none (record { unused = refl; unreferred = refl })
+free_of_nothing schema none name behind = rw none (record { unused = refl; unreferred = refl })

@@ -1,17 +1,18 @@
 -- A database has the same rows, whichever way they are told: as sets, they are of one value.
-use Rattle.std.proofs.Common.{◌≡◌, List, [], ◌∷◌, map, refl, sym, ap, ap₂, subst, ◌∙◌}
+use Rattle.std.proofs.Common.{◌≡◌, List, [], ◌∷◌, ℕ, inl, inr, map, refl, sym, ap, ap₂, subst, ◌∙◌}
+use Rattle.std.proofs.lemmas.Bool.{cases_lt}
 use Rattle.sqlite.specs.Effect.{Database}
 use Rattle.sqlite_value.specs.Order.{Row as Values}
 use Rattle.sqlite_value.specs.declared.value.Value.{Value}
 use Rattle.sqlite_value.specs.declared.value.Value.TheVariants as value
 use Rattle.vet_base.proofs.ItemLemmas.{in_map, map_in}
 use Rattle.vet_base.specs.Items.{IsIn, SameItems}
-use Rattle.vet_store.specs.Stands.{Holds}
+use Rattle.vet_store.specs.Stands.{Holds, HoldsFirst}
 use Rattle.vet_tables.proofs.Effects.{same_tree}
 use Rattle.vet_tables.specs.Cells.{Row, RowsValue, SameRows, contents_of, value_of, values_of}
 use Rattle.vet_tables.specs.Contents.{Shows}
 use Rattle.vet_tables.specs.Form.{TableForm}
-use Rattle.vet_tables.specs.Forms.{form_of}
+use Rattle.vet_tables.specs.Forms.{code, form_of}
 use Rattle.vet_tables.specs.declared.cell.Cell.{Cell}
 use Rattle.vet_tables.specs.declared.cell.Cell.TheVariants.{Int, Text, Blob}
 
@@ -56,3 +57,22 @@ one_rows db a b h k n =
     let shows = subst (λ t. Shows (form_of n) (db.trees t) (contents_of a n)) same (h.shows n) in
     same_told (a n) (b n)
     (one_shown (form_of n) (db.trees (k.has n).tree) (contents_of a n) (contents_of b n) shows (k.shows n))
+
+same_none : (xs ys : List Row) → map values_of xs ≡ [] → map values_of ys ≡ [] → SameItems xs ys
+same_none [] [] none also = (λ r i. i, λ r i. i)
+same_none (x ∷ xs) ys none also = absurd (cc none)
+same_none [] (y ∷ ys) none also = absurd (cc also)
+
+-- so it is with rows that it has in the first so many tables
+pub one_first_rows : (count : ℕ) (db : Database) (a b : RowsValue) → HoldsFirst count db a → HoldsFirst count db b
+    → SameRows a b
+one_first_rows count db a b h k n = elim (cases_lt (code n) count) [
+  | inl low ↦
+      let one = h.first.has n low in
+      let two = k.first.has n low in
+      let same = same_tree db.schema (form_of n) one two in
+      let shows = subst (λ t. Shows (form_of n) (db.trees t) (contents_of a n)) same (h.shows n low) in
+      same_told (a n) (b n)
+      (one_shown (form_of n) (db.trees two.tree) (contents_of a n) (contents_of b n) shows (k.shows n low))
+  | inr high ↦ same_none (a n) (b n) (h.none n high) (k.none n high)
+]

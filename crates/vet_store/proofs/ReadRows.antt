@@ -1,5 +1,5 @@
 -- The tables are read one after another.
-use Rattle.std.proofs.Common.{◌≡◌, ◌<◌, ◌+◌, ◌++◌, ◌∷◌, [], ℕ, zero, suc, List, arith, length, map, refl}
+use Rattle.std.proofs.Common.{◌≡◌, ◌<◌, ◌≤◌, ◌+◌, ◌++◌, ◌∷◌, [], ℕ, zero, suc, List, arith, length, map, refl}
 use Rattle.std.proofs.Common.{slice_index_or, ap, subst, sym}
 use Rattle.std.proofs.lemmas.List.{get_or_append_left, get_or_push}
 use Rattle.sqlite.proofs.Callers.{unchanged_then}
@@ -15,23 +15,35 @@ use Rattle.vet_base.specs.Items.{IsIn}
 use Rattle.vet_store.proofs.TypedCells.{cells_typed}
 use Rattle.vet_store.specs.Read.{IsUnread}
 use Rattle.vet_store.specs.Readable.{AreReadable}
-use Rattle.vet_store.specs.Stands.{Holds}
+use Rattle.vet_store.specs.Stands.{HoldsFirst}
 use Rattle.vet_tables.proofs.TablePlaces.{up_to}
 use Rattle.vet_tables.specs.Cells.{Row, RowsValue, contents_of, values_of}
 use Rattle.vet_tables.specs.Forms.{code, form_of}
-use Rattle.vet_tables.specs.Has.{HasTables}
 use Rattle.vet_tables.specs.Read.{AreRead, KeepsRest}
 use Rattle.vet_tables.specs.Typed.{AreTyped, IsKind, kinds_of}
+use Rattle.vet_tables.specs.Versions.{HasFirst}
 use Rattle.vet_tables.specs.declared.table_name.TableName.{TableName}
 
 -- where no rows stand in one table, none stand in all
-pub none_stands : (db : Database) (n : TableName) → IsUnread db n → (rows : RowsValue) → AreReadable rows
-    → Holds db rows → ⊥
-none_stands db n none rows readable holds = none (holds.has n) rows readable (holds.shows n)
+pub none_stands : (count : ℕ) (db : Database) (n : TableName) → code n < count → IsUnread db n → (rows : RowsValue)
+    → AreReadable rows → HoldsFirst count db rows → ⊥
+none_stands count db n low none rows readable holds = none (holds.first.has n low) rows readable (holds.shows n low)
 
-pub all_stand : (db : Database) (rows : RowsValue) → IsDatabase db → HasTables db.schema
-    → ((n : TableName) → AreRead db n (contents_of rows n)) → Holds db rows
-all_stand db rows sound has read = record { sound = sound; has = has; shows = λ n. read n (has n) }
+pub all_stand : (count : ℕ) (db : Database) (rows : RowsValue) → IsDatabase db → HasFirst count db.schema
+    → ((n : TableName) → code n < count → AreRead db n (contents_of rows n))
+    → ((n : TableName) → count ≤ code n → contents_of rows n ≡ []) → HoldsFirst count db rows
+all_stand count db rows sound first read none = record {
+  sound = sound;
+  first = first;
+  shows = λ n low. read n low (first.has n low);
+  none = none;
+}
+
+-- behind the end of a list there is no item
+pub behind_end : {X : Type 0} (xs : List X) (i : ℕ) (none : X) → length xs ≤ i → slice_index_or xs i none ≡ none
+behind_end [] i none far = refl
+behind_end (x ∷ xs) zero none far = absurd (omega (arith, far))
+behind_end (x ∷ xs) (suc i) none far = behind_end xs i none (omega (arith, far))
 
 -- ---- the tables so far, and one more
 

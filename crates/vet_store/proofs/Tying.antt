@@ -1,9 +1,9 @@
 -- The tables stay tied to the register.
 use Rattle.std.proofs.Common.{◌≡◌, ◌⊎◌, ◌+◌, ℤ, Bool, false, IsTrue, List, [], ◌∷◌, map, pos, sym, ap, subst, ◌∙◌, inl}
-use Rattle.std.proofs.Common.{inr, arith, refl}
+use Rattle.std.proofs.Common.{inr, arith, refl, ℕ}
 use Rattle.sqlite_trees.specs.Tree.{Trees}
 use Rattle.sqlite.specs.Effect.{Database}
-use Rattle.sqlite.specs.State.{HasCleanDisk, Survives}
+use Rattle.sqlite.specs.State.{HasCleanDisk, IsUnchanged, Survives}
 use Rattle.sqlite.specs.State as sqlite
 use Rattle.sqlite.proofs.StateLemmas.{survives_weaker}
 use Rattle.vet_base.specs.Items.{IsIn, SameItems}
@@ -17,7 +17,7 @@ use Rattle.vet_rows.specs.declared.row_change.RowChange.{RowChange}
 use Rattle.vet_store.proofs.Steps.{others_same, spares_then}
 use Rattle.vet_store.specs.Beside.{OthersStay}
 use Rattle.vet_store.specs.Committed.{AreTreesBeside, AreTreesOf, IsAfter}
-use Rattle.vet_store.specs.Stands.{Holds, Stands}
+use Rattle.vet_store.specs.Stands.{Holds, HoldsFirst, Stands}
 use Rattle.vet_store.specs.Tied.{IsTied, IsWritten, Leaves}
 use Rattle.vet_tables.specs.Cells.{Row, RowsValue, SameRows, values_of}
 use Rattle.vet_tables.specs.Contents.{KeepsOthers}
@@ -43,6 +43,27 @@ holds_also db a b same h = record {
       λ x i. cells.0 x ((h.shows name).same.1 x i),
     );
   });
+}
+
+none_also : (xs ys : List Row) → SameItems xs ys → map values_of xs ≡ [] → map values_of ys ≡ []
+none_also xs [] same none = refl
+none_also [] (y ∷ ys) same none = absurd (same.1 y (inl refl))
+none_also (x ∷ xs) (y ∷ ys) same none = absurd (cc none)
+
+-- so it is with the rows in the first so many tables
+pub holds_first_also : (count : ℕ) (db : Database) (a b : RowsValue) → SameRows a b → HoldsFirst count db a
+    → HoldsFirst count db b
+holds_first_also count db a b same h = record {
+  sound = h.sound;
+  first = h.first;
+  shows = λ name low. (let cells = same_map values_of (a name) (b name) (same name) in record {
+    numbered = (h.shows name low).numbered;
+    same = (
+      λ x i. (h.shows name low).same.0 x (cells.1 x i),
+      λ x i. cells.0 x ((h.shows name low).same.1 x i),
+    );
+  });
+  none = λ name high. none_also (a name) (b name) (same name) (h.none name high);
 }
 
 pub stands_also : (c : sqlite.State) (a b : RowsValue) → SameRows a b → Stands c a → Stands c b
@@ -109,6 +130,30 @@ survives_written old new shut rows next tied unshut serves s =
     survives_weaker old new (IsWritten old rows next) (AreTreesBeside old.now next)
     (λ clean trees h. let after = h.2 (tied.stands (still_clean old new _ s clean) serves) in
     (h.0, h.1, after.0, after.1)) s
+
+-- ---- the store is tied
+
+-- what stood on a connection stands there if it is as it was
+pub stands_unchanged : (old new : sqlite.State) (rows : RowsValue) → new.in_transaction ≡ false
+    → (IsTrue old.is_open → old.now ≡ old.committed) → IsUnchanged old new → Holds old.now rows → Stands new rows
+stands_unchanged old new rows autocommit settled same holds = record {
+  rests = record {
+    is_open = same.0.is_open;
+    autocommit = autocommit;
+    settled = same.0.now_is ∙ settled same.0.was_open ∙ sym same.0.committed_is;
+  };
+  holds = subst (λ db. Holds db rows) (sym same.0.now_is) holds;
+}
+
+-- a connection is tied to the rows that stand there
+pub tied_standing : (c : sqlite.State) (rows : RowsValue) → c.in_transaction ≡ false → (HasCleanDisk c → Stands c rows)
+    → ((trees : Trees) → IsTrue c.is_open → c.may_leave trees → trees ≡ c.committed.trees) → IsTied c false rows
+tied_standing c rows autocommit stand settled = record {
+  autocommit = autocommit;
+  stands = λ clean _. stand clean;
+  leaves = λ clean _. (let now = stand clean in
+      leaves_standing c rows (λ trees may. settled trees now.rests.is_open may) now);
+}
 
 -- ---- the store stays tied
 

@@ -16,6 +16,7 @@ use Rattle.vet_rows.specs.RowsOf.{rows_of}
 use Rattle.vet_store.specs.Crash.{LeavesEither}
 use Rattle.vet_store.specs.Made.{IsMade}
 use Rattle.vet_store.specs.Opened.{IsStored}
+use Rattle.vet_store.specs.TakenOver.{IsTakenOver, TakesOver}
 use Rattle.vet_store.specs.Tied.{IsTied}
 use Rattle.vet_tables.specs.Cells.{SameRows}
 use Rattle.vet_tables.specs.Extends.{SparesOthers}
@@ -47,6 +48,13 @@ pub record HasOnly (db : Database) (s : State) : Type 0 where
   pub stored : IsStored db s
   pub only : (t : State) → IsStored db t → SameRows (rows_of s) (rows_of t)
 
+-- tables of the first version were taken over: this state is stored as in the database before, and none with other rows
+pub record HasTakenOver (before db : Database) : Type 0 where
+  pub state : State
+  pub was : IsStored before state
+  pub has : HasOnly db state
+  pub over : TakesOver before db state
+
 -- a state that a register can have
 pub record IsState (s : State) : Type 0 where
   pub sound : IsSound s
@@ -64,12 +72,14 @@ module _ {S : Type 0} (g : Ghosts S) where
       → HasCleanDisk (state g new) → IsLeft (state g new) db
       → HasNone (state g old).now db ⊎ HasFirst (state g old).now db (start limit)
 
-  -- after `open`: the same database as before, and so the same states
+  -- after `open`: the same database as before, and so the same states; or the tables of the first version were taken
+  -- over, and the state is the same
   abbrev pub OpenLeaves : Type 0
   OpenLeaves =
       (old new : Held S) (db : Database) → IsDatabase (state g old).now → LeavesShown (state g old)
-      → Survives (state g old) (state g new) (λ _. ⊥) → HasCleanDisk (state g new) → IsLeft (state g new) db
-      → db ≡ (state g old).now
+      → Survives (state g old) (state g new) (IsTakenOver (state g old)) → HasCleanDisk (state g new)
+      → IsLeft (state g new) db
+      → (db ≡ (state g old).now) ⊎ HasTakenOver (state g old).now db
 
   -- after `run`: the state before the command, or the state after it
   abbrev pub RunLeaves : Type 0

@@ -18,4 +18,5 @@ pub mod RunLaws
 pub mod Runs
 pub mod Stands
 pub mod StoreView
+pub mod TakenOver
 pub mod Tied

@@ -4,17 +4,20 @@ use Rattle.vet_register.specs.Sound.{IsSound}
 use Rattle.vet_register.specs.State.{State}
 use Rattle.vet_rows.specs.HeldState.{IsHeldState}
 use Rattle.vet_tables.specs.Cells.{RowsValue, SameRows}
-use Rattle.vet_rows.specs.RowsOf.{rows_of}
-use Rattle.vet_store.specs.Stands.{Holds}
+use Rattle.vet_rows.specs.RowsOf.{rows_by}
+use Rattle.vet_store.specs.Stands.{HoldsIn}
+use Rattle.vet_tables.specs.declared.version.TablesVersion.{TablesVersion}
 
--- a sound state that can be held, whose rows these are, in any order
-pub record IsToldBy (rows : RowsValue) (s : State) : Type 0 where
+-- a sound state that can be held, whose rows in tables of a version these are, in any order
+pub record IsToldBy (version : TablesVersion) (rows : RowsValue) (s : State) : Type 0 where
   pub sound : IsSound s
   pub held : IsHeldState s
-  pub same : SameRows rows (rows_of s)
+  pub same : SameRows rows (rows_by version s)
 
--- a sound state that can be held, whose rows are in the tables
+-- a sound state that can be held, whose rows are in the tables of either version; if it is the first, both names of the
+-- other tables are free
 pub record IsStored (db : Database) (s : State) : Type 0 where
   pub sound : IsSound s
   pub held : IsHeldState s
-  pub holds : Holds db (rows_of s)
+  pub version : TablesVersion
+  pub holds : HoldsIn version db (rows_by version s)

@@ -25,7 +25,8 @@ pub record IsHeldOf (peers : List HeldPeer) (name : Name) (content : PeerContent
   pub criteria : SameItems content.criteria (further peer.content.table)
   pub entries : SameItems (as_peers name content.entries) (entries_of peer.content.entries)
 
--- a command imports what is held of its peer, or replaces the files by what is held
+-- a command imports what is held of its peer, or replaces the files by what is held, except for exemptions with a last
+-- day
 abbrev pub Repeats : State → Action → Type 0
 Repeats s (ImportPeer name content) = IsHeldOf s.held.facts.peers name content
 Repeats s (ReplaceFiles files) = SayWhatIsHeld s.held files

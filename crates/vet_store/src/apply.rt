@@ -1,5 +1,5 @@
 //! Changes of rows inside a transaction.
-ghost use Rattle.std.specs.Prelude.{◌≡◌, ◌⊎◌, [], IsTrue, OnOk};
+ghost use Rattle.std.specs.Prelude.{◌≡◌, ◌<◌, ◌⊎◌, [], IsTrue, OnOk};
 ghost use Rattle.sqlite.specs.Held.{state};
 ghost use Rattle.sqlite.specs.State.{HasCleanDisk, KeepsCommit, Survives};
 ghost use Rattle.vet_base.specs.Items.{IsIn};
@@ -8,14 +8,13 @@ ghost use Rattle.vet_rows.specs.RowChanges.{all_changed, changed};
 ghost use Rattle.vet_rows.specs.declared.row_change.RowChange.{RowChange as Change};
 ghost use Rattle.vet_store.specs.Changes.{Changes};
 ghost use Rattle.vet_store.specs.Made.{FillsTables};
-ghost use Rattle.vet_tables.specs.Cells.{no_rows};
-ghost use Rattle.vet_tables.specs.Makes.{MakesTables};
 
 use crate::statements::{clear, drop_row, put};
 use sqlite::{Alter, Error, Transaction};
 use std::alloc::Global;
 use vet_rows::row_change::RowChange;
-use vet_tables::statements::create_all;
+use vet_tables::statements::create_from;
+use vet_tables::table_name::TABLE_COUNT;
 
 fn apply<S: Alter>(
     alloc: Global,
@@ -62,25 +61,27 @@ pub fn apply_all<S: Alter>(
     Ok(())
 }
 
-/// Makes the twelve tables, and then the changes. Asks that their rows have the columns of their tables. Stops at the
-/// first call that fails, and returns its error.
+/// Makes the tables from a place on, and then the changes. Asks for a place of a table, and that the rows of the
+/// changes have the columns of their tables. Stops at the first call that fails, and returns its error.
 pub fn fill<S: Alter>(
     alloc: Global,
     tx: &mut Transaction<'_, S>,
+    first: usize,
     changes: &[RowChange],
 ) -> Result<(), Error>
-    requires { (c : Change) → IsIn c changes.now → Fits c }
+    requires place { first < TABLE_COUNT }
+    requires fit { (c : Change) → IsIn c changes.now → Fits c }
     ensures same_reference { tx.new.conn.ghost_name ≡ tx.old.conn.ghost_name }
     ensures fills { HasCleanDisk (state S.Store tx.new.conn.now) → IsTrue (state S.Store tx.old.conn.now).is_open
         → IsTrue tx.old.conn.now.in_transaction
-        → OnOk result (FillsTables (state S.Store tx.old.conn.now) (state S.Store tx.new.conn.now)
-        (all_changed changes.now no_rows)) }
+        → OnOk result (FillsTables first (state S.Store tx.old.conn.now) (state S.Store tx.new.conn.now)
+        (all_changed changes.now)) }
     ensures opens { HasCleanDisk (state S.Store tx.new.conn.now) → IsTrue tx.old.conn.now.in_transaction
         → OnOk result (IsTrue (state S.Store tx.old.conn.now).is_open) }
     ensures kept { HasCleanDisk (state S.Store tx.new.conn.now)
         → KeepsCommit (state S.Store tx.old.conn.now) (state S.Store tx.new.conn.now) }
     ensures survives { Survives (state S.Store tx.old.conn.now) (state S.Store tx.new.conn.now) (λ _. ⊥) }
 {
-    create_all(tx)?;
+    create_from(tx, first)?;
     apply_all(alloc, tx, changes)
 }

@@ -3,7 +3,6 @@ ghost use Rattle.std.specs.Prelude.{◌≡◌, ◌<ℤ◌, false, IfOk, IfSome, 
 ghost use Rattle.sqlite.specs.Held.{state};
 ghost use Rattle.sqlite.specs.State.{HasCleanDisk, IsUnchanged, Survives};
 ghost use Rattle.vet_tables.specs.Cells.{values_of};
-ghost use Rattle.vet_tables.specs.Has.{HasTables};
 ghost use Rattle.vet_store.specs.Read.{IsUnread};
 ghost use Rattle.vet_tables.specs.Read.{AreRead, KeepsRest};
 
@@ -29,7 +28,6 @@ pub fn read_table<S: Alter>(
     conn: &mut Connection<S>,
     table: TableName,
 ) -> Result<Option<Vec<Row>>, Error>
-    requires { HasCleanDisk (state S.Store conn.old) → HasTables (state S.Store conn.old).now.schema }
     ensures found { HasCleanDisk (state S.Store conn.new) → IfOk result (λ found. IfSome found (λ rows.
         AreRead (state S.Store conn.old).now table (map values_of rows.items))) }
     ensures none { HasCleanDisk (state S.Store conn.new) → result ≡ Ok None

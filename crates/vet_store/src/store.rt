@@ -13,10 +13,12 @@ use vet_register::register::Register;
 mod create;
 pub mod first_run;
 mod open;
+mod put_meta;
 pub mod reopen;
 pub mod reopen_files;
 mod run;
 mod run_all;
+mod take_over;
 mod write;
 
 /// A register, and a connection to the database whose tables have its rows. Once a commit has failed, it is shut: a

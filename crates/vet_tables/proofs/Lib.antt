@@ -11,6 +11,7 @@ pub mod KeyedRows
 pub mod Makes
 pub mod Making
 pub mod Meanings
+pub mod NewDaysRows
 pub mod NewDemandRows
 pub mod NewDeskRows
 pub mod NewFactsRows
@@ -31,4 +32,5 @@ pub mod TableMeanings
 pub mod TablePlaces
 pub mod TableRows
 pub mod Unreferred
+pub mod Versions
 pub mod WholeRows

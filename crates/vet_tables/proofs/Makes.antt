@@ -1,5 +1,5 @@
 -- A table of ours that CREATE TABLE makes.
-use Rattle.std.proofs.Common.{◌≡◌, inl, inr, List, [], ◌∷◌, ◌||◌, not, ◌==◌, ℕ, ◌+◌, Bool, true, false, None, Some}
+use Rattle.std.proofs.Common.{◌≡◌, ◌⊎◌, inl, inr, List, [], ◌∷◌, ◌||◌, not, ◌==◌, ℕ, ◌+◌, Bool, true, false, None, Some}
 use Rattle.std.proofs.Common.{Option, Ok, Err, length, refl, sym, ap, subst, ◌∙◌, arith}
 use Rattle.std.proofs.lemmas.Bool.{cases_Bool, eqb-true, true≢false}
 use Rattle.std.proofs.lemmas.Slice.Eq.{bytes_eq-Decides}
@@ -24,14 +24,15 @@ use Rattle.sqlite_tied.specs.Compute.{everything}
 use Rattle.sqlite_trees.specs.Tree.{Trees}
 use Rattle.vet_tables.proofs.Creates.{defines}
 use Rattle.vet_tables.proofs.Outcomes.{same_value, went}
-use Rattle.vet_tables.proofs.Extends.{all_both, elsewhere, extends_made, extends_then, got_here, owner_of, placed_after}
+use Rattle.vet_tables.proofs.Extends.{all_both, elsewhere, extends_made, extends_then, got_here, has_either, owner_of}
+use Rattle.vet_tables.proofs.Extends.{placed_after}
 use Rattle.vet_tables.proofs.Extends.{still_free, still_has, still_rows, unused}
 use Rattle.vet_tables.proofs.RowSets.{had_in}
 use Rattle.vet_tables.proofs.TablePlaces.{among_tables, each}
 use Rattle.vet_tables.specs.Form.{TableForm, key_index, table_of}
 use Rattle.vet_tables.specs.Forms.{code, form_of, tables}
 use Rattle.vet_tables.specs.Has.{HasTable, is_apart, refers_not, spares}
-use Rattle.vet_tables.specs.Extends.{Extends, Gains}
+use Rattle.vet_tables.specs.Extends.{Extends, Gains, IsMadeAs, counting_name}
 use Rattle.vet_tables.specs.Free.{IsFree}
 use Rattle.vet_tables.specs.Texts.{create_text}
 use Rattle.vet_tables.specs.declared.table_name.TableName.{TableName}
@@ -83,6 +84,10 @@ sequence_plain : (sequence.references ≡ []) × (sequence.uniques ≡ [])
     × (list_all (λ m. not (same_name sequence.name (form_of m).name)) tables ≡ true)
 unfolding everything
 sequence_plain = (refl, refl, refl)
+
+sequence_named : sequence.name ≡ counting_name
+unfolding everything
+sequence_named = refl
 
 not_true : (b : Bool) → not b ≡ true → b ≡ false
 not_true true e = absurd (true≢false (sym e))
@@ -160,9 +165,21 @@ module _ (n : TableName) (db : Database) (trees : Trees) (empty : trees (next_tr
       (test_has (λ m. list_all (λ (i : Index). not (same_name i.name (form_of m).name))
       (indexes_of n tree)) tables m (indexes_differ n tree) (had_in tables m (among_tables m))))
 
+  only_made : (t : Table) → Has after.schema.tables t → Has db.schema.tables t ⊎ IsMadeAs form.name t
+  only_made t there = elim (has_either db.schema.tables (table_of form tree ∷ []) t there) [
+    | inl old ↦ inl old
+    | inr (inl same) ↦ inr (inl (ap (λ (u : Table). u.name) same))
+    | inr (inr none) ↦ absurd none
+  ]
+
   pub finds_made : Gains db after n
   unfolding made_has
-  finds_made = record { extends = more; has = λ sound free. (made_has sound free, empty); frees = made_frees }
+  finds_made = record {
+    extends = more;
+    has = λ sound free. (made_has sound free, empty);
+    frees = made_frees;
+    only = only_made;
+  }
 
 -- the table in which SQLite counts is no table of ours
 module _ (n : TableName) (db mid : Database) (trees : Trees) (rows : KeepsRows mid.schema.tables mid.trees trees) where
@@ -171,6 +188,15 @@ module _ (n : TableName) (db mid : Database) (trees : Trees) (rows : KeepsRows m
 
   abbrev counted : Extends mid last
   counted = extends_made mid sequence trees sequence_plain.0 rows
+
+  only_counted : Gains db mid n → (t : Table) → Has last.schema.tables t
+      → Has db.schema.tables t ⊎ IsMadeAs (form_of n).name t
+  only_counted found t there =
+      elim (has_either mid.schema.tables (record sequence { tree = next_tree mid.schema } ∷ []) t there) [
+        | inl old ↦ found.only t old
+        | inr (inl same) ↦ inr (inr (ap (λ (u : Table). u.name) same ∙ sequence_named))
+        | inr (inr none) ↦ absurd none
+      ]
 
   with_sequence : Gains db mid n → Gains db last n
   with_sequence found = record {
@@ -186,6 +212,7 @@ module _ (n : TableName) (db mid : Database) (trees : Trees) (rows : KeepsRows m
         (subst (λ keys. AllByRecursion (λ (i : Index). same_name i.name (form_of m).name ≡ false)
         (automatics (record sequence { tree = next_tree mid.schema }) 0 (next_tree mid.schema + 1) keys))
         (sym sequence_plain.1) tt) (found.frees m apart free);
+    only = only_counted found;
   }
 
 -- the table in which SQLite counts comes too

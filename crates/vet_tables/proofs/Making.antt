@@ -1,5 +1,5 @@
 -- The tables are made one after another.
-use Rattle.std.proofs.Common.{◌≡◌, inl, inr, List, [], ◌++◌, ◌+◌, ◌<◌, ℕ, IsTrue, None, Ok, Err, Result}
+use Rattle.std.proofs.Common.{◌≡◌, inl, inr, List, [], ◌++◌, ◌+◌, ◌<◌, ◌≤◌, ℕ, IsTrue, None, Ok, Err, Result}
 use Rattle.std.proofs.Common.{OnOk, refl, sym, ap, subst, ◌∙◌, arith, eq-or-lt_of_le}
 use Rattle.std.proofs.lemmas.Bool.{true≢false}
 use Rattle.sqlite.specs.Command.TheVariants.{CreateTable}
@@ -10,6 +10,7 @@ use Rattle.sqlite.specs.declared.error.Error.{Error}
 use Rattle.sqlite_catalog.proofs.ListFacts.{none_placed}
 use Rattle.sqlite_rules.specs.Lists.{Has}
 use Rattle.sqlite_schema.specs.Names.{same_name}
+use Rattle.sqlite_schema.specs.declared.schema.Schema.{Schema}
 use Rattle.sqlite_schema.specs.declared.schema.Table.{Table}
 use Rattle.vet_tables.proofs.Creates.{create_is, text_whole}
 use Rattle.vet_tables.proofs.Extends.{extends_none, extends_then, has_either, has_front, still_has, still_rows, unused}
@@ -46,39 +47,44 @@ pub makes : (n : TableName) (old new : State) (r : Result ℕ Error)
 makes n old new (Err e) h = tt
 makes n old new (Ok count) h = make_step n old new count h
 
-pub makes_none : (a : State) → IsTrue a.is_open → IsTrue a.in_transaction → MakesTables a a 0
-makes_none a serves inside = record {
+pub makes_none : (a : State) (first : ℕ) → IsTrue a.is_open → IsTrue a.in_transaction → MakesTables a a first first
+makes_none a first serves inside = record {
   was_open = serves;
   is_open = serves;
   committed = refl;
   inside = inside;
   sound = λ sound. sound;
   extends = extends_none a.now;
-  has = λ sound free n low. absurd (omega (arith, low));
-  frees = λ free n low. free n;
+  has = λ sound free n high low. absurd (omega (arith, high, low));
+  frees = λ free. free;
+  only = λ t there. inl there;
 }
 
-pub makes_more : (a b c : State) (k : ℕ) (n : TableName) → code n ≡ k → MakesTables a b k → MakesTable b c n
-    → MakesTables a c (k + 1)
-makes_more a b c k n place one two = record {
+pub makes_more : (a b c : State) (first k : ℕ) (n : TableName) → first ≤ k → code n ≡ k → MakesTables a b first k
+    → MakesTable b c n → MakesTables a c first (k + 1)
+makes_more a b c first k n begun place one two = record {
   was_open = one.was_open;
   is_open = two.is_open;
   committed = two.committed ∙ one.committed;
   inside = two.inside;
   sound = λ sound. two.sound;
   extends = extends_then a.now b.now c.now one.extends two.gains.extends;
-  has = λ sound free m low. elim (same_or_other m n) [
+  has = λ sound free m high low. elim (same_or_other m n) [
     | inl same ↦
         subst (λ name. (h : HasTable c.now.schema (form_of name)) × (c.now.trees h.tree ≡ [])) (sym same)
         (two.gains.has (one.sound sound) (one.frees free n (omega (arith, place))))
     | inr apart ↦
-        let was = one.has sound free m (below m apart low) in (
+        let was = one.has sound free m high (below m apart low) in (
           still_has b.now c.now (form_of m) two.gains.extends was.0,
           still_rows b.now c.now (form_of m) two.gains.extends was.0 ∙ was.1,
         )
   ];
   frees = λ free m high. two.gains.frees m (λ e. omega (arith, high, place, e))
       (one.frees free m (omega (arith, high)));
+  only = λ t there. elim (two.gains.only t there) [
+    | inl old ↦ one.only t old
+    | inr made ↦ inr (n, (omega (arith, begun, place), made))
+  ];
 }
   where
     below : (m : TableName) → (code m ≡ code n → ⊥) → code m < k + 1 → code m < k
@@ -91,15 +97,18 @@ makes_more a b c k n place one two = record {
 pub in_longer : {X : Type 0} (xs more ys : List X) → ys ≡ xs ++ more → (x : X) → Has xs x → Has ys x
 in_longer xs more ys e x h = subst (λ zs. Has zs x) (sym e) (has_front xs more x h)
 
--- an old table is none of ours
-pub other_table : (a b : Database) (more : Extends a b) → AreFree a.schema → (t : Table) → Has a.schema.tables t
+-- where the names are free, no table is one of ours
+pub no_own : (schema : Schema) → AreFree schema → (t : Table) → IsOther schema t
+no_own schema free t n own owned named same =
+    let none = unused schema (form_of n).name (free n (omega arith)).unused in
+    let unlike = none_placed (λ (u : Table). same_name u.name (form_of n).name) schema.tables 0 own none.0 owned in
+    absurd (true≢false (sym (ap (λ name. same_name name (form_of n).name) named ∙ named_itself n) ∙ unlike))
+
+-- a table that was there, and is none of ours, is none of the new ones either
+pub still_other : (a b : Database) (more : Extends a b) (t : Table) → Has a.schema.tables t → IsOther a.schema t
     → IsOther b.schema t
-other_table a b more free t there n own owned named same =
+still_other a b more t there other n own owned named same =
     elim (has_either a.schema.tables more.tables own (subst (λ ts. Has ts own) more.tables_are owned)) [
-      | inl old ↦
-          let none = unused a.schema (form_of n).name (free n).unused in
-          let unlike = none_placed (λ (u : Table). same_name u.name
-          (form_of n).name) a.schema.tables 0 own none.0 old in
-          absurd (true≢false (sym (ap (λ name. same_name name (form_of n).name) named ∙ named_itself n) ∙ unlike))
+      | inl old ↦ other n own old named same
       | inr new ↦ more.fresh own new t there same
     ]

@@ -1,4 +1,4 @@
--- The tables by their places among the twelve.
+-- The tables by their places.
 use Rattle.std.proofs.Common.{◌≡◌, ◌⊎◌, inl, inr, ℕ, List, [], ◌∷◌, Bool, true, false, Some, Option, rules}
 use Rattle.std.proofs.Common.{length, map, slice_get, slice_index_or, take, ◌==◌, ◌+◌, ◌++◌, ◌<◌, ◌≤◌, arith, ap, refl}
 use Rattle.std.proofs.Common.{eq-or-lt_of_le, subst, sym, ◌∙◌}
@@ -8,14 +8,15 @@ use Rattle.std.proofs.lemmas.Option.{get_or_from_slice_get}
 use Rattle.std.specs.List.{AllByRecursion}
 use Rattle.vet_base.specs.Items.{IsIn}
 use Rattle.vet_tables.specs.Forms.{code, form_of, tables}
+use Rattle.vet_tables.specs.declared.table_name.DaysTable.TheVariants.{Today, Lasts}
 use Rattle.vet_tables.specs.declared.table_name.DemandTable.TheVariants.{Policies, Nodes, Edges}
 use Rattle.vet_tables.specs.declared.table_name.DeskTable.TheVariants.{Members, Reviews}
 use Rattle.vet_tables.specs.declared.table_name.FactsTable.TheVariants.{Criteria, Entries, Publishers, Peers}
 use Rattle.vet_tables.specs.declared.table_name.TableName.{TableName}
-use Rattle.vet_tables.specs.declared.table_name.TableName.TheVariants.{Meta, Facts, Demand, Standing, Moves, Desk}
+use Rattle.vet_tables.specs.declared.table_name.TableName.TheVariants.{Meta, Facts, Demand, Standing, Moves, Desk, Days}
 use Rattle.vet_tables.specs.declared.table_name.TheConstants.{TABLE_COUNT}
 
--- each is one of the twelve
+-- each is one of all
 pub among_tables : (n : TableName) → IsIn n tables
 among_tables Meta = inl refl
 among_tables (Facts Criteria) = inr (inl refl)
@@ -29,8 +30,10 @@ among_tables Standing = inr (inr (inr (inr (inr (inr (inr (inr (inl refl))))))))
 among_tables Moves = inr (inr (inr (inr (inr (inr (inr (inr (inr (inl refl)))))))))
 among_tables (Desk Members) = inr (inr (inr (inr (inr (inr (inr (inr (inr (inr (inl refl))))))))))
 among_tables (Desk Reviews) = inr (inr (inr (inr (inr (inr (inr (inr (inr (inr (inr (inl refl)))))))))))
+among_tables (Days Today) = inr (inr (inr (inr (inr (inr (inr (inr (inr (inr (inr (inr (inl refl))))))))))))
+among_tables (Days Lasts) = inr (inr (inr (inr (inr (inr (inr (inr (inr (inr (inr (inr (inr (inl refl)))))))))))))
 
--- what holds of each of the twelve, one after the other, holds of every table
+-- what holds of each of them, one after the other, holds of every table
 pub each : (P : TableName → Type 0) → AllByRecursion P tables → (n : TableName) → P n
 each P all n = all_by P tables n all (among_tables n)
   where

@@ -1,5 +1,5 @@
--- What the twelve tables hold, and what a statement changes in them (ours).
-use Rattle.std.specs.Prelude.{◌≡◌, ◌==◌, ◌∷◌, [], IsTrue, List, filter, if◌then◌else◌, map, not}
+-- What the tables hold, and what a statement changes in them (ours).
+use Rattle.std.specs.Prelude.{◌≡◌, ◌<◌, ◌≤◌, ◌==◌, ◌∷◌, [], IsTrue, List, filter, if◌then◌else◌, map, not, ℕ}
 use Rattle.sqlite.specs.Effect.{Database, IsDatabase}
 use Rattle.sqlite.specs.State.{State}
 use Rattle.sqlite_rules.specs.Lists.{Has}
@@ -12,6 +12,7 @@ use Rattle.vet_tables.specs.Forms.{code, form_of}
 use Rattle.vet_tables.specs.Has.{HasTables}
 use Rattle.vet_tables.specs.Keyed.{is_keyed}
 use Rattle.vet_tables.specs.Numbered.{AreNumbered}
+use Rattle.vet_tables.specs.Versions.{HasFirst}
 use Rattle.vet_tables.specs.declared.table_name.TableName.{TableName}
 
 -- the cells of the rows of each table
@@ -23,11 +24,20 @@ pub record Shows (form : TableForm) (tree : List Cells) (cells : List Cells) : T
   pub numbered : AreNumbered tree
   pub same : SameItems cells (map (shown form) tree)
 
--- the database is sound and has the twelve tables, each with these rows as a set, whatever else it has
+-- the database is sound and has all tables, each with these rows as a set, whatever else it has
 pub record HasContents (db : Database) (contents : Contents) : Type 0 where
   pub sound : IsDatabase db
   pub has : HasTables db.schema
   pub shows : (name : TableName) → Shows (form_of name) (db.trees (has name).tree) (contents name)
+
+-- The database is sound and has the first so many of the tables, each with these rows as a set, whatever else it has.
+-- The names of the others are free, and none of these rows are theirs.
+pub record HasFirstContents (count : ℕ) (db : Database) (contents : Contents) : Type 0 where
+  pub sound : IsDatabase db
+  pub first : HasFirst count db.schema
+  pub shows : (name : TableName) (low : code name < count)
+      → Shows (form_of name) (db.trees (first.has name low).tree) (contents name)
+  pub none : (name : TableName) → count ≤ code name → contents name ≡ []
 
 -- one row more, whatever its key
 abbrev pub added : TableName → Cells → Contents → Contents

@@ -1,12 +1,13 @@
--- The forms of the twelve tables (ours).
+-- The forms of the fourteen tables (ours).
 use Rattle.std.specs.Prelude.{List, [], ◌∷◌, codes, ℕ}
 use Rattle.sqlite_schema.specs.declared.schema.Kind.TheVariants.{Blob, Integer, Text}
 use Rattle.vet_tables.specs.Form.{TableForm}
+use Rattle.vet_tables.specs.declared.table_name.DaysTable.TheVariants.{Today, Lasts}
 use Rattle.vet_tables.specs.declared.table_name.DemandTable.TheVariants.{Policies, Nodes, Edges}
 use Rattle.vet_tables.specs.declared.table_name.DeskTable.TheVariants.{Members, Reviews}
 use Rattle.vet_tables.specs.declared.table_name.FactsTable.TheVariants.{Criteria, Entries, Publishers, Peers}
 use Rattle.vet_tables.specs.declared.table_name.TableName.{TableName}
-use Rattle.vet_tables.specs.declared.table_name.TableName.TheVariants.{Meta, Facts, Demand, Standing, Moves, Desk}
+use Rattle.vet_tables.specs.declared.table_name.TableName.TheVariants.{Meta, Facts, Demand, Standing, Moves, Desk, Days}
 
 abbrev pub form_of : TableName → TableForm
 form_of Meta = record {
@@ -81,8 +82,18 @@ form_of (Desk Reviews) = record {
       ∷ (codes "day", Integer) ∷ (codes "state", Integer) ∷ (codes "member", Text) ∷ (codes "entry", Integer) ∷ [];
   key = 1;
 }
+form_of (Days Today) = record {
+  name = codes "today";
+  columns = (codes "one", Integer) ∷ (codes "day", Integer) ∷ [];
+  key = 1;
+}
+form_of (Days Lasts) = record {
+  name = codes "lasts";
+  columns = (codes "entry", Integer) ∷ (codes "day", Integer) ∷ [];
+  key = 1;
+}
 
--- the place of a table among the twelve
+-- the place of a table among all
 abbrev pub code : TableName → ℕ
 code Meta = 0
 code (Facts Criteria) = 1
@@ -96,8 +107,10 @@ code Standing = 8
 code Moves = 9
 code (Desk Members) = 10
 code (Desk Reviews) = 11
+code (Days Today) = 12
+code (Days Lasts) = 13
 
--- the twelve tables, each at its place
+-- all tables, each at its place
 abbrev pub tables : List TableName
 tables = Meta ∷ Facts Criteria ∷ Facts Entries ∷ Facts Publishers ∷ Demand Policies ∷ Facts Peers ∷ Demand Nodes
-    ∷ Demand Edges ∷ Standing ∷ Moves ∷ Desk Members ∷ Desk Reviews ∷ []
+    ∷ Demand Edges ∷ Standing ∷ Moves ∷ Desk Members ∷ Desk Reviews ∷ Days Today ∷ Days Lasts ∷ []

@@ -1,10 +1,10 @@
--- Whether the names of the twelve tables are free (ours).
-use Rattle.std.specs.Prelude.{◌≡◌, false, true}
+-- Whether the names of the tables are free (ours).
+use Rattle.std.specs.Prelude.{◌≡◌, ◌≤◌, ℕ, false, true}
 use Rattle.std.specs.List.{list_all}
 use Rattle.sqlite_catalog.specs.Change.{is_used}
 use Rattle.sqlite_schema.specs.declared.schema.Schema.{Schema}
 use Rattle.vet_base.specs.Words.{Name}
-use Rattle.vet_tables.specs.Forms.{form_of}
+use Rattle.vet_tables.specs.Forms.{code, form_of}
 use Rattle.vet_tables.specs.Has.{refers_not}
 use Rattle.vet_tables.specs.declared.table_name.TableName.{TableName}
 
@@ -13,5 +13,10 @@ pub record IsFree (schema : Schema) (name : Name) : Type 0 where
   pub unused : is_used schema name ≡ false
   pub unreferred : list_all (refers_not name) schema.tables ≡ true
 
+-- so are those of the tables from a place on
+abbrev pub AreFreeFrom : ℕ → Schema → Type 0
+AreFreeFrom first schema = (name : TableName) → first ≤ code name → IsFree schema (form_of name).name
+
+-- and those of all tables
 abbrev pub AreFree : Schema → Type 0
-AreFree schema = (name : TableName) → IsFree schema (form_of name).name
+AreFree schema = AreFreeFrom 0 schema

@@ -1,4 +1,4 @@
--- Whether a schema has the twelve tables, whatever else it has (ours).
+-- Whether a schema has the tables, whatever else it has (ours).
 use Rattle.std.specs.Prelude.{◌≡◌, Bool, Some, not, slice_get, true, ◌||◌, ◌==◌, ℕ, bytes_eq}
 use Rattle.std.specs.List.{list_all}
 use Rattle.sqlite_schema.specs.Names.{same_name, table_named}
@@ -33,6 +33,6 @@ pub record HasTable (schema : Schema) (form : TableForm) : Type 0 where
   pub unindexed : list_all (spares form tree) schema.indexes ≡ true
   pub unreferred : list_all (refers_not form.name) schema.tables ≡ true
 
--- all twelve
+-- all fourteen
 abbrev pub HasTables : Schema → Type 0
 HasTables schema = (name : TableName) → HasTable schema (form_of name)

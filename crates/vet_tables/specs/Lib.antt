@@ -12,3 +12,4 @@ pub mod Numbered
 pub mod Read
 pub mod Texts
 pub mod Typed
+pub mod Versions

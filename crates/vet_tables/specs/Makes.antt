@@ -1,10 +1,12 @@
 -- The tables made one after another (ours).
-use Rattle.std.specs.Prelude.{◌≡◌, ◌<◌, ◌≤◌, IsTrue, [], ℕ}
+use Rattle.std.specs.Prelude.{◌≡◌, ◌⊎◌, ◌<◌, ◌≤◌, IsTrue, [], ℕ}
 use Rattle.sqlite.specs.Effect.{IsDatabase}
 use Rattle.sqlite.specs.State.{State}
-use Rattle.vet_tables.specs.Extends.{Extends, Gains}
+use Rattle.sqlite_rules.specs.Lists.{Has}
+use Rattle.sqlite_schema.specs.declared.schema.Table.{Table}
+use Rattle.vet_tables.specs.Extends.{Extends, Gains, IsMadeFrom}
 use Rattle.vet_tables.specs.Forms.{code, form_of}
-use Rattle.vet_tables.specs.Free.{AreFree, IsFree}
+use Rattle.vet_tables.specs.Free.{AreFreeFrom}
 use Rattle.vet_tables.specs.Has.{HasTable}
 use Rattle.vet_tables.specs.declared.table_name.TableName.{TableName}
 
@@ -17,15 +19,15 @@ pub record MakesTable (old new : State) (name : TableName) : Type 0 where
   pub sound : IsDatabase new.now
   pub gains : Gains old.now new.now name
 
--- the same for the first so many of the tables
-pub record MakesTables (old new : State) (count : ℕ) : Type 0 where
+-- the same for the tables from one place on, and before another
+pub record MakesTables (old new : State) (first count : ℕ) : Type 0 where
   pub was_open : IsTrue old.is_open
   pub is_open : IsTrue new.is_open
   pub committed : new.committed ≡ old.committed
   pub inside : IsTrue new.in_transaction
   pub sound : IsDatabase old.now → IsDatabase new.now
   pub extends : Extends old.now new.now
-  pub has : IsDatabase old.now → AreFree old.now.schema → (name : TableName) → code name < count
-      → (has : HasTable new.now.schema (form_of name)) × (new.now.trees has.tree ≡ [])
-  pub frees : AreFree old.now.schema → (name : TableName) → count ≤ code name
-      → IsFree new.now.schema (form_of name).name
+  pub has : IsDatabase old.now → AreFreeFrom first old.now.schema → (name : TableName) → first ≤ code name
+      → code name < count → (has : HasTable new.now.schema (form_of name)) × (new.now.trees has.tree ≡ [])
+  pub frees : AreFreeFrom first old.now.schema → AreFreeFrom count new.now.schema
+  pub only : (t : Table) → Has new.now.schema.tables t → Has old.now.schema.tables t ⊎ IsMadeFrom first t

@@ -1,24 +1,29 @@
-//! Whether a database has the tables, or has their names taken.
+//! Which of the tables a database has, and whether the names of others are taken.
 ghost use Rattle.std.specs.Bool.{Decides};
-ghost use Rattle.std.specs.Prelude.{◌≡◌, false, IsTrue};
+ghost use Rattle.std.specs.Prelude.{◌≡◌, ◌<◌, ◌≤◌, false, IfSome, IsTrue, None};
 ghost use Rattle.std.specs.List.{list_all};
 ghost use Rattle.vet_tables.specs.Has.{HasTable, HasTables, is_apart, refers_not, spares};
-ghost use Rattle.vet_tables.specs.Free.{AreFree, IsFree};
+ghost use Rattle.vet_tables.specs.Forms.{code, form_of};
+ghost use Rattle.vet_tables.specs.Free.{AreFreeFrom, IsFree};
+ghost use Rattle.vet_tables.specs.Versions.{HasSomeVersion, HasVersion};
+ghost use Rattle.vet_tables.specs.declared.table_name.TableName.{TableName as Name};
+ghost use Rattle.vet_tables.specs.declared.version.TablesVersion.TheVariants as versions;
 
 use crate::form::Form;
 use crate::has_form::has_form;
-use crate::table_name::{TABLE_COUNT, table_at};
+use crate::table_name::{FIRST_TABLE_COUNT, TABLE_COUNT, table_at};
+use crate::version::TablesVersion;
 use sqlite_catalog::layout::is_used;
 use sqlite_schema::names::same_name;
 use sqlite_schema::schema::{Index, Schema, Table};
 
-/// Whether a table, an index or a view has the name of one of the tables, or a foreign key refers to it. The case of
-/// ASCII letters doesn't matter.
-pub fn has_name_taken(schema: &Schema) -> bool
-    ensures free { result ≡ false → AreFree schema.now }
-    ensures taken { IsTrue result → AreFree schema.now → ⊥ }
+/// Whether a table, an index or a view has the name of one of the tables from a place on, or a foreign key refers to
+/// it. The case of ASCII letters doesn't matter.
+pub fn has_name_taken(schema: &Schema, first: usize) -> bool
+    ensures free { result ≡ false → AreFreeFrom first schema.now }
+    ensures taken { IsTrue result → AreFreeFrom first schema.now → ⊥ }
 {
-    'tables: for at in 0..TABLE_COUNT {
+    'tables: for at in first..TABLE_COUNT {
         if !is_free(schema, table_at(at).form().name()) {
             return true;
         }
@@ -31,7 +36,38 @@ pub fn has_name_taken(schema: &Schema) -> bool
 pub fn has_tables(schema: &Schema) -> bool
     ensures { Decides result (HasTables schema.now) }
 {
-    'tables: for at in 0..TABLE_COUNT {
+    has_first_tables(schema, TABLE_COUNT)
+}
+
+/// The version of the tables, whatever else the database has: each table of the version exists as `has_tables` says,
+/// and the names of the others are free. `None` where the tables are those of no version.
+pub fn version_of(schema: &Schema) -> Option<TablesVersion>
+    ensures found { IfSome result (λ version. HasVersion version schema.now) }
+    ensures none { result ≡ None → HasSomeVersion schema.now → ⊥ }
+{
+    if has_tables(schema) {
+        return Some(TablesVersion::Second);
+    }
+    if has_first_version(schema) {
+        return Some(TablesVersion::First);
+    }
+    None
+}
+
+// Whether the tables are those of the first version.
+fn has_first_version(schema: &Schema) -> bool
+    ensures first { IsTrue result → HasVersion versions.First schema.now }
+    ensures other { result ≡ false → HasVersion versions.First schema.now → ⊥ }
+{
+    has_first_tables(schema, FIRST_TABLE_COUNT) && !has_name_taken(schema, FIRST_TABLE_COUNT)
+}
+
+// Whether each of the first so many tables exists.
+fn has_first_tables(schema: &Schema, count: usize) -> bool
+    requires { count ≤ TABLE_COUNT }
+    ensures { Decides result ((name : Name) → code name < count → HasTable schema.now (form_of name)) }
+{
+    'tables: for at in 0..count {
         if !has_table(schema, &table_at(at).form()) {
             return false;
         }

@@ -1,5 +1,5 @@
 //! The statements on a table, each in one call of the database.
-ghost use Rattle.std.specs.Prelude.{◌≡◌, IsTrue, OnOk};
+ghost use Rattle.std.specs.Prelude.{◌≡◌, ◌<◌, IsTrue, OnOk};
 ghost use Rattle.sqlite.specs.Held.{state};
 ghost use Rattle.sqlite.specs.State.{HasCleanDisk, KeepsCommit, Survives};
 ghost use Rattle.sqlite.specs.Values.{bound};
@@ -72,19 +72,20 @@ pub fn create<S: Alter>(tx: &mut Transaction<'_, S>, table: TableName) -> Result
     tx.execute(table.form().create(), &[])
 }
 
-/// Makes the twelve tables, without rows. Stops at the first that fails, and returns its error.
-pub fn create_all<S: Alter>(tx: &mut Transaction<'_, S>) -> Result<(), Error>
+/// Makes the tables from a place on, without rows. Stops at the first that fails, and returns its error.
+pub fn create_from<S: Alter>(tx: &mut Transaction<'_, S>, first: usize) -> Result<(), Error>
+    requires { first < TABLE_COUNT }
     ensures same_reference { tx.new.conn.ghost_name ≡ tx.old.conn.ghost_name }
     ensures makes { HasCleanDisk (state S.Store tx.new.conn.now) → IsTrue (state S.Store tx.old.conn.now).is_open
         → IsTrue tx.old.conn.now.in_transaction
-        → OnOk result (MakesTables (state S.Store tx.old.conn.now) (state S.Store tx.new.conn.now) TABLE_COUNT) }
+        → OnOk result (MakesTables (state S.Store tx.old.conn.now) (state S.Store tx.new.conn.now) first TABLE_COUNT) }
     ensures opens { HasCleanDisk (state S.Store tx.new.conn.now) → IsTrue tx.old.conn.now.in_transaction
         → OnOk result (IsTrue (state S.Store tx.old.conn.now).is_open) }
     ensures kept { HasCleanDisk (state S.Store tx.new.conn.now)
         → KeepsCommit (state S.Store tx.old.conn.now) (state S.Store tx.new.conn.now) }
     ensures survives { Survives (state S.Store tx.old.conn.now) (state S.Store tx.new.conn.now) (λ _. ⊥) }
 {
-    'tables: for at in 0..TABLE_COUNT {
+    'tables: for at in first..TABLE_COUNT {
         create(tx, table_at(at))?;
     }
     Ok(())

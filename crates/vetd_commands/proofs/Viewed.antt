@@ -6,8 +6,7 @@ use Rattle.vet_base.specs.declared.refusal.Refusal.{Refusal}
 use Rattle.vet_requests.specs.declared.io_fault.IoFault.{IoFault}
 use Rattle.vet_requests.specs.declared.io_fault.IoFault.TheVariants.{Output}
 use Rattle.vetd_commands.specs.Making.{Giving}
-use Rattle.vetd_commands.specs.Opening.{IsNotOpened}
-use Rattle.vetd_commands.specs.Viewing.{AnswersView, IsAnswerToView, IsShown, IsUntold, IsViewFor}
+use Rattle.vetd_commands.specs.Viewing.{AnswersView, IsAnswerToView, IsNotShown, IsShown, IsUntold, IsViewFor}
 use Rattle.vetd_words.specs.Answer.{Answer, Explains, Refuses, answer_for}
 use Rattle.vetd_words.specs.ViewWords.{ViewAsked}
 
@@ -15,7 +14,7 @@ module _ {S : Type 0} (g : Ghosts S) (Gives : Giving S) {T : Type 0} (text : T �
   -- where a path gave a connection, the answer is what was shown over it
   pub view_answer : (asked : ViewAsked) (told : Result T Refusal) (before after : Held S) → Gives asked.path (Ok before)
       → IfOk told (λ t. IsShown g before asked.view (text t) after)
-      → IfErr told (λ refusal. IsNotOpened g before refusal after)
+      → IfErr told (λ refusal. IsNotShown g before refusal after)
       → IsViewFor g Gives asked (answer_for text told) (Some after)
   view_answer asked (Ok line) before after gives shown none = (before, (gives, (after, (refl, shown))))
   view_answer asked (Err refusal) before after gives shown none = (before, (gives, none))

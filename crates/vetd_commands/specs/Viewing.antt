@@ -1,9 +1,10 @@
 -- What is shown of a register whose rows stand in tables, and answered (ours).
-use Rattle.std.specs.Prelude.{◌≡◌, Option, Some, None, Ok, Err, ⊤}
+use Rattle.std.specs.Prelude.{◌≡◌, ◌⊎◌, Option, Some, None, Ok, Err, ⊤}
 use Rattle.clap.specs.Walk.{Text}
 use Rattle.sqlite.specs.Held.{Held}
 use Rattle.sqlite_trees.specs.declared.store.Store.{Ghosts}
 use Rattle.vet_base.specs.declared.refusal.Refusal.{Refusal}
+use Rattle.vet_base.specs.declared.refusal.Refusal.TheVariants.{NoMemory}
 use Rattle.vet_register.specs.State.{State}
 use Rattle.vetd_commands.specs.Making.{Giving}
 use Rattle.vetd_commands.specs.Opening.{IsNotOpened, IsOpenedAs}
@@ -19,6 +20,12 @@ pub record IsShown {S : Type 0} (g : Ghosts S) (before : Held S) (view : View) (
     pub opened : IsOpenedAs g before register after
     pub shows : Shows view register text
 
+-- nothing was shown: no register was opened, or one was, and there was no memory for a text
+abbrev pub IsNotShown : {S : Type 0} → Ghosts S → Held S → Refusal → Held S → Type 0
+IsNotShown g before refusal after =
+    IsNotOpened g before refusal after
+    ⊎ ((refusal ≡ NoMemory) × ((register : State) × IsOpenedAs g before register after))
+
 module _ {S : Type 0} (g : Ghosts S) (Gives : Giving S) where
   -- The answer to what is asked, and the connection that is left: a text of the register was printed; or the path gave
   -- no connection; or it gave one, and nothing was shown.
@@ -27,7 +34,7 @@ module _ {S : Type 0} (g : Ghosts S) (Gives : Giving S) where
       × ((after : Held S) × ((left ≡ Some after) × IsShown g before asked.view text after)))
   IsViewFor asked (Refuses refusal) None = Gives asked.path (Err refusal)
   IsViewFor asked (Refuses refusal) (Some after) = (before : Held S) × (Gives asked.path (Ok before)
-      × IsNotOpened g before refusal after)
+      × IsNotShown g before refusal after)
   IsViewFor asked Explains left = ⊥
   IsViewFor asked (Serves text ending) left = ⊥
 

@@ -5,8 +5,7 @@ ghost use Rattle.vetd_words.specs.Answer.{IsWritten, answer_for};
 ghost use Rattle.vetd_words.specs.ViewWords.{view_asked, view_given};
 ghost use Rattle.vetd_words.specs.Words.{AskForHelp, AskForNoHelp};
 ghost use Rattle.vetd_commands.specs.Making.{FoundBy};
-ghost use Rattle.vetd_commands.specs.Opening.{IsNotOpened};
-ghost use Rattle.vetd_commands.specs.Viewing.{AnswersView, IsShown, IsUntold, IsViewFor};
+ghost use Rattle.vetd_commands.specs.Viewing.{AnswersView, IsNotShown, IsShown, IsUntold, IsViewFor};
 
 use crate::databases::{DatabaseRun, Databases};
 use sqlite::{Alter, Connection};
@@ -24,10 +23,11 @@ use vetd_words::view_words::{ViewCommand, ViewWords, view_words};
 /// Answers the words of a command that shows something of a register, which come without the program's own name. The
 /// text goes to `writer`, as help does, and a refusal or clap's error to `errors`.
 ///
-/// **What is printed shows the one register whose rows stand in the tables of the database at the path. Nothing is
-/// written there.** Refused, as its user reads it: `NotARegister` if there is no file at the path, or the tables have
-/// the rows of no register, and `StoreRefused` where no database can be opened or read there. Faults: `NoMemory`, where
-/// nothing was written, and `Output`, where the front of the answer was.
+/// **What is printed shows the one register whose rows stand in the tables of the database at the path. Tables of the
+/// first version become those of the second; otherwise nothing is written there.** Refused, as its user reads it:
+/// `NotARegister` if there is no file at the path, or the tables have the rows of no register, and `StoreRefused` where
+/// no database can be opened or read there. Faults: `NoMemory`, where nothing was printed, and `Output`, where the
+/// front of the answer was.
 pub fn view_run<T: AsStr, S: Alter + Drop, K: Keeper, D: Databases<S>, W: Write, E: Write>(
     alloc: Global,
     command: ViewCommand,
@@ -88,7 +88,7 @@ fn shown<S: Alter + Drop, K: Keeper>(
 ) -> (Result<String, Refusal>, Connection<S>)
     requires { conn.in_transaction ≡ false }
     ensures shown { IfOk result.0 (λ text. IsShown S.Store conn view (string_bytes text) result.1) }
-    ensures refused { IfErr result.0 (λ refusal. IsNotOpened S.Store conn refusal result.1) }
+    ensures refused { IfErr result.0 (λ refusal. IsNotShown S.Store conn refusal result.1) }
 {
     match Store::<S, K>::open(alloc, conn) {
         Ok(store) => {

@@ -18,6 +18,9 @@ Classes, the first that applies:
   exempted     the version itself is exempted
   unvetted     none of these
 
+An exemption may have a last day. Once the register's day is after it, the exemption has lapsed and no longer counts.
+The command set-day sets the register's day.
+
 Exit status:
   0  the answer was printed: a class, whichever it is, counts, an outcome, a report, a file, or that a register was made
      or served
@@ -57,7 +60,8 @@ Example:
 /// The text below the help of `export`.
 pub const EXPORT_HELP: &str = "\
 Prints the file of that kind, as `vetd read` reads it. Nothing is read from standard input, and nothing is written to
-the database.
+the database, except that tables of an earlier vetd become those of this one.
+Exemptions with a last day are in no file.
 
 Refused 31 if there is no register at PATH, and 30 if no database can be opened there.
 
@@ -69,7 +73,7 @@ pub const APPLY_HELP: &str = "\
 Reads a command document in TOML: the key command, and the keys of that command.
 Prints done, the step, the number of what was made and how many pairs changed class; or already, if it is held.
 A refused command changes nothing, except that one refused 29 or 30 may have been saved.
-The member matters to the commands that finish or withdraw a review.
+The member matters to the commands that finish or withdraw a review, and set-day makes D the register's day.
 
 Refused 31 if there is no register at PATH, and 30 if no database can be opened there.
 
@@ -78,8 +82,10 @@ Example:
 
 /// The text below the help of `report`.
 pub const REPORT_HELP: &str = "\
-Prints how many pairs have each class, the class of each pair, which pairs changed class, or the reviews.
-Nothing is read from standard input, and nothing is written to the database.
+Prints how many pairs have each class, the class of each pair, which pairs changed class, the reviews, or the exemptions
+that have a last day, each with that day and whether it is held or has lapsed.
+Nothing is read from standard input, and nothing is written to the database, except that tables of an earlier vetd
+become those of this one.
 Status 0 means that the report was printed, not that all pairs are full.
 
 Refused 31 if there is no register at PATH, and 30 if no database can be opened there.

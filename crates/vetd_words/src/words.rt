@@ -315,7 +315,7 @@ pub(crate) fn report_command<'a>(alloc: Global) -> Result<Command<'a>, AllocErro
     with_kind(
         alloc,
         command,
-        "The report: counts, standing, standing-csv, moves or desk",
+        "The report: counts, standing, standing-csv, moves, desk or lapses",
     )
 }
 

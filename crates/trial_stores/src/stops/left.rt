@@ -17,6 +17,8 @@ use trial_values::fault::Fault;
 use vet_base::refusal::Refusal;
 use vet_graph::keeper::Keeper;
 use vet_store::store::Store;
+use vet_tables::find::version_of;
+use vet_tables::version::TablesVersion;
 
 /// Prints whether the stop was met, and what the files hold once they are opened again.
 pub fn print_left<K: Keeper>(
@@ -90,6 +92,7 @@ fn print_opened<D: Disk + Drop, K: Keeper>(
 ) -> io::Result<Ending>
     requires { conn.in_transaction ≡ false }
 {
+    print_version(rt, version_of(conn.schema()))?;
     match Store::<FileStore<D>, K>::open(alloc, conn) {
         Ok(store) => print_end(rt, store.register(), true, Ending::Whole),
         Err(refused_store) => {
@@ -100,6 +103,14 @@ fn print_opened<D: Disk + Drop, K: Keeper>(
                 _ => Ok(Ending::Refused),
             }
         }
+    }
+}
+
+// Prints a line if tables are of the first version.
+fn print_version(rt: &impl Print, version: Option<TablesVersion>) -> io::Result<()> {
+    match version {
+        Some(TablesVersion::First) => println!(rt; "first version"),
+        _ => Ok(()),
     }
 }
 

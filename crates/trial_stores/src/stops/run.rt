@@ -3,7 +3,7 @@ ghost use Rattle.std.specs.Prelude.{◌≡◌, false};
 
 use crate::stops::DiskStop;
 use crate::stored::{StoreRun, refused_by_database};
-use sqlite::{Connection, FileStore, Files, Options};
+use sqlite::{Connection, Error, FileStore, Files, Options};
 use sqlite_disk::Disk;
 use std::alloc::Global;
 use std::io;
@@ -16,6 +16,10 @@ use trial_values::fault::Fault;
 use vet_base::refusal::Refusal;
 use vet_graph::keeper::Keeper;
 use vet_store::store::Store;
+
+/// What makes the tables of a register those of the first version.
+const FIRST_VERSION: &str =
+    "BEGIN; DROP TABLE today; DROP TABLE lasts; UPDATE meta SET version = 1; COMMIT";
 
 /// How the files are opened. With a checkpoint, each commit first copies the log if it has a frame.
 pub fn options(checkpoint: bool) -> Options {
@@ -84,8 +88,36 @@ fn run_store<D: Disk + Drop, K: Keeper>(
     close_run(rt, stored.store.close(), ending, stop)
 }
 
-// Gives the files back, and closes them before that if the log is to be copied.
+// Gives the files back, with tables of the first version if they are to be opened so.
 fn close_run<D: Disk + Drop>(
+    rt: &impl Print,
+    mut conn: Connection<FileStore<D>>,
+    ending: Ending,
+    stop: DiskStop,
+) -> io::Result<(Ending, Files<D>)> {
+    match put_back(&mut conn, stop) {
+        Ok(()) => close_connected(rt, conn, ending, stop),
+        Err(error) => {
+            let ending = refused_by_database(rt, error)?;
+            Ok((ending, conn.into_store().close()))
+        }
+    }
+}
+
+// Makes the tables those of the first version if they are to be opened so.
+fn put_back<D: Disk + Drop>(
+    conn: &mut Connection<FileStore<D>>,
+    stop: DiskStop,
+) -> Result<(), Error> {
+    if stop.first_version {
+        conn.execute_batch(FIRST_VERSION)
+    } else {
+        Ok(())
+    }
+}
+
+// Gives the files back, and closes them before that if the log is to be copied.
+fn close_connected<D: Disk + Drop>(
     rt: &impl Print,
     conn: Connection<FileStore<D>>,
     ending: Ending,

@@ -5,6 +5,7 @@ use std::env;
 use std::io::Read;
 use trial_times::desk_rounds::Reviews;
 use trial_times::import_rounds::Sizes;
+use trial_times::lapse_rounds::Lapses;
 use trial_values::fault::Fault;
 
 /// What is to be timed, and how much of it.
@@ -16,6 +17,8 @@ pub enum Task {
     Replacements(usize),
     /// So many rounds of commands to the review desk.
     Desk(Reviews),
+    /// So many rounds of exemptions that lapse.
+    Lapses(Lapses),
     /// So many rounds of finding a demand.
     Demands(usize),
     /// So many rounds of commands to a register in a file.
@@ -51,6 +54,10 @@ fn task_of(task: &str, first: &Option<String>, second: &Option<String>) -> Resul
         })),
         "replace" => Ok(Task::Replacements(number(first)?)),
         "desk" => Ok(Task::Desk(Reviews {
+            count: number(first)?,
+            rounds: number(second)?,
+        })),
+        "lapses" => Ok(Task::Lapses(Lapses {
             count: number(first)?,
             rounds: number(second)?,
         })),

@@ -13,7 +13,7 @@ use vet_base::refusal::Refusal;
 use vet_entries::entry::Entry;
 use vet_entries::kind::Kind;
 
-/// The exemption of a table.
+/// The exemption of a table, which has no last day.
 pub(crate) fn read_exemption(
     alloc: Global,
     at: &PackageTable<'_>,
@@ -24,6 +24,10 @@ pub(crate) fn read_exemption(
     let criteria = required(alloc, at.path, at.table, CRITERIA)?;
     let suggest = optional(alloc, at.path, at.table, SUGGEST)?;
     let notes = optional(alloc, at.path, at.table, NOTES)?;
-    let kind = Kind::Exemption { version, suggest };
+    let kind = Kind::Exemption {
+        version,
+        suggest,
+        last_day: None,
+    };
     found_entry(at, TableKind::Exemption, kind, criteria, notes)
 }

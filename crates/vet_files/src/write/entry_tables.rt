@@ -1,5 +1,5 @@
 //! The tables in which entries are written.
-ghost use Rattle.std.specs.Prelude.{◌≡◌, true, codes, IfOk, Some};
+ghost use Rattle.std.specs.Prelude.{◌≡◌, true, codes, IfOk, None, Some};
 ghost use Rattle.toml.specs.Data.{no_members};
 ghost use Rattle.toml.specs.View.{table_view};
 ghost use Rattle.vet_base.specs.Name.{is_package_name};
@@ -33,7 +33,11 @@ pub(crate) fn entry_table(alloc: Global, entry: &Entry) -> Result<Table, AllocEr
         Kind::Violation(req, audit) => audit_table(alloc, entry, audit, VIOLATION, req),
         Kind::Wildcard(window, grant) => wildcard_table(alloc, entry, window, grant),
         Kind::Trusted(window) => trusted_table(alloc, entry, window),
-        Kind::Exemption { version, suggest } => exemption_table(alloc, entry, version, *suggest),
+        Kind::Exemption {
+            version,
+            suggest,
+            last_day: _,
+        } => exemption_table(alloc, entry, version, *suggest),
     }
 }
 
@@ -106,7 +110,7 @@ fn trusted_table(alloc: Global, entry: &Entry, window: &Window) -> Result<Table,
     Ok(table)
 }
 
-/// The table of an exemption.
+/// The table of an exemption without a last day, for which no file has a key.
 fn exemption_table(
     alloc: Global,
     entry: &Entry,
@@ -114,8 +118,8 @@ fn exemption_table(
     suggest: Option<bool>,
 ) -> Result<Table, AllocError>
     ensures table { IfOk result (λ t. table_view t
-        ≡ entry_table (of_kind entry.now (Kind.Exemption version.now suggest))) }
-    ensures read { IfOk result (λ t. ReadsEntry (of_kind entry.now (Kind.Exemption version.now suggest))) }
+        ≡ entry_table (of_kind entry.now (Kind.Exemption version.now suggest None))) }
+    ensures read { IfOk result (λ t. ReadsEntry (of_kind entry.now (Kind.Exemption version.now suggest None))) }
 {
     let mut table = with_criteria(alloc, entry)?;
     put_some(alloc, &mut table, NOTES, entry.notes.as_ref())?;

@@ -14,7 +14,7 @@ pub(crate) enum Listing {
 }
 
 impl Listing {
-    /// Whether entries of a kind stand in this table.
+    /// Whether entries of a kind stand in this table. Exemptions with a last day stand in none.
     pub(crate) fn holds(self, kind: &Kind) -> bool
         ensures { result ≡ is_listed self kind.now }
     {
@@ -25,7 +25,7 @@ impl Listing {
             ),
             Listing::WildcardAudits => matches!(kind, Kind::Wildcard(_, _)),
             Listing::Trusted => matches!(kind, Kind::Trusted(_)),
-            Listing::Exemptions => matches!(kind, Kind::Exemption { .. }),
+            Listing::Exemptions => matches!(kind, Kind::Exemption { last_day: None, .. }),
         }
     }
 }

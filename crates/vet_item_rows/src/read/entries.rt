@@ -1,8 +1,8 @@
-//! Reading the rows of entries.
+//! Reading the rows of entries, without last days.
 ghost use Rattle.vet_entries.specs.declared.facts.HeldEntry.{HeldEntry};
 ghost use Rattle.vet_item_rows.specs.EntryRows.{entry_row};
 ghost use Rattle.vet_item_rows.specs.ReadBack.{IsWritten, Reads};
-ghost use Rattle.vet_item_rows.specs.Values.{IsHeldEntry};
+ghost use Rattle.vet_item_rows.specs.ReadFacts.{IsRowEntry};
 
 use crate::read::cells::{blob_at, int_at, text_at};
 use crate::read::columns::{names, number, optional_text, package_name, source};
@@ -15,7 +15,7 @@ use vet_entries::facts::HeldEntry;
 use vet_tables::sequence::Row;
 
 impl FromRow for HeldEntry {
-    ghost stands_for = { IsWritten IsHeldEntry entry_row };
+    ghost stands_for = { IsWritten IsRowEntry entry_row };
 
     fn from_row(alloc: Global, row: &Row) -> Result<HeldEntry, ReadError> {
         Ok(HeldEntry {
@@ -27,7 +27,7 @@ impl FromRow for HeldEntry {
 
 // The entry of a row.
 fn entry(alloc: Global, row: &Row) -> Result<Entry, ReadError>
-    ensures { (held : HeldEntry) → IsWritten IsHeldEntry entry_row row.now held → Reads result held.entry }
+    ensures { (held : HeldEntry) → IsWritten IsRowEntry entry_row row.now held → Reads result held.entry }
 {
     Ok(Entry {
         source: source(alloc, text_at(row, 1)?)?,

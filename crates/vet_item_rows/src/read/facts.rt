@@ -8,12 +8,14 @@ ghost use Rattle.vet_base.specs.Keyed.{IsByKey};
 ghost use Rattle.vet_entries.specs.Facts.{Facts};
 ghost use Rattle.vet_entries.specs.HeldPeer.{peer_name};
 ghost use Rattle.vet_entries.specs.Numbered.{AreByNumber};
+ghost use Rattle.vet_item_rows.specs.DayRows.{plain_facts};
 ghost use Rattle.vet_item_rows.specs.ReadHeld.{AreFactsValues, AreInForm, AreItemsOf, AreRowsOf};
 ghost use Rattle.vet_item_rows.specs.ReadParts.{AreFound};
 ghost use Rattle.vet_item_rows.specs.ReadPeers.{criterion_in};
 ghost use Rattle.vet_tables.specs.Cells.{rows_in};
 
 use crate::read::criteria::SourcedCriterion;
+use crate::read::days::{today_in, with_last_days};
 use crate::read::from_row::read_rows;
 use crate::read::held_peers::{in_order, peers_of};
 use crate::read::read_error::ReadError;
@@ -26,9 +28,9 @@ use vet_entries::facts::{EntryFacts, HeldEntry};
 use vet_entries::held_peer::HeldPeer;
 use vet_entries::peer_settings::PeerSettings;
 use vet_tables::rows::Rows;
-use vet_tables::table_name::{FactsTable, TableName};
+use vet_tables::table_name::{DaysTable, FactsTable, TableName};
 
-/// What is held of packages, except publisher records.
+/// What is held of packages, except publisher records and the register's day.
 #[derive(Drop)]
 pub(crate) struct PackageFacts {
     criteria: CriteriaTable,
@@ -36,30 +38,53 @@ pub(crate) struct PackageFacts {
     peers: Vec<HeldPeer>,
 }
 
-/// The facts of which these are the rows of criteria, entries, publishers and peers, in any order. Rows that are not
-/// those of any facts give `NotARegister` or some facts, and no clause says which. Takes a time of n log n. Refused:
-/// `NotARegister`, or `NoMemory`.
+/// The facts of which these are the rows of criteria, entries, publishers, peers and days, in any order. Rows that are
+/// not those of any facts give `NotARegister` or some facts, and no clause says which. Takes a time of n log n.
+/// Refused: `NotARegister`, or `NoMemory`.
 pub fn facts_of(alloc: Global, rows: &Rows) -> Result<EntryFacts, ReadError>
     ensures { (facts : Facts) → AreInForm facts → AreFactsValues facts → AreRowsOf (rows_in rows.now) facts
         → MatchResult result (λ held. held.content ≡ facts) (λ e. e ≡ ReadError.NoMemory) }
 {
-    let parts = parts_in(alloc, rows)?;
+    let parts = dated_parts(alloc, rows)?;
     let records = read_rows(alloc, rows.of(TableName::Facts(FactsTable::Publishers)))?;
     let publishers = records_of(alloc, records)?;
+    let today = today_in(alloc, rows.of(TableName::Days(DaysTable::Today)))?;
     let PackageFacts {
         criteria,
         entries,
         peers,
     } = parts;
-    Ok(EntryFacts::of_parts(alloc, criteria, entries, peers, publishers)?)
+    Ok(EntryFacts::of_parts(alloc, criteria, entries, peers, publishers, today)?)
 }
 
 // The parts of which these are the rows.
-fn parts_in(alloc: Global, rows: &Rows) -> Result<PackageFacts, ReadError>
+fn dated_parts(alloc: Global, rows: &Rows) -> Result<PackageFacts, ReadError>
     ensures by_number { IfOk result (λ parts. AreByNumber parts.entries.items) }
     ensures by_name { IfOk result (λ parts. IsByKey (slice_cmp nat_cmp) peer_name parts.peers.items) }
     ensures back { (facts : Facts) → AreInForm facts → AreFactsValues facts → AreRowsOf (rows_in rows.now) facts
         → AreFound result facts }
+{
+    let days = read_rows(alloc, rows.of(TableName::Days(DaysTable::Lasts)))?;
+    let parts = parts_in(alloc, rows)?;
+    let PackageFacts {
+        criteria,
+        entries,
+        peers,
+    } = parts;
+    let entries = with_last_days(alloc, entries, days)?;
+    Ok(PackageFacts {
+        criteria,
+        entries,
+        peers,
+    })
+}
+
+// The same, without last days.
+fn parts_in(alloc: Global, rows: &Rows) -> Result<PackageFacts, ReadError>
+    ensures by_number { IfOk result (λ parts. AreByNumber parts.entries.items) }
+    ensures by_name { IfOk result (λ parts. IsByKey (slice_cmp nat_cmp) peer_name parts.peers.items) }
+    ensures back { (facts : Facts) → AreInForm facts → AreFactsValues facts → AreRowsOf (rows_in rows.now) facts
+        → AreFound result (plain_facts facts) }
 {
     let criteria = read_rows(alloc, rows.of(TableName::Facts(FactsTable::Criteria)))?;
     let entries = read_rows(alloc, rows.of(TableName::Facts(FactsTable::Entries)))?;

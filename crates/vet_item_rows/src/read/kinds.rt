@@ -1,19 +1,21 @@
-//! Reading what entries say of their packages from their rows.
-ghost use Rattle.std.specs.Prelude.{◌≡◌, ℕ, Bool, Ok, Option, pos};
+//! Reading what entries say of their packages from their rows. A last day is in another table (`days`).
+ghost use Rattle.std.specs.Prelude.{◌≡◌, ℕ, Bool, None, Ok, Option, pos};
 ghost use Rattle.vet_base.specs.Day.{day_number};
 ghost use Rattle.vet_base.specs.Version.{VersionValue};
 ghost use Rattle.vet_base.specs.Words.{Text};
 ghost use Rattle.vet_base.specs.declared.delta.Delta.{Delta};
+ghost use Rattle.vet_entries.specs.Kind.{last_day_of};
 ghost use Rattle.vet_entries.specs.declared.facts.HeldEntry.{HeldEntry};
 ghost use Rattle.vet_entries.specs.declared.kind.Audit.{Audit};
 ghost use Rattle.vet_entries.specs.declared.kind.Grant.{Grant};
+ghost use Rattle.vet_entries.specs.declared.kind.Kind.{Kind as KindValue};
 ghost use Rattle.vet_entries.specs.declared.kind.Kind.TheVariants as said;
 ghost use Rattle.vet_entries.specs.declared.kind.Window.{Window};
 ghost use Rattle.vet_item_rows.specs.Columns.{flag, packed_names};
 ghost use Rattle.vet_item_rows.specs.EntryRows.{entry_row, unused, with_kind};
-ghost use Rattle.vet_item_rows.specs.ReadBack.{IsReadBack, IsWritten, Reads};
-ghost use Rattle.vet_item_rows.specs.ReadFacts.{IsSaidIn};
-ghost use Rattle.vet_item_rows.specs.Values.{AreTexts, IsHeldEntry, IsWindow};
+ghost use Rattle.vet_item_rows.specs.ReadBack.{IsWritten, Reads};
+ghost use Rattle.vet_item_rows.specs.ReadFacts.{IsRowEntry, IsSaidIn};
+ghost use Rattle.vet_item_rows.specs.Values.{AreTexts, IsWindow};
 
 use crate::read::cells::{blob_at, int_at, text_at};
 use crate::read::columns::{day, flag, number, requirement, texts, user, version};
@@ -60,7 +62,7 @@ impl<'a> Model for KindCells<'a> {
 
 /// What the row of an entry says of its package.
 pub(crate) fn kind(alloc: Global, row: &Row) -> Result<Kind, ReadError>
-    ensures { (held : HeldEntry) → IsWritten IsHeldEntry entry_row row.now held → Reads result held.entry.kind }
+    ensures { (held : HeldEntry) → IsWritten IsRowEntry entry_row row.now held → Reads result held.entry.kind }
 {
     kind_of(alloc, &kind_cells(row)?)
 }
@@ -83,9 +85,9 @@ fn kind_cells(row: &Row) -> Result<KindCells<'_>, ReadError>
     })
 }
 
-// What columns say.
+// What columns say of a package; nothing is said of a last day.
 fn kind_of(alloc: Global, cells: &KindCells<'_>) -> Result<Kind, ReadError>
-    ensures { IsReadBack IsSaidIn cells.now result }
+    ensures { (k : KindValue) → last_day_of k ≡ None → IsSaidIn cells.now k → Reads result k }
 {
     let number = kind_number(cells)?;
     if number == 0 {
@@ -149,15 +151,16 @@ fn wildcard(alloc: Global, cells: &KindCells<'_>) -> Result<Kind, ReadError>
     Ok(Kind::Wildcard(window, grant(alloc, cells)?))
 }
 
-// That a version is exempted.
+// That a version is exempted, without a last day.
 fn exemption(alloc: Global, cells: &KindCells<'_>) -> Result<Kind, ReadError>
-    ensures { (v : VersionValue) (s : Option Bool) → IsSaidIn cells.now (said.Exemption v s)
-        → Reads result (said.Exemption v s) }
+    ensures { (v : VersionValue) (s : Option Bool) → IsSaidIn cells.now (said.Exemption v s None)
+        → Reads result (said.Exemption v s None) }
 {
     let suggest = flag(cells.suggest)?;
     Ok(Kind::Exemption {
         version: version(alloc, cells.a)?,
         suggest,
+        last_day: None,
     })
 }
 

@@ -97,7 +97,7 @@ pub fn unused(alloc: Global) -> Result<KindColumns, AllocError>
     })
 }
 
-/// Sets the columns that this kind uses. Fails only if memory runs out.
+/// Sets the columns that this kind uses. A last day has none here. Fails only if memory runs out.
 pub fn set_kind(alloc: Global, said: &mut KindColumns, kind: &Kind) -> Result<(), AllocError>
     ensures { OnOk result (said.new ≡ with_kind kind.now said.old) }
 {
@@ -128,7 +128,11 @@ pub fn set_kind(alloc: Global, said: &mut KindColumns, kind: &Kind) -> Result<()
             set_window(said, *window);
             Ok(())
         }
-        Kind::Exemption { version, suggest } => {
+        Kind::Exemption {
+            version,
+            suggest,
+            last_day: _,
+        } => {
             said.kind = 5;
             said.a = version_column(alloc, version)?;
             said.suggest = flag(*suggest);

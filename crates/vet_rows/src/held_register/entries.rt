@@ -69,7 +69,11 @@ impl CanBeHeld for Kind {
             Kind::Exemption {
                 version,
                 suggest: _,
-            } => version.is_held(),
+                last_day,
+            } => {
+                version.is_held();
+                last_day.is_held();
+            }
         }
     }
 }

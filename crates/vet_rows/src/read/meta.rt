@@ -16,9 +16,7 @@ use vet_item_rows::read::read_error::{ReadError, found};
 use vet_register::tool_settings::ToolSettings;
 use vet_tables::cell::Cell;
 use vet_tables::sequence::Row;
-
-/// The version of the form of the tables.
-const FORM: u64 = 1;
+use vet_tables::version::TablesVersion;
 
 /// What the row of `meta` says. Rows other than one such row give `NotARegister` or some value, and no clause says
 /// which.
@@ -32,8 +30,9 @@ impl FromRow for Meta {
     ghost stands_for = { IsWritten IsMeta row_of_meta };
 
     fn from_row(alloc: Global, row: &Row) -> Result<Meta, ReadError> {
-        check_form(row)?;
+        check_key(row)?;
         Ok(Meta {
+            version: tables_version(row)?,
             numbers: numbers(row)?,
             first: first_counts(row)?,
             settings: settings(alloc, row)?,
@@ -41,20 +40,27 @@ impl FromRow for Meta {
     }
 }
 
-// Refuses a row with another key, or another version of the form, than those that are written. Takes no memory.
-fn check_form(row: &Row) -> Result<(), ReadError>
+// Refuses a row with another key than the one that is written. Takes no memory.
+fn check_key(row: &Row) -> Result<(), ReadError>
     ensures { (m : MetaValue) → row.now ≡ row_of_meta m → result ≡ Ok tt }
 {
-    let [Cell::Int(one), Cell::Int(form), ..] = row.as_slice() else {
+    let [Cell::Int(one), ..] = row.as_slice() else {
         return Err(ReadError::NotARegister);
     };
     if number(*one)? != 1 {
         return Err(ReadError::NotARegister);
     }
-    if number(*form)? != FORM {
-        return Err(ReadError::NotARegister);
-    }
     Ok(())
+}
+
+// The version of the tables of a row. Takes no memory.
+fn tables_version(row: &Row) -> Result<TablesVersion, ReadError>
+    ensures { (m : MetaValue) → row.now ≡ row_of_meta m → result ≡ Ok m.version }
+{
+    let [_, Cell::Int(version), ..] = row.as_slice() else {
+        return Err(ReadError::NotARegister);
+    };
+    found(TablesVersion::of_number(*version))
 }
 
 // The numbers of a row. Takes no memory.

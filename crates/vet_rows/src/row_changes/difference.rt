@@ -110,13 +110,15 @@ fn push_puts(
     Ok(())
 }
 
-// Whether only the rows of a table that differ are written: those tables that may have thousands of rows.
+// Whether only the rows of a table that differ are written: those tables that may have thousands of rows, and that of
+// the register's day.
 fn is_compared(table: TableName) -> bool
     ensures { result ≡ is_compared table }
 {
     match table {
         TableName::Facts(FactsTable::Entries) | TableName::Facts(FactsTable::Publishers) => true,
         TableName::Demand(DemandTable::Nodes) | TableName::Demand(DemandTable::Edges) => true,
+        TableName::Days(_) => true,
         _ => false,
     }
 }

@@ -1,6 +1,7 @@
 //! The rows that an edit of the facts of packages removes and adds.
 //!
-//! If the content of a peer is exchanged, its criteria and entries are exchanged for those of the new content.
+//! If the content of a peer is exchanged, its criteria and entries are exchanged for those of the new content. The rows
+//! of days are in `day_changes`.
 ghost use Rattle.std.specs.List.{All, slice_get};
 ghost use Rattle.std.specs.Option.{option_copied};
 ghost use Rattle.std.specs.Prelude.{◌≡◌, IfOk, Some};
@@ -54,6 +55,7 @@ pub fn fact_exchanges(
         Edit::Settings(settings) => settings_exchange(alloc, facts, settings),
         Edit::Content(name, content) => content_exchanges(alloc, facts, name, content),
         Edit::Publishers(change) => publishers_exchange(alloc, facts, change),
+        Edit::Today(_) => Ok(Vec::new(alloc)),
     }
 }
 
@@ -89,8 +91,8 @@ fn entry_removed(
     )
 }
 
-// The entry at a place, if there is one.
-fn entry_at(entries: &[HeldEntry], place: usize) -> Option<&HeldEntry>
+/// The entry at a place, if there is one. Takes no memory.
+pub fn entry_at(entries: &[HeldEntry], place: usize) -> Option<&HeldEntry>
     ensures { option_copied result ≡ slice_get entries.now place }
 {
     entries.get(place)

@@ -22,6 +22,7 @@ use vet_register::register::Register;
 use vet_register::tool_settings::ToolSettings;
 use vet_tables::sequence::Row;
 use vet_tables::table_name::TableName;
+use vet_tables::version::TablesVersion;
 
 /// The row of `meta` that a change adds. Asks that its numbers are below 2^63. Fails only if memory runs out.
 pub fn meta_exchange<K: Keeper>(
@@ -56,6 +57,7 @@ fn meta_row_after<K: Keeper>(
     let first = first_after(register, change.recording());
     row_of_meta(
         alloc,
+        TablesVersion::Second,
         numbers,
         first,
         settings_after(register, change.edit()),

@@ -1,8 +1,8 @@
 //! The row of `meta`.
 ghost use Rattle.std.specs.Prelude.{◌≡◌, IfOk};
-ghost use Rattle.vet_rows.specs.MetaRow.{MetaFits, row_of_meta};
+ghost use Rattle.vet_rows.specs.MetaRow.{MetaFits, numbered_row, row_of_meta};
 ghost use Rattle.vet_rows.specs.Numbers.{CountsFit, NumbersFit};
-ghost use Rattle.vet_rows.specs.RowsOf.{meta_row};
+ghost use Rattle.vet_rows.specs.ReadState.{meta_in};
 
 use crate::meta::MetaNumbers;
 use std::alloc::{AllocError, Global};
@@ -13,10 +13,15 @@ use vet_register::register::Register;
 use vet_register::tool_settings::ToolSettings;
 use vet_tables::cell::Cell;
 use vet_tables::sequence::{Row, Sequence};
+use vet_tables::version::TablesVersion;
 
-/// The row of `meta`. Fails only if memory runs out.
-pub fn meta_row<K: Keeper>(alloc: Global, register: &Register<K>) -> Result<Row, AllocError>
-    ensures { IfOk result (λ row. row ≡ meta_row register.now.state) }
+/// The row of `meta` in tables of a version. Fails only if memory runs out.
+pub fn meta_row<K: Keeper>(
+    alloc: Global,
+    version: TablesVersion,
+    register: &Register<K>,
+) -> Result<Row, AllocError>
+    ensures { IfOk result (λ row. row ≡ row_of_meta (meta_in version register.now.state)) }
 {
     numbers_fit(register);
     counts_fit(register);
@@ -26,13 +31,20 @@ pub fn meta_row<K: Keeper>(alloc: Global, register: &Register<K>) -> Result<Row,
         next_review: register.desk().next_review(),
         moves_limit: register.moves_limit(),
     };
-    row_of_meta(alloc, numbers, register.first_counts(), register.settings())
+    row_of_meta(
+        alloc,
+        version,
+        numbers,
+        register.first_counts(),
+        register.settings(),
+    )
 }
 
-/// The row of these numbers, counts at first and settings. Asks that the numbers are below 2^63. Fails only if memory
-/// runs out.
+/// The row of this version, these numbers, counts at first and settings. Asks that the numbers are below 2^63. Fails
+/// only if memory runs out.
 pub(crate) fn row_of_meta(
     alloc: Global,
+    version: TablesVersion,
     numbers: MetaNumbers,
     first: Counts,
     settings: &ToolSettings,
@@ -40,11 +52,26 @@ pub(crate) fn row_of_meta(
     requires numbers { MetaFits numbers }
     requires counts { CountsFit first }
     ensures { IfOk result (λ row.
-        row ≡ row_of_meta (record { numbers = numbers; first = first; settings = settings.now })) }
+        row ≡ row_of_meta (record { version = version; numbers = numbers; first = first; settings = settings.now })) }
+{
+    numbered_row(alloc, version.number(), numbers, first, settings)
+}
+
+// The row with the number of a version, and the rest.
+fn numbered_row(
+    alloc: Global,
+    version: i64,
+    numbers: MetaNumbers,
+    first: Counts,
+    settings: &ToolSettings,
+) -> Result<Row, AllocError>
+    requires numbers { MetaFits numbers }
+    requires counts { CountsFit first }
+    ensures { IfOk result (λ row. row ≡ numbered_row version numbers first settings.now) }
 {
     let cells = vec![in alloc;
         Cell::Int(1),
-        Cell::Int(1),
+        Cell::Int(version),
         Cell::Int(numbers.step as i64),
         Cell::Int(numbers.next_entry as i64),
         Cell::Int(numbers.next_review as i64),

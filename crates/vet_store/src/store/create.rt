@@ -19,6 +19,7 @@ ghost use Rattle.vet_tables.specs.Read.{Rests};
 ghost use Rattle.vet_store.specs.Tied.{IsTied};
 
 use super::Store;
+use super::put_meta::put_meta;
 use crate::change::{CommitError, make_tables};
 use crate::refused::{Refused, refusal_of};
 use sqlite::{Alter, Connection};
@@ -29,9 +30,7 @@ use vet_demand::laws::nothing_is_demanded;
 use vet_graph::keeper::Keeper;
 use vet_register::register::Register;
 use vet_rows::row_change::RowChange;
-use vet_rows::rows_of::meta_rows::meta_row;
 use vet_tables::find::has_name_taken;
-use vet_tables::table_name::TableName;
 
 impl<S: Alter + Drop, K: Keeper> Store<S, K> {
     /// Makes the tables of an empty register, beside whatever else the database has. Asks for a connection outside a
@@ -64,7 +63,7 @@ impl<S: Alter + Drop, K: Keeper> Store<S, K> {
             (IsMade (state S.Store conn) (rows_of (start moves_limit)))) }
     {
         let _rests = conn.is_autocommit();
-        if has_name_taken(conn.schema()) {
+        if has_name_taken(conn.schema(), 0) {
             let refusal = Refusal::NotARegister;
             return Err(Refused { refusal, conn });
         }
@@ -105,8 +104,9 @@ fn write_start<S: Alter, K: Keeper>(
         (IsMade (state S.Store conn.old) (rows_of register.now.state)) }
 {
     let _rests = conn.is_autocommit();
+    let _live = conn.schema();
     let changes = start_changes(alloc, register)?;
-    match make_tables(alloc, conn, changes.as_slice()) {
+    match make_tables(alloc, conn, 0, changes.as_slice()) {
         Ok(()) => Ok(()),
         Err(CommitError::Before(error)) => Err(refusal_of(error)),
         Err(CommitError::Commit(error)) => Err(refusal_of(error)),
@@ -124,8 +124,5 @@ fn start_changes<K: Keeper>(
     ensures memory { IfErr result (λ e. e ≡ Refusal.NoMemory) }
 {
     nothing_is_demanded();
-    let row = meta_row(alloc, register)?;
-    let mut changes = Vec::new(alloc);
-    changes.push(RowChange::Put(TableName::Meta, row))?;
-    Ok(changes)
+    Ok(put_meta(alloc, register)?)
 }

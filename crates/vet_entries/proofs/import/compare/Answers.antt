@@ -6,7 +6,7 @@ use Rattle.vet_base.specs.Definitions.{criteria_eq}
 use Rattle.vet_entries.specs.declared.entry.Source.TheVariants.{Peer}
 use Rattle.vet_entries.specs.EntryOrder.{entry_cmp}
 use Rattle.vet_entries.specs.HeldPeer.{as_peers}
-use Rattle.vet_entries.specs.Replaced.{comes_again, is_new}
+use Rattle.vet_entries.specs.Replaced.{comes_again, is_new, none_stays}
 use Rattle.vet_entries.proofs.ImportCompared.{marks_compared, pass_again, pass_fresh}
 use Rattle.vet_entries.proofs.import.compare.Goals as goal
 
@@ -21,7 +21,7 @@ returns-clause-ok c =
     c.in_ok-fresh.ensures.fresh ∙ pass_fresh (Peer name) held.entries content.entries c.requires _ _ before
     c.entries.ensures.value c.entries-2.ensures.value c.in_ok-seen.ensures in
     let again : c.in_ok-again.again.items ≡ map (comes_again (as_peers name content.entries)) held.entries =
-    c.in_ok-again.ensures ∙ pass_again (Peer name) held.entries content.entries c.requires _ _ _ before after
+    c.in_ok-again.ensures ∙ pass_again (Peer name) held.entries content.entries c.requires none_stays _ _ _ before after
     c.entries.ensures.value c.entries-3.ensures.value c.entries-2.ensures.value c.in_ok-seen.ensures
     c.in_ok-fresh.ensures.seen in
     marks_compared name held content c.in_ok-again.again.items c.in_ok-fresh.fresh.items c.count-new_count.result

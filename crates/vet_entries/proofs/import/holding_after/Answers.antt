@@ -5,7 +5,7 @@ use Rattle.vet_entries.specs.declared.entry.Source.TheVariants.{Peer}
 use Rattle.vet_entries.specs.HeldPeer.{as_peers, imported}
 use Rattle.vet_entries.specs.Holding.{HoldingValue}
 use Rattle.vet_entries.specs.Numbered.{AreByNumber}
-use Rattle.vet_entries.specs.Replaced.{is_new}
+use Rattle.vet_entries.specs.Replaced.{is_new, none_stays}
 use Rattle.vet_entries.proofs.ImportLaws.{entries_made, numbers_rise}
 use Rattle.vet_entries.proofs.ImportMarks.{marks_count}
 use Rattle.vet_entries.proofs.import.holding_after.Goals as goal
@@ -28,14 +28,14 @@ of-requires c =
     let entries = c.args.content.now.entries in
     let told = c.comparison.view_is ∙ c.requires.compared in
     subst AreByNumber
-    (sym (entries_made (Peer name) _ c.args.next held c.entries.result.now entries c.entries-coming.result.now
-    c.as_slice.result.now c.as_slice-fresh.result.now c.in_ok-entries.entries.items c.keep.new.entries.items
-    c.add.new.held.items
+    (sym (entries_made none_stays (Peer name) _ c.args.next held c.entries.result.now entries
+    c.entries-coming.result.now c.as_slice.result.now c.as_slice-fresh.result.now c.in_ok-entries.entries.items
+    c.keep.new.entries.items c.add.new.held.items
     c.in_ok-source.ensures c.entries.ensures.value c.entries-coming.ensures.value
     (c.as_slice.ensures.value ∙ ap (λ v. v.again) told) (c.as_slice-fresh.ensures.value ∙ ap (λ v. v.fresh) told)
     c.in_ok-entries.ensures.items
     c.in_ok-keep.ensures c.in_ok-add.ensures))
-    (numbers_rise (Peer name) c.args.next held entries c.entries.ensures.by_number c.requires.below)
+    (numbers_rise none_stays (Peer name) c.args.next held entries c.entries.ensures.by_number c.requires.below)
 
 pub returns-clause-ok : goal.returns-clause-ok
 returns-clause-ok c =
@@ -44,7 +44,7 @@ returns-clause-ok c =
     let entries = c.args.content.now.entries in
     let told = c.comparison.view_is ∙ c.requires.compared in
     let made =
-    entries_made (Peer name) _ c.args.next held c.entries.result.now entries c.entries-coming.result.now
+    entries_made none_stays (Peer name) _ c.args.next held c.entries.result.now entries c.entries-coming.result.now
     c.as_slice.result.now c.as_slice-fresh.result.now c.in_ok-entries.entries.items c.keep.new.entries.items
     c.add.new.held.items
     c.in_ok-source.ensures c.entries.ensures.value c.entries-coming.ensures.value

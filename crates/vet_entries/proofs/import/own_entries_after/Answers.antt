@@ -1,7 +1,7 @@
 use Rattle.std.proofs.Common.{◌≡◌, length, refl, sym, ap, ◌∙◌, arith}
 use Rattle.std.specs.List.{filter}
 use Rattle.vet_entries.specs.declared.entry.Source.TheVariants.{Own}
-use Rattle.vet_entries.specs.Replaced.{as_of, is_new}
+use Rattle.vet_entries.specs.Replaced.{as_of, is_dated, is_new}
 use Rattle.vet_entries.proofs.ImportLaws.{entries_made}
 use Rattle.vet_entries.proofs.ImportMarks.{marks_count}
 use Rattle.vet_entries.proofs.import.own_entries_after.Goals as goal
@@ -20,8 +20,8 @@ returns-clause-ok c =
     let held = c.args.held.now in
     let entries = c.args.entries.now in
     let told = c.comparison.view_is ∙ c.requires.compared in
-    entries_made Own Own c.args.next held held entries entries c.as_slice.result.now c.as_slice-fresh.result.now
-    c.in_ok-after.after.items c.keep.new.entries.items c.add.new.held.items
+    entries_made is_dated Own Own c.args.next held held entries entries c.as_slice.result.now
+    c.as_slice-fresh.result.now c.in_ok-after.after.items c.keep.new.entries.items c.add.new.held.items
     refl refl refl (c.as_slice.ensures.value ∙ ap (λ v. v.again) told)
     (c.as_slice-fresh.ensures.value ∙ ap (λ v. v.fresh) told) c.in_ok-after.ensures.items
     c.in_ok-keep.ensures c.in_ok-add.ensures

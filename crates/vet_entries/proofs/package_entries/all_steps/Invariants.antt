@@ -8,7 +8,7 @@ use Rattle.vet_entries.proofs.package_entries.all_steps.Given as goal
 
 abbrev pub invariant-loop-entry : goal.invariant-loop-entry
 invariant-loop-entry l = record {
-  steps : l.steps.items ≡ flat_map (entry_steps l.facts.content.criteria l.records)
+  steps : l.steps.items ≡ flat_map (entry_steps l.facts.content.today l.facts.content.criteria l.records)
       (all_sourced l.facts.content.peers (take l.entry-index l.taken));
   local : AreLocal l.facts.content l.local;
 }

@@ -1,8 +1,8 @@
 -- The texts, worked out.
 use Rattle.std.proofs.Common.{refl}
 use Rattle.std.specs.Fmt.{char_count, digits}
-use Rattle.vet_reports.specs.Columns.{left_in, right_in}
-use Rattle.vet_reports.specs.DeskText.{comma_list, line_for}
+use Rattle.vet_reports.specs.Columns.{comma_list, left_in, right_in}
+use Rattle.vet_reports.specs.DeskText.{line_for}
 use Rattle.vet_reports.proofs.desk_text.desk_by_example.Goals as goal
 
 pub returns : goal.returns

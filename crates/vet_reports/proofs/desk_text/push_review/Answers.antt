@@ -5,8 +5,8 @@ use Rattle.std.specs.Prelude.{string_bytes}
 use Rattle.vet_base.specs.Day.{day_text}
 use Rattle.vet_base.specs.Names.{members}
 use Rattle.vet_base.specs.Version.{version_text}
-use Rattle.vet_reports.specs.Columns.{left_in, right_in}
-use Rattle.vet_reports.specs.DeskText.{comma_list, entry_word, line_for, member_word, state_word}
+use Rattle.vet_reports.specs.Columns.{comma_list, left_in, right_in}
+use Rattle.vet_reports.specs.DeskText.{entry_word, line_for, member_word, state_word}
 use Rattle.vet_reports.proofs.ReviewLemmas.{written}
 use Rattle.vet_reports.proofs.desk_text.push_review.Goals as goal
 

@@ -8,6 +8,7 @@ pub returns : goal.returns
 unfolding matchit_on_literals table
 returns c =
     rw (
+      c.in_ok-insert-12.ensures.1,
       c.in_ok-insert-11.ensures.1,
       c.in_ok-insert-10.ensures.1,
       c.in_ok-insert-9.ensures.1,

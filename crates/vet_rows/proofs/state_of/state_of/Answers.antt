@@ -7,9 +7,9 @@ use Rattle.vet_rows.proofs.StateRead.{refused_as}
 use Rattle.vet_rows.proofs.state_of.state_of.Goals as goal
 
 pub returns-in_err-read_state-clause-back : goal.returns-in_err-read_state-clause-back
-returns-in_err-read_state-clause-back c s sound held same =
+returns-in_err-read_state-clause-back c version s sound held same =
     let passed = err_from_is_err_and c.from_residual.result c.from_residual.ensures.1 in
-    let none = c.in_err-read_state.ensures s sound held same in
+    let none = c.in_err-read_state.ensures version s sound held same in
     rw passed.1 (passed.2 ∙ ap refusal_of none)
 
 pub returns-in_err-read_state-clause-refused : goal.returns-in_err-read_state-clause-refused

@@ -1,15 +1,14 @@
 use Rattle.std.proofs.Common.{◌≡◌, ◌⊎◌, IsTrue, arith, inr, refl, rules, subst}
 use Rattle.sqlite.specs.Held.{state}
-use Rattle.sqlite.specs.State.{HasCleanDisk, IsLive, Survives}
+use Rattle.sqlite.specs.State.{HasCleanDisk, Survives}
 use Rattle.vet_rows.specs.RowChanges.{all_changed}
 use Rattle.vet_store.proofs.Making.{filled, made_after}
 use Rattle.vet_store.proofs.Steps.{uncommitted, undone}
 use Rattle.vet_store.proofs.change.make_tables.Goals as goal
-use Rattle.vet_store.specs.Made.{IsMade}
-use Rattle.vet_tables.specs.Cells.{no_rows}
-use Rattle.vet_tables.specs.Extends.{SparesOthers}
-use Rattle.vet_tables.specs.Free.{AreFree}
-use Rattle.vet_store.specs.Stands.{Stands}
+use Rattle.vet_store.specs.Made.{IsFilled}
+use Rattle.vet_tables.specs.Cells.{RowsValue}
+use Rattle.vet_tables.specs.Extends.{AddsTables}
+use Rattle.vet_store.specs.Stands.{HoldsFirst, Stands}
 use Rattle.vet_tables.specs.Read.{Rests}
 
 pub returns-in-Err-clause-kept : goal.returns-in-Err-clause-kept
@@ -31,14 +30,14 @@ returns-in-Ok-clause-done g c =
     let mid = c.fill.new.tx.conn.now in
     let end = c.commit.new.self.0 in
     let begun = c.transaction-tx.ensures.begun in
-    let rows = all_changed c.args.changes.now no_rows in
-    let live : IsLive old = c.schema-live.ensures.live in
+    let change = all_changed c.args.changes.now in
     let same : end ≡ c.conn-2-1.given.0 = search rules in
-    subst (λ h. HasCleanDisk (state g.S.Store h) → Rests old → AreFree old.now.schema
-    → Stands (state g.S.Store h) rows × SparesOthers old.now (state g.S.Store h).now) same (λ clean.
+    subst (λ h. HasCleanDisk (state g.S.Store h) → (rows : RowsValue) → Rests old
+    → HoldsFirst c.args.first old.now rows
+    → Stands (state g.S.Store h) (change rows) × AddsTables c.args.first old.now (state g.S.Store h).now) same (λ clean.
     let early : HasCleanDisk (state g.S.Store mid) = omega (arith, c.commit.ensures.survives.clean) in
-    filled g.S.Store c.args.conn.now mid end rows (λ clean serves. rw begun at
-    (c.in_default.ensures.fills clean (rw begun serves) (rw begun refl))) live early (c.in-Ok.ensures.ok clean).1)
+    filled g.S.Store c.args.conn.now mid end c.args.first change (λ clean serves. rw begun at
+    (c.in_default.ensures.fills clean (rw begun serves) (rw begun refl))) early (c.in-Ok.ensures.ok clean).1)
 
 pub returns-in-Err-commit-clause-kept : goal.returns-in-Err-commit-clause-kept
 returns-in-Err-commit-clause-kept g c =
@@ -60,13 +59,12 @@ returns-in-Ok-clause-crash g c =
     let mid = c.fill.new.tx.conn.now in
     let end = c.commit.new.self.0 in
     let begun = c.transaction-tx.ensures.begun in
-    let rows = all_changed c.args.changes.now no_rows in
-    let live : IsLive old = c.schema-live.ensures.live in
-    let whole = made_after g.S.Store c.args.conn.now mid end rows
-    (λ clean serves. rw begun at (c.in_default.ensures.fills clean (rw begun serves) (rw begun refl))) live
+    let change = all_changed c.args.changes.now in
+    let whole = made_after g.S.Store c.args.conn.now mid end c.args.first change
+    (λ clean serves. rw begun at (c.in_default.ensures.fills clean (rw begun serves) (rw begun refl)))
     (rw begun at c.fill.ensures.survives) c.commit.ensures.survives in
     let same : end ≡ c.conn-2-1.given.0 = search rules in
-    subst (λ h. Survives old (state g.S.Store h) (IsMade old rows)) same whole
+    subst (λ h. Survives old (state g.S.Store h) (IsFilled c.args.first old change)) same whole
 
 pub returns-in-Err-commit-clause-crash : goal.returns-in-Err-commit-clause-crash
 returns-in-Err-commit-clause-crash g c =
@@ -74,13 +72,12 @@ returns-in-Err-commit-clause-crash g c =
     let mid = c.fill.new.tx.conn.now in
     let end = c.commit.new.self.0 in
     let begun = c.transaction-tx.ensures.begun in
-    let rows = all_changed c.args.changes.now no_rows in
-    let live : IsLive old = c.schema-live.ensures.live in
-    let whole = made_after g.S.Store c.args.conn.now mid end rows
-    (λ clean serves. rw begun at (c.in_default.ensures.fills clean (rw begun serves) (rw begun refl))) live
+    let change = all_changed c.args.changes.now in
+    let whole = made_after g.S.Store c.args.conn.now mid end c.args.first change
+    (λ clean serves. rw begun at (c.in_default.ensures.fills clean (rw begun serves) (rw begun refl)))
     (rw begun at c.fill.ensures.survives) c.commit.ensures.survives in
     let same : end ≡ c.conn-2-1.given.0 = search rules in
-    subst (λ h. Survives old (state g.S.Store h) (IsMade old rows)) same whole
+    subst (λ h. Survives old (state g.S.Store h) (IsFilled c.args.first old change)) same whole
 
 pub returns-in-Ok-clause-opens : goal.returns-in-Ok-clause-opens
 returns-in-Ok-clause-opens g c =

@@ -1,19 +1,19 @@
-use Rattle.std.proofs.Common.{◌≡◌, ◌+◌, ◌∙◌, Ok, ap, arith, length, map, refl, subst, sym}
+use Rattle.std.proofs.Common.{◌≡◌, ◌+◌, ◌∙◌, [], Ok, ap, arith, length, map, refl, subst, sym}
 use Rattle.std.proofs.lemmas.List.{length_push}
 use Rattle.sqlite.proofs.StateLemmas.{survives_then}
 use Rattle.sqlite.specs.Held.{state}
 use Rattle.sqlite.specs.State.{HasCleanDisk}
-use Rattle.vet_store.proofs.ReadRows.{IsReadAt, all_stand, keeps_self, none_stands, read_more, still_shows}
+use Rattle.vet_store.proofs.ReadRows.{IsReadAt, all_stand, behind_end, keeps_self, none_stands, read_more, still_shows}
 use Rattle.vet_store.proofs.ReadRows.{still_unchanged}
 use Rattle.vet_store.proofs.read.read_rows.Goals as goal
 use Rattle.vet_store.specs.Read.{IsUnread}
 use Rattle.vet_tables.proofs.Resting.{keeps_then}
 use Rattle.vet_tables.proofs.Steps.{survives_same}
-use Rattle.vet_tables.proofs.TablePlaces.{few}
+use Rattle.vet_tables.proofs.Versions.{some_tables}
 use Rattle.vet_tables.specs.Cells.{rows_in, values_of}
-use Rattle.vet_tables.specs.Has.{HasTables}
+use Rattle.vet_tables.specs.Forms.{code}
 use Rattle.vet_tables.specs.Read.{AreRead}
-use Rattle.vet_tables.specs.declared.table_name.TheConstants.{TABLE_COUNT}
+use Rattle.vet_tables.specs.Versions.{table_count}
 
 pub tables-init : goal.tables-init
 tables-init g c =
@@ -27,14 +27,6 @@ tables-init g c =
       read = λ clean n low. absurd (omega (arith, low));
       long = ap length c.new-rows.ensures;
     }
-
-pub read_table-requires : goal.read_table-requires
-read_table-requires g c clean =
-    let inv = c.tables.invariant in
-    let old = state g.S.Store c.args.conn.now in
-    let early : HasCleanDisk old = omega (arith, inv.survives.clean) in
-    let shows = still_shows g.S.Store c.args.conn.now c.tables.conn c.tables.at inv.start (inv.same clean) in
-    subst (λ db. HasTables db.schema) (sym shows) (c.requires early)
 
 pub tables-preserved : goal.tables-preserved
 tables-preserved g c =
@@ -78,7 +70,8 @@ returns-in_default-clause-none g c clean _ =
     let b = state g.S.Store c.tables.conn in
     let early : HasCleanDisk b = omega (arith, c.read_table.ensures.survives.clean, clean) in
     let shows = still_shows g.S.Store c.args.conn.now c.tables.conn c.tables.at inv.start (inv.same early) in
-    none_stands (state g.S.Store c.args.conn.now).now c.table_at.result
+    none_stands (table_count c.args.version) (state g.S.Store c.args.conn.now).now c.table_at.result
+    (omega (arith, c.table_at.ensures, c.tables-test.true, c.table_count-count.ensures.count))
     (subst (λ db. IsUnread db c.table_at.result) shows (c.in_ok-found.ensures.none clean (ap Ok c.in_default.is)))
 
 pub returns-in_default-clause-same : goal.returns-in_default-clause-same
@@ -116,14 +109,19 @@ returns-in_err-push-clause-kept g c clean =
 pub returns-clause-found : goal.returns-clause-found
 returns-clause-found g c clean =
     let inv = c.tables.invariant in
-    let all : c.tables.at ≡ TABLE_COUNT = omega (arith, c.tables.auto.at-end, c.tables-test.false) in
+    let count = table_count c.args.version in
+    let all : c.tables.at ≡ count =
+    omega (arith, c.tables.auto.at-end, c.tables-test.false, c.table_count-count.ensures.count) in
     let old = state g.S.Store c.args.conn.now in
     let start : HasCleanDisk old = omega (arith, inv.survives.clean, clean) in
-    let same = inv.same clean (omega (arith, all)) in
-    all_stand old.now (rows_in c.tables.rows) (c.schema-live.ensures.live same.0.was_open).0 (c.requires start)
-    (λ n. inv.read clean n (omega (arith, all, few n)))
+    let same = inv.same clean (omega (arith, all, some_tables c.args.version)) in
+    all_stand count old.now (rows_in c.tables.rows) (c.schema-live.ensures.live same.0.was_open).0 (c.requires start)
+    (λ n low. inv.read clean n (omega (arith, all, low)))
+    (λ n high. ap (map values_of)
+    (behind_end c.tables.rows.tables.items (code n) [] (omega (arith, all, high, inv.long))))
 
 pub returns-clause-same : goal.returns-clause-same
 returns-clause-same g c clean =
-    let all : c.tables.at ≡ TABLE_COUNT = omega (arith, c.tables.auto.at-end, c.tables-test.false) in
-    c.tables.invariant.same clean (omega (arith, all))
+    let all : c.tables.at ≡ table_count c.args.version =
+    omega (arith, c.tables.auto.at-end, c.tables-test.false, c.table_count-count.ensures.count) in
+    c.tables.invariant.same clean (omega (arith, all, some_tables c.args.version))

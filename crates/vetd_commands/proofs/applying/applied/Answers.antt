@@ -19,6 +19,6 @@ returns g c =
     let register = c.in-Ok.store.register.state in
     over_opened g.S.Store c.args.document.now c.args.day (option_copied c.args.giver) string_bytes c.args.conn conn
     register c.run_document.result.0 c.run_document.result.1
-    (is_opened g.S.Store c.args.conn conn register c.in-Ok.ensures.sound c.in-Ok.ensures.held c.in-Ok.ensures.found
-    c.in-Ok.ensures.only c.in-Ok.ensures.unchanged c.in-Ok.ensures.crash)
+    (is_opened g.S.Store c.args.conn conn c.in-Ok.store.shut register c.in-Ok.ensures.found c.in-Ok.ensures.only
+    c.in-Ok.ensures.tables c.in-Ok.ensures.opened c.in-Ok.ensures.crash)
     c.run_document.ensures

@@ -45,8 +45,8 @@ returns-in-Ok-clause-written g c =
     let network' = c.serve_at_port-status.new.network in
     over_opened g.S.Store clients network network' c.args.service c.args.conn first.conn last.conn after register end
     last.shut (last ≡ first)
-    (is_opened g.S.Store c.args.conn first.conn register c.in-Ok.ensures.sound c.in-Ok.ensures.held
-    c.in-Ok.ensures.found c.in-Ok.ensures.only c.in-Ok.ensures.unchanged c.in-Ok.ensures.crash)
+    (is_opened g.S.Store c.args.conn first.conn first.shut register c.in-Ok.ensures.found c.in-Ok.ensures.only
+    c.in-Ok.ensures.tables c.in-Ok.ensures.opened c.in-Ok.ensures.crash)
     (ap (λ s. s.conn)) closed c.close.ensures.tables
     (subst (λ k. OthersStay (state g.S.Store first.conn) (state g.S.Store k)) (sym closed) h.others)
     c.serve_at_port-status.result out out' errors errors'

@@ -26,4 +26,10 @@ returns-clause-edit c =
     let after = edit ∙ ap (λ content. with_peer (record { settings = settings; content = content }) old.peers)
     c.in_ok-content.ensures.ok
     ∙ ap (λ o. with_peer (record { settings = settings; content = holding_or_none o }) old.peers) (sym none) in
-    λ i. record { criteria = old.criteria; entries = old.entries; peers = after i; publishers = old.publishers }
+    λ i. record {
+      criteria = old.criteria;
+      entries = old.entries;
+      peers = after i;
+      publishers = old.publishers;
+      today = old.today;
+    }

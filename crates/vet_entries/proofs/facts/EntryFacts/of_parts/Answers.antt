@@ -13,4 +13,5 @@ returns-clause-ok c =
       entries = c.in_ok-entries.ensures i;
       peers = peers i;
       publishers = c.in_ok-publishers.ensures i;
+      today = c.args.today;
     }

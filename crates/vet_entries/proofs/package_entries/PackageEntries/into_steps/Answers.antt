@@ -24,10 +24,11 @@ returns-clause-ok c =
     let sorted = sorted_by_number number taken c.sort_by_key.new.self.items
     (c.in_ok-sort_by_key.ensures.sorted number same) (c.sort_by_key.ensures.stable number same) in
     c.in_ok-all_steps.ensures.steps
-    ∙ ap (λ ts. flat_map (entry_steps content.criteria c.records_of-records.result.now) (all_sourced content.peers ts))
+    ∙ ap (λ ts. flat_map (entry_steps content.today content.criteria c.records_of-records.result.now)
+    (all_sourced content.peers ts))
     (c.as_slice.ensures.value ∙ sorted)
-    ∙ ap (flat_map (entry_steps content.criteria c.records_of-records.result.now))
+    ∙ ap (flat_map (entry_steps content.today content.criteria c.records_of-records.result.now))
     (map-by_number (sourced_entry content.peers) number of_source (λ t. refl) taken
     ∙ ap (by_number of_source) c.requires.entries.entries)
-    ∙ ap (λ rs. flat_map (entry_steps content.criteria rs)
+    ∙ ap (λ rs. flat_map (entry_steps content.today content.criteria rs)
     (by_number of_source (entries_of content c.args.self.«package».now))) c.records_of-records.ensures.value

@@ -28,4 +28,4 @@ invariant_of-result c =
       default_criteria = c.args.config.default_criteria;
     } in
     subst IsFiles (sym is) (files-stand c.args.audits c.args.config c.args.imports c.requires.audits c.requires.config
-    c.requires.imports)
+    c.requires.undated c.requires.imports)

@@ -3,8 +3,8 @@ use Rattle.std.proofs.lemmas.Result.{IfOk-weaker}
 use Rattle.toml.specs.View.{table_view}
 use Rattle.vet_files.specs.EntryTables.{entry_table}
 use Rattle.vet_files.specs.ReadAgain.{ReadsEntry}
-use Rattle.vet_files.proofs.EntriesRead.{delta_read, delta_written, full_read, full_written, violation_read}
-use Rattle.vet_files.proofs.EntriesRead.{violation_written}
+use Rattle.vet_files.proofs.EntriesRead.{delta_read, delta_written, exemption_entry_read, full_read, full_written}
+use Rattle.vet_files.proofs.EntriesRead.{violation_read, violation_written}
 use Rattle.vet_files.proofs.write.entry_tables.entry_table.Goals as goal
 
 pub returns-in-Full-clause-table : goal.returns-in-Full-clause-table
@@ -51,4 +51,8 @@ pub returns-in-Trusted-clause-read : goal.returns-in-Trusted-clause-read
 returns-in-Trusted-clause-read c = rw (← c.in-Trusted.is) at c.trusted_table.ensures.read
 
 pub returns-in-Exemption-clause-read : goal.returns-in-Exemption-clause-read
-returns-in-Exemption-clause-read c = rw (← c.in-Exemption.is) at c.exemption_table.ensures.read
+returns-in-Exemption-clause-read c =
+    IfOk-weaker c.exemption_table.result _ (λ t. ReadsEntry c.args.entry.now)
+    (λ t reads. exemption_entry_read c.args.entry.now c.in-Exemption.version c.in-Exemption.suggest _ c.in-Exemption.is
+    reads)
+    c.exemption_table.ensures.read

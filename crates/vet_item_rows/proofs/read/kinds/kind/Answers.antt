@@ -10,4 +10,4 @@ pub returns : goal.returns
 returns c held (can, is) =
     let cells : c.in_ok-kind_cells.field-0 ≡ with_kind held.entry.kind unused = cc (c.in_ok-kind_cells.ensures held is)
     in
-    c.kind_of.ensures held.entry.kind (can.kind, (unused, cells))
+    c.kind_of.ensures held.entry.kind can.1 (can.0.kind, (unused, cells))

@@ -5,7 +5,7 @@ use Rattle.vet_item_rows.proofs.KindsRead.{found_violation, found_wildcard, said
 use Rattle.vet_item_rows.proofs.read.kinds.kind_of.Goals as goal
 
 pub returns-in_err-number : goal.returns-in_err-number
-returns-in_err-number c k says =
+returns-in_err-number c k plain says =
     cc (c.in_err-number.ensures (kind_number k) (said_number c.args.cells.now k says))
 
 pub returns-then-number-eq0 : goal.returns-then-number-eq0

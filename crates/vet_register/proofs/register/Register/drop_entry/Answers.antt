@@ -40,6 +40,7 @@ returns-clause-asked g c day =
       peers = state.held.facts.peers;
       publishers =
           state.held.facts.publishers;
+      today = state.held.facts.today;
     }) in
     let fits = subst (λ (r : RegisterView _). Fits c.edit_dropping.result (held_room r).facts) c.self.view_is
     c.edit_dropping.ensures.fits in

@@ -64,6 +64,7 @@ returns-clause-asked g c day =
       entries = state.held.facts.entries;
       peers = with_content (copied i) (c.in_ok-after.ensures.ok i) state.held.facts.peers;
       publishers = state.held.facts.publishers;
+      today = state.held.facts.today;
     }) in
     let fits = subst (λ (r : RegisterView _). Fits c.edit_of_content.result (held_room r).facts) c.self.view_is
     c.edit_of_content.ensures.fits in

@@ -4,7 +4,7 @@ use Rattle.vet_base.specs.declared.refusal.Refusal.TheVariants.{NoMemory, NotARe
 use Rattle.vet_register.specs.Sound.{IsSound}
 use Rattle.vet_register.specs.State as machine
 use Rattle.vet_rows.specs.HeldState.{IsHeldState}
-use Rattle.vet_rows.specs.RowsOf.{rows_of}
+use Rattle.vet_rows.specs.RowsOf.{rows_by}
 use Rattle.vet_store.specs.Opened.{IsToldBy}
 use Rattle.vet_store.proofs.Opening.{by_same_rows, read_is}
 use Rattle.vet_store.proofs.store.open.register_of.Goals as goal
@@ -13,14 +13,14 @@ use Rattle.vet_tables.specs.Cells.{SameRows, rows_in}
 pub returns-in_err-state-clause-none : goal.returns-in_err-state-clause-none
 returns-in_err-state-clause-none g c is t told =
     let memory = rw c.in_err-state.was at
-    (read_is (rows_in c.args.rows.now) c.state_of.result c.state_of.ensures.back t told) in
+    (read_is c.args.version (rows_in c.args.rows.now) c.state_of.result c.state_of.ensures.back t told) in
     let error = rw is at c.from_residual.ensures.1 in
     cc
 
 pub returns-in_err-register-clause-none : goal.returns-in_err-register-clause-none
 returns-in_err-register-clause-none g c is t told =
     let read = rw c.in_ok-state.was at
-    (read_is (rows_in c.args.rows.now) c.state_of.result c.state_of.ensures.back t told) in
+    (read_is c.args.version (rows_in c.args.rows.now) c.state_of.result c.state_of.ensures.back t told) in
     let error = rw is at c.from_residual-in_err-register.ensures.1 in
     elim c.in_err-register.ensures.refused [
       | inl memory ↦ cc
@@ -35,16 +35,17 @@ returns-clause-held g c =
 pub returns-clause-found : goal.returns-clause-found
 returns-clause-found g c =
     by_same_rows c.in_ok-same.same c.in_ok-register.register c.register_if.result c.register_if.ensures
-    (λ answer. IfOk answer (λ r. SameRows (rows_in c.args.rows.now) (rows_of r.state)))
+    (λ answer. IfOk answer (λ r. SameRows (rows_in c.args.rows.now) (rows_by c.args.version r.state)))
     (λ same. subst (SameRows (rows_in c.args.rows.now)) c.in_ok-again.ensures.ok (c.in_ok-same.ensures.0 same)) tt
 
 pub returns-clause-only : goal.returns-clause-only
 returns-clause-only g c =
     by_same_rows c.in_ok-same.same c.in_ok-register.register c.register_if.result c.register_if.ensures
-    (λ answer. IfOk answer (λ r. (t : machine.State) → IsToldBy (rows_in c.args.rows.now) t → r.state ≡ t))
+    (λ answer. IfOk answer (λ r.
+    (t : machine.State) → IsToldBy c.args.version (rows_in c.args.rows.now) t → r.state ≡ t))
     (λ same t told.
     let read = rw c.in_ok-state.was at
-    (read_is (rows_in c.args.rows.now) c.state_of.result c.state_of.ensures.back t told) in
+    (read_is c.args.version (rows_in c.args.rows.now) c.state_of.result c.state_of.ensures.back t told) in
     c.in_ok-register.ensures.ok ∙ read) tt
 
 pub returns-clause-refused : goal.returns-clause-refused
@@ -55,9 +56,9 @@ returns-clause-refused g c =
 pub returns-clause-none : goal.returns-clause-none
 returns-clause-none g c is t told =
     let rows = rows_in c.args.rows.now in
-    let read = rw c.in_ok-state.was at (read_is rows c.state_of.result c.state_of.ensures.back t told) in
+    let read = rw c.in_ok-state.was at (read_is c.args.version rows c.state_of.result c.state_of.ensures.back t told) in
     let register = c.in_ok-register.ensures.ok ∙ read in
-    let again = subst (λ (s : machine.State). SameRows rows (rows_of s)) (sym register) told.same in
+    let again = subst (λ (s : machine.State). SameRows rows (rows_by c.args.version s)) (sym register) told.same in
     let same = c.in_ok-same.ensures.1 (subst (SameRows rows) (sym c.in_ok-again.ensures.ok) again) in
     let answer = rw same at c.register_if.ensures in
     cc

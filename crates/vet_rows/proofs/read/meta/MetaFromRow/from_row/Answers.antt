@@ -2,9 +2,13 @@ use Rattle.std.proofs.Common.{◌≡◌, refl}
 use Rattle.vet_item_rows.proofs.Reading.{passed_on}
 use Rattle.vet_rows.proofs.read.meta.MetaFromRow.from_row.Goals as goal
 
-pub returns-in_err-check_form : goal.returns-in_err-check_form
-returns-in_err-check_form c m (can, is) =
-    cc (c.in_err-check_form.ensures m is)
+pub returns-in_err-check_key : goal.returns-in_err-check_key
+returns-in_err-check_key c m (can, is) =
+    cc (c.in_err-check_key.ensures m is)
+
+pub returns-in_err-tables_version : goal.returns-in_err-tables_version
+returns-in_err-tables_version c m (can, is) =
+    cc (c.in_err-tables_version.ensures m is)
 
 pub returns-in_err-numbers : goal.returns-in_err-numbers
 returns-in_err-numbers c m (can, is) =
@@ -21,7 +25,8 @@ returns-in_err-settings c m (can, is) =
 
 pub returns : goal.returns
 returns c m (can, is) =
+    let version : c.in_ok-tables_version.field-0 ≡ m.version = cc (c.in_ok-tables_version.ensures m is) in
     let numbers : c.in_ok-numbers.field-0 ≡ m.numbers = cc (c.in_ok-numbers.ensures m is) in
     let first : c.in_ok-first_counts.field-0 ≡ m.first = cc (c.in_ok-first_counts.ensures m is) in
     let settings = c.in_ok-settings.ensures m can is in
-    λ i. record { numbers = numbers i; first = first i; settings = settings i }
+    λ i. record { version = version i; numbers = numbers i; first = first i; settings = settings i }

@@ -7,10 +7,12 @@ use Rattle.vet_register.specs.Sound.{IsSound}
 use Rattle.vet_rows.specs.HeldState.{IsHeldState}
 use Rattle.vet_rows.specs.RowsOf.{rows_of}
 use Rattle.vet_store.proofs.Found.{stored_again}
-use Rattle.vet_store.proofs.Reopening.{is_back, leaves_again, leaves_shown, remains_tied, rests_opened, shows_again}
+use Rattle.vet_store.proofs.Reopening.{back_unchanged, is_back, leaves_again, leaves_shown, none_taken_back}
+use Rattle.vet_store.proofs.Reopening.{remains_tied, rests_opened, shows_again}
 use Rattle.vet_store.proofs.Tying.{still_clean}
+use Rattle.vet_store.proofs.Versions.{in_second}
 use Rattle.vet_store.specs.Opened.{IsStored}
-use Rattle.vet_store.specs.Stands.{Holds}
+use Rattle.vet_store.specs.TakenOver.{IsTakenOver}
 use Rattle.vet_store.proofs.store.reopen_files.Store+FileStore+D+K.reopen_files.Goals as goal
 
 -- ---- why
@@ -30,7 +32,7 @@ returns-in-Ok-open-clause-same g c clean =
     let sound : IsSound s = rw c.register-2.ensures at c.facts-sound.ensures.sound in
     let held : IsHeldState s = rw c.register.ensures at c.register_is_held.ensures in
     let again = c.in-Ok-open_files.conn in
-    let early = still_clean (file_state again) (file_state c.in-Ok-open.store.conn) (λ _. ⊥)
+    let early = still_clean (file_state again) (file_state c.in-Ok-open.store.conn) (IsTakenOver (file_state again))
     c.in-Ok-open.ensures.crash clean in
     let found = c.in-Ok-open_files.ensures.found early in
     c.in-Ok-open.ensures.only clean s
@@ -51,8 +53,8 @@ returns-in-Err-open-clause-refused g c =
     ) (λ clean serves. elim c.in-Err-open.ensures.refused [
       | inl of_store ↦ of_store
       | inr none ↦
-          (let early = still_clean (file_state again) (file_state c.in-Err-open.not_opened.conn) (λ _. ⊥)
-          c.in-Err-open.ensures.crash clean in
+          (let early = still_clean (file_state again) (file_state c.in-Err-open.not_opened.conn)
+          (IsTakenOver (file_state again)) c.in-Err-open.ensures.crash clean in
           let found = c.in-Ok-open_files.ensures.found early in
           absurd
           (c.in-Err-open.ensures.none none clean s
@@ -71,23 +73,42 @@ returns-in-Ok-open-clause-unchanged g c clean =
     c.close.ensures.conn c.close.ensures.tables (λ found. c.in-Ok.ensures.copied found.honest)
     c.in-Ok-open_files.ensures.found c.in-Ok-open_files.ensures.opened c.in-Ok-open.ensures.crash clean in
     shows_again (file_state c.args.self.conn) (file_state again) new rows back
-    (rests_opened (file_state again) new back.opened (c.in-Ok-open.ensures.unchanged clean))
+    (rests_opened (file_state again) new back.opened
+    (back_unchanged (file_state c.args.self.conn) (file_state again) new rows c.in-Ok-open.store.register.state back
+    (c.in-Ok-open.ensures.opened clean)))
 
 pub returns-in-Ok-open-clause-found : goal.returns-in-Ok-open-clause-found
 returns-in-Ok-open-clause-found g c clean =
-    let same = sym (c.in-Ok-open.ensures.unchanged clean).0.now_is
-    ∙ (returns-in-Ok-open-clause-unchanged g c clean).as_before.1 in
-    subst (λ db. Holds db (rows_of c.in-Ok-open.store.register.state)) same (c.in-Ok-open.ensures.found clean)
+    let rows = rows_of c.args.self.register.state in
+    let again = c.in-Ok-open_files.conn in
+    let back = is_back c.close.result c.args.self.conn again c.in-Ok.files c.args.self.shut rows
+    (file_state c.in-Ok-open.store.conn) c.close.ensures.conn c.close.ensures.tables
+    (λ found. c.in-Ok.ensures.copied found.honest) c.in-Ok-open_files.ensures.found c.in-Ok-open_files.ensures.opened
+    c.in-Ok-open.ensures.crash clean in
+    let register = c.in-Ok-open.store.register.state in
+    in_second (file_state c.args.self.conn).now rows back.stands.holds register
+    (subst (λ db. IsStored db register) back.shown (c.in-Ok-open.ensures.found clean))
 
 pub returns-in-Ok-open-clause-only : goal.returns-in-Ok-open-clause-only
 returns-in-Ok-open-clause-only g c clean t stored =
-    let same = sym (c.in-Ok-open.ensures.unchanged clean).0.now_is
-    ∙ (returns-in-Ok-open-clause-unchanged g c clean).as_before.1 in
-    c.in-Ok-open.ensures.only clean t (subst (λ db. IsStored db t) (sym same) stored)
+    let rows = rows_of c.args.self.register.state in
+    let again = c.in-Ok-open_files.conn in
+    let back = is_back c.close.result c.args.self.conn again c.in-Ok.files c.args.self.shut rows
+    (file_state c.in-Ok-open.store.conn) c.close.ensures.conn c.close.ensures.tables
+    (λ found. c.in-Ok.ensures.copied found.honest) c.in-Ok-open_files.ensures.found c.in-Ok-open_files.ensures.opened
+    c.in-Ok-open.ensures.crash clean in
+    c.in-Ok-open.ensures.only clean t (subst (λ db. IsStored db t) (sym back.shown) stored)
 
 pub returns-in-Ok-open-clause-fresh : goal.returns-in-Ok-open-clause-fresh
 returns-in-Ok-open-clause-fresh g c clean =
-    let same = c.in-Ok-open.ensures.unchanged clean in
+    let rows = rows_of c.args.self.register.state in
+    let again = c.in-Ok-open_files.conn in
+    let opened = file_state c.in-Ok-open.store.conn in
+    let back = is_back c.close.result c.args.self.conn again c.in-Ok.files c.args.self.shut rows opened
+    c.close.ensures.conn c.close.ensures.tables (λ found. c.in-Ok.ensures.copied found.honest)
+    c.in-Ok-open_files.ensures.found c.in-Ok-open_files.ensures.opened c.in-Ok-open.ensures.crash clean in
+    let same = back_unchanged (file_state c.args.self.conn) (file_state again) opened rows
+    c.in-Ok-open.store.register.state back (c.in-Ok-open.ensures.opened clean) in
     let new = c.in-Ok-open_files.ensures.fresh in
     record {
       autocommit = c.in-Ok-open.ensures.outside;
@@ -98,7 +119,8 @@ returns-in-Ok-open-clause-fresh g c clean =
 
 pub returns-in-Ok-open-clause-guarded : goal.returns-in-Ok-open-clause-guarded
 returns-in-Ok-open-clause-guarded g c clean =
-    let early = still_clean (file_state c.in-Ok-open_files.conn) (file_state c.in-Ok-open.store.conn) (λ _. ⊥)
+    let again = file_state c.in-Ok-open_files.conn in
+    let early = still_clean again (file_state c.in-Ok-open.store.conn) (IsTakenOver again)
     c.in-Ok-open.ensures.crash clean in
     c.in-Ok-open.ensures.crash.shield (c.in-Ok-open_files.ensures.guarded early)
 
@@ -169,7 +191,10 @@ returns-in-Err-open-clause-lost g c =
     rw (c.refused-in-Err-open.ensures.remains, c.into_parts-refusal.ensures.conn)
     (remains_tied (file_state c.args.self.conn) (file_state again) new s sound held
     c.in-Err-open.ensures.autocommit c.in-Err-open.ensures.as_before
-    (settled_at again.store g.met.D.Disk.seen_may_stay) c.in-Err-open.ensures.crash back)
+    (settled_at again.store g.met.D.Disk.seen_may_stay)
+    (none_taken_back (file_state c.args.self.conn) (file_state again) new (rows_of s) back
+    c.in-Err-open.ensures.crash)
+    back)
 
 pub returns-in-Err-open-clause-crash : goal.returns-in-Err-open-clause-crash
 returns-in-Err-open-clause-crash g c =
@@ -181,4 +206,6 @@ returns-in-Err-open-clause-crash g c =
     c.in-Ok-open_files.ensures.found c.in-Ok-open_files.ensures.opened c.in-Err-open.ensures.crash in
     rw (c.refused-in-Err-open.ensures.remains, c.into_parts-refusal.ensures.conn)
     (leaves_again (file_state c.args.self.conn) (file_state again) new rows
-    (settled_at again.store g.met.D.Disk.seen_may_stay) c.in-Err-open.ensures.crash back)
+    (settled_at again.store g.met.D.Disk.seen_may_stay)
+    (none_taken_back (file_state c.args.self.conn) (file_state again) new rows back c.in-Err-open.ensures.crash)
+    back)

@@ -1,0 +1,9 @@
+-- The packages of the entries so far that have lapsed by only one of the two days.
+use Rattle.std.proofs.Common.{◌≡◌, ◌++◌, filter, map, take}
+use Rattle.vet_register.specs.Touches.{held_package, lapses_between}
+use Rattle.vet_register.proofs.touching.push_of_lapsing.Given as goal
+
+abbrev pub invariant-loop-held : goal.invariant-loop-held
+invariant-loop-held l =
+    l.names.items
+    ≡ l.fn.names.items ++ map held_package (filter (lapses_between l.before l.after) (take l.held-index l.entries))
