@@ -178,6 +178,17 @@ ALTERED_TABLES = [
     "INSERT INTO lasts VALUES (1, 19844)",
 ]
 
+# the counts before these changes
+COUNTS = """\
+class            first   arrived  departed       now
+conflicting          0         0         0         0
+full                 0         1         0         1
+partial              0         0         0         0
+exempted             0         0         0         0
+unvetted             0         2         1         1
+demand               0         3         1         2
+"""
+
 # what no cell of a type holds: a number that is too low, a text that is no name, version or requirement, and bytes that
 # are not a packed list
 BAD_CELLS = {"INTEGER": "-2", "TEXT": "' '", "BLOB": "x'31'"}
