@@ -2,11 +2,11 @@
 --
 -- class_told checks in this order: the words (pair_told), the size and the content of the file (content_told), and
 -- then the criteria (checked). The file is read as "Content of a file" says (audits_told): an unknown key, a
--- skipped entry and a double refuse nothing. 9 applies where it defines more than 62 further criteria (counted). 6
--- tells the least name that is no criterion (unknown_name). It looks at the criterion asked for, at what the file's
--- criteria imply, and at the criteria of its entries of all kinds. Those of a skipped entry are none of the file's.
--- What is held is then the table of the file's criteria and its entries, as own ones, numbered from 1 as they are
--- read (facts_of). The class is that of the pair by these facts (IsClassOfFile). There are no publisher records
+-- skipped entry and a double refuse nothing. 9 applies where with the built-in ones there are more than MOST_CRITERIA
+-- (counted). 6 tells the least name that is no criterion (unknown_name). It looks at the criterion asked for, at what
+-- the file's criteria imply, and at the criteria of its entries of all kinds. Those of a skipped entry are none of the
+-- file's. What is held is then the table of the file's criteria and its entries, as own ones, numbered from 1 as they
+-- are read (facts_of). The class is that of the pair by these facts (IsClassOfFile). There are no publisher records
 -- among them, so no wildcard or trusted entry gives a step. There are no exemptions, so the class is never Partial
 -- or Exempted, and no day matters.
 use Rattle.std.specs.Prelude.{◌≡◌, Bool, [], Option, Some, None, Ok, if◌then◌else◌}

@@ -40,14 +40,14 @@
 --   entries are those held, but for these exemptions (same_entries). Each peer of the config file is held with these
 --   settings and this content and there are as many (has_peers). Publisher records, policies and what is said to the
 --   tool alone are equal (has_lists). It is never Already where the imports file has a peer that the config file lacks
---   (each_is_set). 9 where with the built-in ones there are more than 64 criteria (counted). Then what there would be
+--   (each_is_set). 9 where with the built-in ones there are more than MOST_CRITERIA (counted). Then what there would be
 --   after it (files_limits). 18 peers, of the config file. 18 entries: own ones, those of the config file's peers, and
 --   the exemptions with a last day, which stay (entries_of_files). 18 publishers; 18 policies; 18 step; 18 number. 6
---   with the least name that the files' own criteria and the built-in ones lack, whatever was held
---   (unknown_of_files). The names are of what criteria imply, and of what own entries, exemptions, policies and
---   targets of maps name. 13 where the imports file has a peer that the config file lacks. 8 where a review that is not
---   closed, or an exemption that stays, names a criterion that the files' own and the built-in ones lack
---   (names_beyond). Windows are not judged.
+--   with the least name that the files' own criteria and the built-in ones lack, whatever was held (unknown_of_files).
+--   The names are of what criteria imply, and of what own entries, exemptions, policies and targets of maps name. 13
+--   where the imports file has a peer that the config file lacks. 8 where a review that is not closed, or an exemption
+--   that stays, names a criterion that the files' own and the built-in ones lack (names_beyond). Windows are not
+--   judged.
 -- - Desk: the parts of the desk's verdict, by the table of criteria and the demand as they stand, and what the
 --   register asks between them. Already where the desk has what is set or added (desk_held), without a number. 18
 --   members or reviews (desk_limits). 18 step, except for FinishReview (step_before_rules). 18 number of a review
