@@ -15,6 +15,7 @@ pub mod name_lists;
 mod policies;
 pub mod projects;
 mod searches;
+mod sets;
 mod steps;
 pub mod tables;
 pub mod values;

@@ -14,6 +14,7 @@ use crate::lists::{edited, names_of, packages_of, pairs_of, push_in_brackets, te
 use crate::name_lists::names;
 use crate::projects::{project, table_word};
 use crate::searches::{extended, searched};
+use crate::sets::sets;
 use crate::steps::{condemned_criteria, criteria_text, steps, violations};
 use crate::tables::{moves, table, table_of};
 use crate::versions::{equal, matches, order};
@@ -78,7 +79,7 @@ fn order_value(alloc: Global, word: &str, texts: &[String]) -> Result<String, Fa
     }
 }
 
-// What is printed for a line that asks for lists, tables or moves.
+// What is printed for a line that asks for lists, sets, tables or moves.
 fn list_value(alloc: Global, word: &str, texts: &[String]) -> Result<String, Fault> {
     match word {
         "names-of" => names_of(alloc, texts),
@@ -87,6 +88,7 @@ fn list_value(alloc: Global, word: &str, texts: &[String]) -> Result<String, Fau
         "pairs-of" => pairs_of(alloc, texts),
         "edited" => edited(alloc, texts),
         "touched" => touched(alloc, texts),
+        "sets" => sets(alloc, texts),
         "table-of" => table_of(alloc, texts),
         "table" => table(alloc, texts),
         "moves" => moves(alloc, texts),
