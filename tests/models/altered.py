@@ -4,6 +4,7 @@ which was worked out by hand."""
 from typing import NamedTuple
 
 from models.columns import TABLES
+from models.limits import FURTHER_CRITERIA, PEER_CRITERIA
 from models.rows import names, optional, packed
 from models.versions import FIRST, SECOND
 
@@ -197,6 +198,14 @@ BAD_DAY = "2932897"
 DAYS = ("day", "day1", "day2")
 
 UNKNOWN = names(["z"])
+
+
+def more_criteria(peer, count):
+    """A statement that gives a peer, or one's own table, so many more criteria."""
+    numbers = f"WITH RECURSIVE at (n) AS (SELECT 1 UNION ALL SELECT n + 1 FROM at WHERE n < {count})"
+    return f"INSERT INTO criteria {numbers} SELECT '{peer}', 'more-' || n, x'', x'', x'' FROM at"
+
+
 # rows of the right form, and changes of one row of them after which no register has them all
 BAD_ROWS = [
     "UPDATE meta SET version = 0",
@@ -219,6 +228,9 @@ BAD_ROWS = [
     # a peer that is not held
     "UPDATE criteria SET peer = 'q' WHERE peer = 'p'",
     "UPDATE entries SET peer = 'q' WHERE peer = 'p'",
+    # each has one criterion already, and so one too many
+    more_criteria("", FURTHER_CRITERIA),
+    more_criteria("p", PEER_CRITERIA),
     # a built-in criterion has no row
     "INSERT INTO criteria VALUES ('', 'safe-to-run', x'', x'', x'')",
     # the entry is another, and so are the classes

@@ -7,13 +7,11 @@ import urllib.parse
 
 from models.files import LAST_DAY, Content, Criterion, Entry, Files, Settings, content_of, record
 from models.held import BUILT_IN
+from models.limits import FURTHER_CRITERIA, MOST_ENTRIES, MOST_PEERS, MOST_POLICIES, MOST_PUBLISHERS
 from models.projects import read_project, table_of
 from models.refused import Refused
 from models.tables import audits_table, publisher_order
 from models.words import text_of
-
-MOST_CRITERIA, MOST_PEERS, MOST_ENTRIES = 62, 64, 100_000
-MOST_PUBLISHERS, MOST_POLICIES = 100_000, 10_000
 
 
 def known(has, names):
@@ -47,7 +45,7 @@ def set_criterion(held, _day, words):
     name, criterion = words[0], Criterion(frozenset(words[1:]))
     if held.criteria.get(name) == criterion:
         return "already"
-    if name not in held.criteria and name not in BUILT_IN and len(held.criteria) == MOST_CRITERIA:
+    if name not in held.criteria and name not in BUILT_IN and len(held.criteria) == FURTHER_CRITERIA:
         raise Refused("9 TooManyCriteria")
     known(held.has, criterion.implies - {name})
     if name in BUILT_IN:
@@ -238,7 +236,7 @@ def are_held(files, held):
 
 
 def limits(files, lasting):
-    if len(files.criteria) > MOST_CRITERIA:
+    if len(files.criteria) > FURTHER_CRITERIA:
         raise Refused("9 TooManyCriteria")
     within("peers", len(files.settings), MOST_PEERS)
     within("entries", len(lasting) + files.count(), MOST_ENTRIES)

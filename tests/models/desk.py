@@ -3,8 +3,9 @@ what is held, or answers that this is held already."""
 
 from typing import NamedTuple
 
-from models.commands import MOST_ENTRIES, count_of, known, within
+from models.commands import count_of, known, within
 from models.files import Entry
+from models.limits import MOST_ENTRIES
 from models.refused import Refused
 from models.words import word_of
 

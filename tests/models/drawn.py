@@ -4,6 +4,7 @@ before: some of it is taken away or changed, and something added."""
 from models.drawn_desk import DrawnDesk
 from models.files import LAST_DAY, Content, Criterion, Entry, Settings
 from models.held import BUILT_IN
+from models.limits import FURTHER_CRITERIA, further
 from models.machine import MOST_MOVES, Machine
 from models.projects import KINDS, PARTIES, word_of_table
 from models.written import audits_of, held_audits, held_config, held_imports, toml_text
@@ -29,6 +30,9 @@ LENGTH = 40
 class Drawn(DrawnDesk):
     """A machine that was given drawn commands, with these and what it told."""
 
+    # the criteria of which commands are, and those of these that are not built in
+    criteria, own_criteria = CRITERIA, ("x", "y", "z")
+
     def __init__(self, dice):
         self.dice = dice
         limit = dice.choice((MOST_MOVES, MOST_MOVES, dice.randrange(1, 60)))
@@ -36,10 +40,14 @@ class Drawn(DrawnDesk):
         self.lines, self.answers = [], []
         # all that was held at some time
         self.states = [self.machine.held]
-        for command in ("set-criterion x", "set-criterion y x", self.member(), self.project()):
+        for command in (*self.first(), self.member(), self.project()):
             self.give(f"2024-05-01 {command}")
         for place in range(LENGTH):
             self.give(f"{self.day(place)} {self.command()}")
+
+    def first(self):
+        """The commands that each list begins with."""
+        return ("set-criterion x", "set-criterion y x")
 
     def give(self, line):
         self.lines.append(line)
@@ -71,16 +79,16 @@ class Drawn(DrawnDesk):
         return [self.dice.choice(things) for _ in range(self.dice.randrange(least, most + 1))]
 
     def criterion(self):
-        return " ".join(["set-criterion", *self.some(CRITERIA, 1, 3)])
+        return " ".join(["set-criterion", *self.some(self.criteria, 1, 3)])
 
     def entry(self):
-        entry = self.drawn_entry(CRITERIA, ("full", "exemption", "exemption", "delta", "violation"))
+        entry = self.drawn_entry(self.criteria, ("full", "exemption", "exemption", "delta", "violation"))
         lasts = entry.kind == "exemption" and self.dice.random() < 0.8
         last = [LAST_DAY + self.dice.choice(LAST_DAYS)] if lasts else []
         return " ".join(["add-entry", entry.kind, entry.package, *entry.parts, *entry.criteria, *last])
 
     def policy(self):
-        listed = lambda: ",".join(self.some(CRITERIA, 0, 2))
+        listed = lambda: ",".join(self.some(self.criteria, 0, 2))
         passed = ";".join(f"{package}={listed()}" for package in self.dice.sample(PACKAGES, self.dice.randrange(1, 3)))
         audited = self.dice.choice(("true", "false"))
         said = [f"criteria={listed()}", f"dev-criteria={listed()}", f"dependency-criteria={passed}"]
@@ -102,7 +110,8 @@ class Drawn(DrawnDesk):
 
     def dropped(self):
         number = str(self.dice.randrange(1, 19))
-        drops = {"remove-criterion": CRITERIA, "drop-entry": [number], "drop-policy": KEYS, "drop-project": PROJECTS}
+        drops = {"remove-criterion": self.criteria, "drop-entry": [number]}
+        drops |= {"drop-policy": KEYS, "drop-project": PROJECTS}
         word = self.dice.choice(sorted(drops | {"drop-peer": PEERS}))
         return f"{word} {self.dice.choice((drops | {'drop-peer': PEERS})[word])}"
 
@@ -153,7 +162,7 @@ class Drawn(DrawnDesk):
         urls = tuple(sorted(self.dice.sample(("one", "two"), self.dice.randrange(3))))
         excluded = tuple(sorted(self.dice.sample(PACKAGES, self.dice.choice((0, 0, 0, 1, 2)))))
         words = sorted(self.dice.sample(WORDS, self.dice.randrange(3)))
-        mapped = [(word, tuple(sorted(set(self.some(CRITERIA, 0, 2))))) for word in words]
+        mapped = [(word, tuple(sorted(set(self.some(self.criteria, 0, 2))))) for word in words]
         return Settings(urls, excluded, tuple(mapped))
 
     def change_entries(self, entries, criteria, kinds):
@@ -201,11 +210,11 @@ class Drawn(DrawnDesk):
 
     def own(self, held):
         entries = list(held.entries.values())
-        self.change_entries(entries, CRITERIA, ("full", "exemption", "delta", "violation", "wildcard", "trusted"))
+        self.change_entries(entries, self.criteria, ("full", "exemption", "delta", "violation", "wildcard", "trusted"))
         held.entries = dict(enumerate(entries))
 
     def criteria_held(self, held):
-        self.change_criteria(held.criteria, ("x", "y", "z"), CRITERIA)
+        self.change_criteria(held.criteria, self.own_criteria, self.criteria)
 
     def tool(self, held):
         defaults = self.dice.choice((None, (), ("nope",), ("safe-to-run", "x")))
@@ -216,7 +225,7 @@ class Drawn(DrawnDesk):
         if key in held.policies and self.dice.random() < 0.5:
             del held.policies[key]
         else:
-            held.policies[key] = {"criteria": set(self.some(CRITERIA, 0, 2)), "notes": "Ours."}
+            held.policies[key] = {"criteria": set(self.some(self.criteria, 0, 2)), "notes": "Ours."}
 
     def records(self, held):
         version, user, day = self.dice.choice(VERSIONS), str(self.dice.choice(USERS)), self.dice.choice(DAYS)
@@ -241,3 +250,16 @@ class Drawn(DrawnDesk):
             criteria, entries = dict(held.contents[name].criteria), list(held.contents[name].entries.values())
             self.change_content(criteria, entries)
             held.contents[name] = Content(criteria, dict(enumerate(entries)))
+
+
+class DrawnOfMany(Drawn):
+    """The same with a table that is full, or nearly. Commands are of its first criterion, of one in its middle, and of
+    the last ones, one of which finds room only once another criterion is gone."""
+
+    others = further(FURTHER_CRITERIA - 2)
+    own_criteria = (others[0], others[FURTHER_CRITERIA // 2], "x", "y", "z")
+    criteria = (*own_criteria, *BUILT_IN)
+
+    def first(self):
+        audits = "".join(f"[criteria.{name}]\n" for name in self.others)
+        return (f"replace-files {word_of(audits)} % %", *super().first())

@@ -1,6 +1,14 @@
 """What `run_register` gives a register in a file, with what is told, shown and exported by the rules."""
 
+from models.limits import FURTHER_CRITERIA, PEER_CRITERIA, further
 from product.documents import demand_of, document, entry, table_of
+
+# as many criteria as find room beside the built-in ones, and one more
+*NAMES, ONE_MORE = further(FURTHER_CRITERIA + 1)
+# an audits file with as many as a peer may have, and one with one more
+ALL_OF_A_PEER, MORE_OF_A_PEER = (
+    "".join(f"[criteria.{name}]\n" for name in further(count)) for count in (PEER_CRITERIA, PEER_CRITERIA + 1)
+)
 
 # ---- reports, byte for byte
 
@@ -344,10 +352,25 @@ REFUSED = {
     ],
     # as many criteria as may be, and one that can be removed
     "criteria_end_at_their_limit": [
-        *[(document("set-criterion", name=f"c{at:02}"), f"done {at + 2} moves 0") for at in range(1, 63)],
-        (document("set-criterion", name="c63"), "refused 9 TooManyCriteria"),
-        (document("remove-criterion", name="c01"), "done 65 moves 0"),
-        (document("remove-criterion", name="c01"), "refused 6 UnknownCriterion c01"),
+        *[(document("set-criterion", name=name), f"done {step} moves 0") for step, name in enumerate(NAMES, 3)],
+        (document("set-criterion", name=ONE_MORE), "refused 9 TooManyCriteria"),
+        (document("remove-criterion", name=NAMES[0]), f"done {FURTHER_CRITERIA + 3} moves 0"),
+        (document("remove-criterion", name=NAMES[0]), f"refused 6 UnknownCriterion {NAMES[0]}"),
+    ],
+    # as many criteria as a peer may have. Of one more the name is read first, and then it is refused before the rest
+    "criteria_of_a_peer_end_at_their_limit": [
+        (document("set-peer", peer="p", url=[]), "done 3 moves 0"),
+        (document("import-peer", peer="p", audits=ALL_OF_A_PEER), "done 4 moves 0"),
+        (document("import-peer", peer="p", audits=MORE_OF_A_PEER), "refused 18 TooLarge peer-criteria"),
+        (
+            document("import-peer", peer="p", audits=ALL_OF_A_PEER + '[criteria."d e"]\n'),
+            "refused 28 FieldRefused criteria ?",
+        ),
+        (
+            document("import-peer", peer="p", audits=ALL_OF_A_PEER + "[criteria.d]\ndescription = 1\n"),
+            "refused 18 TooLarge peer-criteria",
+        ),
+        (document("import-peer", peer="p", audits=ALL_OF_A_PEER), "already"),
     ],
     "a_member_is_ignored_where_none_is_asked": [
         (document("close-period"), "done 3 moves 0"),
@@ -358,14 +381,13 @@ REFUSED = {
 
 # ---- documents that are refused, each with its name and what is told
 
-PEER_CRITERIA = "".join(f"[criteria.c{at}]\n" for at in range(63))
 NODES = "what,n,p,q,r\n" + "".join(f"node,{at},a,1.0.{at},third\n" for at in range(10_001))
 EDGES = "what,n,p,q,r\n" + "".join(f"node,{at},a,1.0.{at},third\n" for at in range(317))
 EDGES += "".join(f"edge,{at // 317},{at % 317},normal,\n" for at in range(317 * 317))
 LONG_TEXT = [
     (
         "too many criteria of a peer",
-        document("import-peer", peer="p", audits=PEER_CRITERIA),
+        document("import-peer", peer="p", audits=MORE_OF_A_PEER),
         "refused 18 TooLarge peer-criteria",
     ),
     (

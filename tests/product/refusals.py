@@ -33,15 +33,15 @@ def run(program, words, given, refused, library, mark):
     return met, (done.returncode, done.stdout, done.stderr)
 
 
-def refused_in_turn(words, given, own, allowed, library, mark):
-    """How many refusals were met before a run met none. A run gives its own answer, or meets its refusal and gives an
-    answer that is allowed then. Otherwise an error is raised."""
-    for refused in range(1, MOST_RUNS):
+def refused_in_turn(words, given, own, allowed, library, mark, numbers=range(1, MOST_RUNS)):
+    """How many refusals were met before a run met none, of the allocations with these numbers. A run gives its own
+    answer, or meets its refusal and gives an answer that is allowed then. Otherwise an error is raised."""
+    for count, refused in enumerate(numbers):
         met, answer = run(words[0], words[1:], given, refused, library, mark)
         if answer != own and not (met and answer in allowed):
             raise AssertionError(f"allocation {refused}: {answer}")
         if not met and refused == 1:
             raise AssertionError("no allocation was met")
         if not met:
-            return refused - 1
+            return count
     raise AssertionError(f"still refusing after {MOST_RUNS} runs")

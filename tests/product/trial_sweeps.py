@@ -14,7 +14,7 @@ from typing import NamedTuple
 from models.machine import Machine
 from models.versions import FIRST, in_version, put_back, rows_of_either
 from product.examples import EXAMPLES, Example
-from product.refusals import NO_MEMORY_BEFORE_ALL, WANT, refused_in_turn, run
+from product.refusals import MOST_RUNS, NO_MEMORY_BEFORE_ALL, WANT, refused_in_turn, run
 from product.register import FOLDER
 from product.stream import BOTH_KEEPERS, is_command, streamed
 
@@ -76,16 +76,18 @@ def keepers_for(file):
         return BOTH_KEEPERS if any(map(is_command, lines)) else BOTH_KEEPERS[:1]
 
 
-def sweep_lines(keeper, file, library, mark):
-    """How many refusals the lines of a file met. With enough memory the plain keeper gives the expected answers. Raises
-    an error for a wrong one."""
+def sweep_lines(keeper, file, library, mark, apart=1):
+    """How many refusals the lines of a file met. After the start, allocations that are this far apart are refused. With
+    enough memory the plain keeper gives the expected answers. Raises an error for a wrong one."""
     with open(file, "rb") as lines:
         text = lines.read()
     given = streamed(text.decode().split("\n"))
     _, own = run(TRIALS, ["plain", "--contents"], given, 0, library, mark)
     if own[0] != 0 or own[2] != b"":
         raise AssertionError(f"with ample memory: {own}")
-    return refused_in_turn([TRIALS, keeper, "--contents"], given, own, told_before_want(own[1], text), library, mark)
+    numbers = itertools.chain(range(1, AT_THE_START), range(AT_THE_START, MOST_RUNS, apart))
+    words, allowed = [TRIALS, keeper, "--contents"], told_before_want(own[1], text)
+    return refused_in_turn(words, given, own, allowed, library, mark, numbers)
 
 
 def sweep_demands(file, library, mark):

@@ -2,7 +2,7 @@
 
 from typing import NamedTuple
 
-from product.cases import EDGE, EDGES, LONG_TEXT, NODES, PARTIES, PEER_CRITERIA, STANDING, STANDING_CSV
+from product.cases import EDGE, EDGES, LONG_TEXT, MORE_OF_A_PEER, NODES, PARTIES, STANDING, STANDING_CSV
 from product.documents import document, entry
 from served.server import CSV, TEXT, head_of, reply_of, request_of
 
@@ -158,7 +158,7 @@ BODIES = [
     ("PUT", "/peers/p", b"\xff", "refused 26 TomlRefused"),
     ("PUT", "/peers/p", b"audits = 1\n", "refused 28 FieldRefused top audits"),
     ("PUT", "/peers/p", b"[[audits.serde]]\nversion = 1\n", "refused 28 FieldRefused audits.serde[0] criteria"),
-    ("PUT", "/peers/p", PEER_CRITERIA.encode(), "refused 18 TooLarge peer-criteria"),
+    ("PUT", "/peers/p", MORE_OF_A_PEER.encode(), "refused 18 TooLarge peer-criteria"),
     ("PUT", "/peers/p", b"", "refused 13 UnknownPeer"),
     ("PUT", "/peers/p", None, "refused 13 UnknownPeer"),
     ("POST", "/commands", None, "refused 28 FieldRefused command command"),
