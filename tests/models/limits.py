@@ -2,10 +2,10 @@
 them from here, and `machine/run_full_tables` makes the texts about full tables by them."""
 
 # the criteria of a table, the built-in ones among them, and how many others these leave room for
-MOST_CRITERIA = 64
+MOST_CRITERIA = 128
 FURTHER_CRITERIA = MOST_CRITERIA - 2
 # the criteria of a peer's file, beside the built-in ones
-PEER_CRITERIA = 62
+PEER_CRITERIA = 126
 # places of criteria in a full table: at its ends, and where the two halves of the word of a set meet
 PLACES = (0, MOST_CRITERIA // 2 - 1, MOST_CRITERIA // 2, MOST_CRITERIA - 2, MOST_CRITERIA - 1)
 MOST_PEERS, MOST_ENTRIES = 64, 100_000

@@ -7,7 +7,7 @@ use crate::limits::MOST_CRITERIA;
 use std::marker::Model;
 
 // One bit a place. The definitions have its width, and `MOST_CRITERIA` is at most that.
-type Word = u64;
+type Word = u128;
 
 /// A set of criteria of one table, by their places among the table's names. A change of that table makes it
 /// void.

@@ -26,10 +26,10 @@ pub const MOST_INPUT_BYTES: usize = 8_388_608;
 pub const MOST_READS: u32 = 10_000_000;
 
 /// The most criteria of a table, the built-in ones among them.
-pub const MOST_CRITERIA: usize = 64;
+pub const MOST_CRITERIA: usize = 128;
 
 /// The most further criteria in the file of a peer.
-pub const MOST_PEER_CRITERIA: usize = 62;
+pub const MOST_PEER_CRITERIA: usize = 126;
 
 /// The most peers.
 pub const MOST_PEERS: usize = 64;
@@ -90,8 +90,8 @@ pub fn limits_are_as_ruled()
     ensures key { MOST_KEY_BYTES ≡ 200 }
     ensures input { MOST_INPUT_BYTES ≡ 8388608 }
     ensures reads { MOST_READS ≡ 10000000 }
-    ensures criteria { MOST_CRITERIA ≡ 64 }
-    ensures peer_criteria { MOST_PEER_CRITERIA ≡ 62 }
+    ensures criteria { MOST_CRITERIA ≡ 128 }
+    ensures peer_criteria { MOST_PEER_CRITERIA ≡ 126 }
     ensures peers { MOST_PEERS ≡ 64 }
     ensures entries { MOST_ENTRIES ≡ 100000 }
     ensures publishers { MOST_PUBLISHERS ≡ 100000 }
