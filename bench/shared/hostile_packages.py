@@ -7,7 +7,7 @@ from shared.rounds import command
 
 PACKAGE, ROOT = "made", "made-root"
 LEVELS = [f"level-{place}" for place in range(61)]
-# as many as a register may have: a drawn one has three
+# as many as a register could have on the day with which `changes` compares: a drawn one has three
 ALL_CRITERIA = ["safe-to-deploy", "safe-to-run", "reviewed", *LEVELS]
 
 
@@ -66,7 +66,7 @@ def exempted_chain(count, demanded):
 
 
 def chain_of_all_criteria(count, demanded):
-    """A chain whose steps are each for as many criteria as there may be. All of them are demanded."""
+    """A chain whose steps are each for 64 criteria. All of them are demanded."""
     levels = [f"[criteria.{name}]\n" for name in LEVELS]
     steps = [delta(place, ALL_CRITERIA) for place in range(count)]
     return Package([*levels, full(0, ALL_CRITERIA), *steps], [], spread(count, demanded), "full", ALL_CRITERIA)
