@@ -15,6 +15,31 @@ OTHERWISE = {
     "2024-05-03 finish-review 1 z%20d 1.0": "refused 2 BadVersion",
 }
 
+# example: for each class, how many recorded moves arrive in it and how many depart
+MOVED = {
+    "exemption_review_drop": {
+        "conflicting": (0, 0),
+        "full": (1, 0),
+        "partial": (0, 0),
+        "exempted": (2, 2),
+        "unvetted": (5, 2),
+    },
+    "counts_after_a_dropped_project": {
+        "conflicting": (0, 0),
+        "full": (1, 1),
+        "partial": (0, 0),
+        "exempted": (0, 0),
+        "unvetted": (2, 2),
+    },
+    "an_exemption_lapses": {
+        "conflicting": (0, 0),
+        "full": (0, 0),
+        "partial": (0, 0),
+        "exempted": (2, 2),
+        "unvetted": (4, 2),
+    },
+}
+
 
 def commands_of(text):
     """The commands of a text, each with what it is told by the line below it."""
