@@ -19,6 +19,7 @@ WITHIN = (
     (README, "vetd new --db register.db", 0),
     (README, "contrib/replace-files supply-chain | vetd apply --db register.db --day 2024-05-01", 0),
     (OPERATING, "contrib/exempt-rest register.db --apply", 0),
+    (OPERATING, "printf 'command = \"set-day\"' | vetd apply --db register.db --day \"$(date -u +%F)\"", 0),
     (OPERATING, "./vetd --version", 2),
     (FROM_CARGO_VET, "contrib/cargo-metadata-to-table --help", 0),
 )
