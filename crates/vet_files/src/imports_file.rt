@@ -101,7 +101,7 @@ pub fn write_imports(
 /// importable, are skipped.
 ///
 /// Refused, the first of the walk: `TomlRefused` where the bytes are no TOML document in UTF-8, `FieldRefused`
-/// of what does not belong where it stands or is missing, and `TooLarge` of `text` and, at the 63rd criterion
+/// of what does not belong where it stands or is missing, and `TooLarge` of `text` and, at the 127th criterion
 /// that it defines beside the built-in ones, of `peer-criteria`. `NoMemory` can come at any point.
 pub fn read_peer(alloc: Global, bytes: &[u8]) -> Result<Found<PeerContent>, Refusal>
     ensures told { Gives (λ f. f) (peer_content_told bytes.now) result }
