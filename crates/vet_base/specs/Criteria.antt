@@ -1,7 +1,7 @@
 -- Tables of criteria, and what a set of them implies in the end (The Cargo Vet Book: criteria, `implies`).
 --
--- The closure of a set is closure_of. It is found by definitions: at most MOST_CRITERIA criteria by their names, the
--- built-in two among them. One of them may imply a name that none has (defined).
+-- The closure of a set is closure_of. It is found by definitions: at most MOST_CRITERIA criteria with different names,
+-- including the built-in two. One of them may imply a name that no criterion has (defined).
 use Rattle.std.specs.Prelude.{ℕ, ◌≡◌, ◌≤◌, true, false, Bool, not, List, [], ◌∷◌, codes, Option, Some, None}
 use Rattle.std.specs.Prelude.{if◌then◌else◌, slice_index_or, find, ◌↔◌, ◌&&◌, slice_get}
 use Rattle.std.specs.List.{position}

@@ -2,10 +2,10 @@
 //!
 //! **The closure of some names is the least set that holds them and, with each name, what it implies.**
 //!
-//! A table has the names in the order of their bytes. A criterion is its place there, from 0 on, and a set of criteria
-//! is a set of places below `MOST_CRITERIA` (`criteria_set`). So sets are joined and compared without a look at a name,
-//! and take no memory. Names are looked up once, where they come in. A set means something for the table alone that it
-//! was made by: after a change of the table another name may stand at the same place.
+//! A table has the names in the order of their bytes. A criterion is its place there, counted from 0, and a set of
+//! criteria is a set of places below `MOST_CRITERIA` (`criteria_set`). So sets are joined and compared without looking
+//! at a name, and take no memory. Names are looked up once, when they are read. A set has a meaning only for the table
+//! that made it: after a change of the table another name may be at the same place.
 //!
 //! What is implied may go in circles, so nobody follows it from name to name until it ends. The closures of all
 //! criteria are found together (`closures`), criterion by criterion, from the last one on. What was found then counts
@@ -18,8 +18,8 @@
 //! The same closures tell which criteria *lead to* a set: those whose closure has a place of the set. A violation
 //! condemns for these.
 //!
-//! What it costs. A table of n criteria costs n looks at what each implies and n times n unions of words. To close a
-//! set then costs a look a place. Who closes many sets of one table makes its closures once.
+//! Cost: for a table of n criteria, n looks at what each implies and n times n unions of words. Closing a set then
+//! costs one look for each place. To close many sets of one table, make its closures once.
 ghost use Rattle.std.specs.Prelude.{◌≡◌, ◌⊎◌, ◌<◌, true, IfOk, IfErr, OnOk, OnErr, IfSome};
 ghost use Rattle.std.specs.Option.{option_copied};
 ghost use Rattle.std.specs.FinMap as map;
@@ -43,8 +43,8 @@ use crate::refusal::Refusal;
 use std::alloc::{AllocError, Global};
 use std::marker::Model;
 
-/// A table of at most `MOST_CRITERIA` criteria, the built-in ones among them. Each name that a criterion implies is
-/// in the table. Criteria may imply one another in a cycle.
+/// A table of at most `MOST_CRITERIA` criteria with different names, including the built-in ones. Each name that a
+/// criterion implies is in the table. Criteria may imply one another in a cycle.
 pub struct CriteriaTable {
     definitions: Definitions,
 }

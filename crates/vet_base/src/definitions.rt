@@ -27,8 +27,8 @@ pub(crate) const SAFE_TO_RUN: &str = "safe-to-run";
 /// The name of the built-in criterion that implies the other.
 pub(crate) const SAFE_TO_DEPLOY: &str = "safe-to-deploy";
 
-/// At most `MOST_CRITERIA` criteria by their names. Unlike in a table, a criterion may imply a name that none of them
-/// has: that name implies nothing further.
+/// At most `MOST_CRITERIA` criteria with different names. Unlike in a table, a criterion may imply a name that none of
+/// them has: that name implies nothing further.
 pub struct Definitions {
     names: Vec<Name>,
     criteria: Vec<Criterion>,

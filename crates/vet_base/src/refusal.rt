@@ -74,7 +74,7 @@ pub enum Refusal {
     StoreRefused,
     /// The tables are those of no register.
     NotARegister,
-    /// The day comes before the register's.
+    /// The day of `SetDay` is before the register's day.
     DayGoesBack,
 }
 
