@@ -30,8 +30,8 @@ pub record HasContents (db : Database) (contents : Contents) : Type 0 where
   pub has : HasTables db.schema
   pub shows : (name : TableName) → Shows (form_of name) (db.trees (has name).tree) (contents name)
 
--- The database is sound and has the first so many of the tables, each with these rows as a set, whatever else it has.
--- The names of the others are free, and none of these rows are theirs.
+-- The database is sound and has the first tables, up to a count, each with these rows as a set, whatever else it has.
+-- The names of the other tables are free, and there are no rows for them.
 pub record HasFirstContents (count : ℕ) (db : Database) (contents : Contents) : Type 0 where
   pub sound : IsDatabase db
   pub first : HasFirst count db.schema

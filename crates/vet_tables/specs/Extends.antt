@@ -22,20 +22,20 @@ pub record SparesOthers (old new : Database) : Type 0 where
 
 -- ---- which tables are new
 
--- SQLite makes a table of this name if another counts its rows in it and it is missing
+-- the name of the table in which SQLite counts the rows of tables with AUTOINCREMENT; it is made when it is missing
 abbrev pub counting_name : Name
 counting_name = codes "sqlite_sequence"
 
--- a table has this name, or counts the rows of others
+-- a table has this name, or is the one that counts rows
 abbrev pub IsMadeAs : Name → Table → Type 0
 IsMadeAs name t = (t.name ≡ name) ⊎ (t.name ≡ counting_name)
 
--- a table has the name of one of ours from a place on, or counts the rows of others
+-- a table has the name of one of our tables from a given place on, or is the one that counts rows
 abbrev pub IsMadeFrom : ℕ → Table → Type 0
 IsMadeFrom first t = (name : TableName) × ((first ≤ code name) × IsMadeAs (form_of name).name t)
 
--- Our tables from a place on were made, and no other. Each table, index and view that was there is, and no new index is
--- on a table that was there. Each table that is none of ours has its rows.
+-- Our tables from a given place on were made, and no others. Each earlier table, index and view is still there, and no
+-- new index is on an earlier table. Each table that is not one of ours keeps its rows.
 pub record AddsTables (first : ℕ) (old new : Database) : Type 0 where
   pub tables : (t : Table) → Has old.schema.tables t → Has new.schema.tables t
   pub indexes : (i : Index) → Has old.schema.indexes i → Has new.schema.indexes i

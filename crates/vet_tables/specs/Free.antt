@@ -8,15 +8,15 @@ use Rattle.vet_tables.specs.Forms.{code, form_of}
 use Rattle.vet_tables.specs.Has.{refers_not}
 use Rattle.vet_tables.specs.declared.table_name.TableName.{TableName}
 
--- no table, index or view has the name, but for the case of ASCII letters, and no foreign key refers to it
+-- no table, index or view has the name, in any case of its ASCII letters, and no foreign key refers to it
 pub record IsFree (schema : Schema) (name : Name) : Type 0 where
   pub unused : is_used schema name ≡ false
   pub unreferred : list_all (refers_not name) schema.tables ≡ true
 
--- so are those of the tables from a place on
+-- the names of the tables from a given place on are free
 abbrev pub AreFreeFrom : ℕ → Schema → Type 0
 AreFreeFrom first schema = (name : TableName) → first ≤ code name → IsFree schema (form_of name).name
 
--- and those of all tables
+-- the names of all tables are free
 abbrev pub AreFree : Schema → Type 0
 AreFree schema = AreFreeFrom 0 schema

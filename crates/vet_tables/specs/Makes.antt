@@ -19,7 +19,7 @@ pub record MakesTable (old new : State) (name : TableName) : Type 0 where
   pub sound : IsDatabase new.now
   pub gains : Gains old.now new.now name
 
--- the same for the tables from one place on, and before another
+-- the same for the tables from one place up to another, without the latter
 pub record MakesTables (old new : State) (first count : ℕ) : Type 0 where
   pub was_open : IsTrue old.is_open
   pub is_open : IsTrue new.is_open

@@ -9,22 +9,22 @@ use Rattle.vet_tables.specs.declared.table_name.TheConstants.{FIRST_TABLE_COUNT,
 use Rattle.vet_tables.specs.declared.version.TablesVersion.{TablesVersion}
 use Rattle.vet_tables.specs.declared.version.TablesVersion.TheVariants.{First, Second}
 
--- how many tables there are, from the first on
+-- how many tables a version has: the first ones, up to this count
 abbrev pub table_count : TablesVersion → ℕ
 table_count First = FIRST_TABLE_COUNT
 table_count Second = TABLE_COUNT
 
--- the number that the row of `meta` has
+-- the number of a version, as in the row of `meta`
 abbrev pub version_number : TablesVersion → ℤ
 version_number First = pos 1
 version_number Second = pos 2
 
--- the first so many of the tables are there, and the names of the others are free
+-- the first tables are there, up to a count, and the names of the others are free
 pub record HasFirst (count : ℕ) (schema : Schema) : Type 0 where
   pub has : (name : TableName) → code name < count → HasTable schema (form_of name)
   pub free : AreFreeFrom count schema
 
--- so it is of the tables of a version
+-- the tables of a version are there, and the names of the others are free
 abbrev pub HasVersion : TablesVersion → Schema → Type 0
 HasVersion version schema = HasFirst (table_count version) schema
 

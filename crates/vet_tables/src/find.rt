@@ -1,4 +1,4 @@
-//! Which of the tables a database has, and whether the names of others are taken.
+//! Which tables of a register a database has, and whether the names of the missing ones are taken.
 ghost use Rattle.std.specs.Bool.{Decides};
 ghost use Rattle.std.specs.Prelude.{◌≡◌, ◌<◌, ◌≤◌, false, IfSome, IsTrue, None};
 ghost use Rattle.std.specs.List.{list_all};
@@ -17,8 +17,8 @@ use sqlite_catalog::layout::is_used;
 use sqlite_schema::names::same_name;
 use sqlite_schema::schema::{Index, Schema, Table};
 
-/// Whether a table, an index or a view has the name of one of the tables from a place on, or a foreign key refers to
-/// it. The case of ASCII letters doesn't matter.
+/// Whether a table, an index or a view has the name of one of the tables from a given place on, or a foreign key refers
+/// to such a name. Places are 0 to 13, and the case of ASCII letters doesn't matter. Takes no memory.
 pub fn has_name_taken(schema: &Schema, first: usize) -> bool
     ensures free { result ≡ false → AreFreeFrom first schema.now }
     ensures taken { IsTrue result → AreFreeFrom first schema.now → ⊥ }
@@ -39,8 +39,8 @@ pub fn has_tables(schema: &Schema) -> bool
     has_first_tables(schema, TABLE_COUNT)
 }
 
-/// The version of the tables, whatever else the database has: each table of the version exists as `has_tables` says,
-/// and the names of the others are free. `None` where the tables are those of no version.
+/// The version of the tables, whatever else the database has: each table of that version exists as `has_tables` says,
+/// and the names of the other tables are free. `None` if this holds for no version. Takes no memory.
 pub fn version_of(schema: &Schema) -> Option<TablesVersion>
     ensures found { IfSome result (λ version. HasVersion version schema.now) }
     ensures none { result ≡ None → HasSomeVersion schema.now → ⊥ }
@@ -62,7 +62,7 @@ fn has_first_version(schema: &Schema) -> bool
     has_first_tables(schema, FIRST_TABLE_COUNT) && !has_name_taken(schema, FIRST_TABLE_COUNT)
 }
 
-// Whether each of the first so many tables exists.
+// Whether each of the first `count` tables exists.
 fn has_first_tables(schema: &Schema, count: usize) -> bool
     requires { count ≤ TABLE_COUNT }
     ensures { Decides result ((name : Name) → code name < count → HasTable schema.now (form_of name)) }

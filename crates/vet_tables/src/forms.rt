@@ -1,10 +1,10 @@
 //! The forms of the fourteen tables, as data.
 //!
-//! A column of texts or of names holds their bytes. A column that holds many values holds them as a packed list; one
-//! that may be missing is a packed list of none or one. A map is a packed list of keys and packed lists in turn, in the
-//! order of the keys. A day is its number: how many days it is after 1970-01-01. A boolean that may be missing is -1 if
-//! it is, 0 for false, 1 for true. Classes are 0 to 4 in their order: conflicting, full, partial, exempted, unvetted; 5
-//! means none.
+//! A column of texts or of names holds their bytes. A column that holds many values holds them as a packed list; an
+//! optional value is a packed list of none or one. A map is a packed list of keys and packed lists in turn, in the
+//! order of the keys. A day is its number of days after 1970-01-01. An optional boolean is -1 if it is absent, 0 for
+//! false and 1 for true. Classes are 0 to 4 in their order: conflicting, full, partial, exempted, unvetted; 5 means
+//! none.
 ghost use Rattle.std.specs.Prelude.{◌≡◌};
 ghost use Rattle.vet_tables.specs.Forms.{form_of};
 ghost use Rattle.vet_tables.specs.declared.table_name.DaysTable.TheVariants as days;
@@ -34,15 +34,15 @@ pub(crate) fn meta() -> Form
             ("next_review", Kind::Integer),
             // The most moves that are recorded.
             ("moves_limit", Kind::Integer),
-            // How many pairs of each class there were at first.
+            // How many pairs of each class there were when the period began.
             ("first0", Kind::Integer),
             ("first1", Kind::Integer),
             ("first2", Kind::Integer),
             ("first3", Kind::Integer),
             ("first4", Kind::Integer),
-            // The version of cargo-vet that a config file names, if it does.
+            // The version of cargo-vet that the config file names, if any.
             ("vet_version", Kind::Blob),
-            // The packed list of the criteria that a new audit has by default, if there are some.
+            // The packed list of the criteria that a new audit has by default, if any.
             ("default_criteria", Kind::Blob),
         ],
         key: 1,
@@ -70,7 +70,7 @@ pub(crate) fn criteria() -> Form
             ("peer", Kind::Text),
             ("name", Kind::Text),
             ("about", Kind::Blob),
-            // Where the description is, if that is said.
+            // Where the description is, if that is given.
             ("url", Kind::Blob),
             ("implies", Kind::Blob),
         ],
@@ -111,11 +111,11 @@ pub(crate) fn entries() -> Form
             // Who vouches: none for a trusted entry or an exemption.
             ("who", Kind::Blob),
             ("notes", Kind::Blob),
-            // Whether a review is suggested in place of an exemption; -1 for all else.
+            // Whether a review is suggested in place of an exemption; -1 for any other kind.
             ("suggest", Kind::Integer),
-            // Whether the window of a wildcard entry is to be renewed; -1 for all else.
+            // Whether the window of a wildcard entry is to be renewed; -1 for any other kind.
             ("renew", Kind::Integer),
-            // Whether others may import an audit; -1 for all else.
+            // Whether others may import an audit; -1 for any other kind.
             ("importable", Kind::Integer),
         ],
         key: 1,
@@ -144,7 +144,7 @@ pub(crate) fn publishers() -> Form
             // The number of the user, from 0.
             ("user", Kind::Integer),
             ("day", Kind::Integer),
-            // The user's names at crates.io and in full, if they are said.
+            // The user's login at crates.io and full name, if they are given.
             ("login", Kind::Blob),
             ("name", Kind::Blob),
         ],
@@ -170,11 +170,11 @@ pub(crate) fn policies() -> Form
         columns: &[
             // A package, or a package, a colon and a version.
             ("policy", Kind::Text),
-            // Whether the package is audited as the one of its name at crates.io, if that is said.
+            // Whether the package is audited as the one of its name at crates.io, if that is given.
             ("as_crates", Kind::Integer),
-            // The packed list of what the package needs, if it is said.
+            // The packed list of what the package needs, if it is given.
             ("criteria", Kind::Blob),
-            // The packed list of what is passed along dev edges, if it is said.
+            // The packed list of what is passed along dev edges, if it is given.
             ("dev", Kind::Blob),
             // From dependencies to the packed lists of what is passed to them.
             ("dependency", Kind::Blob),
@@ -398,14 +398,14 @@ pub(crate) fn today() -> Form
     }
 }
 
-/// The last days of exemptions that have one.
+/// The last day of each exemption that has one.
 pub(crate) fn lasts() -> Form
     ensures { result ≡ form_of (table.Days days.Lasts) }
 {
     Form {
         name: "lasts",
         columns: &[
-            // The number of the entry.
+            // The number of the exemption.
             ("entry", Kind::Integer),
             ("day", Kind::Integer),
         ],

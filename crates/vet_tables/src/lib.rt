@@ -6,8 +6,8 @@
 //!
 //! Scope of this crate: names, columns, keys and statements of the fourteen tables, as data, and which of them each
 //! version has; whether the names of the tables are free, and whether the tables are there; cells that are put, removed
-//! and read; which of some items are among others. It is below the register, so that what takes long to prove of SQLite
-//! is proved beside the register and not after it.
+//! and read; which of some items are among others. It is below the register, so that the proofs about SQLite, which
+//! take long, run beside those of the register and not after them.
 //!
 //! For example, a table `peers` whose column `url` takes NULL is not one of these tables.
 #![tactic(auto)]

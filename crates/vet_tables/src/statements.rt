@@ -72,7 +72,8 @@ pub fn create<S: Alter>(tx: &mut Transaction<'_, S>, table: TableName) -> Result
     tx.execute(table.form().create(), &[])
 }
 
-/// Makes the tables from a place on, without rows. Stops at the first that fails, and returns its error.
+/// Makes the tables from a given place on, without rows. Asks that `first` is the place of a table, 0 to 13. Stops at
+/// the first table that fails, and returns the database's error: also if its name is taken.
 pub fn create_from<S: Alter>(tx: &mut Transaction<'_, S>, first: usize) -> Result<(), Error>
     requires { first < TABLE_COUNT }
     ensures same_reference { tx.new.conn.ghost_name ≡ tx.old.conn.ghost_name }

@@ -11,10 +11,10 @@ use crate::forms::{
 /// How many tables there are.
 pub const TABLE_COUNT: usize = 14;
 
-/// How many tables there are in the first version: all that come before `today`.
+/// How many tables the first version has: all before `today`.
 pub const FIRST_TABLE_COUNT: usize = 12;
 
-/// One of the fourteen tables: one of a state itself, or one of its facts, of what it demands, of its desk or of its
+/// One of the fourteen tables, named by what it belongs to: the state itself, its facts, its demand, its desk or its
 /// days.
 #[derive(Clone, Copy)]
 pub enum TableName {
@@ -51,7 +51,7 @@ pub enum DeskTable {
     Reviews,
 }
 
-/// A table of the register's day, or of the last days of exemptions.
+/// The table of the register's day, or that of the last days of exemptions.
 #[derive(Clone, Copy)]
 pub enum DaysTable {
     Today,
@@ -81,7 +81,7 @@ impl TableName {
         }
     }
 
-    /// The place of the table among all, from 0 on.
+    /// The place of the table among all tables, counted from 0.
     pub fn place(self) -> usize
         ensures { result ≡ code self }
     {
@@ -104,7 +104,7 @@ impl TableName {
     }
 }
 
-/// The table of a place among all.
+/// The table at a place, as `TableName::place` counts it. Asks that the place is below `TABLE_COUNT`.
 pub fn table_at(at: usize) -> TableName
     requires { at < TABLE_COUNT }
     ensures { code result ≡ at }

@@ -8,14 +8,14 @@ use crate::table_name::{FIRST_TABLE_COUNT, TABLE_COUNT};
 /// A version of a register's tables.
 #[derive(Clone, Copy)]
 pub enum TablesVersion {
-    /// All tables but `today` and `lasts`.
+    /// All tables except `today` and `lasts`.
     First,
     /// All tables.
     Second,
 }
 
 impl TablesVersion {
-    /// How many tables there are, from the first on. Takes no memory.
+    /// How many tables the version has: the first 12 or all 14. Takes no memory.
     pub fn table_count(self) -> usize
         ensures count { result ≡ table_count self }
         ensures few { result ≤ TABLE_COUNT }
@@ -26,7 +26,7 @@ impl TablesVersion {
         }
     }
 
-    /// The number of the version, which the row of `meta` has. Takes no memory.
+    /// The number of the version in the row of `meta`: 1 or 2. Takes no memory.
     pub fn number(self) -> i64
         ensures { result ≡ version_number self }
     {
@@ -36,7 +36,7 @@ impl TablesVersion {
         }
     }
 
-    /// The version of a number, and `None` for a number of no version. Takes no memory.
+    /// The version with a number: 1 or 2, and `None` for any other. Takes no memory.
     pub fn of_number(number: i64) -> Option<TablesVersion>
         ensures { (version : VersionValue) → number ≡ version_number version → result ≡ Some version }
     {
