@@ -1,4 +1,4 @@
--- What another day leaves: the steps of a package each of whose entries has lapsed by both days or by neither.
+-- The steps of a package are the same on two days if each of its entries has lapsed on both or on neither.
 use Rattle.std.proofs.Common.{◌≡◌, ℕ, Bool, true, cond, List, [], ◌∷◌, Option, map, refl, sym, ap, ◌∙◌}
 use Rattle.std.specs.List.{All, flat_map}
 use Rattle.std.proofs.lemmas.List.Elements.{All-head, All-tail, All-weaker}
@@ -16,7 +16,7 @@ use Rattle.vet_entries.specs.SameOfLaws.{DayCondemnsTheSame, DayKeepsSteps, Laps
 use Rattle.vet_entries.specs.Step.{SourcedEntry, by_number, entries_of, entry_steps, first_step, kind_steps}
 use Rattle.vet_entries.proofs.ByNumber.{map-by_number}
 
--- a kind that has lapsed by both days, or by neither, gives the same steps
+-- a kind that has lapsed on both days, or on neither, gives the same steps
 same_kind : (before after : Option DayValue) (criteria : Places) (records : List Publisher) (k : Kind)
     → has_lapsed k before ≡ has_lapsed k after
     → kind_steps before criteria records k ≡ kind_steps after criteria records k
@@ -28,7 +28,7 @@ same_kind before after criteria records (kind.Trusted w) same = refl
 same_kind before after criteria records (kind.Exemption v s l) same =
     ap (λ (over : Bool). let steps : List Step = cond over [] (first_step criteria true v ∷ []) in steps) same
 
--- items that give the same one by one do so in the order of their numbers
+-- items that give the same one by one also give the same in the order of their numbers
 module _ {X Y : Type 0} (number : X → ℕ) where
   abbrev with_number : (X → List Y) → X → ℕ × List Y
   with_number give x = (number x, give x)

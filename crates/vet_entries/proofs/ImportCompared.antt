@@ -110,7 +110,7 @@ found_not false = refl
 
 module _ (source : Source) (held : List HeldEntry) (entries : List Entry)
     (theirs : All (λ h. h.entry.source ≡ source) held) where
-  -- those that stay do, and those that were seen come again
+  -- those that are kept in any case remain, and so do those that were seen
   again_is : (stays : HeldEntry → Bool) (seen : Entry → Option Bool)
       → ((q : Entry) → seen q ≡ option_map (λ before. before || list_any (λ e. entry_eq (own e) q) entries)
       (cond (list_any (λ h. entry_eq (own h.entry) q) held) (Some false) None))

@@ -127,7 +127,7 @@ module _ (stays : HeldEntry → Bool) (source : Source) (next : ℕ) (held : Lis
       (in_filter (remains stays coming) held g i).0 in
       let high : next ≤ h.number = (in_numbered next (new_of source held entries) h j).0 in omega (arith, low, high)))
 
-  -- those that stay are held after
+  -- those that are kept in any case are held afterwards
   pub entry_stays : (h : HeldEntry) → IsIn h held → stays h ≡ true
       → IsIn h (entries_after stays source next held entries)
   entry_stays h among t = in_front staying arriving h
@@ -152,7 +152,7 @@ module _ (stays : HeldEntry → Bool) (source : Source) (next : ℕ) (held : Lis
           subst (λ x. IsIn x (entries_of all_after)) (sym h.1.1)
           (map_in (λ (g : HeldEntry). g.entry) all_after h.0 (in_back staying arriving h.0 h.1.0))
 
-  -- ---- what is given, and what stays though it is not given
+  -- ---- entries that are given, and those that are kept without being given
 
   abbrev left_alone : List HeldEntry
   left_alone = filter (stays_alone stays coming) held
@@ -310,7 +310,7 @@ entries_differ (g ∷ held) h =
     x.0 x.1.0 (s ∙ x.1.1))))
     (entries_differ held (pairs_tail (λ (j k : HeldEntry). j.entry ≢ k.entry) g held h))
 
--- what is given differs from what stays though it is not given
+-- an entry that is given differs from one that is kept without being given
 whole_differs : (stays : HeldEntry → Bool) (theirs : List Entry) (held : List HeldEntry)
     → AllPairs (λ x y. x ≢ y) theirs → AllDiffer held
     → AllPairs (λ x y. x ≢ y) (theirs ++ entries_of (filter (stays_alone stays theirs) held))
@@ -373,7 +373,7 @@ entries_made stays source given next held hs entries es again fresh start kept d
     ∙ ap (λ (l : List HeldEntry). l ++ numbered next (new_of source held entries))
     (k stay (a ∙ ap (map stay) (sym eh)) ∙ ap (λ (l : List HeldEntry). l ++ filter stay hs) s ∙ ap (filter stay) eh)
 
--- ---- what an import leaves, by which nothing stays whatever comes
+-- ---- what an import leaves: it keeps nothing in any case
 
 none_stay : (held : List HeldEntry) → filter none_stays held ≡ []
 none_stay [] = refl

@@ -3,7 +3,7 @@
 -- An entry has a source, package, kind, criteria and perhaps notes (Entry). The kind holds what goes with it and
 -- nothing else (Kind). Full, delta and violation hold a version, a delta or a requirement, and who and perhaps
 -- importable (Audit). Wildcard holds a user, a first and a last day (Window), and who and perhaps renew (Grant).
--- Trusted holds a window alone. Exemption holds a version, and perhaps suggest and a last day.
+-- Trusted holds only a window. Exemption holds a version, and perhaps suggest and a last day.
 --
 -- Two entries are equal where source, package, kind with all that it holds, criteria and notes are. That is, only an
 -- entry itself is equal to it (entry_eq, kind_eq, entry_eq-Decides). An entry as an own one, or as one of a peer, is

@@ -47,7 +47,7 @@ window_cmp = then_cmp (on (λ w. w.user) nat_cmp) (then_cmp (on (λ w. w.first) 
 abbrev pub delta_cmp : DeltaValue → DeltaValue → Ordering
 delta_cmp = then_cmp (on (λ d. d.from) version_cmp) (on (λ d. d.to) version_cmp)
 
--- no last day, and then by the days
+-- no last day first, then by the days
 abbrev pub last_day_cmp : Option DayValue → Option DayValue → Ordering
 last_day_cmp = option_cmp calendar_cmp
 

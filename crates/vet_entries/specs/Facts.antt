@@ -2,7 +2,7 @@
 -- the register's day.
 --
 -- The facts are a table of criteria, own entries of all six kinds, peers with what is held of each, publisher records,
--- and perhaps a day (Facts). The day is the register's own, whatever the day of a command is.
+-- and the register's day, if it has one (Facts). That is not the day of a command.
 --
 -- entries_total is how many entries there are of all sources.
 --

@@ -1,10 +1,10 @@
 -- How the content of a peer stands to what is held of it, and the own entries of files to one's own (ours).
 --
--- A content is the one held of a peer (same_content) by three things. Each held entry comes again, each that comes is
--- held, and the definitions are equal. A law says that this is to have the same criteria and the same entries, in
--- whatever order (SameItemsAreSame). compared tells which held entries come again, which of those that come are new
--- and how many, and whether the content is the one held. compared_own tells the same of files, but that one's own
--- exemptions with a last day stay as if they came again.
+-- A content is the one held of a peer (same_content) if each held entry is among its entries, each of its entries is
+-- held, and the definitions are equal. A law says that it then has the same criteria and the same entries, in any order
+-- (SameItemsAreSame). compared says which held entries are in the content, which of its entries are new and how many,
+-- and whether the content is the one held. compared_own says the same for files, and counts one's own exemptions with a
+-- last day as if the files had them.
 use Rattle.std.specs.Prelude.{ℕ, ◌&&◌, Bool, List, length, map}
 use Rattle.std.specs.List.{list_all}
 use Rattle.vet_base.specs.Defined.{defined}
@@ -26,7 +26,7 @@ same_content name held content =
     && (list_all (is_held held.entries) (as_peers name content.entries) && criteria_eq (defined content.criteria)
     held.table)
 
--- which held entries stay, which entries are new and how many, and whether nothing changes
+-- which held entries remain, which entries are new and how many, and whether nothing changes
 pub record ComparisonValue : Type 0 where
   pub again : List Bool
   pub fresh : List Bool

@@ -1,6 +1,6 @@
--- When two kinds of entries are the same (ours), as The Cargo Vet Book tells them: audit entries and exemptions. And
--- the last day of an exemption (ours), if it has one: it is part of the kind, so that with another one, or none, it is
--- another entry.
+-- When two kinds of entries are the same (ours), for the kinds of The Cargo Vet Book: audit entries and exemptions. An
+-- exemption may have a last day (ours), which is part of its kind: with another last day, or with none, it is another
+-- entry.
 use Rattle.std.specs.Prelude.{◌&&◌, ◌==◌, Bool, true, false, Option, Some, None, is_some}
 use Rattle.std.specs.Bool.{beq}
 use Rattle.std.specs.FinSet as set
@@ -33,7 +33,7 @@ grant_eq a b = same_names a.who b.who && option_eq beq a.renew b.renew
 abbrev pub window_eq : Window → Window → Bool
 window_eq a b = (a.user == b.user) && (same_day a.first b.first && same_day a.last b.last)
 
--- whether two exemptions have the same last day, or none
+-- whether two exemptions have the same last day, or both have none
 abbrev pub same_last_day : Option DayValue → Option DayValue → Bool
 same_last_day = option_eq same_day
 
@@ -51,7 +51,7 @@ kind_eq (Delta c a) (Delta d b) = delta_eq c d && audit_eq a b
 kind_eq (Violation q a) (Violation r b) = bytes_eq q r && audit_eq a b
 kind_eq a b = grants_same a b
 
--- ---- exemptions, and their last days
+-- ---- exemptions and their last days
 
 -- a kind is an exemption, with a last day or without
 abbrev pub is_exemption : Kind → Bool
@@ -67,12 +67,12 @@ last_day_of _ = None
 abbrev pub has_last_day : Kind → Bool
 has_last_day kind = is_some (last_day_of kind)
 
--- a last day is over by a day: the day comes after it. Without a last day, or without a day, none is over.
+-- a last day is over on a day: the day comes after it. It is never over if there is no last day or no day.
 abbrev pub is_over : Option DayValue → Option DayValue → Bool
 is_over None day = false
 is_over (Some last) None = false
 is_over (Some last) (Some day) = is_lt (day_cmp last day)
 
--- a kind has lapsed by a day: it has a last day, which is over
+-- a kind has lapsed on a day: it has a last day, which is over
 abbrev pub has_lapsed : Kind → Option DayValue → Bool
 has_lapsed kind day = is_over (last_day_of kind) day

@@ -1,8 +1,8 @@
 -- Entries put in place of those held of a source (ours), one's own or a peer.
 --
--- Some held entries may stay whatever comes: none where an import replaces those of a peer (none_stays), and the
--- exemptions with a last day where files replace one's own (is_dated), as no file can have one. All others stay only if
--- they come again (remains).
+-- Some held entries are kept in any case: none if an import replaces those of a peer (none_stays), and the exemptions
+-- with a last day if files replace one's own (is_dated), since no file can have one. Any other entry remains only if it
+-- is among those given (remains).
 use Rattle.std.specs.Prelude.{ℕ, ◌&&◌, ◌||◌, Bool, false, not, List, ◌++◌, filter, is_some, map}
 use Rattle.std.specs.List.{list_all, list_any}
 use Rattle.vet_base.specs.Criteria.{Criteria, least_unknown}
@@ -21,7 +21,7 @@ as_of source entries = map (of_source source) entries
 abbrev pub comes_again : List Entry → HeldEntry → Bool
 comes_again entries held = list_any (entry_eq held.entry) entries
 
--- no held entry stays whatever comes
+-- no held entry is kept in any case
 abbrev pub none_stays : HeldEntry → Bool
 none_stays held = false
 
@@ -29,11 +29,11 @@ none_stays held = false
 abbrev pub is_dated : HeldEntry → Bool
 is_dated held = has_last_day held.entry.kind
 
--- a held entry stays, or is among some
+-- a held entry is kept in any case, or is among some
 abbrev pub remains : (HeldEntry → Bool) → List Entry → HeldEntry → Bool
 remains stays entries held = stays held || comes_again entries held
 
--- a held entry stays, and is not among some
+-- a held entry is kept in any case, and is not among some
 abbrev pub stays_alone : (HeldEntry → Bool) → List Entry → HeldEntry → Bool
 stays_alone stays entries held = stays held && not (comes_again entries held)
 
@@ -53,13 +53,14 @@ is_new held entry = not (is_held held entry)
 abbrev pub new_of : Source → List HeldEntry → List Entry → List Entry
 new_of source held entries = filter (is_new held) (as_of source entries)
 
--- the entries after, where this is the next number: those held that stay or come again keep their places and numbers,
+-- the entries afterwards, given the next number: held ones that are kept or given again have their places and numbers,
 -- and the new ones get the next numbers in their order
 abbrev pub entries_after : (HeldEntry → Bool) → Source → ℕ → List HeldEntry → List Entry → List HeldEntry
 entries_after stays source next held entries =
     filter (remains stays (as_of source entries)) held ++ numbered next (new_of source held entries)
 
--- some entries, as of a source, are those held: each held one is among them, or stays, and each of them is held
+-- some entries, as of a source, are those held: each held one is among them or kept in any case, and each of them is
+-- held
 abbrev pub same_entries : (HeldEntry → Bool) → Source → List HeldEntry → List Entry → Bool
 same_entries stays source held entries =
     list_all (remains stays (as_of source entries)) held && list_all (is_held held) (as_of source entries)

@@ -1,4 +1,4 @@
--- What is held of a source after entries were put in place of those held (ours), where some of these may stay.
+-- What is held of a source after entries replace those held (ours), some of which may be kept in any case.
 use Rattle.std.specs.Prelude.{ℕ, ◌≡◌, ◌≢◌, ◌<◌, ◌≤◌, ◌+◌, ◌⊎◌, Bool, true, List, [], ◌++◌, filter, length, map}
 use Rattle.std.specs.List.{All, AllPairs}
 use Rattle.vet_base.specs.Items.{IsIn, SameItems}
@@ -18,7 +18,7 @@ AllDiffer held = AllPairs (λ g h. g.entry ≢ h.entry) held
 abbrev pub entries_of : List HeldEntry → List Entry
 entries_of held = map (λ h. h.entry) held
 
--- where the numbers rise below the next one, they still do after, below the next one after it
+-- if the numbers increase and are below the next one, so are those afterwards, below the next one afterwards
 abbrev pub EntriesKeepOrder : Type 0
 EntriesKeepOrder =
     (stays : HeldEntry → Bool) (source : Source) (next : ℕ) (held : List HeldEntry) (entries : List Entry)
@@ -27,28 +27,28 @@ EntriesKeepOrder =
     → AreByNumber (entries_after stays source next held entries)
     × All (λ h. h.number < next + length (new_of source held entries)) (entries_after stays source next held entries)
 
--- each entry after was held with its number, or has a new number
+-- each entry afterwards was held with its number, or has a new number
 abbrev pub EntriesKeepNumbers : Type 0
 EntriesKeepNumbers =
     (stays : HeldEntry → Bool) (source : Source) (next : ℕ) (held : List HeldEntry) (entries : List Entry)
     → All (λ h. IsIn h held ⊎ (next ≤ h.number)) (entries_after stays source next held entries)
 
--- each entry after was held and stays, or is one of those given, as of the source
+-- each entry afterwards was held and is kept in any case, or is one of those given, as of the source
 abbrev pub EntriesAreTaken : Type 0
 EntriesAreTaken =
     (stays : HeldEntry → Bool) (source : Source) (next : ℕ) (held : List HeldEntry) (entries : List Entry)
     → All (λ h. (IsIn h held × (stays h ≡ true)) ⊎ (IsIn h.entry (as_of source entries) × (h.entry.source ≡ source)))
     (entries_after stays source next held entries)
 
--- after, the entries given are held, as of the source, and those that stay, and nothing else
+-- afterwards, the entries given are held, as of the source, and those that are kept in any case, and nothing else
 abbrev pub EntriesAreHeld : Type 0
 EntriesAreHeld =
     (stays : HeldEntry → Bool) (source : Source) (next : ℕ) (held : List HeldEntry) (entries : List Entry)
     → SameItems (as_of source entries ++ entries_of (filter stays held))
     (entries_of (entries_after stays source next held entries))
 
--- where each entry given is written as one's own and stands once, and no two held ones are the same, no two are after,
--- and there are as many as were given, and those that stay and were not
+-- if each entry given is an own one and occurs once, and no two held ones are the same, then no two are the same
+-- afterwards, and there are as many as were given and as are kept without being given
 abbrev pub EntriesStandOnce : Type 0
 EntriesStandOnce =
     (stays : HeldEntry → Bool) (source : Source) (next : ℕ) (held : List HeldEntry) (entries : List Entry)
@@ -59,7 +59,7 @@ EntriesStandOnce =
     × (length (entries_after stays source next held entries)
     ≡ length entries + length (filter (stays_alone stays (as_of source entries)) held))
 
--- where the entries given are those held, but for those that stay, all stays, and nothing is new
+-- if the entries given are those held, apart from those that are kept in any case, nothing changes and none is new
 abbrev pub NothingNew : Type 0
 NothingNew =
     (stays : HeldEntry → Bool) (source : Source) (next : ℕ) (held : List HeldEntry) (entries : List Entry)

@@ -3,8 +3,8 @@
 --
 -- An entry of a peer counts with the peer's wording: the peer's criteria, and how they are mapped (Wording, worded).
 -- A peer that has no entry of a package adds nothing to the package's entries, whatever its wording is. So a package is
--- the same in two facts where its entries are the same in the same wording, its publisher records are the same, and so
--- are one's own table and the register's day (IsSameOf). It then has the same steps, and the same versions are
+-- the same in two facts if its entries are the same in the same wording, its publisher records are the same, and one's
+-- own table and the register's day are the same (IsSameOf). It then has the same steps, and the same versions are
 -- condemned.
 use Rattle.std.specs.Prelude.{◌≡◌, List, [], Option, Some, None, map, option_map}
 use Rattle.vet_base.specs.Criteria.{Criteria}
@@ -41,8 +41,8 @@ abbrev pub worded_from : Name → Option HeldPeer → List WordedEntry
 worded_from name None = []
 worded_from name (Some peer) = map worded (taken_from name peer)
 
--- a package has the same entries in the same wording, and the same publisher records, and the table and the day are the
--- same
+-- a package has the same entries in the same wording and the same publisher records, and one's own table and the
+-- register's day are the same
 pub record IsSameOf (name : Name) (old new : Facts) : Type 0 where
   pub criteria : old.criteria ≡ new.criteria
   pub entries : worded_entries old name ≡ worded_entries new name

@@ -43,17 +43,17 @@ SameOnward = (name : Name) (a b c : Facts) → IsSameOf name a b → IsSameOf na
 
 -- ---- the register's day
 
--- an entry has lapsed by both of two days, or by neither
+-- an entry has lapsed on both of two days, or on neither
 abbrev pub LapsesAlike : Option DayValue → Option DayValue → SourcedEntry → Type 0
 LapsesAlike before after e = has_lapsed e.held.entry.kind before ≡ has_lapsed e.held.entry.kind after
 
--- another day leaves the steps of a package each of whose entries has lapsed by both days or by neither
+-- the steps of a package are the same on two days if each of its entries has lapsed on both or on neither
 abbrev pub DayKeepsSteps : Type 0
 DayKeepsSteps = (facts : Facts) (day : Option DayValue) (name : Name)
     → All (LapsesAlike facts.today day) (entries_of facts name)
     → steps_of facts name ≡ steps_of (record facts { today = day }) name
 
--- and the same versions of each package are condemned by any day
+-- the same versions of each package are condemned on any day
 abbrev pub DayCondemnsTheSame : Type 0
 DayCondemnsTheSame = (facts : Facts) (day : Option DayValue) (name : Name) (c : ℕ) (v : VersionValue)
     → is_condemned facts name c v ≡ is_condemned (record facts { today = day }) name c v

@@ -3,8 +3,8 @@
 -- The rows are first_step, delta_step, window_steps, kind_steps, entry_steps and steps_of. The entries of a package
 -- are one's own, and those of each peer that does not exclude it (SourcedEntry, entries_of). Those of all sources
 -- stand by their numbers (by_number). A window covers a record of its user and of a day from its first to its last
--- (is_covered). An exemption gives no step once its last day is over by the register's day (is_over); of the other
--- kinds none depends on that day. Nothing is asked of the facts: what a table lacks has no place in it.
+-- (is_covered). An exemption gives no step once its last day is over on the register's day (is_over); no other kind
+-- depends on that day. Nothing is asked of the facts: what a table lacks has no place in it.
 use Rattle.std.specs.Prelude.{ℕ, ◌≡◌, ◌&&◌, ◌==◌, Bool, true, false, List, Option, Some, None, filter, if◌then◌else◌}
 use Rattle.std.specs.Prelude.{map, nat_lt, [], ◌∷◌, ◌++◌}
 use Rattle.std.specs.FinSet as set
@@ -86,7 +86,7 @@ abbrev pub by_number : {X : Type 0} → (X → ℕ) → List X → List X
 by_number number [] = []
 by_number number (x ∷ xs) = put_by_number number x (by_number number xs)
 
--- the steps of an entry on the register's day, where these are its package's publisher records
+-- the steps of an entry on the register's day, by its package's publisher records
 abbrev pub entry_steps : Option DayValue → Criteria → List Publisher → SourcedEntry → List Step
 entry_steps today table records e =
     kind_steps today (local_criteria table e.peer e.held.entry.criteria) records e.held.entry.kind

@@ -2,18 +2,17 @@
 //!
 //! **An edit changes the facts in place, and returns the edit that takes it back.**
 //!
-//! `EntryFacts` holds the table of criteria, the own entries, the peers by name, and the publisher records by package.
-//! It is changed by an `Edit` alone. It gives the edit that adds an entry, drops one, or sets criteria, peers, what is
-//! held of one, records, or the register's day, and takes the room for it. `apply` takes no memory and can't fail. What
-//! is one thing by its meaning is exchanged as a whole: the records of a package, a peer's settings, a peer's content.
+//! `EntryFacts` holds the table of criteria, the own entries, the peers by name, the publisher records by package, and
+//! the register's day. Only an `Edit` changes it. Each `edit_..` call returns the edit that it names, and reserves the
+//! room for it. `apply` takes no memory and cannot fail. What belongs together is exchanged as a whole: the records of
+//! a package, a peer's settings, a peer's content.
 //!
-//! Whoever plans makes the edit, looks, and makes the one that undoes it, whether or not there was memory. So the
-//! facts are never copied, and the edit that comes back is the one that will be made for good.
+//! To plan a change, a caller makes the edit, looks at the result, and makes the edit that undoes it, whether or not
+//! there was memory. So the facts are never copied, and the edit that comes back is the one that will be made for good.
 //!
 //! Room is the number of own entries, peers, and packages with records that can still be added without memory: the
-//! capacity of a list less its length. It stands in the model beside what is held, and is no part of it. What an edit
-//! takes of it is known here alone. Above, one room holds that of another (`HoldsRoomOf`), and an edit that fits still
-//! does then.
+//! capacity of a list less its length. The model has it beside what is held. Only this file knows how much of it an
+//! edit takes. Elsewhere, one room includes another (`HoldsRoomOf`), and an edit that fits still fits then.
 ghost use Rattle.std.specs.List.{All};
 ghost use Rattle.std.specs.Prelude.{◌≡◌, ◌<◌, ◌^◌, ◌++◌, ◌∷◌, [], IfErr, IfOk, IsOk, IsTrue, OnErr, Some, length};
 ghost use Rattle.std.specs.Prelude.{remove};
@@ -35,7 +34,7 @@ use vet_base::name::{Name, PackageName};
 use vet_base::refusal::Refusal;
 
 impl Edit {
-    /// Whether the table of criteria stays, whatever is held. Takes no memory.
+    /// Whether the edit leaves the table of criteria as it is, whatever is held. Takes no memory.
     pub fn keeps_criteria(&self) -> bool
         ensures value { result ≡ keeps_criteria self.now }
         ensures kept { IsTrue result → (facts : Facts) → (edited self.now facts).criteria ≡ facts.criteria }
@@ -54,9 +53,9 @@ impl Edit {
 }
 
 impl EntryFacts {
-    /// The edit that puts an own entry with this number behind all others, and room for it. Asks that the number
-    /// is higher than theirs. Costs nothing where
-    /// there is room; else a move of all entries to twice the room. Refused: `NoMemory`.
+    /// The edit that adds an own entry with this number after all others, and room for it. Asks that the number is
+    /// higher than theirs. Costs nothing if there is room; otherwise it moves all entries to twice the room. Refused:
+    /// `NoMemory`.
     pub fn edit_adding(&mut self, number: u64, entry: Entry) -> Result<Edit, Refusal>
         requires { All (λ h. h.number < number) self.old.content.entries }
         ensures edit { IfOk result (λ e. edited e self.old.content ≡ record self.old.content {
@@ -74,7 +73,7 @@ impl EntryFacts {
         Ok(Edit::Insert(place, HeldEntry { number, entry }))
     }
 
-    /// The edit by which the own entry at a place goes. Asks that there is one. Takes no memory.
+    /// The edit that removes the own entry at a place. Asks that there is one. Takes no memory.
     pub fn edit_dropping(&self, at: usize) -> Edit
         requires { at < length self.now.content.entries }
         ensures edit { edited result self.now.content ≡ record self.now.content {
@@ -93,9 +92,9 @@ impl EntryFacts {
         Edit::Criteria(criteria)
     }
 
-    /// The edit that puts these settings in place of those of the peer of their name, or adds the peer with nothing
-    /// imported, and room for it. Costs a binary search among the peers; for a new one a move of those behind it.
-    /// Refused: `NoMemory`, and never where the peer is held.
+    /// The edit that puts these settings in place of those of the peer with their name, or adds the peer with nothing
+    /// imported, and room for it. Costs a binary search among the peers; for a new one also a move of those after it.
+    /// Refused: `NoMemory`, and never if the peer is held.
     pub fn edit_of_settings(
         &mut self,
         alloc: Global,
@@ -118,7 +117,7 @@ impl EntryFacts {
         Ok(Edit::Peer(self.peers.edit_setting(HeldPeer { settings, content })))
     }
 
-    /// The edit by which the peer of a name goes, with all that was imported from it. Asks that it is held. Takes no
+    /// The edit that removes the peer with a name, with all that was imported from it. Asks that it is held. Takes no
     /// memory.
     pub fn edit_dropping_peer(&self, name: &Name) -> Edit
         requires { IsHeld name.now self.now.content }
@@ -133,7 +132,7 @@ impl EntryFacts {
         }
     }
 
-    /// The edit that puts a content in place of that of the peer of a name. Asks that the peer is held. Takes no
+    /// The edit that puts a content in place of that of the peer with a name. Asks that the peer is held. Takes no
     /// memory.
     pub fn edit_of_content(&self, name: Name, content: Holding) -> Edit
         requires { IsHeld name self.now.content }
@@ -146,10 +145,10 @@ impl EntryFacts {
         Edit::Content(name, content)
     }
 
-    /// The edit that puts these publisher records in place of those of a package, and room for it. Asks that
-    /// there are some in one or the other, and that all records together can be counted. Costs a binary search
-    /// among the packages that have records, and a copy of these; for a new package at times a move of all
-    /// packages to twice the room. Refused: `NoMemory`.
+    /// The edit that puts these publisher records in place of those of a package, and room for it. Asks that at least
+    /// one of the two has records, and that all records together are fewer than 2^64. Costs a binary search among the
+    /// packages that have records, and a copy of the new ones; for a new package sometimes a move of all packages to
+    /// twice the room. Refused: `NoMemory`.
     pub fn publishers_edit(
         &mut self,
         package: &PackageName,
@@ -171,7 +170,7 @@ impl EntryFacts {
         Ok(Edit::Publishers(change))
     }
 
-    /// The edit that puts a day in place of the register's. Takes no memory.
+    /// The edit that sets the register's day. Takes no memory.
     pub fn edit_of_today(&self, day: Day) -> Edit
         ensures edit { edited result self.now.content ≡ record self.now.content { today = Some day } }
         ensures fits { Fits result self.now }
@@ -179,11 +178,13 @@ impl EntryFacts {
         Edit::Today(Some(day))
     }
 
-    /// Makes an edit, and answers the one that undoes it. An insert behind all entries costs three binary searches, and
-    /// a move of the places behind its own in the order of packages, which are numbers; a remove of the last one costs
-    /// two and such a move. In front of entries either passes over the places of all, and moves those behind it.
-    /// Records of a package are exchanged as a whole; a package or a peer that comes or goes moves those behind it,
-    /// and so does a peer whose settings or content are exchanged.
+    /// Makes an edit, and returns the one that undoes it. Asks that the edit fits. Takes no memory.
+    ///
+    /// Adding an entry after all others costs three binary searches and a move of the places after its own in the order
+    /// of packages, which are numbers; removing the last entry costs two searches and such a move. Elsewhere both go
+    /// over the places of all entries, and move the entries that follow. The records of a package are exchanged as a
+    /// whole. Adding or removing a package or a peer moves those that follow it, and so does exchanging a peer's
+    /// settings or content.
     pub fn apply(&mut self, edit: Edit) -> Edit
         requires { Fits edit self.old }
         ensures content { self.new.content ≡ edited edit self.old.content }

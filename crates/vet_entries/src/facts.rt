@@ -76,17 +76,17 @@ pub enum Edit {
     Criteria(CriteriaTable),
     /// This entry at this place among the entries.
     Insert(usize, HeldEntry),
-    /// The entry at this place goes.
+    /// The entry at this place is removed.
     Remove(usize),
-    /// A peer comes or goes.
+    /// A peer is added or removed.
     Peer(KeyedEdit<HeldPeer>),
-    /// These settings in place of those of the held peer of their name.
+    /// These settings in place of those of the held peer with their name.
     Settings(PeerSettings),
-    /// This content in place of that of the held peer of a name.
+    /// This content in place of that of the held peer with a name.
     Content(Name, Holding),
     /// The publisher records of a package change.
     Publishers(KeyedEdit<PackagePublishers>),
-    /// This day in place of the register's, or none.
+    /// This day, or none, in place of the register's.
     Today(Option<Day>),
 }
 
@@ -133,8 +133,8 @@ impl EntryFacts {
         })
     }
 
-    /// A table of criteria, and some own entries, which are given the numbers from one on, without peers, publisher
-    /// records and a day. Refused: `NoMemory`.
+    /// A table of criteria and own entries, which get the numbers from 1 on, without peers, publisher records and a
+    /// register's day. Refused: `NoMemory`.
     pub fn of(
         alloc: Global,
         criteria: CriteriaTable,
@@ -159,7 +159,8 @@ impl EntryFacts {
     }
 
     /// This table of criteria, own entries in the order of their numbers, peers in the order of their names, publisher
-    /// records of packages in the order of their names, and this day. Takes a time of n log n. Refused: `NoMemory`.
+    /// records of packages in the order of their names, and this register's day, if any. Takes a time of n log n.
+    /// Refused: `NoMemory`.
     pub fn of_parts(
         alloc: Global,
         criteria: CriteriaTable,
@@ -333,7 +334,7 @@ impl EntryFacts {
         leads_to(self.peers(), name)
     }
 
-    /// How many own entries are exemptions with a last day. Costs a look at each own entry.
+    /// How many own entries are exemptions with a last day. Costs a look at each own entry. Takes no memory.
     pub fn dated_count(&self) -> usize
         ensures { result ≡ length (filter is_dated self.now.content.entries) }
     {
@@ -341,6 +342,7 @@ impl EntryFacts {
     }
 
     /// Whether an own exemption with a last day names a criterion that a table lacks. Costs a look at each own entry.
+    /// Takes no memory.
     pub fn has_dated_beyond(&self, table: &CriteriaTable) -> bool
         ensures { result ≡ list_any (is_dated_beyond table.now) self.now.content.entries }
     {

@@ -22,7 +22,7 @@ impl HasKey for HeldEntry {
     }
 }
 
-/// Some entries with the numbers from one on.
+/// Entries with the numbers from 1 on. Fails only if memory runs out.
 pub(crate) fn numbered(alloc: Global, entries: Vec<Entry>) -> Result<Vec<HeldEntry>, AllocError>
     ensures { IfOk result (λ held. held.items ≡ numbered 1 entries.items) }
 {
@@ -58,7 +58,7 @@ fn is_dated(held: &HeldEntry) -> bool
     held.entry.kind.has_last_day()
 }
 
-/// Whether one of some exemptions with a last day names a criterion that a table lacks.
+/// Whether an exemption with a last day, among some entries, names a criterion that a table lacks.
 pub(crate) fn has_dated_beyond(entries: &[HeldEntry], table: &CriteriaTable) -> bool
     ensures { result ≡ list_any (is_dated_beyond table.now) entries.now }
 {

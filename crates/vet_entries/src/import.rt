@@ -1,9 +1,8 @@
-//! What an import changes of what is held of a peer, and what is left of one's own entries where others take
-//! their place.
+//! What an import changes of what is held of a peer, and which own entries remain when files replace them.
 //!
-//! **An import holds the content's entries, each once: those that come again keep their numbers, and the new ones
-//! get the next numbers in the order of reading. The same holds of one's own entries, of which the exemptions with a
-//! last day stay too.**
+//! **After an import the content's entries are held, each once: those that were held keep their numbers, and the new
+//! ones get the next numbers in the order of reading. The same holds for one's own entries when files replace them,
+//! except that exemptions with a last day remain too.**
 ghost use Rattle.std.specs.BTreeMap.{get};
 ghost use Rattle.std.specs.List.{All, list_all, list_any};
 ghost use Rattle.std.specs.Option.{unwrap_or};
@@ -35,7 +34,8 @@ use vet_base::definitions::Definitions;
 use vet_base::name::Name;
 use vet_base::refusal::Refusal;
 
-/// How some entries stand to those held of a source: which held ones stay or come again, and which of them are new.
+/// A comparison of some entries with those held of a source: which held ones remain, and which of the given ones are
+/// new.
 pub struct Comparison {
     again: Vec<bool>,
     fresh: Vec<bool>,
@@ -78,8 +78,8 @@ impl Comparison {
         self.new_count
     }
 
-    /// Whether nothing changes: of a peer the same criteria and the same entries, of one's own the same entries but for
-    /// the exemptions with a last day, in whatever order.
+    /// Whether nothing changes: for a peer the same criteria and the same entries; for one's own the same entries,
+    /// apart from exemptions with a last day. The order does not matter.
     pub fn is_same(&self) -> bool
         ensures { result ≡ self.now.is_same }
     {
@@ -87,8 +87,8 @@ impl Comparison {
     }
 }
 
-/// How a content stands to what is held of a peer. Costs two searches among those held for each held entry, and one for
-/// each entry; and copies of the criteria, but of no entry. Refused: `NoMemory`.
+/// Compares a content with what is held of a peer. Costs two searches among the held entries for each held one, and one
+/// for each of the content; copies the criteria, but no entry. Refused: `NoMemory`.
 pub fn compare(
     alloc: Global,
     name: &Name,
@@ -112,8 +112,8 @@ pub fn compare(
     })
 }
 
-/// What is held of the peer after an import, where this is the next number. Costs a copy of each entry that comes again
-/// or is new, and a time of n log n. Refused: `NoMemory`.
+/// What is held of the peer after an import, given the next number. Costs a copy of each entry that remains or is new,
+/// and a time of n log n. Refused: `NoMemory`.
 pub fn holding_after(
     alloc: Global,
     name: &Name,
@@ -137,8 +137,8 @@ pub fn holding_after(
     Holding::of(alloc, definitions_of(alloc, content)?, entries)
 }
 
-/// How the entries of files, as one's own, stand to one's own that are held, of which the exemptions with a last day
-/// stay whatever comes. Costs two searches among those held for each held entry, and one for each entry; copies no
+/// Compares the entries of files, as own ones, with the own entries that are held. Exemptions with a last day remain in
+/// any case. Costs two searches among the held entries for each held one, and one for each of the files; copies no
 /// entry. Refused: `NoMemory`.
 pub fn compare_own(
     alloc: Global,
@@ -162,8 +162,8 @@ pub fn compare_own(
     })
 }
 
-/// One's own entries after those of files take their place, where this is the next number. Costs a copy of each entry
-/// that stays, comes again or is new. Refused: `NoMemory`.
+/// One's own entries after files replace them, given the next number. Costs a copy of each entry that remains or is
+/// new. Refused: `NoMemory`.
 pub fn own_entries_after(
     alloc: Global,
     next: u64,
@@ -183,7 +183,7 @@ pub fn own_entries_after(
     Ok(after)
 }
 
-/// A content is the one held just where it has the same criteria and the same entries, in whatever order.
+/// A content is the one held exactly if it has the same criteria and the same entries, in any order.
 pub fn same_items_are_same()
     ensures { SameItemsAreSame }
 {}
@@ -193,12 +193,12 @@ pub fn import_holds_its_content()
     ensures { ImportHoldsItsContent }
 {}
 
-/// Where no two held entries are the same, no two are after an import, and there are as many as in the content.
+/// If no two held entries are the same, no two are the same after an import, and there are as many as in the content.
 pub fn import_holds_each_once()
     ensures { ImportHoldsEachOnce }
 {}
 
-/// Where the numbers rise below the next one, they still do after an import, below the next one after it.
+/// If the numbers increase and are below the next one, so are those after an import, below the next one after it.
 pub fn import_keeps_order()
     ensures { ImportKeepsOrder }
 {}
@@ -225,7 +225,7 @@ fn unseen<'a>(alloc: Global, held: &'a [HeldEntry]) -> Result<BTreeMap<Said<'a>,
     Ok(seen)
 }
 
-// Sees some entries, and tells of each whether it is not held.
+// Marks some entries as seen, and returns of each whether it is not held.
 fn see<'a>(
     alloc: Global,
     seen: &mut BTreeMap<Said<'a>, bool>,
@@ -244,7 +244,7 @@ fn see<'a>(
     Ok(fresh)
 }
 
-// Sees an entry, and tells whether it is held.
+// Marks an entry as seen, and returns whether it is held.
 fn see_one<'a>(seen: &mut BTreeMap<Said<'a>, bool>, entry: &'a Entry) -> bool
     ensures held { result ≡ is_some (get entry_cmp seen.old (own entry.now)) }
     ensures seen { (q : Entry) → get entry_cmp seen.new q

@@ -107,7 +107,7 @@ pub enum Kind {
         version: VetVersion,
         /// Whether to suggest a review in its place, where the entry says so.
         suggest: Option<bool>,
-        /// The last day on which it vouches, if it has one. No file has a key for it.
+        /// The last day on which it counts, if it has one. No file has a key for it.
         last_day: Option<Day>,
     },
 }
@@ -158,7 +158,7 @@ impl Kind {
         self.last_day().is_some()
     }
 
-    /// Whether it is an exemption whose last day is over by a day.
+    /// Whether it is an exemption whose last day is before this day. Without a day it is not.
     pub fn has_lapsed(&self, day: Option<Day>) -> bool
         ensures { result ≡ has_lapsed self.now day }
     {
@@ -189,8 +189,7 @@ impl Kind {
     }
 }
 
-/// Whether a last day is over by a day: whether the day comes after it. Without a last day, or without a day, none is
-/// over.
+/// Whether a last day is over on a day: the day comes after it. It is never over if there is no last day or no day.
 pub fn is_over(last: Option<Day>, day: Option<Day>) -> bool
     ensures { result ≡ is_over last day }
 {
@@ -202,7 +201,7 @@ pub fn is_over(last: Option<Day>, day: Option<Day>) -> bool
     }
 }
 
-// Whether two exemptions have the same last day, or none.
+// Whether two exemptions have the same last day, or both have none.
 fn same_last_day(a: Option<Day>, b: Option<Day>) -> bool
     ensures { result ≡ same_last_day a b }
 {

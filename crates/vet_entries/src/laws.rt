@@ -15,8 +15,8 @@ pub fn edits_fit_with_more_room()
     ensures onward { RoomHoldsOnward }
 {}
 
-/// A package that has the same entries in the same wording and the same publisher records, by the same table and on the
-/// same day, has the same steps, and the same versions of it are condemned. Does nothing.
+/// A package that has the same entries in the same wording and the same publisher records has, by the same table and
+/// with the same register's day, the same steps and the same condemned versions. Does nothing.
 pub fn same_packages_have_same_steps()
     ensures steps { SameHasSameSteps }
     ensures condemned { SameIsCondemnedTheSame }
@@ -24,8 +24,8 @@ pub fn same_packages_have_same_steps()
     ensures onward { SameOnward }
 {}
 
-/// Another day leaves the steps of a package each of whose entries has lapsed by both days or by neither, and what is
-/// condemned of every package. Does nothing.
+/// Another register's day leaves the steps of a package as they are if each of its entries has lapsed on both days or
+/// on neither, and never changes which versions are condemned. Does nothing.
 pub fn another_day_keeps_steps()
     ensures steps { DayKeepsSteps }
     ensures condemned { DayCondemnsTheSame }

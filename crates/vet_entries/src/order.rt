@@ -130,7 +130,7 @@ fn texts_cmp(a: &Texts, b: &Texts) -> Ordering
     a.as_slice().cmp(b.as_slice())
 }
 
-// How two last days compare: none, and then by the days.
+// How two last days compare: none comes first, and days in their order.
 fn last_day_cmp(a: Option<Day>, b: Option<Day>) -> Ordering
     ensures { result ≡ last_day_cmp a b }
 {

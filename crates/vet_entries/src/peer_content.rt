@@ -6,10 +6,9 @@ use crate::entry::Entry;
 use std::marker::Model;
 use vet_base::criterion::Criterion;
 
-/// What the audits file of a peer gives, in the peer's own words: at most `MOST_PEER_CRITERIA` criteria, and its
-/// entries. No criterion is named as a built-in one or as another. Each entry is the peer's own, and stands once. None
-/// is of a kind that is the peer's affair alone, as exemptions and trusted publishers are, and none is one that others
-/// may not import.
+/// What the audits file of a peer has, in the peer's own words: at most `MOST_PEER_CRITERIA` criteria, and its entries.
+/// No criterion has the name of a built-in one or of another. Each entry is the peer's own, and occurs once. None is an
+/// exemption or a trusted publisher, which concern only the peer, and none is one that others may not import.
 pub struct PeerContent {
     criteria: Vec<Criterion>,
     entries: Vec<Entry>,

@@ -1,35 +1,35 @@
-//! What is held of a source, one's own entries or a peer's, after others take their place, where some of them may stay
-//! whatever comes.
+//! Laws of what is held of a source, one's own entries or a peer's, after others replace them. Some of those held may
+//! be kept in any case. Each law does nothing.
 ghost use Rattle.vet_entries.specs.ReplacedLaws.{EntriesAreHeld, EntriesAreTaken, EntriesKeepNumbers, EntriesKeepOrder};
 ghost use Rattle.vet_entries.specs.ReplacedLaws.{EntriesStandOnce, NothingNew};
 
-/// Where the numbers rise below the next one, they still do after, below the next one after it.
+/// If the numbers increase and are below the next one, so are those afterwards, below the next one afterwards.
 pub fn entries_keep_order()
     ensures { EntriesKeepOrder }
 {}
 
-/// Each entry after was held with its number, or has a new number.
+/// Each entry afterwards was held with its number, or has a new number.
 pub fn entries_keep_numbers()
     ensures { EntriesKeepNumbers }
 {}
 
-/// Each entry after was held and stays, or is one of those given, as of the source.
+/// Each entry afterwards was held and is kept in any case, or is one of those given, as of the source.
 pub fn entries_are_taken()
     ensures { EntriesAreTaken }
 {}
 
-/// After, the entries given are held, as of the source, and those that stay, and nothing else.
+/// Afterwards, the entries given are held, as of the source, and those that are kept in any case, and nothing else.
 pub fn entries_are_held()
     ensures { EntriesAreHeld }
 {}
 
-/// Where each entry given is written as one's own and stands once, and no two held ones are the same, no two are after,
-/// and there are as many as were given, and those that stay and were not.
+/// If each entry given is an own one and occurs once, and no two held ones are the same, then no two are the same
+/// afterwards, and there are as many as were given and as are kept without being given.
 pub fn entries_stand_once()
     ensures { EntriesStandOnce }
 {}
 
-/// Where the entries given are those held, but for those that stay, all stays, and nothing is new.
+/// If the entries given are those held, apart from those that are kept in any case, nothing changes and none is new.
 pub fn nothing_new()
     ensures { NothingNew }
 {}

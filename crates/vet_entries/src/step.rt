@@ -54,7 +54,7 @@ pub fn steps_of(
     entries.into_steps(alloc, facts, &mut local)
 }
 
-/// Adds the steps of a kind on a day, the register's.
+/// Adds the steps of a kind on the register's day. Fails only if memory runs out.
 pub(crate) fn add_kind_steps(
     steps: &mut Vec<Step>,
     kind: &Kind,
