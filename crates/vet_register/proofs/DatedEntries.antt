@@ -1,4 +1,4 @@
--- Own exemptions with a last day where files, whose entries have none, take the place of what is held.
+-- Own exemptions with a last day when files, whose entries have none, replace what is held.
 use Rattle.std.proofs.Common.{◌≡◌, ◌∙◌, ℕ, ◌&&◌, Bool, true, false, not, is_some, List, filter, Option, Some, None}
 use Rattle.std.proofs.Common.{refl, sym, ap, subst, inl, inr}
 use Rattle.std.specs.List.{list_any}
@@ -22,7 +22,7 @@ use Rattle.vet_register.proofs.Lists.{none_pass}
 abbrev pub IsUndated : Entry → Type 0
 IsUndated e = has_last_day e.kind ≡ false
 
--- entries without a last day have none as those of a source
+-- entries without a last day have none as entries of another source
 pub undated_as_of : (source : Source) (entries : List Entry) → AreUndated entries
     → AreUndated (as_of source entries)
 undated_as_of source entries none = all_in IsUndated (as_of source entries) (λ e i.
@@ -49,12 +49,12 @@ module _ (entries : List Entry) (none : AreUndated entries) where
       by true dated = ap not (never_comes h dated)
       by false other = refl
 
-  -- so that all of these stay alone
+  -- so each of them is kept without being given
   pub dated_alone : (held : List HeldEntry)
       → filter (stays_alone is_dated (as_of Own entries)) held ≡ filter is_dated held
   dated_alone held = λ i. filter (λ h. alone h i) held
 
-  -- ---- what is left but for these
+  -- ---- the entries afterwards, apart from these
 
   abbrev Undated : Entry → Bool
   Undated e = not (has_last_day e.kind)
@@ -80,7 +80,7 @@ module _ (entries : List Entry) (none : AreUndated entries) where
         let h = in_map (λ (g : HeldEntry). g.entry) after e among.0 in
         taken e h.0 h.1.1 (not-true (has_last_day e.kind) among.1) h.1.0
 
-    -- but for exemptions with a last day, the entries given are held after, and nothing else
+    -- apart from exemptions with a last day, the entries given are held afterwards, and nothing else
     pub left_undated : SameItems (as_of Own entries)
         (undated (entries_of (entries_after is_dated Own next held entries)))
     left_undated = (comes, left)

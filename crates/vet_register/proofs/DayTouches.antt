@@ -1,4 +1,4 @@
--- Another day leaves each package of which no own entry has lapsed by only one of the two days.
+-- SetDay leaves a package as it is if none of its own entries has lapsed on only one of the two days.
 use Rattle.std.proofs.Common.{◌≡◌, ◌∙◌, ℕ, Bool, true, false, cond, not, List, [], ◌∷◌, filter, Option, Some, None}
 use Rattle.std.proofs.Common.{refl, sym, subst, inl, inr}
 use Rattle.std.specs.Bool.{beq}
@@ -43,11 +43,11 @@ abbrev of_peer : Option HeldPeer → HeldEntry → SourcedEntry
 of_peer peer h = record { peer = peer; held = h }
 
 module _ (before after : Option DayValue) (name : List ℕ) where
-  -- a held entry has lapsed by both days, or by neither
+  -- a held entry has lapsed on both days, or on neither
   abbrev Alike : HeldEntry → Type 0
   Alike h = has_lapsed h.entry.kind before ≡ has_lapsed h.entry.kind after
 
-  -- so have a source's entries of a package, where each of these has
+  -- if each held entry of a package has, so have its entries of a source
   sourced_alike : (peer : Option HeldPeer) (entries : List HeldEntry)
       → ((h : HeldEntry) → IsIn h entries → by_package.is_of name h ≡ true → Alike h)
       → All (LapsesAlike before after) (sourced peer name entries)
@@ -90,7 +90,7 @@ module _ (before after : Option DayValue) (name : List ℕ) where
 
 -- ---- own entries
 
--- an own entry of a package that isn't among those that lapse
+-- an own entry of a package that isn't touched
 own_alike : (facts : Facts) (day : DayValue) (name : List ℕ) → All (Other name) (packages_lapsing facts day)
     → (h : HeldEntry) → IsIn h facts.entries → by_package.is_of name h ≡ true
     → has_lapsed h.entry.kind facts.today ≡ has_lapsed h.entry.kind (Some day)

@@ -141,7 +141,7 @@ pub gives_itself : (t : Told (Unit {0})) (answer : Result (Unit {0}) Refusal) �
 gives_itself (Ok u) answer h = rw h refl
 gives_itself (Err e) answer h = rw h (inr refl)
 
--- what stays names what a table lacks just where another of the same names lacks it
+-- what is kept names a criterion that a table lacks exactly if it names one that another table of the same names lacks
 pub same_beyond : (s : State) (a b : Criteria) → ((n : List ℕ) → table.contains_key a n ≡ table.contains_key b n)
     → names_beyond s a ≡ names_beyond s b
 same_beyond s a b keys = λ i.

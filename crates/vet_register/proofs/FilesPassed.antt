@@ -1,4 +1,5 @@
--- What three files passed that are accepted: limits, and each name is known, of what they hold and of what stays.
+-- What is known of three files that are accepted: they keep the limits, and each name in them and in what is kept is
+-- known.
 use Rattle.std.proofs.Common.{◌≡◌, ◌∙◌, ◌⊎◌, ℕ, ◌+◌, ◌≤◌, true, false, not, List, [], ◌∷◌, length, None, Ok, ap}
 use Rattle.std.proofs.Common.{inl, inr}
 use Rattle.std.specs.FinMap as map
@@ -125,7 +126,7 @@ files_know f h =
     let entries = none_left has (λ (e : Entry). e.criteria) implied f.entries policies.0 in
     record { implied = entries.0; own = entries.1; policies = policies.1; targets = all.1 }
 
--- what stays names only criteria that the files define: reviews that aren't closed, and exemptions with a last day
+-- what is kept names only criteria that the files define: reviews that aren't closed, and exemptions with a last day
 pub what_stays : (s : State) (day : DayValue) (f : FilesValue) → rules s day (ReplaceFiles f) ≡ Ok tt
     → (are_open_beyond (defined f.criteria) s.desk.reviews ≡ false)
     × (list_any (is_dated_beyond (defined f.criteria)) s.held.facts.entries ≡ false)

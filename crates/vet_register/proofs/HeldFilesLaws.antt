@@ -235,7 +235,7 @@ entry_decided held e = (
       in_any (λ (g : HeldEntry). entry_eq g.entry e) held h.0 h.1.0 ((entry_eq-Decides h.0.entry e).1 (sym h.1.1))),
 )
 
--- a held entry remains just where it is an exemption with a last day, or among those that come
+-- a held entry remains exactly if it is an exemption with a last day, or is among those of the files
 remains_decided : (theirs : List Entry) (h : HeldEntry)
     → Decides (remains is_dated theirs h) ((is_dated h ≡ false) → IsIn h.entry theirs)
 remains_decided theirs h = by (is_dated h)
@@ -244,7 +244,7 @@ remains_decided theirs h = by (is_dated h)
     by true = (λ t none. absurd (false≢true (sym none)), λ there. refl)
     by false = (λ t none. (again_decided theirs h).0 t, λ there. (again_decided theirs h).1 (there refl))
 
--- the entries of files are the own ones that are held, but for exemptions with a last day, in whatever order
+-- the entries of files are the own ones that are held, apart from exemptions with a last day, in any order
 module _ (held : List HeldEntry) (entries : List Entry) (none : AreUndated entries) where
   abbrev theirs : List Entry
   theirs = as_of Own entries

@@ -74,7 +74,7 @@ has_lists held f =
     pointwise package_eq held.facts.publishers f.publishers
     && (policies_eq held.policies f.policies && tool_eq held.settings (tool_of_files f))
 
--- whether all that files hold is held, as sets, and nothing else but projects and own exemptions with a last day
+-- whether all that files hold is held, as sets, and nothing else except projects and own exemptions with a last day
 abbrev pub has_files : HeldValue → FilesValue → Bool
 has_files held f =
     has_criteria held.facts.criteria f.criteria

@@ -1,14 +1,14 @@
 -- The class of a pair where one audits file is all that is held, or the first fault (ours).
 --
--- class_told checks in this order: the words (pair_told), the size and the content of the file (content_told), and
--- then the criteria (checked). The file is read as "Content of a file" says (audits_told): an unknown key, a
--- skipped entry and a double refuse nothing. 9 applies where with the built-in ones there are more than MOST_CRITERIA
--- (counted). 6 tells the least name that is no criterion (unknown_name). It looks at the criterion asked for, at what
--- the file's criteria imply, and at the criteria of its entries of all kinds. Those of a skipped entry are none of the
--- file's. What is held is then the table of the file's criteria and its entries, as own ones, numbered from 1 as they
--- are read (facts_of). The class is that of the pair by these facts (IsClassOfFile). There are no publisher records
--- among them, so no wildcard or trusted entry gives a step. There are no exemptions, so the class is never Partial
--- or Exempted, and no day matters.
+-- class_told checks in this order: the words (pair_told), the size and the content of the file (content_told), and then
+-- the criteria (checked). The file is read as "Content of a file" says (audits_told): an unknown key, a skipped entry
+-- and a double refuse nothing. 9 applies if there are more than MOST_CRITERIA, including the built-in ones (counted). 6
+-- has the least name that is not a criterion (unknown_name), among the criterion asked for, what the file's criteria
+-- imply, and the criteria of its entries of all kinds; a skipped entry does not count. The facts are then the table of
+-- the file's criteria and its entries, as own ones, numbered from 1 as they are read, without a register's day
+-- (facts_of). The class is that of the pair by these facts (IsClassOfFile). There are no publisher records among them,
+-- so no wildcard or trusted entry gives a step. There are no exemptions, so the class is never Partial or Exempted, and
+-- no day matters.
 use Rattle.std.specs.Prelude.{◌≡◌, Bool, [], Option, Some, None, Ok, if◌then◌else◌}
 use Rattle.std.specs.FinMap as map
 use Rattle.vet_base.specs.CriteriaChanges.{known}

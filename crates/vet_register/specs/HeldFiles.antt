@@ -27,8 +27,7 @@ use Rattle.vet_register.specs.Held.{HeldValue}
 abbrev pub further_at : Criteria → Name → Option Criterion
 further_at criteria name = if is_built_in name then None else table.get criteria name
 
--- an entry, as one of one's own, is an exemption: it never stands in the audits file, and in the config file unless it
--- has a last day
+-- an own entry is an exemption: it is never in the audits file, and it is in the config file unless it has a last day
 abbrev pub is_exemption : Entry → Bool
 is_exemption e = is_own_exemption (own e)
 
@@ -50,7 +49,7 @@ abbrev pub settings_of : Facts → List PeerSettings
 settings_of facts = map (λ (p : HeldPeer). p.settings) facts.peers
 
 -- what a config file of the register holds: what it says to the tool alone, how peers are imported, the policies, and
--- own exemptions, of which the writer leaves out those with a last day
+-- own exemptions; the writer leaves out those with a last day
 abbrev pub config_of : HeldValue → ConfigContent
 config_of held = record {
   vet_version = held.settings.vet_version;

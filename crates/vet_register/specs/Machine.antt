@@ -19,10 +19,10 @@
 -- end of the list under the next number, as an own one whatever source it names. DropEntry takes out the own entry of
 -- its number. SetPeer sets the settings of a peer. DropPeer takes the peer out with all that is held of it. ImportPeer
 -- imports its content, as the peer's whatever source the entries name. SetPublishers sets the records of its package.
--- SetDay makes the day of the command the register's (effect). SetPolicy and LoadProject put a policy or a project
--- where its key or name belongs, in place of the one that is there. DropPolicy and DropProject take it out
--- (policies_by, projects_by, held_after). What a command does is told its day beside its action. What is held after it
--- is the same on each day, except after SetDay. The keeper is told which packages it touches (touched_by).
+-- SetDay makes the day of the command the register's day (effect). SetPolicy and LoadProject put a policy or a project
+-- where its key or name belongs, in place of the one that is there. DropPolicy and DropProject remove it (policies_by,
+-- projects_by, held_after). The definitions take the day of a command beside its action, but only SetDay has an effect
+-- that depends on it. The keeper gets the packages that the command touches (touched_by).
 use Rattle.std.specs.Prelude.{ℕ, ◌+◌, ◌++◌, not, Bool, true, false, List, [], ◌∷◌, Option, Some, None, if◌then◌else◌}
 use Rattle.std.specs.Prelude.{length, filter, map}
 use Rattle.std.specs.Option.{option_map_or}

@@ -1,11 +1,11 @@
--- When files are told that what they hold is held already (ours).
+-- When the verdict on files is that what they hold is held already (ours).
 --
--- Files say what is held (SayWhatIsHeld) where all of this holds. Their criteria are those held beside the built-in
--- ones, and their entries the own ones but for exemptions with a last day, each in any order. The peers of the config
--- file are those held, with these settings. The imports file says of each what is held of it and of no other peer
--- anything (SaysWhatIsHeld, each_is_set). Publisher records, policies and what is said to the tool alone are equal. Of
--- two sets of three files this may hold of one as of the other, and their imports files may have the same peers. Then
--- they say the same (SayTheSame).
+-- Files say what is held (SayWhatIsHeld) if all of this holds. Their criteria are those held besides the built-in ones,
+-- and their entries are the own ones apart from exemptions with a last day, each in any order. The peers of the config
+-- file are those held, with these settings. The imports file says of each what is held of it, and says nothing of any
+-- other peer (SaysWhatIsHeld, each_is_set). Publisher records, policies and what is said to the tool alone are equal.
+-- Two sets of three files say the same (SayTheSame) if either says what is held whenever the other does, and their
+-- imports files have the same peers.
 use Rattle.std.specs.Prelude.{◌≡◌, ◌↔◌, true, List, Ok, map}
 use Rattle.std.specs.List.{All}
 use Rattle.vet_base.specs.Day.{DayValue}
@@ -43,7 +43,7 @@ SaysWhatIsHeld contents peer =
     × SameItems (as_peers peer.settings.name (content_for contents peer.settings.name).entries)
     (entries_of peer.content.entries)
 
--- files say what is held, each list in whatever order, and nothing else; exemptions with a last day are passed over
+-- files say what is held, each list in any order, and nothing else; exemptions with a last day are ignored
 pub record SayWhatIsHeld (held : HeldValue) (f : FilesValue) : Type 0 where
   pub criteria : SameItems f.criteria (further held.facts.criteria)
   pub entries : SameItems (as_of Own f.entries) (undated (entries_of held.facts.entries))
@@ -54,7 +54,7 @@ pub record SayWhatIsHeld (held : HeldValue) (f : FilesValue) : Type 0 where
   pub policies : f.policies ≡ held.policies
   pub tool : tool_of_files f ≡ held.settings
 
--- files are told so just where they say what is held
+-- the verdict on files is Already exactly if they say what is held
 abbrev pub HeldFilesAreAlready : Type 0
 HeldFilesAreAlready =
     (s : State) (day : DayValue) (f : FilesValue) → IsSound s → IsFiles f

@@ -1,12 +1,12 @@
--- What three files put in place of what is held (ours).
+-- What is held after three files replace what was held (ours).
 --
--- ReplaceFiles puts the content of three files (FilesValue) in place of all that is held but projects, own exemptions
--- with a last day and the register's day (facts_of_files, tool_of_files). Own entries are those of the audits file and
--- then the exemptions, each once. A peer is held for each of the config file, with what the imports file says of it.
--- That is nothing if it is not there (peers_after, content_for). Of each source, entries that come again keep their
--- numbers and stand first; and among one's own so do the exemptions with a last day, each at its place
--- (entries_after). The new ones get the next numbers in the order of reading. One's own come first, and then peer by
--- peer in the order of their names (new_of_files). The desk stays.
+-- ReplaceFiles puts the content of three files (FilesValue) in place of all that is held except projects, the desk, own
+-- exemptions with a last day and the register's day (facts_of_files, tool_of_files). Own entries are those of the
+-- audits file and then the exemptions, each once. A peer is held for each peer of the config file, with what the
+-- imports file says of it, or nothing if it is not there (peers_after, content_for). For each source, held entries that
+-- the files have keep their numbers and come first, and so do one's own exemptions with a last day, each at its place
+-- (entries_after). The new ones get the next numbers in the order of reading: one's own, and then peer by peer in the
+-- order of their names (new_of_files).
 use Rattle.std.specs.Prelude.{ℕ, ◌+◌, List, [], ◌∷◌, filter, length}
 use Rattle.std.specs.List.{sum_by}
 use Rattle.vet_base.specs.Defined.{defined}
@@ -32,15 +32,14 @@ new_of_peer peers contents settings =
     length
     (new_entries settings.name (held_of_peer peers settings).entries (content_for contents settings.name).entries)
 
--- a peer after, where this is the next number: these settings, and what the imports file says of it
+-- a peer afterwards, given the next number: these settings, and what the imports file says of it
 abbrev pub peer_after : ℕ → List HeldPeer → List ImportedPeer → PeerSettings → HeldPeer
 peer_after next peers contents settings = record {
   settings = settings;
   content = imported settings.name next (content_for contents settings.name) (held_of_peer peers settings);
 }
 
--- the peers after, where this is the next number: the new entries of each are numbered behind those of the peers before
--- it
+-- the peers afterwards, given the next number: the new entries of each are numbered after those of the peers before it
 abbrev pub peers_after : ℕ → List HeldPeer → List ImportedPeer → List PeerSettings → List HeldPeer
 peers_after next peers contents [] = []
 peers_after next peers contents (settings ∷ rest) =
@@ -54,8 +53,8 @@ new_own facts f = length (new_of Own facts.entries f.entries)
 abbrev pub new_of_files : Facts → FilesValue → ℕ
 new_of_files facts f = new_own facts f + sum_by (new_of_peer facts.peers f.contents) f.settings
 
--- the facts of packages after, where this is the next number: new entries are numbered in the order of reading, one's
--- own before those of peers
+-- the facts of packages afterwards, given the next number: new entries are numbered in the order of reading, one's own
+-- before those of peers
 abbrev pub facts_of_files : ℕ → FilesValue → Facts → Facts
 facts_of_files next f facts = record {
   criteria = defined f.criteria;
@@ -76,7 +75,7 @@ count_of_peer contents settings = length (content_for contents settings.name).en
 abbrev pub entries_in_files : FilesValue → ℕ
 entries_in_files f = length f.entries + sum_by (count_of_peer f.contents) f.settings
 
--- how many entries are held after: those, and one's own exemptions with a last day
+-- how many entries are held afterwards: those, and one's own exemptions with a last day
 abbrev pub entries_of_files : Facts → FilesValue → ℕ
 entries_of_files facts f = length (filter is_dated facts.entries) + entries_in_files f
 

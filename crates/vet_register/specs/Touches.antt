@@ -4,11 +4,12 @@
 -- (touched_by). An own entry touches its package, and publisher records touch theirs. A peer touches the packages of
 -- its entries, by its content before and after. A policy or a project touches the packages at which the demand before
 -- differs from the demand after: those of the pairs that only one of the two has (pairs_between), which a walk along
--- both in order finds. A criterion touches all packages, and so do files. Another day touches the packages of the own
--- entries that have lapsed by only one of the two days (packages_lapsing). Everything else touches none.
+-- both in order finds. A criterion touches all packages, and so do files. SetDay touches the packages of the own
+-- entries that have lapsed on only one of the register's day and the command's (packages_lapsing). Everything else
+-- touches none.
 --
--- Before the edit of a command is made, either the touched packages are known, or it is known that the demand will
--- tell them (Touching, touched_with).
+-- Before the edit of a command is made, either the touched packages are known, or it is known that they depend on the
+-- demand after it (Touching, touched_with).
 use Rattle.std.specs.Prelude.{Bool, not, List, [], ◌∷◌, filter, map, Option, Some, None}
 use Rattle.std.specs.Bool.{beq}
 use Rattle.std.specs.FinSet as set
@@ -51,12 +52,12 @@ package_added (Some entry) = entry_package entry ∷ []
 abbrev pub packages_of_peer : Facts → Name → List Name
 packages_of_peer facts name = map held_package (holding_or_none (peer_of facts.peers name)).entries
 
--- a held entry has lapsed by only one of two days
+-- a held entry has lapsed on only one of two days
 abbrev pub lapses_between : Option DayValue → Option DayValue → HeldEntry → Bool
 lapses_between before after held =
     not (beq (has_lapsed held.entry.kind before) (has_lapsed held.entry.kind after))
 
--- the packages of the own entries that have lapsed by only one of the register's day and another
+-- the packages of the own entries that have lapsed on only one of the register's day and another day
 abbrev pub packages_lapsing : Facts → DayValue → List Name
 packages_lapsing facts day = map held_package (filter (lapses_between facts.today (Some day)) facts.entries)
 

@@ -16,8 +16,8 @@
 --   18 number. 6 with the least of its criteria that the table lacks. For a wildcard or trusted entry, 11 where its
 --   last day comes before its first (ends_before_it_begins). For such a one, 12 where its last day comes more than
 --   366 days after the day of the command (ends_too_late). Days are compared by number, so that where the sum is
---   past 9999-12-31 no day comes too late. For an exemption, 11 where it has a last day, which comes before the day of
---   the command (is_over); the register's day doesn't matter.
+--   past 9999-12-31 no day comes too late. For an exemption, 11 where it has a last day that is before the day of the
+--   command (is_over); the register's day doesn't matter.
 -- - DropEntry: 18 step; 10 where no own entry has the number.
 -- - SetPeer: Already where a peer of its name is held with equal settings (has_settings). 18 peers, where its name
 --   is new and 64 are held (peer_limit). 18 step. 6 with the least target of its map that the table lacks.
@@ -37,17 +37,17 @@
 -- - DropProject: 18 step; 15 where no project has the name (held_project).
 -- - ReplaceFiles: Already where all that the files hold is held as sets, and nothing else except projects and own
 --   exemptions with a last day (has_files). Each criterion is held and there are as many (has_criteria), and the own
---   entries are those held, but for these exemptions (same_entries). Each peer of the config file is held with these
+--   entries are those held, apart from these exemptions (same_entries). Each peer of the config file is held with these
 --   settings and this content and there are as many (has_peers). Publisher records, policies and what is said to the
 --   tool alone are equal (has_lists). It is never Already where the imports file has a peer that the config file lacks
---   (each_is_set). 9 where with the built-in ones there are more than MOST_CRITERIA (counted). Then what there would be
---   after it (files_limits). 18 peers, of the config file. 18 entries: own ones, those of the config file's peers, and
---   the exemptions with a last day, which stay (entries_of_files). 18 publishers; 18 policies; 18 step; 18 number. 6
---   with the least name that the files' own criteria and the built-in ones lack, whatever was held (unknown_of_files).
---   The names are of what criteria imply, and of what own entries, exemptions, policies and targets of maps name. 13
---   where the imports file has a peer that the config file lacks. 8 where a review that is not closed, or an exemption
---   that stays, names a criterion that the files' own and the built-in ones lack (names_beyond). Windows are not
---   judged.
+--   (each_is_set). 9 where there are more than MOST_CRITERIA, including the built-in ones (counted). Then the limits of
+--   what would be held afterwards (files_limits): 18 peers, of the config file; 18 entries: own ones, those of the
+--   config file's peers, and the exemptions with a last day, which are kept (entries_of_files); 18 publishers; 18
+--   policies; 18 step; 18 number. 6 with the least name that is neither built in nor one of the files' own criteria,
+--   whatever was held (unknown_of_files), among what criteria imply and what own entries, exemptions, policies and
+--   targets of maps name. 13 where the imports file has a peer that the config file lacks. 8 where a review that is not
+--   closed, or an exemption that is kept, names a criterion that is neither built in nor one of the files'
+--   (names_beyond). Windows are not checked.
 -- - Desk: the parts of the desk's verdict, by the table of criteria and the demand as they stand, and what the
 --   register asks between them. Already where the desk has what is set or added (desk_held), without a number. 18
 --   members or reviews (desk_limits). 18 step, except for FinishReview (step_before_rules). 18 number of a review
@@ -55,8 +55,8 @@
 --   all these (limits_after_rules). It is of entries, step and number where its entry is added (entry_limits), and
 --   of the step alone where an equal own one is held.
 -- - ClosePeriod: 18 step, and nothing else; it leaves no moves, so 25 never comes.
--- - SetDay: Already where the day of the command is the register's (is_today). 18 step. 32 where it comes before the
---   register's (goes_back).
+-- - SetDay: Already where the day of the command is the register's day (is_today). 18 step. 32 where it is before the
+--   register's day (goes_back).
 --
 -- After these, for each: 25 where after it more moves would be recorded than the limit (moves_fit, count_after).
 -- Else it is accepted. Group by group these are held_as, limits, references, rules and moves_fit; of these, limits
@@ -184,8 +184,8 @@ project_limit s name =
     (is_none (project_at s.held.projects name) && nat_lt MOST_PROJECTS (length s.held.projects + 1))
     (TooLarge limit.Projects)
 
--- what files hold is not too much, with what stays: too many criteria come first, then as much as there would be of
--- each thing
+-- what files hold is not too much, together with what is kept: first too many criteria, then the limit of each other
+-- thing
 abbrev pub files_limits : State → FilesValue → Told (Unit {0})
 files_limits s f =
     refuse_if (nat_lt MOST_PEERS (length f.settings)) (TooLarge limit.Peers) >>= λ _.
@@ -274,7 +274,7 @@ abbrev pub window_rules : DayValue → Window → Told (Unit {0})
 window_rules day w =
     refuse_if (ends_before_it_begins w) EmptyWindow >>= λ _. refuse_if (ends_too_late day w) WindowTooLong
 
--- only wildcard and trusted entries have a window; the last day of an exemption isn't over by the day of the command
+-- only wildcard and trusted entries have a window; the last day of an exemption isn't over on the day of the command
 abbrev pub kind_rules : DayValue → Kind → Told (Unit {0})
 kind_rules day (Wildcard window grant) = window_rules day window
 kind_rules day (Trusted window) = window_rules day window
@@ -286,14 +286,15 @@ abbrev pub is_used : State → Name → Bool
 is_used s name =
     is_named s.held.facts name || (list_any (policy_names name) s.held.policies || are_open_for s.desk.reviews name)
 
--- what files leave names a criterion that a table lacks: a review that isn't closed, or an own exemption with a last
--- day
+-- something that files keep names a criterion that a table lacks: a review that isn't closed, or an own exemption with
+-- a last day
 abbrev pub names_beyond : State → Criteria → Bool
 names_beyond s table = are_open_beyond table s.desk.reviews || list_any (is_dated_beyond table) s.held.facts.entries
 
 -- a built-in criterion is neither set nor removed, nor one removed that another implies, or that an own entry, a target
--- of a peer's map, a policy or an open review names; files lack none that what they leave names; a window keeps its
--- rules, and a command to the desk those of the desk, by the demand as it stands; the register's day doesn't go back
+-- of a peer's map, a policy or an open review names; files lack none that is named by something they keep; a window
+-- keeps its rules, and a command to the desk those of the desk, by the present demand; the register's day doesn't go
+-- back
 abbrev pub rules : State → DayValue → Action → Told (Unit {0})
 rules s day (SetCriterion c) = set_rules c.name
 rules s day (RemoveCriterion name) =

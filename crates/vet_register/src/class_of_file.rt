@@ -35,8 +35,8 @@ use vet_graph::pair_class::class_of_pair;
 ///
 /// Refused, the first that holds: `BadName` and `BadVersion` of the words; `TooLarge` of `input` for a file of
 /// more than 8,388,608 bytes; `TomlRefused`, `FieldRefused` and `TooLarge` of `text` of the file;
-/// `TooManyCriteria` where with the built-in ones there are more than `MOST_CRITERIA`; `UnknownCriterion` of the
-/// least name in the file or the words that is no criterion. `NoMemory` can come at any point.
+/// `TooManyCriteria` if there are more than `MOST_CRITERIA`, including the built-in ones; `UnknownCriterion` of the
+/// least name in the file or the words that is not a criterion. `NoMemory` can come at any point.
 pub fn class_of_file(
     alloc: Global,
     file: &[u8],

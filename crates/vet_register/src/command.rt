@@ -54,15 +54,15 @@ pub enum Action {
     LoadProject(NamedProject),
     /// Drops the project of this name.
     DropProject(PackageName),
-    /// Puts what three files hold in place of all that is held but projects, own exemptions with a last day and the
-    /// register's day; the desk stays. An entry that was held before, of the same source, keeps its number; a peer of
-    /// the config file that the imports file lacks is held with nothing imported.
+    /// Replaces all that is held by what three files hold, except projects, the desk, own exemptions with a last day
+    /// and the register's day. An entry that was held before, of the same source, keeps its number. A peer of the
+    /// config file that the imports file lacks is held with nothing imported.
     ReplaceFiles(FilesContent),
     /// What is asked of the desk. A review that is finished adds an own entry, unless an equal one is held.
     Desk(DeskCommand),
     /// Begins another period: the counts at first are those that are present, and no move is recorded any more.
     ClosePeriod,
-    /// Makes the day of the command the register's own, by which exemptions lapse.
+    /// Makes the day of the command the register's day. Exemptions whose last day is before it have lapsed.
     SetDay,
 }
 

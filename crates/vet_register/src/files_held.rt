@@ -1,4 +1,4 @@
-//! What is held after three files take the place of what was held. The register's day stays.
+//! What is held after three files replace what was held. The register's day and exemptions with a last day are kept.
 //!
 //! **An entry that was held before, of the same source, keeps its number, and the new ones get the next numbers in the
 //! order of reading: one's own, and then those of the peers in the order of their names.**
@@ -31,8 +31,8 @@ use vet_entries::peer_settings::PeerSettings;
 use vet_entries::replaced::entries_keep_order;
 use vet_files::files_content::FilesContent;
 
-/// All that is held after, where this is the next number. Copies all that the files hold, and the entries that come
-/// again. Refused: `NoMemory`.
+/// All that is held afterwards, given the next number. Copies all that the files hold, and the held entries that
+/// remain. Refused: `NoMemory`.
 pub(crate) fn files_held(
     alloc: Global,
     next: u64,
@@ -57,7 +57,7 @@ pub(crate) fn files_held(
     })
 }
 
-// The facts of packages after.
+// The facts of packages afterwards.
 fn facts_after(
     alloc: Global,
     next: u64,
@@ -85,7 +85,7 @@ fn facts_after(
     EntryFacts::of_parts(alloc, criteria, entries, peers, publishers, facts.today())
 }
 
-// The peers after, whose new entries are numbered behind one's own.
+// The peers afterwards, whose new entries are numbered after one's own.
 fn peers_after(
     alloc: Global,
     next: u64,
@@ -116,7 +116,7 @@ fn peers_after(
     Ok(peers)
 }
 
-// A peer after, where this is the next number.
+// A peer afterwards, given the next number.
 fn peer_after(
     alloc: Global,
     next: u64,

@@ -1,7 +1,7 @@
 //! The verdict on a command that replaces what is held by three files.
 //!
-//! Except for the room for its moves, it depends only on the files, on what stays and on the numbers that are left, so
-//! nothing has to be built of them before.
+//! Except for the room for its moves, it depends only on the files, on what is kept and on the numbers that are left.
+//! So nothing has to be built from the files before the verdict is known.
 ghost use Rattle.std.specs.FinMap as map;
 ghost use Rattle.std.specs.FinSet as set;
 ghost use Rattle.std.specs.List.{All, list_all};
@@ -74,7 +74,7 @@ impl<K: Keeper> Register<K> {
         Ok(Some(comparison))
     }
 
-    // What files are asked that do not hold what is held.
+    // The checks on files that change something.
     fn check_files(
         &self,
         alloc: Global,
@@ -92,8 +92,8 @@ impl<K: Keeper> Register<K> {
         self.check_what_stays(&known)
     }
 
-    // Whether what files leave names criteria of these alone: reviews that aren't closed, and own exemptions with a
-    // last day.
+    // Whether reviews that aren't closed and own exemptions with a last day, which files keep, name only these
+    // criteria.
     fn check_what_stays(&self, known: &DefinedNames) -> Result<(), Refusal>
         ensures { result ≡ refuse_if (names_beyond self.now.state known.now.table) CriterionInUse }
     {
@@ -106,7 +106,7 @@ impl<K: Keeper> Register<K> {
         Ok(())
     }
 
-    // Whether files hold too much with what stays, where so many of their entries are new.
+    // Whether files hold too much, together with what is kept, if this many of their entries are new.
     fn check_files_limits(
         &self,
         files: &FilesContent,
@@ -131,7 +131,7 @@ impl<K: Keeper> Register<K> {
         self.check_number_limit(comparison.new_count())
     }
 
-    // How many own entries are exemptions with a last day, which stay.
+    // How many own entries are exemptions with a last day, which files keep.
     fn dated_count(&self) -> usize
         ensures value { result ≡ length (filter is_dated self.now.state.held.facts.entries) }
         ensures few { result ≤ MOST_ENTRIES }
@@ -143,7 +143,7 @@ impl<K: Keeper> Register<K> {
 
 // ---- whether all is held already
 
-// Whether all that files hold is held, as sets, and nothing else but projects and own exemptions with a last day.
+// Whether all that files hold is held, as sets, and nothing else except projects and own exemptions with a last day.
 fn has_files(held: &Held, files: &FilesContent, comparison: &FilesComparison) -> bool
     requires { IsCompared held.now.facts.content files.now comparison.now }
     ensures { result ≡ has_files (content_of held.now) files.now }
@@ -238,8 +238,8 @@ fn says_as(settings: &ToolSettings, files: &FilesContent) -> bool
 
 // ---- limits
 
-// Whether there are more entries than so many: these that stay, the own ones of files, and those of the peers of the
-// config file.
+// Whether there would be more than `most` entries: those that are kept, the own ones of files, and those of the peers
+// of the config file.
 fn has_more_entries(files: &FilesContent, staying: usize, most: usize) -> bool
     requires { staying ≤ most }
     ensures { result ≡ nat_lt most (staying + entries_in_files files.now) }

@@ -1,8 +1,8 @@
 //! What the files of a register hold, as copies.
 //!
-//! **What each file of a register is written from is what is held, and what such a file can give: so it is read
-//! again as the same content, which in an imports file has no entries of excluded packages, and in a config file no
-//! exemptions with a last day.**
+//! **Each file of a register is written from what is held and what such a file can give, so it is read back as the same
+//! content, except that an imports file has no entries of excluded packages, and a config file no exemptions with a
+//! last day.**
 ghost use Rattle.std.specs.List.{All, filter, filter_map};
 ghost use Rattle.std.specs.Option.{option_copied};
 ghost use Rattle.std.specs.Prelude.{◌≡◌, IfErr, IfOk, map};
@@ -61,8 +61,8 @@ impl<K: Keeper> Register<K> {
 
     /// Copies of what a config file holds of the register (The Cargo Vet Book, config file): the version of cargo-vet
     /// and the default criteria, how each peer is imported, in the order of their names, the policies in that of
-    /// their keys, and its own exemptions in that of their numbers. Those with a last day are among them; the writer
-    /// leaves them out. Refused: `NoMemory`.
+    /// their keys, and its own exemptions in that of their numbers. These include the ones with a last day, which the
+    /// writer leaves out. Refused: `NoMemory`.
     pub fn held_config(&self, alloc: Global) -> Result<ConfigContent, Refusal>
         ensures content { IfOk result (λ c. c ≡ config_of self.now.state.held) }
         ensures readable { IfOk result IsConfig }

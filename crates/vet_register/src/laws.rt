@@ -1,8 +1,8 @@
 //! Laws on the verdicts, for callers to cite: each law is a function that does nothing.
 //!
 //! **The verdict on an import is that its content is held already exactly if its criteria and entries are those held of
-//! the peer, in whatever order. So after an import the same content changes nothing. Likewise three files change
-//! nothing exactly if they say what is held but for own exemptions with a last day, each list in whatever order.**
+//! the peer, in any order. So after an import the same content changes nothing. Likewise three files change nothing
+//! exactly if they say what is held apart from own exemptions with a last day, each list in any order.**
 //!
 //! **For a review that is opened, too many reviews are found first, then the step, then its number, and then what it
 //! refers to; for one that is finished, first what it refers to. A period that is closed is checked for its step
@@ -13,24 +13,23 @@ ghost use Rattle.vet_register.specs.ToldInOrder.{FinishedIsHeldBeforeStep, Numbe
 ghost use Rattle.vet_register.specs.ToldInOrder.{ReviewsBeforeStep, StepBeforeNumber};
 ghost use Rattle.vet_register.specs.Untouched.{UntouchedClassesStay, UntouchedStays};
 
-/// An import from a held peer changes nothing just where its criteria and its entries are those held, in whatever
-/// order.
+/// An import from a held peer changes nothing exactly if its criteria and its entries are those held, in any order.
 pub fn held_content_is_already()
     ensures { HeldContentIsAlready }
 {}
 
-/// After an import, an import of the same criteria and the same entries, in whatever order, changes nothing.
+/// After an import, an import of the same criteria and the same entries, in any order, changes nothing.
 pub fn repeated_import_is_already()
     ensures { RepeatedImportIsAlready }
 {}
 
-/// Files change nothing just where they say what is held, each list in whatever order, and nothing else is held but
+/// Files change nothing exactly if they say what is held, each list in any order, and nothing else is held except
 /// projects and own exemptions with a last day.
 pub fn held_files_are_already()
     ensures { HeldFilesAreAlready }
 {}
 
-/// After files were put in place, files that say the same, each list in whatever order, change nothing.
+/// After three files were loaded, files that say the same, each list in any order, change nothing.
 pub fn repeated_files_are_already()
     ensures { RepeatedFilesAreAlready }
 {}

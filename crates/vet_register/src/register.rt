@@ -1,39 +1,33 @@
 //! The machine that keeps the accepted commands.
 //!
-//! **A demanded pair is in the class that chains of entries give it and in no other, and each class has what it
-//! had at first, with what came since and without what went.**
+//! **A demanded pair is in the class that chains of entries give it and in no other, and each class has the pairs that
+//! it had when the period began, with those that came since and without those that left.**
 //!
-//! A command goes in two calls, so that a caller can write down in between what it changes. `prepare` does all that
-//! can fail: it judges the command (`verdict`), makes the edit that it asks for (`edits`), has the keeper plan the
-//! standing after it, and takes room for all that will be added. The state stays. `install` makes the change, takes
-//! no memory and can't fail. A change that isn't installed is let go. What is asked of the review desk goes the same
-//! two ways there (`at_desk`).
+//! A command takes two calls, so that a caller can save its changes in between. `prepare` does all that can fail: it
+//! judges the command (`verdict`), makes its edit (`edits`), has the keeper plan the standing after it, and takes room
+//! for all that will be added. The state stays as it is. `install` makes the change, takes no memory and can't fail. A
+//! change that isn't installed is dropped. A command to the review desk takes the same two calls (`at_desk`).
 //!
 //! To plan (`plan`), the register makes the edit, finds the demand, asks the keeper, and makes the edit that undoes it,
-//! whether or not there was memory. So what is held is never copied, and the edit that comes back is the one that
-//! `install` makes.
-//!
-//! What a change makes of a state is one equation (`changed`). Where it is prepared, the command is at hand: there it
-//! is proved to be the machine's step, and the state after it to be sound. `install` makes what the equation says,
-//! for all commands alike.
+//! whether or not there was memory. So what is held is never copied, and the edit that undoing returns is the one that
+//! `install` makes. The effect of a change on a state is one equation (`changed`), which is proved to be the machine's
+//! step, to a sound state, where the change is prepared. `install` does what it says, in the same way for all commands.
 //!
 //! The parts of `prepare`, in their order, and where each takes memory:
-//!
-//! - The verdict (`verdict`; of files `files_verdict`, of the desk `at_desk`, of a day `today`): is it held already,
-//!   limits, references, rules. It takes memory for the name of an unknown criterion. To compare an import or files,
-//!   and to make the entry of a finished review, it takes more.
-//! - The edit (`edits`, `at_desk`, `today`): copies of what is set or added, and room for it, and the names of the
-//!   packages that are touched (`touching`). Commands that drop a policy, a project or a criterion take none here, nor
-//!   does ClosePeriod.
+//! - The verdict (`verdict`; for files `files_verdict`, for the desk `at_desk`, for SetDay `today`): held already,
+//!   limits, references, rules. It takes memory for the name of an unknown criterion, and more to compare an import or
+//!   files, and to make the entry of a finished review.
+//! - The edit (`edits`, `at_desk`, `today`): copies of what is set or added, room for it, and the names of the packages
+//!   that are touched (`touching`). Commands that drop a policy, a project or a criterion take none here, nor does
+//!   ClosePeriod.
 //! - The plan (`plan`): the demand after the edit, the standing by it, and the moves to that. Between an edit and its
 //!   undo the demand is found anew, unless the edit keeps it (`keeps_demand`).
 //! - The change (`plan`): whether the moves fit, copies of those to record, and room for them.
 //!
-//! Where memory is wanting in any part, the refusal is `NoMemory` and the state is as it was.
-//!
-//! `install` asks that this register prepared the change, on this state, and still has the room. Another command that
-//! is prepared in between leaves the state, loses no room (`KeepsRoom`) and no planned update (`KeepsReady`). So
-//! what was prepared stays prepared (`KeepsPrepared`), and can be installed after it.
+//! If memory runs out in any part, the refusal is `NoMemory` and the state is as it was. `install` asks that this
+//! register prepared the change, on this state, and still has the room. Preparing another command in between changes no
+//! state, and loses no room (`KeepsRoom`) and no planned update (`KeepsReady`). So what was prepared stays prepared
+//! (`KeepsPrepared`), and can be installed afterwards.
 ghost use Rattle.std.specs.Prelude.{◌≡◌, ◌<◌, ◌≤◌, Ok, IfOk, IfErr, OnErr, length, map};
 ghost use Rattle.vet_base.specs.Gives.{Gives};
 ghost use Rattle.vet_graph.specs.Standing.{class_in, counts_of, total_of};
@@ -210,11 +204,11 @@ impl<K: Keeper> Register<K> {
     /// `publishers`, `policies`, `projects`, `members`, `reviews`, `step` or `number`; `UnknownCriterion`,
     /// `UnknownEntry`, `UnknownPeer`, `UnknownPolicy`, `UnknownProject`, `UnknownMember`, `UnknownReview`;
     /// `BuiltInCriterion`, `CriterionInUse`, `EmptyWindow`, `WindowTooLong`, `ReviewClosed`, `NotYours`, `WrongTarget`,
-    /// `NotDemanded`, `DayGoesBack`; `MovesFull`. Of a review that is finished `TooLarge` comes after the rules.
-    /// `NoMemory` comes in place of `UnknownCriterion`, or if none before `MovesFull` holds. A command whose content is
-    /// held never meets it, except an import and files: to compare these with what is held takes memory, so it comes in
-    /// place of anything. The entry of a review that is finished is compared too, once the rules of the desk are
-    /// passed: it comes in place of what would be found after these, and of nothing before.
+    /// `NotDemanded`, `DayGoesBack`; `MovesFull`. For a review that is finished, `TooLarge` comes after the rules.
+    /// `NoMemory` replaces `UnknownCriterion`, or comes if no refusal before `MovesFull` holds. A command whose content
+    /// is held is never refused so, except an import and files: comparing these with what is held takes memory, so
+    /// `NoMemory` may replace any verdict. The entry of a finished review is compared too, after the rules of the desk:
+    /// `NoMemory` may replace what would be found after these, and nothing before.
     pub fn prepare(&mut self, alloc: Global, command: &Command) -> Result<Prepared<K>, Refusal>
         ensures told { Gives answer_of (verdict self.old.state command.now) result }
         ensures exact { IsExact (wants_memory self.old.state command.now.action)

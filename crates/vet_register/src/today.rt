@@ -1,9 +1,9 @@
-//! The register's day, and the command that moves it on: its verdict and its effect.
+//! The register's day, and SetDay, the command that changes it: its verdict and its effect.
 //!
-//! **The register's day is that of the last SetDay, and never goes back.**
+//! **The register's day is the day of the last accepted SetDay, and never goes back.**
 //!
-//! The day of another command isn't compared with it. Exemptions lapse by it, so SetDay touches the packages of those
-//! that have lapsed by only one of the day before and its own.
+//! The day of any other command isn't compared with it. An exemption has lapsed if the register's day is after its last
+//! day. So SetDay touches the packages of the exemptions that have lapsed on only one of the old and the new day.
 ghost use Rattle.std.specs.Prelude.{◌≡◌};
 ghost use Rattle.vet_base.specs.Gives.{Answers};
 ghost use Rattle.vet_register.specs.RegisterView.{Asks, KeepsRoom};
@@ -29,7 +29,8 @@ impl<K: Keeper> Register<K> {
         self.held.facts.today()
     }
 
-    /// What SetDay asks for on a day.
+    /// What SetDay changes on a day, or that this is the register's day already. Refused, the first that holds:
+    /// `TooLarge` of `step`; `DayGoesBack` if the day is before the register's. `NoMemory` if no check refuses.
     pub(crate) fn set_day(&mut self, alloc: Global, day: Day) -> Result<Asked, Refusal>
         ensures asked { Asks self.old.state self.new day action.SetDay
             (judged self.old.state day action.SetDay) result }
@@ -65,7 +66,7 @@ impl<K: Keeper> Register<K> {
     }
 }
 
-// Whether a day is the register's, where this is the register's.
+// Whether a day is the register's day, `today`.
 fn is_today(today: Option<Day>, day: Day) -> bool
     ensures { result ≡ is_today today day }
 {
@@ -75,7 +76,7 @@ fn is_today(today: Option<Day>, day: Day) -> bool
     }
 }
 
-// Whether a day comes before the register's.
+// Whether a day is before the register's day, `today`.
 fn goes_back(today: Option<Day>, day: Day) -> bool
     ensures { result ≡ goes_back today day }
 {

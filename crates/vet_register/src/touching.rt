@@ -1,7 +1,7 @@
 //! The packages that a command touches.
 //!
-//! An entry, a peer, publisher records and a day tell their packages before their edit is made. A policy and a project
-//! do not: they touch the packages at which the demand after the edit differs from the demand before it.
+//! The packages that an entry, a peer, publisher records or a day touches are known before the edit is made. Those of a
+//! policy or a project are not: they are the packages at which the demand after the edit differs from that before it.
 ghost use Rattle.std.specs.Prelude.{◌≡◌, ◌++◌, ◌∷◌, [], IfErr, IfOk, OnOk, filter, map};
 ghost use Rattle.std.specs.FinSet as set;
 ghost use Rattle.vet_register.specs.Touches.{entry_package, held_package, lapses_between, only_at, packages_between};
@@ -61,8 +61,8 @@ pub(crate) fn entries_touched(
     Ok(only_at(alloc, names)?)
 }
 
-/// The packages of the own entries that have lapsed by only one of the register's day and another are touched. Costs a
-/// look at each own entry. Refused: `NoMemory`.
+/// The packages of the own entries that have lapsed on only one of the register's day and another day are touched.
+/// Costs a look at each own entry. Refused: `NoMemory`.
 pub(crate) fn lapsing_touched(
     alloc: Global,
     facts: &EntryFacts,
@@ -94,7 +94,7 @@ fn push_of_held(names: &mut Vec<PackageName>, entries: &[HeldEntry]) -> Result<(
     Ok(())
 }
 
-// Adds the packages of those held entries that have lapsed by only one of two days.
+// Adds the packages of the held entries that have lapsed on only one of two days.
 fn push_of_lapsing(
     names: &mut Vec<PackageName>,
     entries: &[HeldEntry],
@@ -112,7 +112,7 @@ fn push_of_lapsing(
     Ok(())
 }
 
-// Whether a held entry has lapsed by only one of two days.
+// Whether a held entry has lapsed on only one of two days.
 fn lapses_between(held: &HeldEntry, before: Option<Day>, after: Option<Day>) -> bool
     ensures { result ≡ lapses_between before after held.now }
 {

@@ -444,8 +444,8 @@ fn check_built_in(name: &Name) -> Result<(), Refusal>
     Ok(())
 }
 
-// A window does not end before it begins, and ends soon enough after the day of the command. The last day of an
-// exemption isn't over by that day.
+// Refuses a window that ends before it begins, or too long after the day of the command, and an exemption whose last
+// day is before that day.
 fn check_kind(day: Day, kind: &Kind) -> Result<(), Refusal>
     ensures { result ≡ kind_rules day kind.now }
 {

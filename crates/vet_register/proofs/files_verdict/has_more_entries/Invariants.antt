@@ -1,4 +1,4 @@
--- The room that the entries that stay, own ones and those of the peers so far leave.
+-- The room that is left by the entries that are kept, the own ones, and those of the peers so far.
 use Rattle.std.proofs.Common.{◌≡◌, ◌+◌, length, take}
 use Rattle.std.specs.List.{sum_by}
 use Rattle.vet_register.specs.Replacing.{count_of_peer}

@@ -1,4 +1,4 @@
--- The packages of the entries so far that have lapsed by only one of the two days.
+-- The packages of the entries so far that have lapsed on only one of the two days.
 use Rattle.std.proofs.Common.{◌≡◌, ◌++◌, filter, map, take}
 use Rattle.vet_register.specs.Touches.{held_package, lapses_between}
 use Rattle.vet_register.proofs.touching.push_of_lapsing.Given as goal
