@@ -123,7 +123,7 @@ listed es = listed_entries Exemptions no_names es
 abbrev IsOwn : Entry → Type 0
 IsOwn e = is_own_exemption e ≡ true
 
--- those that are written are those without a last day
+-- the exemptions without a last day are the ones that are written
 exempt_written : (k : Kind) → is_exemption k ≡ true → (is_listed Exemptions k && true) ≡ not (has_last_day k)
 exempt_written (Full v a) h = absurd (false≢true h)
 exempt_written (Delta d a) h = absurd (false≢true h)

@@ -285,7 +285,7 @@ exemption_read e v suggest values version suggested =
     )
     refl))
 
--- of one with a last day nothing is asked: no file gives it
+-- nothing is asked of an exemption with a last day: no file can have it
 any_exemption_read : (e : Entry) (v : VersionValue) (suggest : Option Bool) (last : Option DayValue)
     → ReadsEntry (of_kind e (Exemption v suggest None)) → ReadsEntry (of_kind e (Exemption v suggest last))
 any_exemption_read e v suggest None reads = reads
@@ -298,7 +298,7 @@ any_exemption_read e v suggest (Some day) reads = record {
     none Ours = refl
     none Peers = refl
 
--- so an entry is read as it, if it would be without its last day
+-- so an exemption is read back if it would be without its last day
 pub exemption_entry_read : (e : Entry) (v : VersionValue) (suggest : Option Bool) (last : Option DayValue)
     → e.kind ≡ Exemption v suggest last → ReadsEntry (of_kind e (Exemption v suggest None)) → ReadsEntry e
 exemption_entry_read e v suggest last is reads =

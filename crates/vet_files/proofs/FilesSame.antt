@@ -138,7 +138,7 @@ of_both es fs xs ys x first second among =
 
 -- ---- the files
 
--- where none has a last day, none is left out
+-- if none has a last day, none is left out
 all_undated : (es : List Entry) → AreUndated es → undated es ≡ es
 all_undated es none = filter_keeps (λ e. not (has_last_day e.kind)) es (λ k d l. ap not (none k d l))
 

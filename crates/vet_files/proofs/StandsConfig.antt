@@ -118,7 +118,7 @@ policies-in_order ms =
 
 -- ---- the file
 
--- what stands in the table of exemptions is one, without a last day
+-- an entry of the table of exemptions is one, without a last day
 listed-exempts : (k : Kind) → is_listed listing.Exemptions k ≡ true → is_exemption k ≡ true
 listed-exempts (Full v a) h = absurd (false≢true h)
 listed-exempts (Delta d a) h = absurd (false≢true h)

@@ -106,7 +106,7 @@ policies_told ms = table_at TOP POLICY ms >>= all_policies_told
 
 -- ---- `exemptions`
 
--- the exemption of a table, which has no last day: `last-day` is a key that is not known, and is counted
+-- the exemption of a table, which has no last day: `last-day` is an unknown key, and is counted
 abbrev pub exemption_told : Reading Entry
 exemption_told name path ms =
     required a_version path VERSION ms >>= λ version.

@@ -67,7 +67,8 @@ entry_table e = fields (entry_fields (set_data e.criteria) (some_text e.notes) e
 
 -- ---- lists of entries, by package
 
--- the kinds whose entries stand in a table of lists; no table has exemptions with a last day, for which there is no key
+-- the kinds whose entries are in a table of lists; no table has exemptions with a last day, since no file has a key for
+-- that day
 abbrev pub is_listed : Listing → Kind → Bool
 is_listed listing.Audits (Full v a) = true
 is_listed listing.Audits (Delta d a) = true

@@ -31,8 +31,8 @@ use Rattle.vet_files.specs.declared.imports_file.ImportedPeer.{ImportedPeer}
 use Rattle.vet_files.specs.declared.imports_file.ImportsContent.{ImportsContent}
 
 -- the criteria of the audits file; its entries and then the exemptions, each once; the peers of the config file and
--- those of the imports file, by name; the publisher records by package, the policies by key; and what else the config
--- file says
+-- those of the imports file, by name; the publisher records by package, the policies by key; and the other settings of
+-- the config file
 pub record FilesValue : Type 0 where
   pub criteria : List Criterion
   pub entries : List Entry

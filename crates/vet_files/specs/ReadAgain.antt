@@ -57,7 +57,7 @@ reading_of whose (Wildcard w g) = wildcard_told
 reading_of whose (Trusted w) = trusted_told whose
 reading_of whose (Exemption v s l) = exemption_told
 
--- whether entries of a kind are taken: of a peer not all, and of one's own none with a last day, which no file says
+-- whether a file can have entries of a kind: some kinds of a peer's, and of one's own those without a last day
 abbrev pub is_taken : Whose → Kind → Bool
 is_taken Ours kind = not (has_last_day kind)
 is_taken Peers kind = is_peer_kind kind

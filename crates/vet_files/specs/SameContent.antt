@@ -56,26 +56,26 @@ SameAudits a b = SameItems a.criteria b.criteria × SameItems a.entries b.entrie
 
 -- ---- config files
 
--- an exemption of one's own, with a last day or without
+-- an own exemption, with a last day or without
 abbrev pub is_own_exemption : Entry → Bool
 is_own_exemption e = is_own e.source && is_exemption e.kind
 
--- entries but for those with a last day, which no file can have
+-- the entries without a last day; no file can have the others
 abbrev pub undated : List Entry → List Entry
 undated entries = filter (λ e. not (has_last_day e.kind)) entries
 
--- none of some entries has a last day
+-- no entry of a list has a last day
 abbrev pub AreUndated : List Entry → Type 0
 AreUndated entries = All (λ e. has_last_day e.kind ≡ false) entries
 
--- what a config file can give, in any order, and exemptions with a last day, which it leaves out
+-- what a config file can give, in any order, and possibly exemptions with a last day, which the writer leaves out
 pub record IsConfig (content : ConfigContent) : Type 0 where
   pub named_once : NamedOnce (λ (p : PeerSettings). p.name) content.peers
   pub by_key : IsInKeyOrder content.policies
   pub kinds : All (λ e. is_own_exemption e ≡ true) content.exemptions
   pub once : distinct content.exemptions ≡ content.exemptions
 
--- settings, policies and exemptions as they are, and as they are read again: less the exemptions with a last day
+-- two contents of config files are the same, apart from exemptions with a last day
 pub record SameConfig (a b : ConfigContent) : Type 0 where
   pub vet_version : a.vet_version ≡ b.vet_version
   pub default_criteria : a.default_criteria ≡ b.default_criteria

@@ -30,7 +30,7 @@ use vet_entries::entry::Entry;
 use vet_entries::peer_settings::PeerSettings;
 
 /// What a config file holds: peers in the order of their names' bytes, policies in the order of their keys,
-/// and exemptions in the order of reading, each once. Exemptions with a last day may be among them, which no file says.
+/// and exemptions in the order of reading, each once. They may include exemptions with a last day, which no file has.
 #[derive(Drop)]
 pub struct ConfigContent {
     /// The version of cargo-vet that the file names.
@@ -56,11 +56,11 @@ pub fn read_config(alloc: Global, bytes: &[u8]) -> Result<Found<ConfigContent>, 
     read_config_file(alloc, &file)
 }
 
-/// A config file of some content (The Cargo Vet Book, config file; its layout is that of `toml`). What it says is
-/// `config_table` of the content; where a config file can give the content, it is read again as the same one.
+/// A config file of some content (The Cargo Vet Book, config file; its layout is that of `toml`). Its table is
+/// `config_table` of the content. If a config file can give the content, the text is read back as the same content.
 /// Exemptions with a last day are left out.
 ///
-/// Refused for want of memory alone.
+/// Refused: `NoMemory`.
 pub fn write_config(alloc: Global, content: &ConfigContent) -> Result<String, Refusal>
     ensures table { IfOk result (λ s. parse_document (string_bytes s) ≡ Some (config_table content.now)) }
     ensures read { IfOk result (λ s.

@@ -34,9 +34,9 @@ use vet_entries::entry::Entry;
 use vet_entries::peer_settings::PeerSettings;
 use vet_entries::publisher_records::PackagePublishers;
 
-/// What three files hold: an audits file, a config file and an imports file. One's own entries and then the
-/// exemptions stand in the order of reading, each once, and none has a last day; no criterion is named as a built-in
-/// one or as another.
+/// What three files hold: an audits file, a config file and an imports file. One's own entries and then the exemptions
+/// are in the order of reading, each once, and none has a last day. No criterion has the name of a built-in one or of
+/// another.
 pub struct FilesContent {
     criteria: Vec<Criterion>,
     entries: Vec<Entry>,
@@ -100,9 +100,9 @@ impl Drop for FilesContent {
 }
 
 impl FilesContent {
-    /// What three files hold. Asks that each is what its reader can give, so that no exemption has a last day. Takes a
-    /// time of n log n, moves what it is given, and holds a copy of each entry while it looks for doubles. Refused:
-    /// `NoMemory`.
+    /// What three files hold. Asks that each content is one that its reader can give, so no exemption has a last day.
+    /// Takes a time of n log n, moves what it is given, and holds a copy of each entry while it looks for duplicates.
+    /// Refused: `NoMemory`.
     pub fn of(
         alloc: Global,
         audits: AuditsContent,
@@ -321,7 +321,7 @@ fn has_more_records(packages: &[PackagePublishers], most: usize) -> bool
     false
 }
 
-/// Files whose lists are the same as sets hold the same, where no exemption has a last day: a law, which does nothing.
+/// Files whose lists are the same as sets hold the same, if no exemption has a last day: a law, which does nothing.
 pub fn same_lists_are_same()
     ensures { SameListsAreSame }
 {}

@@ -110,7 +110,7 @@ fn trusted_table(alloc: Global, entry: &Entry, window: &Window) -> Result<Table,
     Ok(table)
 }
 
-/// The table of an exemption without a last day, for which no file has a key.
+/// The table of an exemption without a last day. No file has a key for a last day.
 fn exemption_table(
     alloc: Global,
     entry: &Entry,

@@ -14,7 +14,7 @@ pub(crate) enum Listing {
 }
 
 impl Listing {
-    /// Whether entries of a kind stand in this table. Exemptions with a last day stand in none.
+    /// Whether entries of a kind are in this table. Exemptions with a last day are in none.
     pub(crate) fn holds(self, kind: &Kind) -> bool
         ensures { result ≡ is_listed self kind.now }
     {
