@@ -32,7 +32,7 @@ word_told ms = required any_text COMMAND COMMAND ms >>= λ word. found_or (fault
 abbrev pub close_period_told : Members → Told Action
 close_period_told ms = only [] ms >>= λ _. Ok ClosePeriod
 
--- the day is that of the command, and no key
+-- there is no key for the day, which is that of the command
 abbrev pub set_day_told : Members → Told Action
 set_day_told ms = only [] ms >>= λ _. Ok SetDay
 

@@ -106,7 +106,7 @@ fn read_close_period(alloc: Global, document: &Table) -> Result<Action, Refusal>
     Ok(Action::ClosePeriod)
 }
 
-/// Sets the register's day, which is that of the command.
+/// Sets the register's day to that of the command. `set-day` has no keys.
 fn read_set_day(alloc: Global, document: &Table) -> Result<Action, Refusal>
     ensures { Gives (λ action. action) (set_day_told (table_view document.now)) result }
 {

@@ -155,7 +155,8 @@ pub(crate) fn day_at(alloc: Global, path: &str, table: &Table, key: &str) -> Res
     }
 }
 
-/// The day at a key of the table of a path, where something stands there.
+/// The day at a key of the table of a path, or `None` if the key is absent. Refused: `BadDay` for a text that is not a
+/// day; `FieldRefused` for a value that is neither a text nor a local date; `NoMemory`.
 pub(crate) fn day_if_any(
     alloc: Global,
     path: &str,
