@@ -65,8 +65,8 @@ impl Rule {
     }
 }
 
-// How many searches tell the classes, where so many versions have an exempt step. A count has at most 64 binary digits,
-// and each of them has two searches.
+// How many searches the classes take if this many versions have an exempt step. A count has at most 64 binary digits,
+// and each of them takes two searches.
 pub(crate) fn searches_for(count: usize) -> usize
     ensures enough { AreEnough count result }
     ensures few { result ≤ count + 2 }

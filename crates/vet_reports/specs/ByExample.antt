@@ -94,7 +94,7 @@ review_in state = record {
   state = state;
 }
 
--- an exemption without a last day, and a day that may be its last; its criteria are told beside it
+-- an exemption without a last day, and a day that may be its last day; its criteria are given separately
 abbrev pub exemption : HeldEntry
 exemption = record {
   number = 1;

@@ -42,7 +42,7 @@ version_columns name version = left_in 24 name ∷ left_in 20 (version_text vers
 abbrev pub pair_columns : Pair → List Text
 pair_columns p = version_columns p.«package» p.version ++ left_in 20 p.criterion ∷ []
 
--- names, each but the first behind a comma
+-- names, each after a comma
 abbrev pub others_text : List Name → Text
 others_text names = flat_map (λ name. codes "," ++ name) names
 

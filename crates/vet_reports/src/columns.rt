@@ -67,7 +67,7 @@ pub(crate) fn push_names(text: &mut String, names: &[Name]) -> Result<(), AllocE
     push_others(text, others)
 }
 
-// Adds names, each behind a comma.
+// Adds names, each after a comma.
 fn push_others(text: &mut String, names: &[Name]) -> Result<(), AllocError>
     ensures { OnOk result (string_bytes text.new ≡ string_bytes text.old ++ others_text names.now) }
 {

@@ -16,10 +16,10 @@ use vet_entries::kind::Kind;
 use vet_graph::keeper::Keeper;
 use vet_register::register::Register;
 
-/// The report of last days: a line for each own exemption that has one, by number: the number right in 8 characters,
-/// the last day, package and version as in the standing, `held` or `lapsed` left in 6, and the criteria with commas
-/// between them. It has lapsed if the register's day comes after the last one. Costs a look at each own entry.
-/// Refused: `NoMemory`.
+/// The report of last days: a line for each own exemption that has one, by number. A line has the number, aligned right
+/// in 8 characters, the last day, the package, aligned left in 24, the version, aligned left in 20, `held` or `lapsed`,
+/// aligned left in 6, and the criteria that the exemption names, with commas between them. An exemption has lapsed if
+/// the register's day is after its last day. Costs a look at each own entry. Refused: `NoMemory`.
 pub fn lapses_text<K: Keeper>(alloc: Global, register: &Register<K>) -> Result<String, Refusal>
     ensures text { IfOk result (λ text. string_bytes text ≡ lapses_text register.now.state) }
     ensures memory { IfErr result (λ e. e ≡ Refusal.NoMemory) }
@@ -78,7 +78,7 @@ fn push_exemption(
     }
 }
 
-// Adds the line of an exemption of a version until a last day.
+// Adds the line of an exemption of a version with this last day.
 fn push_line(
     alloc: Global,
     text: &mut String,
@@ -98,7 +98,7 @@ fn push_line(
     text.push('\n')
 }
 
-// Adds the word, and a space behind it.
+// Adds the word for whether the exemption has lapsed, and a space after it.
 fn push_word(text: &mut String, lapsed: bool) -> Result<(), AllocError>
     ensures { OnOk result (string_bytes text.new
         ≡ string_bytes text.old ++ begun (left_in 6 (lapse_word lapsed) ∷ [])) }
@@ -113,8 +113,8 @@ fn lapse_word(lapsed: bool) -> &'static str
     if lapsed { "lapsed" } else { "held" }
 }
 
-/// The line of an exemption by example: while it is held, and once it has lapsed, for one criterion or two. Without a
-/// last day it has none. Does nothing.
+/// Examples of lines: of an exemption before and after it has lapsed, for one criterion and for two. An exemption
+/// without a last day has no line. Does nothing.
 pub fn lapses_by_example()
     ensures held { line_for false example.both_built_in example.exemption example.version example.last_of_may
         ≡ example.held_line }
