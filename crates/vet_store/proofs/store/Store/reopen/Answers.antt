@@ -71,28 +71,6 @@ returns-in-Err-clause-crash g c =
     (none_taken_over (state g.S.Store c.close.result) new c.args.self.shut (rows_of c.args.self.register.state)
     c.close.ensures.tables c.in-Err.ensures.crash)
 
-pub returns-in-Ok-clause-found : goal.returns-in-Ok-clause-found
-returns-in-Ok-clause-found g c clean =
-    subst (λ h. Holds (state g.S.Store h).now (rows_of c.in-Ok.store.register.state)) c.close.ensures.conn
-    (c.in-Ok.ensures.found clean)
-
-pub returns-in-Ok-clause-only : goal.returns-in-Ok-clause-only
-returns-in-Ok-clause-only g c clean t stored =
-    c.in-Ok.ensures.only clean t
-    (subst (λ h. IsStored (state g.S.Store h).now t) (sym c.close.ensures.conn) stored)
-
-pub returns-in-Ok-clause-unchanged : goal.returns-in-Ok-clause-unchanged
-returns-in-Ok-clause-unchanged g c clean =
-    subst (λ h. IsUnchanged (state g.S.Store h) (state g.S.Store c.in-Ok.store.conn)) c.close.ensures.conn
-    (c.in-Ok.ensures.unchanged clean)
-
-pub returns-in-Ok-clause-crash : goal.returns-in-Ok-clause-crash
-returns-in-Ok-clause-crash g c =
-    subst (λ h. Survives (state g.S.Store h) (state g.S.Store c.in-Ok.store.conn) (λ _. ⊥)) c.close.ensures.conn
-    c.in-Ok.ensures.crash
-
--- ---- after a refusal
-
 pub returns-in-Err-clause-refused : goal.returns-in-Err-clause-refused
 returns-in-Err-clause-refused g c clean serves =
     let s = c.args.self.register.state in
