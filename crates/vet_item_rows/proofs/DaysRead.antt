@@ -1,4 +1,4 @@
--- Last days and the register's day, made of what is read of their rows.
+-- Last days and the register's day are read back from their rows.
 use Rattle.std.proofs.Common.{◌≡◌, ◌∙◌, ◌<◌, ℕ, List, [], ◌∷◌, ◌++◌, Option, Some, None, map, refl, sym}
 use Rattle.std.proofs.Common.{ap, subst, inl, inr}
 use Rattle.std.specs.Cmp.{tied_itself}
@@ -58,7 +58,7 @@ today_can (Some day) can = all_in IsFiledDay (days_at 1 (Some day)) (λ f i. eli
   | inr none ↦ absurd none
 ])
 
--- the first of some days that are the one, or none, is that
+-- if there is one day or none, the first of them is that one, or none
 pub first_is : (today : Option DayValue) (found : List FiledDay) → SameItems found (days_at 1 today)
     → first_day found ≡ today
 first_is None [] same = refl
@@ -69,7 +69,7 @@ first_is (Some day) (f ∷ found) same = elim (same.0 f (inl refl)) [
   | inr none ↦ absurd none
 ]
 
--- ---- what an entry's row says of it
+-- ---- the row of an entry
 
 -- a kind has the same columns without its last day
 same_columns : (k : Kind) → with_kind (plain_kind k) unused ≡ with_kind k unused
@@ -185,7 +185,7 @@ module _ (entries : List HeldEntry) (can : All IsHeldEntry entries) (shown rows 
   days_stand =
       they_stand IsFiledDay filed_day_row shown (flat_map last_days entries) (days_can entries can) days_same
 
--- ---- each goes to its entry
+-- ---- each last day is put into its entry
 
 -- an entry with the first of the days under its number
 abbrev pub dated : List FiledDay → HeldEntry → HeldEntry
@@ -202,7 +202,7 @@ pub dated_by_number : (days : List FiledDay) (entries : List HeldEntry) → AreB
 dated_by_number days entries up =
     pairs_mapped (dated days) (λ (a b : HeldEntry). a.number < b.number) entries up
 
--- the last day comes back
+-- an entry gets its last day back
 kind_back : (k : Kind) (number : ℕ) (days : List DayValue)
     → SameItems days (map day_in (days_at number (last_day_of k)))
     → kind_until_first days (plain_kind k) ≡ k
@@ -232,7 +232,7 @@ entry_back h days same =
 
 module _ (held : List HeldEntry) (up : AreByNumber held) (days : List FiledDay)
     (same : SameItems days (flat_map last_days held)) where
-  -- whose a day is
+  -- the entry to which a day belongs
   owner : (f : FiledDay) → IsIn f days → (h : HeldEntry) × (IsIn h held × IsIn f (last_days h))
   owner f i = in_flat last_days held f (same.0 f i)
 

@@ -53,7 +53,7 @@ module _ (said : KindColumns) (result : Result Kind ReadError) (number : ℕ)
   abbrev pub Finds : Kind → Type 0
   Finds k = IsSaidIn said k → Reads result k
 
-  -- a kind without a last day is found
+  -- a kind without a last day is read back
   abbrev pub IsFound : Kind → Type 0
   IsFound k = last_day_of k ≡ None → Finds k
 

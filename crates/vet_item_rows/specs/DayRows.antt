@@ -1,5 +1,5 @@
--- The rows of last days and of the register's day (ours). The row of an entry lacks its last day, which is the row of
--- another table (plain_entry, last_rows).
+-- The rows of last days and of the register's day (ours). The row of an entry does not have its last day, which has a
+-- row in another table (plain_entry, last_rows).
 use Rattle.std.specs.Prelude.{◌≡◌, ℕ, pos, ℤ, List, [], ◌∷◌, map, Option, Some, None}
 use Rattle.vet_base.specs.Day.{DayValue, day_number}
 use Rattle.vet_entries.specs.Facts.{Facts}
@@ -12,13 +12,13 @@ use Rattle.vet_item_rows.specs.declared.read.gathered.WithKey.{WithKey}
 use Rattle.vet_tables.specs.Cells.{Row}
 use Rattle.vet_tables.specs.declared.cell.Cell.TheVariants.{Int}
 
--- a number and a day
+-- a row with a number and a day
 abbrev pub dated_row : ℤ → DayValue → Row
 dated_row number day = Int number ∷ Int (day_number day) ∷ []
 
 -- ---- the register's day
 
--- the one row of the day, or none
+-- the one row of the register's day, or no row
 abbrev pub today_rows : Option DayValue → List Row
 today_rows None = []
 today_rows (Some day) = dated_row (pos 1) day ∷ []
@@ -29,7 +29,7 @@ today_rows (Some day) = dated_row (pos 1) day ∷ []
 abbrev pub filed_day_row : WithKey ℕ DayValue → Row
 filed_day_row filed = dated_row (pos filed.key) filed.item
 
--- the first of some such days, if there is one
+-- the first of these days, if there is one
 abbrev pub first_day : List (WithKey ℕ DayValue) → Option DayValue
 first_day [] = None
 first_day (filed ∷ more) = Some filed.item
@@ -48,11 +48,11 @@ last_rows held = map filed_day_row (last_days held)
 
 -- ---- entries without their last days
 
--- an entry has none
+-- an entry has no last day
 abbrev pub IsPlain : HeldEntry → Type 0
 IsPlain held = last_day_of held.entry.kind ≡ None
 
--- a kind, an entry and facts without last days; the facts are without the register's day too
+-- a kind, an entry and facts without last days; the facts have no register's day either
 abbrev pub plain_kind : Kind → Kind
 plain_kind (kind.Full v audit) = kind.Full v audit
 plain_kind (kind.Delta d audit) = kind.Delta d audit
@@ -67,7 +67,7 @@ plain_entry held = record held { entry = record held.entry { kind = plain_kind h
 abbrev pub plain_facts : Facts → Facts
 plain_facts facts = record facts { entries = map plain_entry facts.entries; today = None }
 
--- a kind until a day, if it is an exemption
+-- a kind with this last day, if it is an exemption
 abbrev pub kind_until : DayValue → Kind → Kind
 kind_until day (kind.Full v audit) = kind.Full v audit
 kind_until day (kind.Delta d audit) = kind.Delta d audit
@@ -76,7 +76,7 @@ kind_until day (kind.Wildcard window grant) = kind.Wildcard window grant
 kind_until day (kind.Trusted window) = kind.Trusted window
 kind_until day (kind.Exemption v suggest last) = kind.Exemption v suggest (Some day)
 
--- and until the first of some days, if there is one; so an entry
+-- a kind, and an entry, with the first of these days as its last day, if there is one
 abbrev pub kind_until_first : List DayValue → Kind → Kind
 kind_until_first [] kind = kind
 kind_until_first (day ∷ more) kind = kind_until day kind
@@ -85,6 +85,6 @@ abbrev pub entry_until_first : List DayValue → HeldEntry → HeldEntry
 entry_until_first days held =
     record held { entry = record held.entry { kind = kind_until_first days held.entry.kind } }
 
--- the entry of a group, until the first of its days
+-- the entry of a group, with the first of its days as its last day
 abbrev pub entry_of_group : Gathered HeldEntry DayValue → HeldEntry
 entry_of_group group = entry_until_first group.items group.head

@@ -50,7 +50,7 @@ abbrev pub with_window : Window → KindColumns → KindColumns
 with_window window said =
     record said { user = pos window.user; day1 = day_number window.first; day2 = day_number window.last }
 
--- with what the entry says of its package, but for a last day
+-- with what the entry says of its package, except its last day
 abbrev pub with_kind : Kind → KindColumns → KindColumns
 with_kind (kind.Full v audit) said = with_audit audit (record said { kind = pos 0; a = version_text v })
 with_kind (kind.Delta d audit) said =

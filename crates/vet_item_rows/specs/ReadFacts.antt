@@ -32,7 +32,7 @@ sourced_criterion_row c = criterion_row (peer_of_source c.source) c.criterion
 
 -- ---- entries
 
--- an entry can be held, and its row says all of it: it has no last day
+-- an entry can be held, and its row has all of it: there is no last day
 abbrev pub IsRowEntry : HeldEntry → Type 0
 IsRowEntry held = IsHeldEntry held × IsPlain held
 

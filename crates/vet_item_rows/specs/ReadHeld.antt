@@ -47,7 +47,7 @@ HasItsEntries p = AreFrom (Peer p.settings.name) p.content.entries
 abbrev pub HasNoLastDays : HeldPeer → Type 0
 HasNoLastDays p = All IsPlain p.content.entries
 
--- criteria are a table; entries, peers and records are in their order, each entry is of its source, only own ones
+-- criteria are a table; entries, peers and records are in their order, each entry is of its source, only own entries
 -- have a last day, and there are not too many records
 pub record AreInForm (facts : Facts) : Type 0 where
   pub criteria : IsTable facts.criteria
@@ -113,7 +113,7 @@ pub record AreItemsOf (criteria : List SourcedCriterion) (entries : List HeldEnt
 
 -- ---- rows
 
--- the rows of six tables are those of some facts, in whatever order
+-- the rows of six tables are those of some facts, in any order
 pub record AreRowsOf (rows : RowsValue) (facts : Facts) : Type 0 where
   pub criteria : SameItems (rows (table.Facts CriteriaTable)) (all_criteria facts)
   pub entries : SameItems (rows (table.Facts Entries)) (all_entries facts)

@@ -1,7 +1,7 @@
 //! Reading last days and the register's day from their rows.
 //!
-//! An entry is first read without its last day, which is in no column of its row. Then each own entry gets the day that
-//! is filed under its number.
+//! An entry is first read without its last day, which is in no column of its row. Then each own entry gets the day
+//! under its number in the table `lasts`.
 ghost use Rattle.std.specs.Prelude.{◌≡◌, IfOk, List, MatchResult, Option, map};
 ghost use Rattle.std.specs.List.{flat_map};
 ghost use Rattle.vet_base.specs.Day.{DayValue};
@@ -41,7 +41,8 @@ impl FromRow for WithKey<u64, Day> {
     }
 }
 
-/// The register's day, if there is a row of it: of several rows, the day of the first.
+/// The register's day, or `None` if there is no row of it. If there are several rows, it is the day of the first.
+/// Refused: `NotARegister`, only if the rows are not those of any day, and `NoMemory`.
 pub(crate) fn today_in(alloc: Global, rows: &[Row]) -> Result<Option<Day>, ReadError>
     ensures { (today : Option DayValue) → MayBe IsDay today → SameItems rows.now (today_rows today)
         → MatchResult result (λ found. found ≡ today) (λ e. e ≡ ReadError.NoMemory) }
@@ -50,7 +51,7 @@ pub(crate) fn today_in(alloc: Global, rows: &[Row]) -> Result<Option<Day>, ReadE
     Ok(first_day(days.as_slice()))
 }
 
-// The first of some days, if there is one.
+// The first of these days, if there is one.
 fn first_day(days: &[WithKey<u64, Day>]) -> Option<Day>
     ensures { result ≡ first_day days.now }
 {
@@ -60,7 +61,8 @@ fn first_day(days: &[WithKey<u64, Day>]) -> Option<Day>
     }
 }
 
-/// Entries in the order of their numbers, each with the last day that is filed under its number, if there is one.
+/// Entries in the order of their numbers, each with the last day under its number, if there is one. Days under other
+/// numbers, or under those of other kinds of entries, are ignored. Fails only if memory runs out.
 pub(crate) fn with_last_days(
     alloc: Global,
     entries: Vec<HeldEntry>,
@@ -91,7 +93,7 @@ fn entries_of(
     Ok(entries)
 }
 
-// The entry of a group, until the first of its days.
+// The entry of a group, with the first of its days as its last day.
 fn entry_of(group: Group<HeldEntry, Day>) -> HeldEntry
     ensures { result ≡ entry_of_group group }
 {
@@ -99,7 +101,7 @@ fn entry_of(group: Group<HeldEntry, Day>) -> HeldEntry
     entry_until_first(held, days.as_slice())
 }
 
-// An entry until the first of some days, if there is one.
+// An entry with the first of these days as its last day, if there is one.
 fn entry_until_first(mut held: HeldEntry, days: &[Day]) -> HeldEntry
     ensures { result ≡ entry_until_first days.now held }
 {
@@ -107,7 +109,7 @@ fn entry_until_first(mut held: HeldEntry, days: &[Day]) -> HeldEntry
     held
 }
 
-// Sets the last day of an exemption to the first of some days, if there is one.
+// Sets the last day of an exemption to the first of these days, if there is one.
 fn set_first_day(kind: &mut Kind, days: &[Day])
     ensures { kind.new ≡ kind_until_first days.now kind.old }
 {
@@ -116,7 +118,7 @@ fn set_first_day(kind: &mut Kind, days: &[Day])
     }
 }
 
-// Sets the last day of an exemption. Another kind stays as it is.
+// Sets the last day of an exemption. Other kinds stay as they are.
 fn set_last_day(kind: &mut Kind, day: Day)
     ensures { kind.new ≡ kind_until day kind.old }
 {

@@ -1,4 +1,4 @@
-//! Reading the rows of entries, without last days.
+//! Reading the rows of entries. Last days are in another table (`days`).
 ghost use Rattle.vet_entries.specs.declared.facts.HeldEntry.{HeldEntry};
 ghost use Rattle.vet_item_rows.specs.EntryRows.{entry_row};
 ghost use Rattle.vet_item_rows.specs.ReadBack.{IsWritten, Reads};

@@ -57,7 +57,7 @@ pub fn facts_of(alloc: Global, rows: &Rows) -> Result<EntryFacts, ReadError>
     Ok(EntryFacts::of_parts(alloc, criteria, entries, peers, publishers, today)?)
 }
 
-// The parts of which these are the rows.
+// The parts of which these are the rows, with last days.
 fn dated_parts(alloc: Global, rows: &Rows) -> Result<PackageFacts, ReadError>
     ensures by_number { IfOk result (λ parts. AreByNumber parts.entries.items) }
     ensures by_name { IfOk result (λ parts. IsByKey (slice_cmp nat_cmp) peer_name parts.peers.items) }
@@ -79,7 +79,7 @@ fn dated_parts(alloc: Global, rows: &Rows) -> Result<PackageFacts, ReadError>
     })
 }
 
-// The same, without last days.
+// The parts of which these are the rows, without last days.
 fn parts_in(alloc: Global, rows: &Rows) -> Result<PackageFacts, ReadError>
     ensures by_number { IfOk result (λ parts. AreByNumber parts.entries.items) }
     ensures by_name { IfOk result (λ parts. IsByKey (slice_cmp nat_cmp) peer_name parts.peers.items) }

@@ -85,7 +85,7 @@ fn kind_cells(row: &Row) -> Result<KindCells<'_>, ReadError>
     })
 }
 
-// What columns say of a package; nothing is said of a last day.
+// What columns say of a package. They do not say whether an exemption has a last day.
 fn kind_of(alloc: Global, cells: &KindCells<'_>) -> Result<Kind, ReadError>
     ensures { (k : KindValue) → last_day_of k ≡ None → IsSaidIn cells.now k → Reads result k }
 {

@@ -10,7 +10,7 @@ use vet_entries::facts::HeldEntry;
 use vet_tables::cell::Cell;
 use vet_tables::sequence::{Row, Sequence};
 
-/// The row of the register's day, if it has one. Fails only if memory runs out.
+/// The one row of the register's day, or no row if there is none. Fails only if memory runs out.
 pub fn today_rows(alloc: Global, today: Option<Day>) -> Result<Vec<Row>, AllocError>
     ensures { IfOk result (λ rows. rows.items ≡ today_rows today) }
 {
@@ -20,8 +20,8 @@ pub fn today_rows(alloc: Global, today: Option<Day>) -> Result<Vec<Row>, AllocEr
     }
 }
 
-/// The rows of the last days of some entries, of those that have one. Asks that their numbers are below 2^63. Fails
-/// only if memory runs out.
+/// The rows of the last days of these entries; an entry without one has no row. Asks that the numbers of the entries
+/// are below 2^63. Fails only if memory runs out.
 pub fn all_last_days(alloc: Global, entries: &[HeldEntry]) -> Result<Vec<Row>, AllocError>
     requires { All EntryFits entries.now }
     ensures { IfOk result (λ rows. rows.items ≡ flat_map last_rows entries.now) }
@@ -33,8 +33,8 @@ pub fn all_last_days(alloc: Global, entries: &[HeldEntry]) -> Result<Vec<Row>, A
     Ok(rows)
 }
 
-/// Adds the row of an entry's last day behind others, if it has one. Asks that its number is below 2^63. Fails only if
-/// memory runs out.
+/// Adds the row of an entry's last day, if it has one, after others. Asks that the number of the entry is below 2^63.
+/// Fails only if memory runs out.
 pub fn push_last_day(alloc: Global, rows: &mut Vec<Row>, held: &HeldEntry) -> Result<(), AllocError>
     requires { EntryFits held.now }
     ensures { OnOk result (rows.new.items ≡ rows.old.items ++ last_rows held.now) }
@@ -48,7 +48,7 @@ pub fn push_last_day(alloc: Global, rows: &mut Vec<Row>, held: &HeldEntry) -> Re
     }
 }
 
-// A number and a day.
+// A row with a number and a day.
 fn dated_row(alloc: Global, number: i64, day: Day) -> Result<Row, AllocError>
     ensures { IfOk result (λ row. row ≡ dated_row number day) }
 {

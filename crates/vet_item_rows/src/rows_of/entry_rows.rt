@@ -97,7 +97,7 @@ pub fn unused(alloc: Global) -> Result<KindColumns, AllocError>
     })
 }
 
-/// Sets the columns that this kind uses. A last day has none here. Fails only if memory runs out.
+/// Sets the columns that this kind uses. There is none for a last day. Fails only if memory runs out.
 pub fn set_kind(alloc: Global, said: &mut KindColumns, kind: &Kind) -> Result<(), AllocError>
     ensures { OnOk result (said.new ≡ with_kind kind.now said.old) }
 {
