@@ -1,4 +1,4 @@
--- The exchanges of a change are of tables one behind the other, and each table's is in one of their five parts.
+-- The exchanges of a change are in the order of the tables, and each is in one of five parts.
 use Rattle.std.proofs.Common.{◌≡◌, ℕ, ◌+◌, ◌<◌, ◌≤◌, List, [], ◌∷◌, ◌++◌, Option, Some, None, arith, refl, rules, ◌∙◌}
 use Rattle.std.specs.Bool.{⊤}
 use Rattle.std.specs.List.{AllByRecursion}
@@ -34,7 +34,7 @@ use Rattle.vet_tables.specs.declared.table_name.TableName.TheVariants as table
 
 -- ---- places of the parts
 
--- the places behind the tables of what is held, behind the standing and moves, behind the desk, and behind days
+-- the places after the tables of what is held, after the standing and moves, after the desk, and after days
 abbrev pub held_end : ℕ
 held_end = code table.Standing
 

@@ -1,4 +1,4 @@
--- What an edit makes of the rows of last days and of the register's day.
+-- The exchanges of an edit lead to the rows of last days and of the register's day after it.
 use Rattle.std.proofs.Common.{◌≡◌, ◌∙◌, ℕ, pos, inl, inr, true, [], Bool, Option, Some, None, arith, map}
 use Rattle.std.proofs.Common.{refl, sym, ap, subst}
 use Rattle.std.specs.List.{slice_get}
@@ -71,7 +71,7 @@ held_today (held.Projects e) old = stays same_today (today_rows old.facts.today)
 held_today held.Nothing old = stays same_today (today_rows old.facts.today)
 held_today (held.Files files) old = day_for_day old.facts.today files.facts.content.today
 
--- the row that goes is there
+-- the row that is removed is there
 fact_today_there : (e : Edit) (old : Facts) (r : Row)
     → IsIn r (removed_by (fact_day_exchanges e old) (table.Days Today)) → IsIn r (today_rows old.today)
 fact_today_there (edit.Criteria criteria) old r i = absurd i
@@ -129,7 +129,7 @@ same_entry g h r s i j e =
     (subst (λ x. same_last x (dated_row (pos h.number) b.0) ≡ true) a.1.1
     (subst (λ x. same_last r x ≡ true) b.1.1 e)) 0 (omega arith))
 
--- and an entry has one
+-- and an entry has only one
 one_last : (h : HeldEntry) (r s : Row) → IsIn r (last_rows h) → IsIn s (last_rows h) → r ≡ s
 one_last h r s i j =
     let a = row_of_day h.number (last_day_of h.entry.kind) r i in
@@ -144,7 +144,7 @@ lasts_keyed facts k r s i j e =
     let one = k.once g.0 h.0 (inl g.1.0) (inl h.1.0) (same_entry g.0 h.0 r s g.1.1 h.1.1 e) in
     one_last h.0 r s (subst (λ (x : HeldEntry). IsIn r (last_rows x)) one g.1.1) h.1.1
 
--- the last day of an entry for that of another
+-- the exchange of one entry's last day for another's
 last_for_last : (old new : Facts) (gone come : Option HeldEntry) → HaveKeys new
     → IsOneForOne (λ (h : HeldEntry). h.number) gone come old.entries new.entries
     → IsExchange same_last (rows_if last_rows gone) (rows_if last_rows come) (all_last_rows old) (all_last_rows new)

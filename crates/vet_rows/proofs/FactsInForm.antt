@@ -32,7 +32,7 @@ held_peer next p sound = record {
   by_number = sound.entries.numbers_rise;
 }
 
--- no kind of which a peer may have entries has a last day
+-- no kind of a peer's entry has a last day
 plain_kind : (k : Kind) → is_peer_kind k ≡ true → last_day_of k ≡ None
 plain_kind (Full v a) of = refl
 plain_kind (Delta d a) of = refl

@@ -16,7 +16,8 @@ use Rattle.vet_tables.specs.declared.table_name.TableName.TheVariants as table
 abbrev pub meta_exchange : {K U : Type 0} → State → Change K U → Exchange
 meta_exchange s change = exchange_of table.Meta [] (meta_row (changed change s) ∷ [])
 
--- of `meta`, of what is held, of the standing and moves, of the desk, and of days: no two are of one table
+-- the exchanges of `meta`, of what is held, of the standing and moves, of the desk, and of days: no two are of one
+-- table
 abbrev pub change_exchanges : {K U : Type 0} → State → Change K U → List Exchange
 change_exchanges s change =
     (((meta_exchange s change ∷ held_exchanges change.edit s.held) ++ move_exchanges change.recording)

@@ -1,5 +1,5 @@
--- The rows of last days and of the register's day that an edit removes and adds (ours). They come after those of the
--- other tables that it changes.
+-- The rows of last days and of the register's day that an edit removes and adds (ours). They come after those of all
+-- other tables.
 use Rattle.std.specs.Prelude.{List, [], ◌∷◌}
 use Rattle.std.specs.List.{slice_get}
 use Rattle.vet_entries.specs.Facts.{Facts}
@@ -25,7 +25,7 @@ fact_day_exchanges (edit.Today day) facts =
     exchange_of (table.Days Today) (today_rows facts.today) (today_rows day) ∷ []
 fact_day_exchanges _ facts = []
 
--- if all files are replaced, all rows are removed; but those that are added again stay, as for entries
+-- if all files are replaced, all rows are removed, except that those that would be added again stay, as for entries
 abbrev pub day_exchanges : HeldEdit → HeldValue → List Exchange
 day_exchanges (held.Facts change) h = fact_day_exchanges change h.facts
 day_exchanges (held.Files files) h =

@@ -11,7 +11,7 @@ use Rattle.vet_tables.specs.declared.table_name.DaysTable.TheVariants.{Lasts, To
 abbrev pub all_last_rows : Facts → List Row
 all_last_rows facts = flat_map last_rows facts.entries
 
--- the rows of each of them
+-- the rows of each table of days
 abbrev pub rows_of_days : Facts → DaysTable → List Row
 rows_of_days facts Today = today_rows facts.today
 rows_of_days facts Lasts = all_last_rows facts

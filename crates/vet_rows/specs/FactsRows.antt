@@ -37,7 +37,7 @@ the_peer = one_row (λ (peer : HeldPeer). peer_row peer.settings)
 -- ---- what an edit changes
 
 -- If a peer is removed or added, so are its criteria and entries. If its content is exchanged, all of them are removed.
--- The rows of days are in DayChanges.
+-- DayChanges has the rows of days.
 abbrev pub fact_exchanges : Edit → Facts → List Exchange
 fact_exchanges (edit.Criteria criteria) facts =
     exchange_of (table.Facts Criteria) (criteria_rows own_peer facts.criteria) (criteria_rows own_peer criteria) ∷ []

@@ -40,8 +40,8 @@ unmarked [] marks = []
 unmarked (r ∷ rows) [] = r ∷ unmarked rows []
 unmarked (r ∷ rows) (mark ∷ marks) = cond mark (unmarked rows marks) (r ∷ unmarked rows marks)
 
--- There may be thousands of entries, publishers, nodes, edges and last days. One of their rows that would be removed
--- and added again stays, and so does the row of the register's day.
+-- There may be thousands of entries, publisher records, nodes, edges and last days. Any of their rows that would be
+-- removed and added again stays, and so does the row of the register's day.
 abbrev pub is_compared : TableName → Bool
 is_compared (table.Facts Entries) = true
 is_compared (table.Facts Publishers) = true

@@ -18,8 +18,8 @@ use Rattle.vet_tables.specs.declared.version.TablesVersion.TheVariants.{Second}
 abbrev pub meta_row : State → Row
 meta_row s = row_of_meta (meta_in Second s)
 
--- All rows in tables of a version, which is in the row of `meta`. Tables of the first version hold those of a state
--- that has none in the tables of days (`HoldsIn` of vet_store).
+-- All rows in tables of a version, whose number is in the row of `meta`. Tables of the first version can hold only a
+-- state that has no rows in the tables of days (`HoldsIn` of vet_store).
 abbrev pub rows_by : TablesVersion → State → RowsValue
 rows_by version s table.Meta = row_of_meta (meta_in version s) ∷ []
 rows_by version s (table.Facts t) = rows_of_facts s.held.facts t

@@ -8,8 +8,8 @@
 //!
 //! If a period begins, all moves are removed at once. Then each exchange removes some rows, each by its key, and adds
 //! others. If one thing is exchanged for another, the rows of the one are removed and those of the other are added.
-//! There may be thousands of entries, publisher records, nodes and edges, so of these only the rows that differ are
-//! written. Of the standing, only the rows of the pairs in the change's moves are.
+//! There may be thousands of entries, last days, publisher records, nodes and edges, so of these only the rows that
+//! differ are written. Of the standing, only the rows of the pairs in the change's moves are.
 //!
 //! No two rows of a table have the same key. This follows from the texts in their keys: each reads back as the value
 //! that it is written for, and no peer has the empty name, which stands for oneself (`key_texts`).

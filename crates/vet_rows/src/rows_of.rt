@@ -2,9 +2,9 @@
 //!
 //! **`rows_of` gives the rows of a register's state, each once.**
 //!
-//! Each thing that is held has its row (`ToRow`), and each table its list of rows. The tables of facts, of policies and
-//! projects, of the desk and of days are in a file each. A column of numbers holds numbers below 2^63, and all numbers
-//! of a sound state are below it (`numbers_fit`, `counts_fit`).
+//! Each thing that is held has its row (`ToRow`), and each table its list of rows. There is a file each for the tables
+//! of facts, of policies and projects, of the desk and of days. A column of numbers holds numbers below 2^63, and all
+//! numbers of a sound state are below that (`numbers_fit`, `counts_fit`).
 ghost use Rattle.std.specs.Prelude.{◌≡◌, IfErr, IfOk};
 ghost use Rattle.vet_rows.specs.RowsOf.{rows_by, rows_of};
 ghost use Rattle.vet_tables.specs.Cells.{rows_in};
@@ -44,7 +44,8 @@ pub fn rows_of<K: Keeper>(alloc: Global, register: &Register<K>) -> Result<Rows,
     rows_by(alloc, TablesVersion::Second, register)
 }
 
-/// The same in tables of a version, whose number is in the row of `meta`. Refused: `NoMemory`.
+/// The rows of a register's state in tables of a version, whose number is in the row of `meta`. Costs what `rows_of`
+/// does. Refused: `NoMemory`.
 pub fn rows_by<K: Keeper>(
     alloc: Global,
     version: TablesVersion,
@@ -60,7 +61,7 @@ pub fn rows_by<K: Keeper>(
     Ok(rows)
 }
 
-/// The rows of one table, in tables of a version. Fails only if memory runs out.
+/// The rows of one table, in tables of a version: only the row of `meta` depends on it. Fails only if memory runs out.
 pub fn rows_in<K: Keeper>(
     alloc: Global,
     version: TablesVersion,

@@ -1,6 +1,6 @@
 //! The state of rows.
 //!
-//! **Rows of a sound state in tables of some version, in any order, give that state.**
+//! **Rows of a sound state in tables of either version, in any order, give that state.**
 //!
 //! Other rows give `NotARegister` or some state, and no clause says which. A caller that has to know compares the rows
 //! of that state with those that it passed in. The rows of `standing` are ignored, since they follow from the others.
@@ -41,7 +41,7 @@ use vet_register::state::State;
 use vet_tables::rows::Rows;
 use vet_tables::table_name::{DemandTable, DeskTable, TableName};
 
-/// The state of which these are the rows in tables of some version, in any order; those of `standing` are ignored.
+/// The state of which these are the rows in tables of either version, in any order; those of `standing` are ignored.
 /// Takes a time of n log n. Refused: `NotARegister`, only if they are the rows of no sound state, and `NoMemory`.
 pub fn state_of(alloc: Global, rows: &Rows) -> Result<State, Refusal>
     ensures back { (version : Version) (s : machine.State) → IsSound s → IsHeldState s

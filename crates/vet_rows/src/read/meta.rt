@@ -40,7 +40,7 @@ impl FromRow for Meta {
     }
 }
 
-// Refuses a row with another key than the one that is written. Takes no memory.
+// Refuses a row whose key is not the one that is written. Takes no memory.
 fn check_key(row: &Row) -> Result<(), ReadError>
     ensures { (m : MetaValue) → row.now ≡ row_of_meta m → result ≡ Ok tt }
 {
@@ -53,7 +53,7 @@ fn check_key(row: &Row) -> Result<(), ReadError>
     Ok(())
 }
 
-// The version of the tables of a row. Takes no memory.
+// The version of the tables in a row of `meta`. Takes no memory.
 fn tables_version(row: &Row) -> Result<TablesVersion, ReadError>
     ensures { (m : MetaValue) → row.now ≡ row_of_meta m → result ≡ Ok m.version }
 {

@@ -27,7 +27,7 @@ use vet_tables::sequence::Row;
 use vet_tables::table_name::{DaysTable, TableName};
 
 /// The rows of last days and of the register's day that an edit of what is held removes and adds. Asks that the numbers
-/// of entries that are added are below 2^63. Fails only if memory runs out.
+/// of the entries that it adds are below 2^63. Fails only if memory runs out.
 pub fn day_exchanges<K: Keeper>(
     alloc: Global,
     edit: &HeldEdit,
@@ -44,7 +44,7 @@ pub fn day_exchanges<K: Keeper>(
     }
 }
 
-// By an edit of the facts of packages.
+// The exchanges for an edit of the facts of packages.
 fn fact_day_exchanges(
     alloc: Global,
     edit: &Edit,
@@ -66,7 +66,7 @@ fn fact_day_exchanges(
     }
 }
 
-// The last day of the own entry at a place is removed, if it has one.
+// The exchange that removes the last day of the own entry at a place, if it has one.
 fn last_day_removed(
     alloc: Global,
     facts: &EntryFacts,
@@ -78,7 +78,7 @@ fn last_day_removed(
     lasts_exchange(alloc, entry_at(facts.entries(), place), None)
 }
 
-// The exchange of the last day of an entry for that of another. Either may be missing.
+// The exchange of one entry's last day for another's. Either entry may be absent, or have no last day.
 fn lasts_exchange(
     alloc: Global,
     removed: Option<&HeldEntry>,
@@ -96,7 +96,7 @@ fn lasts_exchange(
     Ok(vec![in alloc; lasts]?)
 }
 
-// The row of the last day of an entry, if there is one and it has one.
+// The row of the last day of an entry, if there is an entry and it has a last day.
 fn last_rows_if(alloc: Global, held: Option<&HeldEntry>) -> Result<Vec<Row>, AllocError>
     requires { (h : EntryValue) → option_copied held ≡ Some h → EntryFits h }
     ensures { IfOk result (λ rows. rows.items ≡ rows_if last_rows (option_copied held.entry)) }
@@ -117,7 +117,7 @@ fn last_rows(alloc: Global, held: &HeldEntry) -> Result<Vec<Row>, AllocError>
     Ok(rows)
 }
 
-// The exchange of the register's day for another. Either may be missing.
+// The exchange of the register's day for another. Either may be absent.
 fn today_exchange(
     alloc: Global,
     facts: &EntryFacts,
@@ -131,7 +131,7 @@ fn today_exchange(
     Ok(vec![in alloc; today]?)
 }
 
-// The exchange of all last days and the register's day for those after files are replaced.
+// The exchanges of the register's day and of all last days for those after all files are replaced.
 fn files_day_exchanges<K: Keeper>(
     alloc: Global,
     register: &Register<K>,

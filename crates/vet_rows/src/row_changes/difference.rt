@@ -110,8 +110,8 @@ fn push_puts(
     Ok(())
 }
 
-// Whether only the rows of a table that differ are written: those tables that may have thousands of rows, and that of
-// the register's day.
+// Whether only the rows that differ are written: in the tables that may have thousands of rows, and in that of the
+// register's day.
 fn is_compared(table: TableName) -> bool
     ensures { result ≡ is_compared table }
 {

@@ -1,4 +1,4 @@
-//! The rows of the register's day and of last days, in each of their tables.
+//! The rows of the tables of days: that of the register's day, and those of last days.
 ghost use Rattle.std.specs.List.{All};
 ghost use Rattle.std.specs.Prelude.{◌≡◌, IfOk};
 ghost use Rattle.vet_item_rows.specs.Numbers.{EntryFits};

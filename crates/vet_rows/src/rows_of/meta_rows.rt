@@ -40,7 +40,7 @@ pub fn meta_row<K: Keeper>(
     )
 }
 
-/// The row of this version, these numbers, counts at first and settings. Asks that the numbers are below 2^63. Fails
+/// The row with this version, these numbers, first counts and settings. Asks that the numbers are below 2^63. Fails
 /// only if memory runs out.
 pub(crate) fn row_of_meta(
     alloc: Global,
