@@ -63,7 +63,7 @@ same_none [] [] none also = (λ r i. i, λ r i. i)
 same_none (x ∷ xs) ys none also = absurd (cc none)
 same_none [] (y ∷ ys) none also = absurd (cc also)
 
--- so it is with rows that it has in the first so many tables
+-- the same holds for rows in the first tables, up to a count
 pub one_first_rows : (count : ℕ) (db : Database) (a b : RowsValue) → HoldsFirst count db a → HoldsFirst count db b
     → SameRows a b
 one_first_rows count db a b h k n = elim (cases_lt (code n) count) [

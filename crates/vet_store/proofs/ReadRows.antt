@@ -39,7 +39,7 @@ all_stand count db rows sound first read none = record {
   none = none;
 }
 
--- behind the end of a list there is no item
+-- there is no item after the end of a list
 pub behind_end : {X : Type 0} (xs : List X) (i : ℕ) (none : X) → length xs ≤ i → slice_index_or xs i none ≡ none
 behind_end [] i none far = refl
 behind_end (x ∷ xs) zero none far = absurd (omega (arith, far))

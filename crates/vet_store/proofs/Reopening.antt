@@ -67,7 +67,7 @@ still_tied old new shut s tied unshut sound held outside was_open as_before surv
 
 -- ---- through files
 
--- what a close of the files of a store, and an open of them, tell on a clean disk
+-- what closing the files of a store, and opening them again, returns on a clean disk
 pub record IsBack (old again : sqlite.State) (rows : RowsValue) : Type 0 where
   pub was_clean : HasCleanDisk old
   pub stands : Stands old rows
@@ -114,7 +114,7 @@ pub back_unchanged : (old again new : sqlite.State) (rows : RowsValue) (s : Stat
 back_unchanged old again new rows s back =
     only_unchanged again new rows s (λ serves. back_holds old again rows back)
 
--- what is opened on the connection that the files gave rests, and shows what that did
+-- the connection of an opened register rests, and shows what the one from the files showed
 pub rests_opened : (again new : sqlite.State) → Opens again → IsUnchanged again new → IsAsBefore again new
 rests_opened again new opened same = (
   record {
@@ -141,7 +141,7 @@ leaves_shown old new settled shows clean trees may =
     let same = (shows clean).as_before in
     settled trees same.0.is_open may ∙ ap (λ (d : Database). d.trees) (sym same.0.settled ∙ same.1)
 
--- and of one that leaves no more
+-- the same holds for a connection after which a crash leaves no more
 pub leaves_again : (old again new : sqlite.State) (rows : RowsValue)
     → ((trees : Trees) → IsTrue again.is_open → again.may_leave trees → trees ≡ again.committed.trees)
     → Survives again new (λ _. ⊥) → (HasCleanDisk new → IsBack old again rows) → LeavesAgain old new

@@ -125,7 +125,7 @@ none_taken_over old new shut rows tied survives =
     second_or_first old.now rows (rows_by First h.state) stands.holds h.over.was)
     survives
 
--- and where these rows stand
+-- and on a connection whose tables have these rows
 pub only_unchanged : (old new : sqlite.State) (rows : RowsValue) (s : State) → (IsTrue old.is_open → Holds old.now rows)
     → IsOpened old new s → IsUnchanged old new
 only_unchanged old new rows s holds (inl same) = same

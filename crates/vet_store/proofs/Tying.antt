@@ -50,7 +50,7 @@ none_also xs [] same none = refl
 none_also [] (y ∷ ys) same none = absurd (same.1 y (inl refl))
 none_also (x ∷ xs) (y ∷ ys) same none = absurd (cc none)
 
--- so it is with the rows in the first so many tables
+-- the same holds for the rows in the first tables, up to a count
 pub holds_first_also : (count : ℕ) (db : Database) (a b : RowsValue) → SameRows a b → HoldsFirst count db a
     → HoldsFirst count db b
 holds_first_also count db a b same h = record {
@@ -133,7 +133,7 @@ survives_written old new shut rows next tied unshut serves s =
 
 -- ---- the store is tied
 
--- what stood on a connection stands there if it is as it was
+-- the rows on a connection are still there if the connection is as it was
 pub stands_unchanged : (old new : sqlite.State) (rows : RowsValue) → new.in_transaction ≡ false
     → (IsTrue old.is_open → old.now ≡ old.committed) → IsUnchanged old new → Holds old.now rows → Stands new rows
 stands_unchanged old new rows autocommit settled same holds = record {
@@ -145,7 +145,7 @@ stands_unchanged old new rows autocommit settled same holds = record {
   holds = subst (λ db. Holds db rows) (sym same.0.now_is) holds;
 }
 
--- a connection is tied to the rows that stand there
+-- a connection is tied to the rows that its tables have
 pub tied_standing : (c : sqlite.State) (rows : RowsValue) → c.in_transaction ≡ false → (HasCleanDisk c → Stands c rows)
     → ((trees : Trees) → IsTrue c.is_open → c.may_leave trees → trees ≡ c.committed.trees) → IsTied c false rows
 tied_standing c rows autocommit stand settled = record {

@@ -41,14 +41,14 @@ second_or_first db a b h k = not_free db.schema _ (k.first.free (Days Today) (se
 
 -- ---- a state that is stored
 
--- its rows stand in the tables of the version that there is
+-- its rows are in the tables of the version that the database has
 pub in_version : (version : TablesVersion) (db : Database) → HasVersion version db.schema → (t : State)
     → IsStored db t → HoldsIn version db (rows_by version t)
 in_version version db has t h =
     let same = one_version db.schema h.version version h.holds.first has in
     subst (λ v. HoldsIn v db (rows_by v t)) same h.holds
 
--- where the tables are those of the second version, all of them have its rows
+-- if the tables are those of the second version, all of them have its rows
 pub in_second : (db : Database) (rows : RowsValue) → Holds db rows → (t : State) → IsStored db t → Holds db (rows_of t)
 in_second db rows h t is =
     let second = holds_second db rows h in

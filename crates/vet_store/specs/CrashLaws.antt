@@ -48,7 +48,7 @@ pub record HasOnly (db : Database) (s : State) : Type 0 where
   pub stored : IsStored db s
   pub only : (t : State) → IsStored db t → SameRows (rows_of s) (rows_of t)
 
--- tables of the first version were taken over: this state is stored as in the database before, and none with other rows
+-- tables of the first version were taken over: this state is stored, as it was before, and none with other rows
 pub record HasTakenOver (before db : Database) : Type 0 where
   pub state : State
   pub was : IsStored before state

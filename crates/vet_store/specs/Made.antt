@@ -15,8 +15,8 @@ abbrev pub IsMade : State → RowsValue → Trees → Type 0
 IsMade s rows trees = (db : Database) × (trees ≡ db.trees)
     × (Rests s → AreFree s.now.schema → Holds db rows × SparesOthers s.now db)
 
--- the trees of a database in which the tables from a place on were made, and then rows were changed, if the connection
--- was at rest and had rows in the tables before that place
+-- the trees of a database in which the tables from a given place on were made, and then rows were changed, if the
+-- connection was at rest and had rows in the tables before that place
 abbrev pub IsFilled : ℕ → State → (RowsValue → RowsValue) → Trees → Type 0
 IsFilled first s change trees = (db : Database) × (trees ≡ db.trees)
     × ((rows : RowsValue) → Rests s → HoldsFirst first s.now rows
@@ -32,7 +32,7 @@ pub record HasMade (old new : State) (rows : RowsValue) : Type 0 where
   pub leaves : Leaves new rows
   pub others : SparesOthers old.now new.now
 
--- a step inside a transaction, which makes the tables from a place on and then changes rows
+-- a step inside a transaction, which makes the tables from a given place on and then changes rows
 pub record FillsTables (first : ℕ) (old new : State) (change : RowsValue → RowsValue) : Type 0 where
   pub was_open : IsTrue old.is_open
   pub is_open : IsTrue new.is_open

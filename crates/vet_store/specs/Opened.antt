@@ -8,13 +8,13 @@ use Rattle.vet_rows.specs.RowsOf.{rows_by}
 use Rattle.vet_store.specs.Stands.{HoldsIn}
 use Rattle.vet_tables.specs.declared.version.TablesVersion.{TablesVersion}
 
--- a sound state that can be held, whose rows in tables of a version these are, in any order
+-- a sound state that can be held, and that has these rows in tables of a version, in any order
 pub record IsToldBy (version : TablesVersion) (rows : RowsValue) (s : State) : Type 0 where
   pub sound : IsSound s
   pub held : IsHeldState s
   pub same : SameRows rows (rows_by version s)
 
--- a sound state that can be held, whose rows are in the tables of either version; if it is the first, both names of the
+-- a sound state that can be held, whose rows are in tables of either version; if it is the first, the names of the two
 -- other tables are free
 pub record IsStored (db : Database) (s : State) : Type 0 where
   pub sound : IsSound s

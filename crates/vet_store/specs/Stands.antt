@@ -12,11 +12,11 @@ use Rattle.vet_tables.specs.declared.version.TablesVersion.{TablesVersion}
 abbrev pub Holds : Database → RowsValue → Type 0
 Holds db rows = HasContents db (contents_of rows)
 
--- the same of the first so many tables, where the names of the others are free
+-- the same for the first tables, up to a count, if the names of the others are free
 abbrev pub HoldsFirst : ℕ → Database → RowsValue → Type 0
 HoldsFirst count db rows = HasFirstContents count db (contents_of rows)
 
--- the same of the tables of a version
+-- the same for the tables of a version
 abbrev pub HoldsIn : TablesVersion → Database → RowsValue → Type 0
 HoldsIn version db rows = HoldsFirst (table_count version) db rows
 

@@ -14,8 +14,8 @@ use Rattle.vet_tables.specs.Read.{Rests}
 use Rattle.vet_tables.specs.declared.table_name.TheConstants.{FIRST_TABLE_COUNT}
 use Rattle.vet_tables.specs.declared.version.TablesVersion.TheVariants.{First}
 
--- tables of the first version became those of the second, with the rows of the same state; the two tables that were
--- missing were made, and no other, and all else is as it was
+-- tables of the first version became those of the second, with the rows of the same state; only the two missing tables
+-- were made, and everything else is as it was
 pub record TakesOver (old new : Database) (s : State) : Type 0 where
   pub was : HoldsIn First old (rows_by First s)
   pub has : Holds new (rows_of s)
@@ -23,24 +23,24 @@ pub record TakesOver (old new : Database) (s : State) : Type 0 where
 
 -- ---- a connection
 
--- it took them over, and is between transactions
+-- the connection took over the tables, and is between transactions
 pub record TookOver (old new : sqlite.State) (s : State) : Type 0 where
   pub was_open : IsTrue old.is_open
   pub rests : Rests new
   pub over : TakesOver old.now new.now s
 
--- it is as it was, or took them over
+-- the connection is as it was, or took over the tables
 abbrev pub IsOpened : sqlite.State → sqlite.State → State → Type 0
 IsOpened old new s = IsUnchanged old new ⊎ TookOver old new s
 
 -- ---- what a crash leaves
 
--- what a commit may leave, where the rows of this state stood in tables of the first version
+-- what a commit may leave if the rows of this state were in tables of the first version
 abbrev pub MayTakeOver : sqlite.State → State → Trees → Type 0
 MayTakeOver c s trees = (db : Database)
     × ((trees ≡ db.trees) × (Rests c → HoldsIn First c.now (rows_by First s) → TakesOver c.now db s))
 
--- the trees of a database in which they were taken over, with the rows of a sound state that can be held
+-- the trees of a database whose tables were taken over, with the rows of a sound state that can be held
 pub record IsTakenOver (c : sqlite.State) (trees : Trees) : Type 0 where
   pub was_open : IsTrue c.is_open
   pub db : Database

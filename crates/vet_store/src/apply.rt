@@ -61,8 +61,9 @@ pub fn apply_all<S: Alter>(
     Ok(())
 }
 
-/// Makes the tables from a place on, and then the changes. Asks for a place of a table, and that the rows of the
-/// changes have the columns of their tables. Stops at the first call that fails, and returns its error.
+/// Makes the tables from a given place on, and then the changes. Asks that `first` is the place of a table, 0 to 13,
+/// and that the rows of the changes have the columns of their tables. Stops at the first call that fails, and returns
+/// its error.
 pub fn fill<S: Alter>(
     alloc: Global,
     tx: &mut Transaction<'_, S>,

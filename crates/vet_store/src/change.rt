@@ -67,10 +67,10 @@ pub fn commit_changes<S: Alter>(
     }
 }
 
-/// Makes the tables from a place on and then the changes, all in one transaction. Other tables stay as they are. Asks
-/// for a place of a table, for a connection outside a transaction, and that the rows of the changes have the columns of
-/// their tables. Fails if a table, an index or a view has the name of a table to make. After an error the database is
-/// as it was, as long as the connection serves.
+/// Makes the tables from a given place on and then the changes, all in one transaction. Other tables stay as they are.
+/// Asks that `first` is the place of a table, 0 to 13, that the connection is outside a transaction, and that the rows
+/// of the changes have the columns of their tables. Fails if a table, an index or a view has the name of a table to
+/// make. After an error the database is as it was, as long as the connection serves.
 pub fn make_tables<S: Alter>(
     alloc: Global,
     conn: &mut Connection<S>,

@@ -47,8 +47,8 @@ pub fn create_leaves_nothing_or_the_first_state<S: Alter>()
 }
 
 /// After `Store::open` a crash leaves the same database, with the same state as before, or none if there was none; or
-/// one in which tables of the first version became those of the second, with the same state. This holds if, when `open`
-/// began, a crash would have left what the connection showed. Does nothing.
+/// one whose tables of the first version were taken over, with the same state. This holds if, when `open` began, a
+/// crash would have left what the connection showed. Does nothing.
 pub fn open_leaves_the_same_state<S: Alter>()
     ensures { OpenLeaves S.Store }
 {}

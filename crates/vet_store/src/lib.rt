@@ -4,7 +4,7 @@
 //! change of rows is one transaction: the tables have all of it or none of it, after a crash too.**
 //!
 //! Scope of this crate: statements on the tables and their transactions, what the tables hold, and the store. A store
-//! is made with the tables of an empty register, or opened from the tables of a register, of either version, and runs
+//! is made with the tables of an empty register, or opened from the tables of a register, of either version. It runs
 //! commands.
 //!
 //! For example, a file in which one class in `standing` was changed by hand is refused with 31 NotARegister, and stays

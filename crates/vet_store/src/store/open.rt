@@ -2,8 +2,8 @@
 //!
 //! **The register has the sound state whose rows are in the tables. The database is refused as no register only if
 //! there is no such state.** No table is repaired: the rows of the state that was read are compared with the rows that
-//! are there, the classes of `standing` among them. Tables of the first version are read and compared in the same way,
-//! and only then become those of the second.
+//! are there, including the classes of `standing`. Tables of the first version are read and compared in the same way,
+//! and only then taken over (`take_over`).
 ghost use Rattle.std.specs.Prelude.{◌≡◌, ◌⊎◌, false, Err, IfErr, IfOk, IsErrAnd, IsTrue, MatchResult, Ok, OnErr, OnOk};
 ghost use Rattle.std.specs.Prelude.{if◌then◌else◌};
 ghost use Rattle.sqlite.specs.Held.{state};
@@ -44,9 +44,11 @@ impl<S: Alter + Drop, K: Keeper> Store<S, K> {
     /// Opens the register whose rows are in the tables, whatever else the database has. Tables of the first version
     /// become those of the second; otherwise nothing is written. Asks for a connection outside a transaction. A
     /// refusal gives the connection back, which shows what it showed before; if a commit failed, a crash may leave the
-    /// tables of the second version. Refused: `NotARegister` if the tables have the rows of no sound state, `NoMemory`,
-    /// or `StoreRefused`. If the tables are not those of a version in their form, or the name of a table that the first
-    /// version lacks is taken, it is `NotARegister`, and the connection is as it was.
+    /// tables of the second version.
+    ///
+    /// Refused: `NotARegister` if the tables are those of no version, if they are of the first and a name that only the
+    /// second has is taken, or if they have the rows of no sound state; `NoMemory`; `StoreRefused` if the database
+    /// fails. In the first two cases the connection is as it was.
     pub fn open(alloc: Global, conn: Connection<S>) -> Result<Store<S, K>, Refused<S>>
         requires autocommit { conn.in_transaction ≡ false }
         ensures found { IfOk result (λ s. HasCleanDisk (state S.Store s.conn)
@@ -90,7 +92,7 @@ impl<S: Alter + Drop, K: Keeper> Store<S, K> {
     }
 }
 
-// The register whose rows are in the tables of a version, which are then those of the second.
+// Opens the register whose rows are in the tables of a version, and makes them those of the second.
 fn open_tables<S: Alter, K: Keeper>(
     alloc: Global,
     conn: &mut Connection<S>,
@@ -129,7 +131,7 @@ fn open_tables<S: Alter, K: Keeper>(
     }
 }
 
-// Makes tables of a version, which have the rows of a register, those of the second.
+// Takes over tables that have the rows of a register, unless they are of the second version.
 fn make_second<S: Alter, K: Keeper>(
     alloc: Global,
     conn: &mut Connection<S>,
@@ -211,7 +213,7 @@ fn register_of<K: Keeper>(
     register_if(same, register)
 }
 
-// The register that was restored, if its rows are those that were read.
+// The restored register, if its rows are those that were read.
 fn register_if<K: Keeper>(same: bool, register: Register<K>) -> Result<Register<K>, Refusal>
     ensures { result ≡ (if same then Ok register else Err Refusal.NotARegister) }
 {

@@ -1,4 +1,4 @@
-//! The row of `meta` is put in place of the one that is there.
+//! The change that replaces the row of `meta`.
 ghost use Rattle.std.specs.Prelude.{◌≡◌, ◌∷◌, [], IfOk};
 ghost use Rattle.vet_base.specs.Items.{IsIn};
 ghost use Rattle.vet_rows.specs.FitChanges.{Fits};
@@ -15,8 +15,8 @@ use vet_rows::rows_of::meta_rows::meta_row;
 use vet_tables::table_name::TableName;
 use vet_tables::version::TablesVersion;
 
-/// The change that puts the row of `meta` that a register has in tables of the second version. Fails only if memory
-/// runs out.
+/// The change that puts a register's row of `meta`, in tables of the second version, in place of the one that is there.
+/// Fails only if memory runs out.
 pub(crate) fn put_meta<K: Keeper>(
     alloc: Global,
     register: &Register<K>,

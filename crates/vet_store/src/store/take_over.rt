@@ -1,8 +1,7 @@
-//! Tables of the first version become those of the second.
+//! Tables of the first version are taken over: they become those of the second.
 //!
-//! **One transaction makes the two tables that are missing, and puts the row of `meta` in place of the one that is
-//! there. Its commit is the last thing that can fail, so a crash leaves the tables of one version or the other, with
-//! the rows of the same state.**
+//! **One transaction makes the two tables that are missing, and replaces the row of `meta`. Its commit is the last
+//! thing that can fail, so a crash leaves the tables of one version or the other, with the rows of the same state.**
 ghost use Rattle.std.specs.Prelude.{◌≡◌, false, IfErr, IsTrue, OnErr, OnOk};
 ghost use Rattle.sqlite.specs.Held.{state};
 ghost use Rattle.sqlite.specs.State.{HasCleanDisk, Survives};
@@ -24,7 +23,8 @@ use vet_graph::keeper::Keeper;
 use vet_register::register::Register;
 use vet_tables::table_name::FIRST_TABLE_COUNT;
 
-/// Makes tables of the first version, which have the rows of a register, those of the second.
+/// Takes over tables of the first version that have the rows of a register. Refused: `NoMemory` or `StoreRefused`; the
+/// connection then shows what it showed before, as long as it serves.
 pub(crate) fn take_over<S: Alter, K: Keeper>(
     alloc: Global,
     conn: &mut Connection<S>,
