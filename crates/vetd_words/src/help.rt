@@ -19,7 +19,7 @@ Classes, the first that applies:
   unvetted     none of these
 
 An exemption may have a last day. Once the register's day is after it, the exemption has lapsed and no longer counts.
-The command set-day sets the register's day.
+Only the command set-day changes the register's day, to the day of that command.
 
 Exit status:
   0  the answer was printed: a class, whichever it is, counts, an outcome, a report, a file, or that a register was made
@@ -59,9 +59,9 @@ Example:
 
 /// The text below the help of `export`.
 pub const EXPORT_HELP: &str = "\
-Prints the file of that kind, as `vetd read` reads it. Nothing is read from standard input, and nothing is written to
-the database, except that tables of an earlier vetd become those of this one.
-Exemptions with a last day are in no file.
+Prints the file of that kind, as `vetd read` reads it. Exemptions with a last day are in no file.
+Nothing is read from standard input, and nothing is written to the database, except that tables of an earlier vetd are
+taken over: that vetd can't open them any more.
 
 Refused 31 if there is no register at PATH, and 30 if no database can be opened there.
 
@@ -73,7 +73,8 @@ pub const APPLY_HELP: &str = "\
 Reads a command document in TOML: the key command, and the keys of that command.
 Prints done, the step, the number of what was made and how many pairs changed class; or already, if it is held.
 A refused command changes nothing, except that one refused 29 or 30 may have been saved.
-The member matters to the commands that finish or withdraw a review, and set-day makes D the register's day.
+The member matters only to the commands that finish or withdraw a review. The command set-day makes D the register's
+day. Tables of an earlier vetd are taken over: that vetd can't open them any more.
 
 Refused 31 if there is no register at PATH, and 30 if no database can be opened there.
 
@@ -83,9 +84,9 @@ Example:
 /// The text below the help of `report`.
 pub const REPORT_HELP: &str = "\
 Prints how many pairs have each class, the class of each pair, which pairs changed class, the reviews, or the exemptions
-that have a last day, each with that day and whether it is held or has lapsed.
-Nothing is read from standard input, and nothing is written to the database, except that tables of an earlier vetd
-become those of this one.
+with a last day and whether each has lapsed.
+Nothing is read from standard input, and nothing is written to the database, except that tables of an earlier vetd are
+taken over: that vetd can't open them any more.
 Status 0 means that the report was printed, not that all pairs are full.
 
 Refused 31 if there is no register at PATH, and 30 if no database can be opened there.
@@ -98,6 +99,7 @@ pub const SERVE_HELP: &str = "\
 Serves the register in the database file at PATH, or a new one in memory, which ends with the program.
 Prints listening on 127.0.0.1:N, and after K connections served M, where M of them got their whole reply.
 A connection has one request, one reply and 30 seconds. Without --day the day is that of the clock, in UTC.
+Tables of an earlier vetd are taken over: that vetd can't open them any more.
 A proxy in front must set the field Vet-Member, and remove it from what comes from outside.
 
 Refused 4 for a bad day, 31 if there is no register at PATH, and 30 if no database can be opened there.
