@@ -15,9 +15,9 @@ use Rattle.vet_tables.specs.Read.{Rests}
 use Rattle.vet_tables.specs.Versions.{HasSomeVersion}
 
 module _ {S : Type 0} (g : Ghosts S) (before : Held S) where
-  -- This is the one register whose rows stood in the tables, and they stand in those of the second version. Either
-  -- all stands as it did, or tables of the first version became those, and all else stands as it did. A crash leaves
-  -- what it could before, or just that.
+  -- This is the one register whose rows were in the tables, and they are now in tables of the second version. Either
+  -- everything is as it was, or tables of the first version were taken over and everything else is as it was. A crash
+  -- leaves what it could leave before, or the tables that were taken over.
   pub record IsOpenedAs (register : State) (after : Held S) : Type 0 where
     pub stored : HasCleanDisk (state g after) → IsStored (state g before).now register
     pub only : HasCleanDisk (state g after) → (t : State) → IsStored (state g before).now t → register ≡ t
@@ -25,15 +25,15 @@ module _ {S : Type 0} (g : Ghosts S) (before : Held S) where
     pub opened : HasCleanDisk (state g after) → IsOpened (state g before) (state g after) register
     pub crash : Survives (state g before) (state g after) (IsTakenOver (state g before))
 
-  -- All stands as it did as long as the connection serves. So does what a crash leaves, or it leaves tables of the
-  -- first version as those of the second.
+  -- Everything is as it was as long as the connection serves. A crash leaves what it could leave before, or tables of
+  -- the first version that were taken over.
   pub record Stays (after : Held S) : Type 0 where
     pub as_before : HasCleanDisk (state g after) → IsTrue (state g after).is_open
         → Rests (state g after) × ((state g after).now ≡ (state g before).now)
     pub crash : Survives (state g before) (state g after) (IsTakenOver (state g before))
 
-  -- Nothing came of it: the tables have the rows of no register, or there was no memory or the database refused.
-  -- Without the tables of a version in their form it is no register, and nothing was done.
+  -- No register was opened: the tables have the rows of no register, memory ran out, or the database refused. If the
+  -- tables are those of no version, there is no register, and nothing was done.
   pub record IsNotOpened (refusal : Refusal) (after : Held S) : Type 0 where
     pub foreign : (HasSomeVersion (state g before).now.schema → ⊥) → (refusal ≡ NotARegister) × (after ≡ before)
     pub why : IsOfStore refusal ⊎ (refusal ≡ NotARegister)

@@ -20,7 +20,7 @@ pub record IsShown {S : Type 0} (g : Ghosts S) (before : Held S) (view : View) (
     pub opened : IsOpenedAs g before register after
     pub shows : Shows view register text
 
--- nothing was shown: no register was opened, or one was, and there was no memory for a text
+-- nothing was shown: no register was opened, or one was opened and memory ran out for the text
 abbrev pub IsNotShown : {S : Type 0} → Ghosts S → Held S → Refusal → Held S → Type 0
 IsNotShown g before refusal after =
     IsNotOpened g before refusal after

@@ -23,11 +23,11 @@ use vetd_words::view_words::{ViewCommand, ViewWords, view_words};
 /// Answers the words of a command that shows something of a register, which come without the program's own name. The
 /// text goes to `writer`, as help does, and a refusal or clap's error to `errors`.
 ///
-/// **What is printed shows the one register whose rows stand in the tables of the database at the path. Tables of the
-/// first version become those of the second; otherwise nothing is written there.** Refused, as its user reads it:
-/// `NotARegister` if there is no file at the path, or the tables have the rows of no register, and `StoreRefused` where
-/// no database can be opened or read there. Faults: `NoMemory`, where nothing was printed, and `Output`, where the
-/// front of the answer was.
+/// **The printed text shows the one register whose rows are in the tables of the database at the path. Tables of the
+/// first version are taken over; otherwise nothing is written there.** Refusals that the user reads: `NotARegister` if
+/// there is no file at the path, if the tables have the rows of no register, or if they are of the first version and a
+/// name that only the second has is taken; `StoreRefused` if no database can be opened or read there. Faults:
+/// `NoMemory` if nothing was printed, and `Output` if a prefix of the answer was.
 pub fn view_run<T: AsStr, S: Alter + Drop, K: Keeper, D: Databases<S>, W: Write, E: Write>(
     alloc: Global,
     command: ViewCommand,

@@ -60,9 +60,9 @@ module _ {N L R W : Type 0} (clients : Clients N L R W) (network network' : N) (
   IsServeInMemory _ = ⊥
 
 module _ {S : Type 0} (g : Ghosts S) {N L R W : Type 0} (clients : Clients N L R W) (network network' : N) where
-  -- A register was opened, and clients were served from it. The tables have the rows of the state that the last left,
-  -- and all else in the database is as the opening left it. A crash leaves these rows, or, where the store was shut,
-  -- those of the state after a command that some client asked for.
+  -- A register was opened, and clients were served from it. The tables have the rows of the state that the last client
+  -- left, and everything else in the database is as opening left it. A crash leaves these rows or, if the store was
+  -- shut, those of the state after a command that some client sent.
   pub record IsServedFrom (service : Service) (before : Held S) (text : Text) (ending : Ending) (after : Held S)
       : Type 0 where
     pub opened : Held S
@@ -113,7 +113,7 @@ module _ {S : Type 0} (g : Ghosts S) (Finds : Giving S) {N L R W : Type 0} (clie
   AnswersServe words left = Answered (λ answer. IsAnswerToServe words answer left)
 
 module _ {S : Type 0} (g : Ghosts S) where
-  -- nobody was served over a connection: no register was opened, or one was and no more was done
+  -- nobody was served over a connection: no register was opened, or one was opened and nothing else was done
   abbrev pub IsUnservedOver : Held S → Held S → Type 0
   IsUnservedOver before after =
       ((refusal : Refusal) × IsNotOpened g before refusal after)
