@@ -57,9 +57,9 @@ fn print_touched_packages(rt: &impl Print, names: &[PackageName]) -> io::Result<
     println!(rt; "")
 }
 
-/// Prints what a register holds: its step, its day if it has one, criteria, own entries, peers, publisher records, what
-/// a config file says to the tool alone, policies, projects, members, reviews, demanded pairs, counts and recorded
-/// moves.
+/// Prints what a register holds: its step, its day if it has one, criteria, own entries, peers, publisher records, the
+/// settings of a config file that only the tool reads, policies, projects, members, reviews, demanded pairs, counts and
+/// recorded moves.
 pub fn print_contents<K: Keeper>(rt: &impl Print, register: &Register<K>) -> io::Result<()> {
     println!(rt; "step {}", register.step())?;
     print_today(rt, register.today())?;

@@ -7,14 +7,14 @@
 //! The counts are those of the calls of each file, the failed ones included. After that the files are opened again,
 //! and what they hold is printed twice. Below a line `as written` it is what the end of the process leaves, all that
 //! was written. Below a line `as synced` it is what the end of the machine leaves, if all is lost that was not synced.
-//! If no register is there, the refusal is printed, and a register is made. If its tables are of the first version, a
+//! If no register is there, the refusal is printed, and a register is made. If the tables are of the first version, a
 //! line `first version` comes first, and they are taken over.
 //!
 //! Three words may follow, in this order. `--stop-open` lets the commands run without a stop. Then it opens the
-//! register on copies of the files, of which one stops, and prints the refusal if there is one; the counts are those of
-//! the copies. `--first-version`, only after that word, makes the tables those of the first version before they are
-//! opened. `--checkpoint` copies the log into the database file before each commit, and again at the end, when it
-//! closes the files. Otherwise the log is not copied.
+//! register on copies of the files, one of which stops, and prints the refusal if there is one; the counts are those of
+//! the copies. `--first-version`, only after `--stop-open`, turns the tables into those of the first version before
+//! they are opened. `--checkpoint` copies the log into the database file before each commit, and again at the end, when
+//! it closes the files. Otherwise the log is not copied.
 
 use crate::stops::files::{ALL_CALLS, Calls, StoppingFiles, copies_of, empty_files};
 use crate::stops::left::print_left;
@@ -47,7 +47,7 @@ pub struct DiskStop {
     pub call: u64,
     /// Whether the file stops while the register is opened after the run, and not in the run.
     pub in_open: bool,
-    /// Whether the tables are then of the first version.
+    /// Whether the tables are turned into those of the first version before that.
     pub first_version: bool,
     /// Whether the log is copied into the database file before each commit and at the end.
     pub checkpoint: bool,

@@ -1,8 +1,8 @@
-//! The rounds of exemptions that lapse.
+//! Times exemptions that lapse.
 //!
-//! Each of some demanded packages has an exemption, and no two of these have the same last day. A round adds an entry
-//! of one package, and then moves the register's day on to the day behind the last one of its exemption, which lapses.
-//! The next round does so with the next package.
+//! Each demanded package has an exemption, and no two of these have the same last day. A round adds an entry of one
+//! package, and then sets the register's day to the day after the last day of that package's exemption, which lapses.
+//! The next round does the same with the next package.
 
 use crate::clock::{done, timed_once};
 use crate::commands::{add_exemption, add_undemanded, load_project, set_day_behind};
@@ -13,16 +13,16 @@ use vet_base::limits::MOST_MOVES;
 use vet_graph::keeper::Keeper;
 use vet_register::register::Register;
 
-/// How much is to be timed of exemptions that lapse.
+/// How many exemptions and rounds are timed.
 #[derive(Clone, Copy)]
 pub struct Lapses {
     /// How many exemptions there are.
     pub count: usize,
-    /// How many rounds, of which each makes one of them lapse.
+    /// How many rounds there are, each of which makes one exemption lapse: at most `count`.
     pub rounds: usize,
 }
 
-/// Times the rounds.
+/// Makes a register with the exemptions, and times the rounds. Fails if there are more rounds than exemptions.
 pub fn run_lapses<K: Keeper>(
     rt: &(impl Clock + AllocGlobal + Print),
     lapses: Lapses,
@@ -37,7 +37,7 @@ pub fn run_lapses<K: Keeper>(
     Ok(())
 }
 
-// A register of one demanded pair and one exemption of each of some packages.
+// A register with `count` packages, each with one demanded pair and one exemption.
 fn register_of<K: Keeper>(alloc: Global, count: usize) -> Result<Register<K>, Fault> {
     let mut register = Register::new(alloc, MOST_MOVES)?;
     add_exemptions(alloc, &mut register, count)?;

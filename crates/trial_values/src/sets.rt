@@ -13,7 +13,8 @@ use std::alloc::Global;
 use vet_base::criteria_set::CriteriaSet;
 use vet_base::limits::MOST_CRITERIA;
 
-/// What two sets hold. Refused: `NoMemory`.
+/// What two sets hold. Refused: `NotUnderstood` unless each text is `-` or a list of places below `MOST_CRITERIA`, and
+/// `NoMemory`.
 pub fn sets(alloc: Global, texts: &[String]) -> Result<String, Fault> {
     let (places, others) = two(texts)?;
     sets_text(alloc, &set_of(places)?, &set_of(others)?)
@@ -44,7 +45,7 @@ fn set_of(text: &str) -> Result<CriteriaSet, Fault> {
     Ok(set)
 }
 
-// The place that a text writes.
+// The place that a text states, below `MOST_CRITERIA`.
 fn place_of(text: &str) -> Result<usize, Fault>
     ensures { IfOk result (λ place. place < MOST_CRITERIA) }
 {

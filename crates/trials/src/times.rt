@@ -20,9 +20,9 @@
 //! assigned and finished by its version, for which an equal entry is held; another is assigned and finished by a delta;
 //! one is withdrawn; a peer is set; and a criterion is removed. At the end it prints `reviews COUNT`.
 //!
-//! `lapses`, a number of exemptions and one of rounds time exemptions that lapse. Standard input is ignored. Each of so
-//! many demanded packages has an exemption with a last day of its own. In each round an entry of one package is added,
-//! and then the register's day becomes the day behind the last one of its exemption.
+//! `lapses`, a number of exemptions and one of rounds time exemptions that lapse. Standard input is ignored. There are
+//! as many demanded packages as exemptions, and each has an exemption with a last day of its own. In each round an
+//! entry of one package is added, and then the register's day is set to the day after the last day of its exemption.
 //!
 //! `demand` and a number of rounds time a demand. Standard input has an audits file, of which the criteria are taken, a
 //! config file, of which the policies are taken, and dependency tables, with a line `---` between two. For each table

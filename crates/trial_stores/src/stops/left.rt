@@ -106,7 +106,7 @@ fn print_opened<D: Disk + Drop, K: Keeper>(
     }
 }
 
-// Prints a line if tables are of the first version.
+// Prints a line if the tables are of the first version.
 fn print_version(rt: &impl Print, version: Option<TablesVersion>) -> io::Result<()> {
     match version {
         Some(TablesVersion::First) => println!(rt; "first version"),

@@ -17,7 +17,7 @@ use vet_base::refusal::Refusal;
 use vet_graph::keeper::Keeper;
 use vet_store::store::Store;
 
-/// What makes the tables of a register those of the first version.
+/// The statements that turn the tables of a register without a day into those of the first version.
 const FIRST_VERSION: &str =
     "BEGIN; DROP TABLE today; DROP TABLE lasts; UPDATE meta SET version = 1; COMMIT";
 
@@ -88,7 +88,7 @@ fn run_store<D: Disk + Drop, K: Keeper>(
     close_run(rt, stored.store.close(), ending, stop)
 }
 
-// Gives the files back, with tables of the first version if they are to be opened so.
+// Gives the files back, with tables of the first version if `stop` says so.
 fn close_run<D: Disk + Drop>(
     rt: &impl Print,
     mut conn: Connection<FileStore<D>>,
@@ -104,7 +104,7 @@ fn close_run<D: Disk + Drop>(
     }
 }
 
-// Makes the tables those of the first version if they are to be opened so.
+// Turns the tables into those of the first version if `stop` says so.
 fn put_back<D: Disk + Drop>(
     conn: &mut Connection<FileStore<D>>,
     stop: DiskStop,
@@ -116,7 +116,7 @@ fn put_back<D: Disk + Drop>(
     }
 }
 
-// Gives the files back, and closes them before that if the log is to be copied.
+// Gives the files back. If the log is to be copied, closes them before.
 fn close_connected<D: Disk + Drop>(
     rt: &impl Print,
     conn: Connection<FileStore<D>>,

@@ -11,23 +11,23 @@ use trial_values::fault::Fault;
 /// What is to be timed, and how much of it.
 #[derive(Clone, Copy)]
 pub enum Task {
-    /// So many rounds of imports.
+    /// This many rounds of imports.
     Imports(Sizes),
-    /// So many rounds of replacements.
+    /// This many rounds of replacements.
     Replacements(usize),
-    /// So many rounds of commands to the review desk.
+    /// This many rounds of commands to the review desk.
     Desk(Reviews),
-    /// So many rounds of exemptions that lapse.
+    /// This many rounds of exemptions that lapse.
     Lapses(Lapses),
-    /// So many rounds of finding a demand.
+    /// This many rounds of finding a demand.
     Demands(usize),
-    /// So many rounds of commands to a register in a file.
+    /// This many rounds of commands to a register in a file.
     Stored(usize),
     /// The opening of a register in a file.
     Opened,
     /// The parts of that.
     Parts,
-    /// So many rounds of commands to a register in memory.
+    /// This many rounds of commands to a register in memory.
     Memory(usize),
 }
 
