@@ -112,7 +112,7 @@ def a_register_file(program):
 
 
 def last_days(program):
-    """Each exemption lapses after the day. One before that of the commands is refused."""
+    """Each exemption lapses after its last day. A last day before the day of the commands is refused."""
     with tempfile.TemporaryDirectory(dir=FOLDER) as folder:
         register = made(program, folder, OTHER)
         words = (register.path, "--apply", f"--day={DAY}", f"--vetd={program}")

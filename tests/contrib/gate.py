@@ -134,12 +134,12 @@ def a_register_file(gate):
 
 
 def an_exemption_with_a_last_day(gate):
-    """It vouches up to that day, though it is in no file, and not after it."""
+    """It counts up to that day, although it is in no file, and not after it."""
     with tempfile.TemporaryDirectory(dir=FOLDER) as folder:
         register = Register(gate.program, os.path.join(folder, "register.db"), SECONDS).make()
         register.told(document("replace-files", **FILES), "done 1 moves 0")
-        lasting = entry("exemption", version="1.0.1", last_day="2024-05-31")
-        register.told(lasting, "done 2 number 4 moves 0")
+        dated = entry("exemption", version="1.0.1", last_day="2024-05-31")
+        register.told(dated, "done 2 number 4 moves 0")
         register.told(document("set-day"), "done 3 moves 0", "2024-05-31")
         gate.judges(UNVETTED, 0, "4 pairs were looked at: 4 vetted, 0 not\n", register=register.path)
         register.told(document("set-day"), "done 4 moves 0", "2024-06-01")
@@ -147,7 +147,7 @@ def an_exemption_with_a_last_day(gate):
 
 
 def one_of_a_served_register(gate):
-    """One that names no criterion vouches for nothing."""
+    """An exemption that names no criterion vouches for nothing."""
     about = {"package": "serde", "kind": "exemption", "version": "1.0.1", "last_day": "2024-05-31"}
     criteria = ([], ["safe-to-run"])
     added = [gate.server.give("add-entry", criteria=names, **about).split()[3] for names in criteria]

@@ -356,22 +356,22 @@ def a_register_file(program):
         compare("counts", register.report("counts"), before)
 
 
-# a version with an exemption whose last day is 2024-05-31, up to it and after it
-LASTING = """a 3.0.0 safe-to-deploy: exempted
+# a version with an exemption whose last day is 2024-05-31, on that day and after it
+DATED = """a 3.0.0 safe-to-deploy: exempted
     exemption of 3.0.0, whose last day is 2024-05-31, for safe-to-deploy
 """
 
 
 def an_exemption_with_a_last_day(program):
-    """It is explained while it is held, though it is in no file, also of a version that no project demands."""
+    """It is explained until it lapses, although it is in no file, also for a version that no project demands."""
     with tempfile.TemporaryDirectory(dir=FOLDER) as folder:
         register = made(program, folder)
         for version, told in (("3.0.0", "done 3 number 12 moves 1"), ("1.3.0", "done 4 number 13 moves 0")):
             register.told(entry("exemption", package="a", version=version, last_day="2024-05-31"), told)
         register.told(document("set-day"), "done 5 moves 0", "2024-05-31")
         words = (SCRIPT, register.path, f"--vetd={program}", "a")
-        compare("held", printed(*words, "3.0.0", SAFE, timeout=600), LASTING)
-        of_copy = LASTING.replace("3.0.0", "1.3.0").replace("exempted\n", "exempted\n    no project demands it\n")
+        compare("held", printed(*words, "3.0.0", SAFE, timeout=600), DATED)
+        of_copy = DATED.replace("3.0.0", "1.3.0").replace("exempted\n", "exempted\n    no project demands it\n")
         compare("in a copy", printed(*words, "1.3.0", SAFE, timeout=600), of_copy)
         register.told(document("set-day"), "done 6 moves 1", "2024-06-01")
         compare("lapsed", printed(*words, "3.0.0", SAFE, timeout=600), dict(PRINTED)["3.0.0", SAFE])

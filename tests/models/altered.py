@@ -141,7 +141,7 @@ class Shown(NamedTuple):
 SHOWN = Shown(HELD, AUDITS, CONFIG, IMPORTS, MORE)
 
 # the same register with a day and an exemption with a last day, which have tables of their own: its further commands,
-# and what is shown of it
+# and its reports
 DATED_COMMANDS = COMMANDS + """2024-05-01 add-entry exemption log 0.4.0 safe-to-deploy last-day=2024-05-31
 #> done 12 number 3 moves 1
 2024-05-01 set-day
@@ -201,7 +201,7 @@ UNKNOWN = names(["z"])
 
 
 def more_criteria(peer, count):
-    """A statement that gives a peer, or one's own table, so many more criteria."""
+    """A statement that adds this many criteria to a peer's table or to one's own."""
     numbers = f"WITH RECURSIVE at (n) AS (SELECT 1 UNION ALL SELECT n + 1 FROM at WHERE n < {count})"
     return f"INSERT INTO criteria {numbers} SELECT '{peer}', 'more-' || n, x'', x'', x'' FROM at"
 
@@ -305,7 +305,7 @@ GOOD_ROWS = [
     ("UPDATE meta SET step = 7", "step 11", "step 7", "done 12", "done 8"),
 ]
 
-# of the register with a day: changes of rows of the two tables after which no register has them all
+# changes to the rows of the two tables of the register with a day, after which they are those of no register
 BAD_DATED_ROWS = [
     "UPDATE today SET one = 2",
     "UPDATE today SET one = -2",
@@ -323,7 +323,7 @@ BAD_DATED_ROWS = [
     "INSERT INTO lasts VALUES (4, 19874)",
     "INSERT INTO lasts VALUES (-2, 19874)",
 ]
-# and changes that leave one
+# changes after which they are those of a register
 GOOD_DATED_ROWS = [
     (
         "UPDATE today SET day = day + 1",
@@ -383,7 +383,7 @@ OTHER_STATEMENTS = [
 # the last column of each table that has one beside its key
 LAST_COLUMNS = {table: columns[-1][0] for table, columns in TABLES.items() if not columns[-1][2]}
 
-# what makes tables of the first version none of a register's: it takes a name of the two tables that they lack, or both
+# statements that take one or both of the names that tables of the first version lack, so that there is no register
 TAKEN = [
     "CREATE TABLE today (x)",
     "CREATE TABLE today (one INTEGER NOT NULL, day INTEGER NOT NULL, PRIMARY KEY (one)) STRICT",

@@ -72,7 +72,7 @@ def count_of(held):
 
 
 def read_entry(words):
-    """An entry; a last day stands as the last word of its line."""
+    """An entry; a last day is the last word of its line."""
     kind, package, *rest = words
     said = [rest.pop()] if rest[-1].startswith(LAST_DAY) else []
     parts = {"delta": 2, "wildcard": 3, "trusted": 3}.get(kind, 1)
@@ -225,7 +225,7 @@ def are_held(files, held):
         return False
     pairs = (
         (held.criteria, files.criteria),
-        (set(held.entries.values()) - set(held.lasting().values()), set(files.entries())),
+        (set(held.entries.values()) - set(held.dated().values()), set(files.entries())),
         (held.settings, files.settings),
         (held.publishers, files.publishers),
         (held.policies, files.policies),
@@ -235,11 +235,11 @@ def are_held(files, held):
     return same and all(same_content(content, files.content(name)) for name, content in held.contents.items())
 
 
-def limits(files, lasting):
+def limits(files, dated):
     if len(files.criteria) > FURTHER_CRITERIA:
         raise Refused("9 TooManyCriteria")
     within("peers", len(files.settings), MOST_PEERS)
-    within("entries", len(lasting) + files.count(), MOST_ENTRIES)
+    within("entries", len(dated) + files.count(), MOST_ENTRIES)
     within("publishers", sum(map(len, files.publishers.values())), MOST_PUBLISHERS)
     within("policies", len(files.policies), MOST_POLICIES)
 
@@ -257,15 +257,15 @@ def replace_files(held, _day, words):
     files = Files(*map(text_of, words))
     if are_held(files, held):
         return "already"
-    lasting = held.lasting()
-    limits(files, lasting)
+    dated = held.dated()
+    limits(files, dated)
     references(files)
-    staying = held.in_review().union(*(entry.criteria for entry in lasting.values()))
+    staying = held.in_review().union(*(entry.criteria for entry in dated.values()))
     if not staying <= {*files.criteria, *BUILT_IN}:
         raise Refused("8 CriterionInUse")
     held.criteria, held.publishers, held.policies = files.criteria, files.publishers, files.policies
     held.settings, held.tool = files.settings, files.tool
-    held.entries = lasting | numbered(held, held.entries, files.entries())
+    held.entries = dated | numbered(held, held.entries, files.entries())
     before, held.contents = held.contents, {}
     for name in sorted(files.settings):
         content = files.content(name)

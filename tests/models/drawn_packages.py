@@ -93,17 +93,17 @@ class DrawnPackages:
         return self.given.machine.held
 
     def whole(self):
-        """What gives all that is held at once, each command with its day: the projects, and three files before, between
-        or behind them; then the exemptions that stand in no file, and the register's day before or behind these."""
+        """The commands that give all that is held at once, each with its day: the projects, with three files before,
+        between or after them; then the exemptions that are in no file, with the register's day before or after them."""
         held = self.held()
         tables = (held_audits(held), held_config(held), held_imports(held, excluding=False))
         files = f"replace-files {' '.join(word_of(toml_text(table, self.dice)) for table in tables)}"
         commands = [self.loaded[name] for name in sorted(held.projects)]
         commands.insert(self.dice.randint(0, len(commands)), files)
-        lasting = [(command_of(entry), DAY) for _, entry in sorted(held.lasting().items())]
+        dated = [(command_of(entry), DAY) for _, entry in sorted(held.dated().items())]
         if held.today:
-            lasting.insert(self.dice.choice((0, len(lasting))), (SET_DAY, held.today))
-        return [(command, DAY) for command in commands] + lasting
+            dated.insert(self.dice.choice((0, len(dated))), (SET_DAY, held.today))
+        return [(command, DAY) for command in commands] + dated
 
     # ---- commands
 

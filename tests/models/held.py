@@ -40,8 +40,8 @@ class Held:
     def has(self, name):
         return name in self.criteria or name in BUILT_IN
 
-    def lasting(self):
-        """The exemptions that have a last day, which stand in no file."""
+    def dated(self):
+        """The exemptions with a last day, which are in no file, by their numbers."""
         return {number: entry for number, entry in self.entries.items() if entry.last_day()}
 
     def in_review(self):
@@ -112,7 +112,7 @@ class Held:
         return steps, condemned
 
     def has_lapsed(self, entry):
-        """Whether the register's day is past the last day of an exemption."""
+        """Whether the register's day is after the last day of an exemption."""
         return bool(self.today and entry.last_day() and entry.last_day() < self.today)
 
     def steps_of(self, entry):

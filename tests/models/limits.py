@@ -13,6 +13,6 @@ MOST_PUBLISHERS, MOST_POLICIES = 100_000, 10_000
 
 
 def further(count):
-    """The names of so many further criteria, in the order of their bytes. They come before the built-in ones."""
+    """The names of this many further criteria, in the order of their bytes. They come before the built-in ones."""
     digits = len(str(MOST_CRITERIA))
     return [f"c{number:0{digits}}" for number in range(1, count + 1)]

@@ -36,7 +36,7 @@ def demand(before, after, _words):
 
 
 def lapsing(before, after, _words):
-    """The packages of exemptions that have lapsed only after it."""
+    """The packages of the exemptions that the command makes lapse."""
     return {it.package for it in after.entries.values() if after.has_lapsed(it) and not before.has_lapsed(it)}
 
 

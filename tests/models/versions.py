@@ -26,24 +26,24 @@ def objects_in(path):
 
 
 def version_in(path):
-    """Of which version the tables in a file are, by their names."""
+    """The version of the tables in a file, by their names."""
     return FIRST if {name for _, name, _, _ in objects_in(path)}.isdisjoint(LATER) else SECOND
 
 
 def rows_of_either(path):
-    """The rows of each table in a database file, of whichever version they are."""
+    """The rows of each table in a database file, with tables of either version."""
     return rows_in(path, tables_of(version_in(path)))
 
 
 def put_back(path):
-    """The tables of a register in a file become those of the first version, with the rows of the same state."""
+    """Turns the tables of a register in a file into those of the first version, with the rows of the same state."""
     with opened(path) as tables:
         dropped = "; ".join(f"DROP TABLE {name}" for name in LATER)
         tables.executescript(f"BEGIN; {dropped}; UPDATE meta SET version = {NUMBERS[FIRST]}; COMMIT")
 
 
 class Before:
-    """A register's file before it is opened: what is in it, and the rows that it has once it was opened."""
+    """A register's file before it is opened: what is in it, and the rows that it must have afterwards."""
 
     def __init__(self, path):
         self.path, self.objects = path, objects_in(path)

@@ -76,7 +76,7 @@ LONG_MOVES = """\
        3 2024-05-01 package-with-a-name-longer-than-24 1.0.0-alpha.of-many-parts read,"twice"         none        \
 unvetted
 """
-# of an exemption of serde, the lines before and after its last day is over, and one that names no criterion
+# the lines of an exemption of serde before and after it has lapsed, and of one that names no criterion
 HELD_LINE = """\
        1 2024-05-31 serde                    1.0.1                held   safe-to-deploy
 """

@@ -84,7 +84,7 @@ KEPT = [
         }]}},
     ),
     (
-        "an exemption with a last day, which stands in no file",
+        "an exemption with a last day, which is in no file",
         entry("exemption", version="1.0.2", notes="N", suggest=False, last_day="2024-05-31"),
         "config",
         {"exemptions": None},

@@ -83,7 +83,7 @@ COMMANDS = [
     *(Swept(f"report_{kind}", ["report", kind], b"", 0, b"") for kind in REPORTS),
     *(Swept(f"export_{kind}", ["export", kind], b"", 0, b"") for kind in FILES),
 ]
-# of these, one of each kind: they are also given to tables of the first version
+# one of each kind, which are also given to tables of the first version
 OPENING = [it for it in COMMANDS if it.name in ("apply_an_entry", "report_counts", "export_config")]
 
 

@@ -84,7 +84,7 @@ X = document("set-criterion", name="x")
 ONLY_RUN = document("set-policy", policy="app", criteria="safe-to-run")
 BOB = document("add-member", member="bob")
 # an exemption whose last day is over on the day of the server
-LASTING = Given("2024-04-30", entry("exemption", version="1.0.1", last_day="2024-04-30"))
+DATED = Given("2024-04-30", entry("exemption", version="1.0.1", last_day="2024-04-30"))
 ACCEPTED = {
     "set-criterion": (document("set-criterion", name="x", description="Read.", implies="safe-to-run"), "moves 0"),
     "remove-criterion": (document("remove-criterion", name="x"), "moves 0", X),
@@ -99,7 +99,7 @@ ACCEPTED = {
     "load-project": (demand_of("1.0.1", "1.0.2"), "moves 2"),
     "drop-project": (document("drop-project", project="app"), "moves 2"),
     "replace-files": (THREE_FILES, "moves 1"),
-    "set-day": (document("set-day"), "moves 1", LASTING),
+    "set-day": (document("set-day"), "moves 1", DATED),
     "close-period": (document("close-period"), "moves 0"),
     "add-member": (BOB, "moves 0"),
     "open-review": (
