@@ -107,7 +107,7 @@ class Register:
 
 
 def lapsed(today, lasts):
-    """The numbers of the exemptions whose last day is over, by the rows of two tables."""
+    """The numbers of the exemptions that have lapsed, from the rows of the tables `today` and `lasts`."""
     return {number for number, last in lasts for _one, day in today if last < day}
 
 

@@ -7,7 +7,7 @@ from shared.rounds import command
 
 PACKAGE, ROOT = "made", "made-root"
 LEVELS = [f"level-{place}" for place in range(61)]
-# as many as a register could have on the day with which `changes` compares: a drawn one has three
+# 64, as many as a register could have when the times were measured with which `changes` compares; a drawn one has three
 ALL_CRITERIA = ["safe-to-deploy", "safe-to-run", "reviewed", *LEVELS]
 
 
