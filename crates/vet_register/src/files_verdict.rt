@@ -89,12 +89,12 @@ impl<K: Keeper> Register<K> {
         let known = defined_names(alloc, files.criteria())?;
         self.check_files_limits(files, comparison)?;
         check_references(&known, files)?;
-        self.check_what_stays(&known)
+        self.check_kept(&known)
     }
 
     // Whether reviews that aren't closed and own exemptions with a last day, which files keep, name only these
     // criteria.
-    fn check_what_stays(&self, known: &DefinedNames) -> Result<(), Refusal>
+    fn check_kept(&self, known: &DefinedNames) -> Result<(), Refusal>
         ensures { result ≡ refuse_if (names_beyond self.now.state known.now.table) CriterionInUse }
     {
         if self.desk.names_beyond(&known.table) {

@@ -37,6 +37,6 @@ returns g c day =
     ∙ ap (λ t. t >>= λ _. files_references files >>= λ _. rules) fit ∙ ap (λ t. t >>= λ _. rules) known in
     let same = same_beyond state c.in_ok-known.known.table (defined files.criteria)
     (λ n. c.in_ok-known.ensures.table n ∙ ap (λ cs. table.contains_key (defined cs) n) c.criteria.ensures) in
-    let left = c.check_what_stays.result in
-    let told : left ≡ rules = c.check_what_stays.ensures ∙ ap (λ b. refuse_if b CriterionInUse) same in
+    let left = c.check_kept.result in
+    let told : left ≡ rules = c.check_kept.ensures ∙ ap (λ b. refuse_if b CriterionInUse) same in
     subst (λ t. Gives (λ u. u) t left) (sym asked) (gives_itself rules left told)
