@@ -125,14 +125,14 @@ fn open_tables<S: Alter, K: Keeper>(
         Ok(register) => register,
         Err(refusal) => return Err(refusal),
     };
-    match make_second(alloc, conn, version, &register) {
+    match ensure_second(alloc, conn, version, &register) {
         Ok(()) => Ok(register),
         Err(refusal) => Err(refusal),
     }
 }
 
 // Takes over tables that have the rows of a register, unless they are of the second version.
-fn make_second<S: Alter, K: Keeper>(
+fn ensure_second<S: Alter, K: Keeper>(
     alloc: Global,
     conn: &mut Connection<S>,
     version: TablesVersion,

@@ -32,10 +32,10 @@ returns-in-Err-clause-crash g c =
 
 -- ---- one that was
 
-pub returns-in-Ok-make_second-clause-found : goal.returns-in-Ok-make_second-clause-found
-returns-in-Ok-make_second-clause-found g c clean =
+pub returns-in-Ok-ensure_second-clause-found : goal.returns-in-Ok-ensure_second-clause-found
+returns-in-Ok-ensure_second-clause-found g c clean =
     let early : HasCleanDisk (state g.S.Store c.read_register.new.conn) =
-    omega (arith, c.make_second.ensures.crash.clean, clean) in
+    omega (arith, c.ensure_second.ensures.crash.clean, clean) in
     record {
       sound = c.in-Ok.ensures.sound;
       held = c.in-Ok.ensures.held;
@@ -43,75 +43,75 @@ returns-in-Ok-make_second-clause-found g c clean =
       holds = c.in-Ok.ensures.found early;
     }
 
-pub returns-in-Ok-make_second-clause-only : goal.returns-in-Ok-make_second-clause-only
-returns-in-Ok-make_second-clause-only g c clean =
+pub returns-in-Ok-ensure_second-clause-only : goal.returns-in-Ok-ensure_second-clause-only
+returns-in-Ok-ensure_second-clause-only g c clean =
     let early : HasCleanDisk (state g.S.Store c.read_register.new.conn) =
-    omega (arith, c.make_second.ensures.crash.clean, clean) in
+    omega (arith, c.ensure_second.ensures.crash.clean, clean) in
     c.in-Ok.ensures.only early
 
-pub returns-in-Ok-make_second-clause-stands : goal.returns-in-Ok-make_second-clause-stands
-returns-in-Ok-make_second-clause-stands g c clean =
+pub returns-in-Ok-ensure_second-clause-stands : goal.returns-in-Ok-ensure_second-clause-stands
+returns-in-Ok-ensure_second-clause-stands g c clean =
     let old = state g.S.Store c.args.conn.now in
     let mid = state g.S.Store c.read_register.new.conn in
-    let early : HasCleanDisk mid = omega (arith, c.make_second.ensures.crash.clean, clean) in
-    (opened_then old mid (state g.S.Store c.make_second.new.conn) c.args.version c.in-Ok.register.state
+    let early : HasCleanDisk mid = omega (arith, c.ensure_second.ensures.crash.clean, clean) in
+    (opened_then old mid (state g.S.Store c.ensure_second.new.conn) c.args.version c.in-Ok.register.state
     c.requires.autocommit
     (c.is_autocommit-rests.ensures.settled (c.is_autocommit-rests.ensures.value ∙ ap not c.requires.autocommit))
     (λ clean. (c.in-Ok.ensures.same clean, c.in-Ok.ensures.found clean)) early
-    (c.in-Ok-make_second.ensures.done clean)).0
+    (c.in-Ok-ensure_second.ensures.done clean)).0
 
-pub returns-in-Ok-make_second-clause-opened : goal.returns-in-Ok-make_second-clause-opened
-returns-in-Ok-make_second-clause-opened g c clean =
+pub returns-in-Ok-ensure_second-clause-opened : goal.returns-in-Ok-ensure_second-clause-opened
+returns-in-Ok-ensure_second-clause-opened g c clean =
     let old = state g.S.Store c.args.conn.now in
     let mid = state g.S.Store c.read_register.new.conn in
-    let early : HasCleanDisk mid = omega (arith, c.make_second.ensures.crash.clean, clean) in
-    (opened_then old mid (state g.S.Store c.make_second.new.conn) c.args.version c.in-Ok.register.state
+    let early : HasCleanDisk mid = omega (arith, c.ensure_second.ensures.crash.clean, clean) in
+    (opened_then old mid (state g.S.Store c.ensure_second.new.conn) c.args.version c.in-Ok.register.state
     c.requires.autocommit
     (c.is_autocommit-rests.ensures.settled (c.is_autocommit-rests.ensures.value ∙ ap not c.requires.autocommit))
     (λ clean. (c.in-Ok.ensures.same clean, c.in-Ok.ensures.found clean)) early
-    (c.in-Ok-make_second.ensures.done clean)).1
+    (c.in-Ok-ensure_second.ensures.done clean)).1
 
-pub returns-in-Ok-make_second-clause-was_open : goal.returns-in-Ok-make_second-clause-was_open
-returns-in-Ok-make_second-clause-was_open g c clean serves =
+pub returns-in-Ok-ensure_second-clause-was_open : goal.returns-in-Ok-ensure_second-clause-was_open
+returns-in-Ok-ensure_second-clause-was_open g c clean serves =
     let early : HasCleanDisk (state g.S.Store c.read_register.new.conn) =
-    omega (arith, c.make_second.ensures.crash.clean, clean) in
+    omega (arith, c.ensure_second.ensures.crash.clean, clean) in
     (c.in-Ok.ensures.same early).0.was_open
 
-pub returns-in-Ok-make_second-clause-crash : goal.returns-in-Ok-make_second-clause-crash
-returns-in-Ok-make_second-clause-crash g c =
+pub returns-in-Ok-ensure_second-clause-crash : goal.returns-in-Ok-ensure_second-clause-crash
+returns-in-Ok-ensure_second-clause-crash g c =
     leaves_then (state g.S.Store c.args.conn.now) (state g.S.Store c.read_register.new.conn)
-    (state g.S.Store c.make_second.new.conn) c.args.version c.in-Ok.register.state c.requires.autocommit
+    (state g.S.Store c.ensure_second.new.conn) c.args.version c.in-Ok.register.state c.requires.autocommit
     (c.is_autocommit-rests.ensures.settled (c.is_autocommit-rests.ensures.value ∙ ap not c.requires.autocommit))
     (λ clean. (c.in-Ok.ensures.same clean, c.in-Ok.ensures.found clean)) c.in-Ok.ensures.sound c.in-Ok.ensures.held
-    c.read_register.ensures.survives c.make_second.ensures.crash
+    c.read_register.ensures.survives c.ensure_second.ensures.crash
 
 -- ---- tables that were not taken over
 
-pub returns-in-Err-make_second-clause-none : goal.returns-in-Err-make_second-clause-none
-returns-in-Err-make_second-clause-none g c clean is t h =
-    elim c.in-Err-make_second.ensures.refused [ inl memory ↦ cc | inr store ↦ cc ]
+pub returns-in-Err-ensure_second-clause-none : goal.returns-in-Err-ensure_second-clause-none
+returns-in-Err-ensure_second-clause-none g c clean is t h =
+    elim c.in-Err-ensure_second.ensures.refused [ inl memory ↦ cc | inr store ↦ cc ]
 
-pub returns-in-Err-make_second-clause-as_before : goal.returns-in-Err-make_second-clause-as_before
-returns-in-Err-make_second-clause-as_before g c clean serves =
+pub returns-in-Err-ensure_second-clause-as_before : goal.returns-in-Err-ensure_second-clause-as_before
+returns-in-Err-ensure_second-clause-as_before g c clean serves =
     let old = state g.S.Store c.args.conn.now in
     let mid = state g.S.Store c.read_register.new.conn in
-    let early : HasCleanDisk mid = omega (arith, c.make_second.ensures.crash.clean, clean) in
-    as_before_then old mid (state g.S.Store c.make_second.new.conn) c.args.version c.in-Ok.register.state
+    let early : HasCleanDisk mid = omega (arith, c.ensure_second.ensures.crash.clean, clean) in
+    as_before_then old mid (state g.S.Store c.ensure_second.new.conn) c.args.version c.in-Ok.register.state
     c.requires.autocommit
     (c.is_autocommit-rests.ensures.settled (c.is_autocommit-rests.ensures.value ∙ ap not c.requires.autocommit))
     (λ clean. (c.in-Ok.ensures.same clean, c.in-Ok.ensures.found clean)) early
-    (c.in-Err-make_second.ensures.kept clean serves)
+    (c.in-Err-ensure_second.ensures.kept clean serves)
 
-pub returns-in-Err-make_second-clause-was_open : goal.returns-in-Err-make_second-clause-was_open
-returns-in-Err-make_second-clause-was_open g c clean serves =
+pub returns-in-Err-ensure_second-clause-was_open : goal.returns-in-Err-ensure_second-clause-was_open
+returns-in-Err-ensure_second-clause-was_open g c clean serves =
     let early : HasCleanDisk (state g.S.Store c.read_register.new.conn) =
-    omega (arith, c.make_second.ensures.crash.clean, clean) in
+    omega (arith, c.ensure_second.ensures.crash.clean, clean) in
     (c.in-Ok.ensures.same early).0.was_open
 
-pub returns-in-Err-make_second-clause-crash : goal.returns-in-Err-make_second-clause-crash
-returns-in-Err-make_second-clause-crash g c =
+pub returns-in-Err-ensure_second-clause-crash : goal.returns-in-Err-ensure_second-clause-crash
+returns-in-Err-ensure_second-clause-crash g c =
     leaves_then (state g.S.Store c.args.conn.now) (state g.S.Store c.read_register.new.conn)
-    (state g.S.Store c.make_second.new.conn) c.args.version c.in-Ok.register.state c.requires.autocommit
+    (state g.S.Store c.ensure_second.new.conn) c.args.version c.in-Ok.register.state c.requires.autocommit
     (c.is_autocommit-rests.ensures.settled (c.is_autocommit-rests.ensures.value ∙ ap not c.requires.autocommit))
     (λ clean. (c.in-Ok.ensures.same clean, c.in-Ok.ensures.found clean)) c.in-Ok.ensures.sound c.in-Ok.ensures.held
-    c.read_register.ensures.survives c.make_second.ensures.crash
+    c.read_register.ensures.survives c.ensure_second.ensures.crash

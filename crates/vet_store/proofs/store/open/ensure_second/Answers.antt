@@ -4,7 +4,7 @@ use Rattle.sqlite.proofs.StateLemmas.{survives_weaker}
 use Rattle.sqlite.specs.Held.{state}
 use Rattle.vet_rows.specs.RowsOf.{rows_of}
 use Rattle.vet_store.proofs.Versions.{holds_all}
-use Rattle.vet_store.proofs.store.open.make_second.Goals as goal
+use Rattle.vet_store.proofs.store.open.ensure_second.Goals as goal
 use Rattle.vet_tables.proofs.Readings.{unchanged_self}
 use Rattle.vet_tables.proofs.Steps.{survives_same}
 
