@@ -19,9 +19,9 @@ use Rattle.vet_entries.specs.declared.entry.Source.TheVariants.{Own}
 use Rattle.vet_entries.specs.declared.facts.HeldEntry.{HeldEntry}
 use Rattle.vet_entries.specs.declared.kind.Kind.{Kind}
 use Rattle.vet_entries.specs.declared.kind.Kind.TheVariants as kind
-use Rattle.vet_item_rows.specs.DayRows.{IsPlain, days_at, entry_of_group, entry_until_first, filed_day_row, first_day}
-use Rattle.vet_item_rows.specs.DayRows.{kind_until_first, last_days, last_rows, plain_entry, plain_facts, plain_kind}
-use Rattle.vet_item_rows.specs.DayRows.{today_rows}
+use Rattle.vet_item_rows.specs.DayRows.{IsPlain, days_at, entry_of_group, entry_with_first_day, filed_day_row}
+use Rattle.vet_item_rows.specs.DayRows.{first_day, kind_with_first_day, last_days, last_rows, plain_entry, plain_facts}
+use Rattle.vet_item_rows.specs.DayRows.{plain_kind, today_rows}
 use Rattle.vet_item_rows.specs.EntryRows.{all_entries, entry_row, peer_entries, row_saying, unused, with_kind}
 use Rattle.vet_item_rows.specs.Gathered.{gathered, is_filed_at, items_at}
 use Rattle.vet_item_rows.specs.KindColumns.{KindColumns}
@@ -205,7 +205,7 @@ dated_by_number days entries up =
 -- an entry gets its last day back
 kind_back : (k : Kind) (number : ℕ) (days : List DayValue)
     → SameItems days (map day_in (days_at number (last_day_of k)))
-    → kind_until_first days (plain_kind k) ≡ k
+    → kind_with_first_day days (plain_kind k) ≡ k
 kind_back (kind.Full v a) number [] same = refl
 kind_back (kind.Full v a) number (d ∷ days) same = refl
 kind_back (kind.Delta d a) number [] same = refl
@@ -225,7 +225,7 @@ kind_back (kind.Exemption v s (Some last)) number (d ∷ days) same = elim (same
 ]
 
 entry_back : (h : HeldEntry) (days : List DayValue) → SameItems days (map day_in (last_days h))
-    → entry_until_first days (plain_entry h) ≡ h
+    → entry_with_first_day days (plain_entry h) ≡ h
 entry_back h days same =
     let of_kind = kind_back h.entry.kind h.number days same in
     λ i. record h { entry = record h.entry { kind = of_kind i } }

@@ -68,23 +68,23 @@ abbrev pub plain_facts : Facts → Facts
 plain_facts facts = record facts { entries = map plain_entry facts.entries; today = None }
 
 -- a kind with this last day, if it is an exemption
-abbrev pub kind_until : DayValue → Kind → Kind
-kind_until day (kind.Full v audit) = kind.Full v audit
-kind_until day (kind.Delta d audit) = kind.Delta d audit
-kind_until day (kind.Violation r audit) = kind.Violation r audit
-kind_until day (kind.Wildcard window grant) = kind.Wildcard window grant
-kind_until day (kind.Trusted window) = kind.Trusted window
-kind_until day (kind.Exemption v suggest last) = kind.Exemption v suggest (Some day)
+abbrev pub kind_with_last_day : DayValue → Kind → Kind
+kind_with_last_day day (kind.Full v audit) = kind.Full v audit
+kind_with_last_day day (kind.Delta d audit) = kind.Delta d audit
+kind_with_last_day day (kind.Violation r audit) = kind.Violation r audit
+kind_with_last_day day (kind.Wildcard window grant) = kind.Wildcard window grant
+kind_with_last_day day (kind.Trusted window) = kind.Trusted window
+kind_with_last_day day (kind.Exemption v suggest last) = kind.Exemption v suggest (Some day)
 
 -- a kind, and an entry, with the first of these days as its last day, if there is one
-abbrev pub kind_until_first : List DayValue → Kind → Kind
-kind_until_first [] kind = kind
-kind_until_first (day ∷ more) kind = kind_until day kind
+abbrev pub kind_with_first_day : List DayValue → Kind → Kind
+kind_with_first_day [] kind = kind
+kind_with_first_day (day ∷ more) kind = kind_with_last_day day kind
 
-abbrev pub entry_until_first : List DayValue → HeldEntry → HeldEntry
-entry_until_first days held =
-    record held { entry = record held.entry { kind = kind_until_first days held.entry.kind } }
+abbrev pub entry_with_first_day : List DayValue → HeldEntry → HeldEntry
+entry_with_first_day days held =
+    record held { entry = record held.entry { kind = kind_with_first_day days held.entry.kind } }
 
 -- the entry of a group, with the first of its days as its last day
 abbrev pub entry_of_group : Gathered HeldEntry DayValue → HeldEntry
-entry_of_group group = entry_until_first group.items group.head
+entry_of_group group = entry_with_first_day group.items group.head

@@ -8,8 +8,9 @@ ghost use Rattle.vet_base.specs.Day.{DayValue};
 ghost use Rattle.vet_base.specs.Items.{SameItems};
 ghost use Rattle.vet_entries.specs.Numbered.{AreByNumber};
 ghost use Rattle.vet_entries.specs.declared.facts.HeldEntry.{HeldEntry as EntryValue};
-ghost use Rattle.vet_item_rows.specs.DayRows.{entry_of_group, entry_until_first, filed_day_row, first_day, kind_until};
-ghost use Rattle.vet_item_rows.specs.DayRows.{kind_until_first, last_days, plain_entry, today_rows};
+ghost use Rattle.vet_item_rows.specs.DayRows.{entry_of_group, entry_with_first_day, filed_day_row, first_day};
+ghost use Rattle.vet_item_rows.specs.DayRows.{kind_with_first_day, kind_with_last_day, last_days, plain_entry};
+ghost use Rattle.vet_item_rows.specs.DayRows.{today_rows};
 ghost use Rattle.vet_item_rows.specs.ReadBack.{IsWritten};
 ghost use Rattle.vet_item_rows.specs.ReadFacts.{IsFiledDay};
 ghost use Rattle.vet_item_rows.specs.Values.{IsDay, MayBe};
@@ -98,12 +99,12 @@ fn entry_of(group: Group<HeldEntry, Day>) -> HeldEntry
     ensures { result ≡ entry_of_group group }
 {
     let (held, days) = group.into_parts();
-    entry_until_first(held, days.as_slice())
+    entry_with_first_day(held, days.as_slice())
 }
 
 // An entry with the first of these days as its last day, if there is one.
-fn entry_until_first(mut held: HeldEntry, days: &[Day]) -> HeldEntry
-    ensures { result ≡ entry_until_first days.now held }
+fn entry_with_first_day(mut held: HeldEntry, days: &[Day]) -> HeldEntry
+    ensures { result ≡ entry_with_first_day days.now held }
 {
     set_first_day(&mut held.entry.kind, days);
     held
@@ -111,7 +112,7 @@ fn entry_until_first(mut held: HeldEntry, days: &[Day]) -> HeldEntry
 
 // Sets the last day of an exemption to the first of these days, if there is one.
 fn set_first_day(kind: &mut Kind, days: &[Day])
-    ensures { kind.new ≡ kind_until_first days.now kind.old }
+    ensures { kind.new ≡ kind_with_first_day days.now kind.old }
 {
     if let Some(day) = days.first() {
         set_last_day(kind, *day);
@@ -120,7 +121,7 @@ fn set_first_day(kind: &mut Kind, days: &[Day])
 
 // Sets the last day of an exemption. Other kinds stay as they are.
 fn set_last_day(kind: &mut Kind, day: Day)
-    ensures { kind.new ≡ kind_until day kind.old }
+    ensures { kind.new ≡ kind_with_last_day day kind.old }
 {
     match kind {
         Kind::Exemption {
