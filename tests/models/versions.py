@@ -35,7 +35,7 @@ def rows_of_either(path):
     return rows_in(path, tables_of(version_in(path)))
 
 
-def put_back(path):
+def to_first_version(path):
     """Turns the tables of a register in a file into those of the first version, with the rows of the same state."""
     with opened(path) as tables:
         dropped = "; ".join(f"DROP TABLE {name}" for name in LATER)

@@ -9,7 +9,7 @@ import tempfile
 from concurrent.futures import ThreadPoolExecutor
 from typing import NamedTuple
 
-from models.versions import FIRST, SECOND, put_back, rows_of_either
+from models.versions import FIRST, SECOND, rows_of_either, to_first_version
 from product.documents import Given, demand_of, document, entry
 from product.refusals import NO_MEMORY
 from product.register import DAY, FILES, FOLDER, REPORTS, Register
@@ -98,7 +98,7 @@ def files_begun(program, documents, version=SECOND):
             if status != 0:
                 raise AssertionError(f"{given}: {errors}")
         if version == FIRST:
-            put_back(register.path)
+            to_first_version(register.path)
         found = {}
         for name in sorted(os.listdir(folder)):
             with open(os.path.join(folder, name), "rb") as file:

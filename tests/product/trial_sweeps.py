@@ -12,7 +12,7 @@ import tempfile
 from typing import NamedTuple
 
 from models.machine import Machine
-from models.versions import FIRST, in_version, put_back, rows_of_either
+from models.versions import FIRST, in_version, rows_of_either, to_first_version
 from product.examples import EXAMPLES, Example
 from product.refusals import MOST_RUNS, NO_MEMORY_BEFORE_ALL, WANT, refused_in_turn, run
 from product.register import FOLDER
@@ -258,7 +258,7 @@ def sweep_stored(in_file, library, mark):
         if in_file.before:
             run(TRIALS, ["plain", "--db", begun], streamed(in_file.before), 0, library, mark)
         if in_file.is_first:
-            put_back(begun)
+            to_first_version(begun)
         for count, refused in enumerate(in_file.numbers()):
             met, answer, found = stored(in_file, begun, refused, library, mark)
             if answer not in allowed or found != allowed[answer] or (answer != own and not met):

@@ -5,7 +5,7 @@
 //! The next round does the same with the next package.
 
 use crate::clock::{done, timed_once};
-use crate::commands::{add_exemption, add_undemanded, load_project, set_day_behind};
+use crate::commands::{add_exemption, add_undemanded, load_project, set_day_after};
 use std::alloc::Global;
 use std::time::Clock;
 use trial_values::fault::Fault;
@@ -63,5 +63,5 @@ fn run_round<K: Keeper>(
 ) -> Result<(), Fault> {
     let added = add_undemanded(rt.alloc(), place);
     timed_once(rt, register, "add-entry", added)?;
-    timed_once(rt, register, "set-day", set_day_behind(place))
+    timed_once(rt, register, "set-day", set_day_after(place))
 }

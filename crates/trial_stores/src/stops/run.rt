@@ -95,7 +95,7 @@ fn close_run<D: Disk + Drop>(
     ending: Ending,
     stop: DiskStop,
 ) -> io::Result<(Ending, Files<D>)> {
-    match put_back(&mut conn, stop) {
+    match to_first_version(&mut conn, stop) {
         Ok(()) => close_connected(rt, conn, ending, stop),
         Err(error) => {
             let ending = refused_by_database(rt, error)?;
@@ -105,7 +105,7 @@ fn close_run<D: Disk + Drop>(
 }
 
 // Turns the tables into those of the first version if `stop` says so.
-fn put_back<D: Disk + Drop>(
+fn to_first_version<D: Disk + Drop>(
     conn: &mut Connection<FileStore<D>>,
     stop: DiskStop,
 ) -> Result<(), Error> {
