@@ -59,14 +59,13 @@
 --   register's day (goes_back).
 --
 -- After these, for each: 25 where after it more moves would be recorded than the limit (moves_fit, count_after).
--- Else it is accepted. Group by group these are held_as, limits, references, rules and moves_fit; of these, limits
--- and references never depend on the day. Limits, references and rules together are checked, and with held_as before
--- them judged. That is what is told before the moves are known. What is told where nothing refuses is an Answer,
--- already or accepted. 29 may come in place of 6, whose name is copied, and of what is told once all checks are
--- passed. It comes in place of neither Already nor another check (IsExactly). To compare an import or files with what
--- is held takes memory (wants_memory). Of these two commands alone 29 may come in place of anything (IsExact). To
--- compare the entry of a finished review takes memory too, once all but the limits after its rules is passed
--- (asked_before). So 29 may stand in place of 18 there, and in place of nothing that comes before.
+-- Otherwise it is accepted. Group by group these are held_as, limits, references, rules and moves_fit; limits and
+-- references never depend on the day. Limits, references and rules together are checked, and with held_as before them
+-- judged, which is the verdict before the moves are known. If nothing refuses, it is an Answer, already or accepted. 29
+-- may replace 6, whose name is copied, and the verdict once all checks are passed, but neither Already nor another
+-- check (IsExactly). Comparing an import or files with what is held takes memory (wants_memory), so for these two
+-- commands 29 may replace anything (IsExact). Comparing the entry of a finished review takes memory too, once all but
+-- the limits after its rules is passed (asked_before), so there 29 may replace 18, and nothing that comes before.
 use Rattle.std.specs.Prelude.{ℕ, ◌+◌, ◌&&◌, ◌||◌, not, nat_lt, Bool, true, false, is_none, is_ok, List, Option, Some}
 use Rattle.std.specs.Prelude.{None, Ok, if◌then◌else◌, length, option_map, ◌+ℤ◌, pos}
 use Rattle.std.specs.List.{list_any}
