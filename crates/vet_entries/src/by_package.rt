@@ -29,26 +29,29 @@ ghost use Rattle.std.specs.Prelude.{remove, slice_index_or, true, false, vec_cap
 ghost use Rattle.std.specs.List.{All, range_with_len};
 ghost use Rattle.std.specs.List.Sorted.{IsNonDecreasingBy, IsPartitionPoint};
 ghost use Rattle.std.specs.Ordering.{is_le, is_lt, ordering_index};
-ghost use Rattle.vet_entries.specs.ByPackage.{IsByPackage, IsRange, IsSlot, down, gathered, is_of, package_at};
-ghost use Rattle.vet_entries.specs.ByPackage.{places_of, stand, up};
+ghost use Rattle.vet_entries.specs.ByPackage.{IsByPackage, IsRange, IsSlot, down, gathered, is_of, held_last_day};
+ghost use Rattle.vet_entries.specs.ByPackage.{package_at, places_of, stand, up};
 ghost use Rattle.vet_entries.specs.Numbered.{AreByNumber, place_of};
 
 use crate::facts::HeldEntry;
 use std::alloc::{AllocError, Global};
 use std::cmp::Ordering;
 use std::marker::Model;
+use vet_base::day::Day;
 use vet_base::name::PackageName;
 
-/// Entries in the order of their numbers, and beside them their places in the order of packages, in which a
-/// package's stand together.
+/// Entries in the order of their numbers. Beside them are their places in the order of packages, where those of a
+/// package stand together, and their last days. An entry takes 432 bytes and a last day 8, so a pass over all last days
+/// reads much less memory here than in the entries.
 pub(crate) struct ByPackage {
     entries: Vec<HeldEntry>,
     order: Vec<usize>,
+    last_days: Vec<Option<Day>>,
 }
 
 impl Model for ByPackage {
-    ghost use Rattle.std.specs.Prelude.{◌-◌, vec_len, vec_capacity};
-    ghost use Rattle.vet_entries.specs.ByPackage.{EntriesRoom, IsByPackage, lesser};
+    ghost use Rattle.std.specs.Prelude.{◌≡◌, ◌-◌, map, vec_len, vec_capacity};
+    ghost use Rattle.vet_entries.specs.ByPackage.{EntriesRoom, IsByPackage, held_last_day, lesser};
     ghost use Rattle.vet_entries.specs.Encodings.{entries_room_code};
     ghost use Rattle.vet_entries.specs.Numbered.{AreByNumber};
     ghost use Rattle.vet_entries.specs.contracts.facts.HeldEntry as held;
@@ -59,10 +62,12 @@ impl Model for ByPackage {
 
     ghost view = { λ b. record {
       entries = b.entries.items;
-      room = lesser (vec_capacity b.entries - vec_len b.entries) (vec_capacity b.order - vec_len b.order);
+      room = lesser (vec_capacity b.last_days - vec_len b.last_days)
+          (lesser (vec_capacity b.entries - vec_len b.entries) (vec_capacity b.order - vec_len b.order));
     } };
 
-    ghost invariant = { λ b. IsByPackage b.entries.items b.order.items × AreByNumber b.entries.items };
+    ghost invariant = { λ b. IsByPackage b.entries.items b.order.items × AreByNumber b.entries.items
+        × (b.last_days.items ≡ map held_last_day b.entries.items) };
 }
 
 impl Drop for ByPackage {
@@ -70,6 +75,7 @@ impl Drop for ByPackage {
         let ByPackage {
             entries: _,
             order: _,
+            last_days: _,
         } = self;
     }
 }
@@ -82,6 +88,7 @@ impl ByPackage {
         ByPackage {
             entries: Vec::new(alloc),
             order: Vec::new(alloc),
+            last_days: Vec::new(alloc),
         }
     }
 
@@ -91,7 +98,12 @@ impl ByPackage {
         ensures { IfOk result (λ b. b.entries ≡ entries.items) }
     {
         let order = sorted_places(alloc, entries.as_slice())?;
-        Ok(ByPackage { entries, order })
+        let last_days = last_days_of(alloc, entries.as_slice())?;
+        Ok(ByPackage {
+            entries,
+            order,
+            last_days,
+        })
     }
 
     /// The entries in the order of their numbers. Costs nothing.
@@ -100,6 +112,13 @@ impl ByPackage {
         ensures by_number { AreByNumber self.now.entries }
     {
         self.entries.as_slice()
+    }
+
+    /// The last day of each entry, if it has one. Costs nothing.
+    pub(crate) fn last_days(&self) -> &[Option<Day>]
+        ensures { result.now ≡ map held_last_day self.now.entries }
+    {
+        self.last_days.as_slice()
     }
 
     /// The places of a package's entries, in rising order. Costs two binary searches.
@@ -135,6 +154,7 @@ impl ByPackage {
     {
         self.entries.reserve(1)?;
         self.order.reserve(1)?;
+        self.last_days.reserve(1)?;
         Ok(())
     }
 
@@ -155,6 +175,7 @@ impl ByPackage {
         );
         make_gap(&mut self.order, self.entries.len(), place);
         put(&mut self.order, slot, place);
+        put(&mut self.last_days, place, held.entry.kind.last_day());
         put(&mut self.entries, place, held);
     }
 
@@ -169,6 +190,7 @@ impl ByPackage {
         ensures room { self.new.room ≡ self.old.room + 1 }
     {
         take_out(&mut self.order, self.entries.as_slice(), place);
+        let _ = self.last_days.remove(place);
         self.entries.remove(place)
     }
 }
@@ -191,6 +213,17 @@ fn places_below(alloc: Global, len: usize) -> Result<Vec<usize>, AllocError>
         places.push(place)?;
     }
     Ok(places)
+}
+
+// The last day of each entry, if it has one.
+fn last_days_of(alloc: Global, entries: &[HeldEntry]) -> Result<Vec<Option<Day>>, AllocError>
+    ensures { IfOk result (λ days. days.items ≡ map held_last_day entries.now) }
+{
+    let mut days = Vec::with_capacity(alloc, entries.len())?;
+    for held in entries {
+        days.push(held.entry.kind.last_day())?;
+    }
+    Ok(days)
 }
 
 // The package of the entry at a place; where there is no entry, no text.

@@ -1,12 +1,12 @@
 //! What is held of packages.
-ghost use Rattle.std.specs.Prelude.{◌≡◌, ◌<◌, ◌+◌, ◌^◌, [], IfOk, IfErr, None, filter, length, nat_lt};
+ghost use Rattle.std.specs.Prelude.{◌≡◌, ◌<◌, ◌+◌, ◌^◌, [], IfOk, IfErr, None, filter, length, map, nat_lt};
 ghost use Rattle.std.specs.List.{All, list_any};
 ghost use Rattle.std.specs.Option.{option_copied};
 ghost use Rattle.std.specs.Ordering.{nat_cmp};
 ghost use Rattle.std.specs.Cmp.Lexicographic.{slice_cmp};
 ghost use Rattle.vet_base.specs.Criteria.{IsTable};
 ghost use Rattle.vet_base.specs.Keyed.{IsByKey};
-ghost use Rattle.vet_entries.specs.ByPackage.{gathered, is_of};
+ghost use Rattle.vet_entries.specs.ByPackage.{gathered, held_last_day, is_of};
 ghost use Rattle.vet_entries.specs.Facts.{entries_of_peers, entries_total, is_named, no_facts};
 ghost use Rattle.vet_entries.specs.HeldPeer.{holding_or_none, peer_name, peer_of, without_peer};
 ghost use Rattle.vet_entries.specs.Numbered.{AreByNumber, number_of, numbered, place_of};
@@ -211,6 +211,13 @@ impl EntryFacts {
         ensures by_number { AreByNumber self.now.content.entries }
     {
         self.entries.entries()
+    }
+
+    /// The last day of each of one's own entries, if it has one. Costs nothing.
+    pub fn last_days(&self) -> &[Option<Day>]
+        ensures { result.now ≡ map held_last_day self.now.content.entries }
+    {
+        self.entries.last_days()
     }
 
     /// The register's day, if it has one.

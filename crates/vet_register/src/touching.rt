@@ -4,6 +4,7 @@
 //! policy or a project are not: they are the packages at which the demand after the edit differs from that before it.
 ghost use Rattle.std.specs.Prelude.{◌≡◌, ◌++◌, ◌∷◌, [], IfErr, IfOk, OnOk, filter, map};
 ghost use Rattle.std.specs.FinSet as set;
+ghost use Rattle.vet_entries.specs.ByPackage.{held_last_day};
 ghost use Rattle.vet_register.specs.Touches.{entry_package, held_package, lapses_between, only_at, packages_between};
 ghost use Rattle.vet_register.specs.Touches.{packages_lapsing, pair_package};
 ghost use Rattle.vet_register.specs.declared.touching.Touching.TheVariants as touch;
@@ -17,6 +18,7 @@ use vet_base::refusal::Refusal;
 use vet_demand::pair::Pair;
 use vet_entries::entry::Entry;
 use vet_entries::facts::{EntryFacts, HeldEntry};
+use vet_entries::kind::is_over;
 use vet_graph::touched::Touched;
 
 /// The packages that a command touches, as far as they are known before its edit is made.
@@ -62,7 +64,7 @@ pub(crate) fn entries_touched(
 }
 
 /// The packages of the own entries that have lapsed on only one of the register's day and another day are touched.
-/// Costs a look at each own entry. Refused: `NoMemory`.
+/// Costs a look at the last day of each own entry. Refused: `NoMemory`.
 pub(crate) fn lapsing_touched(
     alloc: Global,
     facts: &EntryFacts,
@@ -72,7 +74,13 @@ pub(crate) fn lapsing_touched(
     ensures memory { IfErr result (λ e. e ≡ Refusal.NoMemory) }
 {
     let mut names = Vec::new(alloc);
-    push_of_lapsing(&mut names, facts.entries(), facts.today(), Some(day))?;
+    push_of_lapsing(
+        &mut names,
+        facts.entries(),
+        facts.last_days(),
+        facts.today(),
+        Some(day),
+    )?;
     Ok(only_at(alloc, names)?)
 }
 
@@ -94,29 +102,25 @@ fn push_of_held(names: &mut Vec<PackageName>, entries: &[HeldEntry]) -> Result<(
     Ok(())
 }
 
-// Adds the packages of the held entries that have lapsed on only one of two days.
+// Adds the packages of the held entries that have lapsed on only one of two days, by their last days.
 fn push_of_lapsing(
     names: &mut Vec<PackageName>,
     entries: &[HeldEntry],
+    last_days: &[Option<Day>],
     before: Option<Day>,
     after: Option<Day>,
 ) -> Result<(), AllocError>
+    requires { last_days.now ≡ map held_last_day entries.now }
     ensures { OnOk result (names.new.items
         ≡ names.old.items ++ map held_package (filter (lapses_between before after) entries.now)) }
 {
-    for held in entries {
-        if lapses_between(held, before, after) {
+    for (place, last_day) in last_days.iter().enumerate() {
+        let held = &entries[place];
+        if is_over(*last_day, before) != is_over(*last_day, after) {
             names.push(held.entry.package.clone()?)?;
         }
     }
     Ok(())
-}
-
-// Whether a held entry has lapsed on only one of two days.
-fn lapses_between(held: &HeldEntry, before: Option<Day>, after: Option<Day>) -> bool
-    ensures { result ≡ lapses_between before after held.now }
-{
-    held.entry.kind.has_lapsed(before) != held.entry.kind.has_lapsed(after)
 }
 
 // Adds the packages of entries.

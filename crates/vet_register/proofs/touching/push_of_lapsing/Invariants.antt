@@ -3,7 +3,7 @@ use Rattle.std.proofs.Common.{◌≡◌, ◌++◌, filter, map, take}
 use Rattle.vet_register.specs.Touches.{held_package, lapses_between}
 use Rattle.vet_register.proofs.touching.push_of_lapsing.Given as goal
 
-abbrev pub invariant-loop-held : goal.invariant-loop-held
-invariant-loop-held l =
+abbrev pub invariant-loop-place : goal.invariant-loop-place
+invariant-loop-place l =
     l.names.items
-    ≡ l.fn.names.items ++ map held_package (filter (lapses_between l.before l.after) (take l.held-index l.entries))
+    ≡ l.fn.names.items ++ map held_package (filter (lapses_between l.before l.after) (take l.place l.entries))
