@@ -3,6 +3,7 @@
 //! **Each call waits no longer than the time that is left, and fails if no time is left.** So a client that sends or
 //! reads one byte at a time holds the program no longer than its connection may last. **A read also waits no longer
 //! than a client may be silent**, so a client that sends nothing is disconnected sooner.
+ghost use Rattle.std.specs.Prelude.{◌≡◌};
 ghost use Rattle.std.specs.Io.{ReadsAtMost};
 ghost use Rattle.std.specs.Io.KnownBytes.{ReadConsumes};
 
@@ -26,7 +27,9 @@ pub struct TimedReader<'a, C, T> {
 
 impl<'a, C: Clock, T: Read + OpenStream> TimedReader<'a, C, T> {
     /// A reader of the stream.
-    pub fn new(clock: &'a C, stream: T, deadline: Deadline) -> TimedReader<'a, C, T> {
+    pub fn new(clock: &'a C, stream: T, deadline: Deadline) -> TimedReader<'a, C, T>
+        ensures { (result.stream ≡ stream) × (result.deadline ≡ deadline) }
+    {
         TimedReader {
             clock,
             stream,
@@ -68,7 +71,9 @@ pub struct TimedWriter<'a, C, T> {
 
 impl<'a, C: Clock, T: Write + OpenStream> TimedWriter<'a, C, T> {
     /// A writer of the stream.
-    pub fn new(clock: &'a C, stream: T, deadline: Deadline) -> TimedWriter<'a, C, T> {
+    pub fn new(clock: &'a C, stream: T, deadline: Deadline) -> TimedWriter<'a, C, T>
+        ensures { (result.stream ≡ stream) × (result.deadline ≡ deadline) }
+    {
         TimedWriter {
             clock,
             stream,
