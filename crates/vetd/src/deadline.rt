@@ -4,6 +4,8 @@ ghost use Rattle.std.specs.Prelude.{true};
 ghost use Rattle.std.specs.Duration.{as_nanos};
 ghost use Rattle.std.specs.Time.{FitsClock, instant_nanos};
 ghost use Rattle.vetd.specs.Deadline.{IsLeft, IsWait, end_of_connection, longest_silence};
+ghost use Rattle.std_io.specs.IoError.{error_kind};
+ghost use Rattle.std_io.specs.declared.io.kind.ErrorKind.TheVariants.{TimedOut};
 ghost use Rattle.vet_base.specs.Day.{DayValue, day_number, is_day};
 
 use std::io;
@@ -50,6 +52,7 @@ impl Deadline {
     pub fn time_left(self, now: Instant) -> io::Result<Duration>
         ensures left { IfOk result (λ left. IsLeft (instant_nanos now) (instant_nanos self.end) (as_nanos left)) }
         ensures none { IfErr result (λ _. instant_nanos self.end ≤ instant_nanos now) }
+        ensures kind { IfErr result (λ e. error_kind e ≡ TimedOut) }
     {
         match self.left_at(now) {
             Some(left) => Ok(left),
@@ -62,6 +65,7 @@ impl Deadline {
     pub fn read_wait(self, now: Instant) -> io::Result<Duration>
         ensures wait { IfOk result (λ wait. IsWait (instant_nanos now) (instant_nanos self.end) (as_nanos wait)) }
         ensures none { IfErr result (λ _. instant_nanos self.end ≤ instant_nanos now) }
+        ensures kind { IfErr result (λ e. error_kind e ≡ TimedOut) }
     {
         let left = self.time_left(now)?;
         Ok(wait_within(left))
