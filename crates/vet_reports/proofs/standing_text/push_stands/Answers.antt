@@ -1,4 +1,3 @@
-use Rattle.std.proofs.Common.{map}
 use Rattle.std.specs.Prelude.{string_bytes}
 use Rattle.vet_reports.specs.StandingText.{stands_text}
 use Rattle.vet_reports.proofs.StandingLemmas.{next_written, stands_text-append}
