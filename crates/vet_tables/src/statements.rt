@@ -18,7 +18,7 @@ pub fn insert<S: Alter>(
     tx: &mut Transaction<'_, S>,
     table: TableName,
     cells: &[ValueRef<'_>],
-) -> Result<usize, Error>
+) -> Result<(), Error>
     ensures same_reference { tx.new.conn.ghost_name ≡ tx.old.conn.ghost_name }
     ensures changes { HasCleanDisk (state S.Store tx.new.conn.now) → IsTrue tx.old.conn.now.in_transaction
         → AreSorts (kinds_of (form_of table)) (bound cells.now)
@@ -28,7 +28,8 @@ pub fn insert<S: Alter>(
         → KeepsCommit (state S.Store tx.old.conn.now) (state S.Store tx.new.conn.now) }
     ensures survives { Survives (state S.Store tx.old.conn.now) (state S.Store tx.new.conn.now) (λ _. ⊥) }
 {
-    tx.execute(table.form().insert(), cells)
+    tx.execute(table.form().insert(), cells)?;
+    Ok(())
 }
 
 /// Removes the row of a key, if there is one. Returns the database's error, if any.
@@ -36,7 +37,7 @@ pub fn remove<S: Alter>(
     tx: &mut Transaction<'_, S>,
     table: TableName,
     key: &[ValueRef<'_>],
-) -> Result<usize, Error>
+) -> Result<(), Error>
     ensures same_reference { tx.new.conn.ghost_name ≡ tx.old.conn.ghost_name }
     ensures changes { HasCleanDisk (state S.Store tx.new.conn.now) → IsTrue tx.old.conn.now.in_transaction
         → OnOk result (Changes (state S.Store tx.old.conn.now) (state S.Store tx.new.conn.now)
@@ -45,11 +46,12 @@ pub fn remove<S: Alter>(
         → KeepsCommit (state S.Store tx.old.conn.now) (state S.Store tx.new.conn.now) }
     ensures survives { Survives (state S.Store tx.old.conn.now) (state S.Store tx.new.conn.now) (λ _. ⊥) }
 {
-    tx.execute(table.form().delete(), key)
+    tx.execute(table.form().delete(), key)?;
+    Ok(())
 }
 
 /// Removes all rows. Returns the database's error, if any.
-pub fn clear<S: Alter>(tx: &mut Transaction<'_, S>, table: TableName) -> Result<usize, Error>
+pub fn clear<S: Alter>(tx: &mut Transaction<'_, S>, table: TableName) -> Result<(), Error>
     ensures same_reference { tx.new.conn.ghost_name ≡ tx.old.conn.ghost_name }
     ensures changes { HasCleanDisk (state S.Store tx.new.conn.now) → IsTrue tx.old.conn.now.in_transaction
         → OnOk result (Changes (state S.Store tx.old.conn.now) (state S.Store tx.new.conn.now) (cleared table)) }
@@ -57,11 +59,12 @@ pub fn clear<S: Alter>(tx: &mut Transaction<'_, S>, table: TableName) -> Result<
         → KeepsCommit (state S.Store tx.old.conn.now) (state S.Store tx.new.conn.now) }
     ensures survives { Survives (state S.Store tx.old.conn.now) (state S.Store tx.new.conn.now) (λ _. ⊥) }
 {
-    tx.execute(table.form().clear(), &[])
+    tx.execute(table.form().clear(), &[])?;
+    Ok(())
 }
 
 /// Makes a table without rows. Returns the database's error, if any: also if its name is taken.
-pub fn create<S: Alter>(tx: &mut Transaction<'_, S>, table: TableName) -> Result<usize, Error>
+pub fn create<S: Alter>(tx: &mut Transaction<'_, S>, table: TableName) -> Result<(), Error>
     ensures same_reference { tx.new.conn.ghost_name ≡ tx.old.conn.ghost_name }
     ensures makes { HasCleanDisk (state S.Store tx.new.conn.now) → IsTrue tx.old.conn.now.in_transaction
         → OnOk result (MakesTable (state S.Store tx.old.conn.now) (state S.Store tx.new.conn.now) table) }
@@ -69,7 +72,8 @@ pub fn create<S: Alter>(tx: &mut Transaction<'_, S>, table: TableName) -> Result
         → KeepsCommit (state S.Store tx.old.conn.now) (state S.Store tx.new.conn.now) }
     ensures survives { Survives (state S.Store tx.old.conn.now) (state S.Store tx.new.conn.now) (λ _. ⊥) }
 {
-    tx.execute(table.form().create(), &[])
+    tx.execute(table.form().create(), &[])?;
+    Ok(())
 }
 
 /// Makes the tables from a given place on, without rows. Asks that `first` is the place of a table, 0 to 13. Stops at
