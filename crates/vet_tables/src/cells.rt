@@ -1,5 +1,5 @@
 //! The cells of a row that was read.
-ghost use Rattle.std.specs.Prelude.{◌≡◌, ◌∷◌, false, IfOk, IsTrue};
+ghost use Rattle.std.specs.Prelude.{◌≡◌, ◌∷◌, [], false, pos, IfOk, IsTrue};
 ghost use Rattle.sqlite_value.specs.Value.{owned};
 ghost use Rattle.sqlite_schema.specs.declared.schema.Kind.TheVariants as kind;
 ghost use Rattle.sqlite_value.specs.Order.{column};
@@ -57,7 +57,8 @@ pub fn are_typed(row: &Row, form: &Form) -> bool
 
 /// The number at a place, or 0 if something else is there.
 pub fn int_at(row: &Row, at: usize) -> i64
-    ensures { IsKind kind.Integer (column row.now at) → column row.now at ≡ Int result }
+    ensures of { IsKind kind.Integer (column row.now at) → column row.now at ≡ Int result }
+    ensures other { (IsKind kind.Integer (column row.now at) → ⊥) → result ≡ pos 0 }
 {
     match row.get_ref(at) {
         Ok(ValueRef::Int(number)) => number,
@@ -92,7 +93,8 @@ fn cell_at(alloc: Global, row: &Row, at: usize, kind: Kind) -> Result<Cell, Allo
 
 // The text at a place, or an empty one if something else is there.
 fn text_at(alloc: Global, row: &Row, at: usize) -> Result<TextColumn, AllocError>
-    ensures { IfOk result (λ text. IsKind kind.Text (column row.now at) → column row.now at ≡ Text text) }
+    ensures of { IfOk result (λ text. IsKind kind.Text (column row.now at) → column row.now at ≡ Text text) }
+    ensures other { IfOk result (λ text. (IsKind kind.Text (column row.now at) → ⊥) → text ≡ []) }
 {
     match row.get_ref(at) {
         Ok(ValueRef::Text(bytes)) => match std::str::from_utf8(bytes) {
@@ -105,7 +107,8 @@ fn text_at(alloc: Global, row: &Row, at: usize) -> Result<TextColumn, AllocError
 
 // The bytes at a place, or none if something else is there.
 fn blob_at(alloc: Global, row: &Row, at: usize) -> Result<BlobColumn, AllocError>
-    ensures { IfOk result (λ blob. IsKind kind.Blob (column row.now at) → column row.now at ≡ Blob blob) }
+    ensures of { IfOk result (λ blob. IsKind kind.Blob (column row.now at) → column row.now at ≡ Blob blob) }
+    ensures other { IfOk result (λ blob. (IsKind kind.Blob (column row.now at) → ⊥) → blob ≡ []) }
 {
     match row.get_ref(at) {
         Ok(ValueRef::Blob(bytes)) => Ok(BlobColumn::of(Vec::from_slice(alloc, bytes)?)),

@@ -174,7 +174,7 @@ rows-preserved g c =
               was.3,
             ) (ap (λ x. map values_of c.rows.rows.items ++ drop 1 x
                 ∷ []) is),
-            rw id (rise_more c.rows.last c.int_at-id.result was.0 row (c.int_at-id.ensures typed.rowid)
+            rw id (rise_more c.rows.last c.int_at-id.result was.0 row (c.int_at-id.ensures.of typed.rowid)
                 (rw id at (c.rises.ensures c.if-not-rises.false)) was.4),
           ),
       λ before. moved.mode (c.rows.invariant.3 before),
