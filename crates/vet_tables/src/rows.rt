@@ -1,5 +1,5 @@
 //! The rows of all tables.
-ghost use Rattle.std.specs.Prelude.{◌≡◌, ◌++◌, ◌∷◌, [], OnOk};
+ghost use Rattle.std.specs.Prelude.{◌≡◌, ◌++◌, ◌∷◌, [], OnErr, OnOk};
 ghost use Rattle.vet_tables.specs.Cells.{rows_in};
 
 use crate::sequence::{Row, Sequence};
@@ -22,9 +22,10 @@ impl Rows {
         }
     }
 
-    /// Adds the rows of the next table. Fails only if memory runs out.
+    /// Adds the rows of the next table. Fails only if memory runs out, and then the lists stay.
     pub fn push(&mut self, rows: Vec<Row>) -> Result<(), AllocError>
-        ensures { OnOk result (self.new.tables.items ≡ self.old.tables.items ++ rows.items ∷ []) }
+        ensures ok { OnOk result (self.new.tables.items ≡ self.old.tables.items ++ rows.items ∷ []) }
+        ensures err { OnErr result (self.new.tables.items ≡ self.old.tables.items) }
     {
         self.tables.push(Sequence::of(rows))?;
         Ok(())

@@ -11,7 +11,7 @@ tables-preserved g c =
     let rows = rows_by c.args.version c.args.register.now.state in
     let at = c.tables.at in
     let table = c.table_at.result in
-    c.in_ok-push.ensures
+    c.in_ok-push.ensures.ok
     ∙ (λ i. c.tables.invariant i ++ c.in_ok-rows_in.ensures i ∷ [])
     ∙ sym (map-append rows (take at tables) (table ∷ []))
     ∙ ap (map rows) (one_more_table at table c.table_at.ensures)

@@ -40,7 +40,7 @@ tables-preserved g c =
     let d = state g.S.Store last in
     let lists = c.tables.rows.tables.items in
     let next = c.in-Some.found.items in
-    let pushed = c.in_ok-push.ensures in
+    let pushed = c.in_ok-push.ensures.ok in
     let table = c.table_at.result in
     record {
       start = λ none. absurd (omega (arith, none));
