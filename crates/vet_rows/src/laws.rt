@@ -1,6 +1,8 @@
 //! Laws of rows: what each function ensures is a fact.
-ghost use Rattle.std.specs.Prelude.{◌≡◌, IfErr, OnOk};
-ghost use Rattle.vet_rows.specs.HeldState.{AreOfOneState, SameButStanding};
+ghost use Rattle.std.specs.Prelude.{◌≡◌, ◌⊎◌, IfErr, OnOk};
+ghost use Rattle.vet_register.specs.Sound.{IsSound};
+ghost use Rattle.vet_register.specs.State.{State};
+ghost use Rattle.vet_rows.specs.HeldState.{AreOfOneState, IsHeldState, SameButStanding};
 ghost use Rattle.vet_rows.specs.RowKeys.{KeysDiffer};
 ghost use Rattle.vet_rows.specs.RowsOf.{rows_of};
 ghost use Rattle.vet_tables.specs.Cells.{rows_in};
@@ -30,9 +32,12 @@ pub fn keys_differ<K: Keeper>(register: &Register<K>)
 }
 
 /// Rows are those of at most one sound state, as far as there is memory to read them. Refused as `state_of` is:
-/// `NotARegister` or `NoMemory`.
+/// `NotARegister`, only if they are the rows of no sound state, and `NoMemory`.
 pub fn rows_are_of_one_state(alloc: Global, rows: &Rows) -> Result<(), Refusal>
-    ensures { OnOk result (AreOfOneState (rows_in rows.now)) }
+    ensures one { OnOk result (AreOfOneState (rows_in rows.now)) }
+    ensures back { (s : State) → IsSound s → IsHeldState s → SameButStanding (rows_in rows.now) (rows_of s)
+        → IfErr result (λ e. e ≡ Refusal.NoMemory) }
+    ensures refused { IfErr result (λ e. (e ≡ Refusal.NoMemory) ⊎ (e ≡ Refusal.NotARegister)) }
 {
     match state_of(alloc, rows) {
         Ok(_) => Ok(()),
