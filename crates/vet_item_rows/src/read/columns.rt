@@ -1,8 +1,8 @@
 //! Values read from columns. **What was written of a value is read as that value, unless memory runs out.**
 //!
-//! Any other column gives `NotARegister` or some value, and no clause says which. The functions that take an allocator
-//! may also return `NoMemory`.
-ghost use Rattle.std.specs.Prelude.{◌≡◌, ℕ, Bool, Ok, Option, Some, map, pos};
+//! Any other column gives `NotARegister` or some value, and no clause says which, but for `flag`: there it always
+//! gives `NotARegister`. The functions that take an allocator may also return `NoMemory`.
+ghost use Rattle.std.specs.Prelude.{◌≡◌, ℕ, Bool, IfErr, IfOk, Ok, Option, Some, map, pos};
 ghost use Rattle.vet_base.specs.Day.{DayValue, day_number};
 ghost use Rattle.vet_base.specs.Req.{IsReq};
 ghost use Rattle.vet_base.specs.Version.{IsVersion, version_text};
@@ -132,7 +132,9 @@ fn names_in(alloc: Global, items: &[&[u8]]) -> Result<Option<Names>, ReadError>
 
 /// A boolean that may be missing: -1 if it is, otherwise 0 or 1. Takes no memory.
 pub(crate) fn flag(number: i64) -> Result<Option<bool>, ReadError>
-    ensures { (said : Option Bool) → number ≡ flag said → result ≡ Ok said }
+    ensures read { (said : Option Bool) → number ≡ flag said → result ≡ Ok said }
+    ensures only { IfOk result (λ said. number ≡ flag said) }
+    ensures refused { IfErr result (λ e. e ≡ ReadError.NotARegister) }
 {
     if number == -1 {
         return Ok(None);

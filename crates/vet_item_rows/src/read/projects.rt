@@ -5,7 +5,7 @@
 ghost use Rattle.std.specs.Cmp.Lexicographic.{slice_cmp};
 ghost use Rattle.std.specs.List.{All, flat_map, slice_get};
 ghost use Rattle.std.specs.Ordering.{nat_cmp};
-ghost use Rattle.std.specs.Prelude.{◌≡◌, ◌<◌, ◌+◌, ℕ, List, [], IfOk, MatchResult, Ok, Some, length, map, pos};
+ghost use Rattle.std.specs.Prelude.{◌≡◌, ◌<◌, ◌+◌, ℕ, List, [], IfErr, IfOk, MatchResult, Ok, Some, length, map, pos};
 ghost use Rattle.vet_base.specs.Items.{SameItems};
 ghost use Rattle.vet_base.specs.Keyed.{IsByKey, all_set};
 ghost use Rattle.vet_base.specs.Version.{version_text};
@@ -158,7 +158,9 @@ fn read_end(alloc: Global, of_package: &str, of_version: &str) -> Result<End, Re
 
 // The party of a node. Takes no memory.
 fn party(column: i64) -> Result<Party, ReadError>
-    ensures { (p : PartyValue) → column ≡ pos (party_place p) → result ≡ Ok p }
+    ensures read { (p : PartyValue) → column ≡ pos (party_place p) → result ≡ Ok p }
+    ensures only { IfOk result (λ p. column ≡ pos (party_place p)) }
+    ensures refused { IfErr result (λ e. e ≡ ReadError.NotARegister) }
 {
     match column {
         0 => Ok(Party::Root),
@@ -170,7 +172,9 @@ fn party(column: i64) -> Result<Party, ReadError>
 
 // The kind of an edge. Takes no memory.
 fn kind(column: i64) -> Result<EdgeKind, ReadError>
-    ensures { (k : KindValue) → column ≡ pos (kind_place k) → result ≡ Ok k }
+    ensures read { (k : KindValue) → column ≡ pos (kind_place k) → result ≡ Ok k }
+    ensures only { IfOk result (λ k. column ≡ pos (kind_place k)) }
+    ensures refused { IfErr result (λ e. e ≡ ReadError.NotARegister) }
 {
     match column {
         0 => Ok(EdgeKind::Normal),
