@@ -13,6 +13,10 @@ from kit import ROOT, rtlib
 
 # where the output of each step is kept
 KEPT = os.path.join(ROOT, "out", "kept")
+TIMES = os.path.join(ROOT, "docs", "gate-times.md")
+ROW = re.compile(r"(?m)^\| `(\w+)` \| [^|]* \| ([\d.]+) min \| ")
+# the lines that a processor proves in a minute, if no run has measured it
+LINES_A_MINUTE = 1_000
 PROVED = re.compile(r"(fn|struct|enum|impl) \S+: proved$")
 # the most jobs of a proof, and the memory of each further job, as a part of the first's
 MOST_JOBS, MORE_MEMORY = 4, 0.6
@@ -68,6 +72,21 @@ def note_basis(crate):
             it.write(on)
 
 
+def minutes_of(crates):
+    """How many processor minutes each crate is likely to take, by what the gate took last, or otherwise by its
+    lines."""
+    measured = dict(ROW.findall(rtlib.text_of(TIMES) or ""))
+    return {it: float(measured.get(it.name, 0)) or lines_of(it) / LINES_A_MINUTE for it in crates}
+
+
+def lines_of(crate):
+    found = 0
+    for file in rtlib.files_of(crate.folder):
+        with open(file, "rb") as it:
+            found += it.read().count(b"\n")
+    return found
+
+
 def unproved(said):
     """The lines that a step printed, without those that say that something is proved."""
     return [line for line in said.split("\n") if line and not PROVED.match(line)]
@@ -101,15 +120,16 @@ class Building:
 
     def __init__(self, libraries, onlooker, build=Built, lanes=None):
         self.onlooker, self.build, self.lanes = onlooker, build, lanes or kit.lanes()
-        self.above = {it: self.lines_above(it, libraries) for it in libraries}
+        minutes = minutes_of(libraries)
+        self.above = {it: self.minutes_above(it, minutes) for it in libraries}
         self.left = sorted(libraries, key=lambda it: -self.above[it])
         self.running, self.built = {}, set()
 
     @staticmethod
-    def lines_above(crate, libraries):
-        """The lines of the longest chain of crates from this one up, as a measure of its time."""
-        above = [it for it in libraries if crate in it.deps]
-        return crate.count(rb"\n") + max((Building.lines_above(it, libraries) for it in above), default=0)
+    def minutes_above(crate, minutes):
+        """The processor minutes of the longest chain of crates from this one up."""
+        above = [it for it in minutes if crate in it.deps]
+        return minutes[crate] + max((Building.minutes_above(it, minutes) for it in above), default=0)
 
     def run(self):
         """Whether all were built."""
