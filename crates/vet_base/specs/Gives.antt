@@ -23,7 +23,7 @@ abbrev pub ◌>>=◌ : {A B : Type 0} → Told A → (A → Told B) → Told B
 Ok x >>= f = f x
 Err e >>= f = Err e
 
--- the answer is what is told, as this view sees it, but for want of memory
+-- the answer is what is told, as this view sees it, unless memory runs out
 abbrev pub Gives : {A T : Type 0} → (T → A) → Told A → Result T Refusal → Type 0
 Gives view told answer = MatchResult answer (λ v. told ≡ Ok (view v)) (λ e. (e ≡ NoMemory) ⊎ (told ≡ Err e))
 

@@ -164,7 +164,7 @@ impl Hash for Req {
     }
 }
 
-// The requirement that `semver` reads, if it reads one. No text is refused for want of memory.
+// The requirement that `semver` reads, if it reads one. It refuses no text because memory runs out.
 #[tactic(auto, using(crate::proofs::SemverErrors::requirement_no_memory))]
 fn semver_req(alloc: Global, text: &str) -> Result<Option<VersionReq>, AllocError>
     ensures ok { IfOk result (λ r. option_map comparators_of r ≡ result_ok (req_of text.now)) }

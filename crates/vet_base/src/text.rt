@@ -40,7 +40,7 @@ impl Text {
         })
     }
 
-    /// A copy of a text, if it has at most 65,536 bytes. Refused for want of memory alone.
+    /// A copy of a text, if it has at most 65,536 bytes. Fails only if memory runs out.
     pub fn read(alloc: Global, text: &str) -> Result<Option<Text>, AllocError>
         ensures { IfOk result (λ found. found ≡ read_text text.now) }
     {

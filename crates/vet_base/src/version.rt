@@ -270,7 +270,7 @@ fn at_revision(
     Ok(Some((version, Some(small))))
 }
 
-// The version that SemVer reads, if it reads one. No text is refused for want of memory.
+// The version that SemVer reads, if it reads one. It refuses no text because memory runs out.
 #[tactic(auto, using(crate::proofs::SemverErrors::version_no_memory))]
 fn semver_version(alloc: Global, text: &str) -> Result<Option<Version>, AllocError>
     ensures ok { IfOk result (λ v. option_map parts_of v ≡ result_ok (version_parts text.now)) }
@@ -288,7 +288,7 @@ fn semver_version(alloc: Global, text: &str) -> Result<Option<Version>, AllocErr
     }
 }
 
-// Whether the error is want of memory.
+// Whether the error is that memory ran out.
 pub(crate) fn is_memory(error: semver::Error) -> bool
     ensures { IsTrue result ↔ (error ≡ memory_error) }
 {

@@ -57,7 +57,7 @@ clash : (told : Told PolicyKey) (d : Refusal) → IfErr told (λ e. e ≡ NoMemo
 clash (Ok k) d h g m none = cc none
 clash (Err e) d h g m none = h (cc (g, m))
 
--- want of memory is no answer where a text is no key
+-- a text that is no key is not refused because memory ran out
 pub not_for_memory : (text : List ℕ) (d : Refusal)
     → IfErr (key_told text) (λ e. ◌≡◌ {A = Told PolicyKey} (Err d) (Err e)) → d ≡ NoMemory
     → read_key text ≡ None → ⊥

@@ -64,7 +64,7 @@ pub none_left : (reader : BytesReader) (rows : List (List (List ℕ))) → Recor
 unfolding records_from
 none_left reader rows (state, left, was, is) = sym is
 
--- an error is want of memory, or one that bytes in memory don't give
+-- an error is that memory ran out, or one that bytes in memory don't give
 pub read_refused : (number : ℕ) (old new : BytesReader) (k : ErrorKind) → is_flexible old ≡ true
     → ExplainsRead bytes_ahead old new false k
     → refusal_for number k ≡ NoMemory

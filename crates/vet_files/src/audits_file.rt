@@ -58,7 +58,7 @@ pub fn read_audits(alloc: Global, bytes: &[u8]) -> Result<Found<AuditsContent>, 
 /// An audits file of some content (The Cargo Vet Book, audits file; its layout is that of `toml`). What it says
 /// is `audits_table` of the content; where an audits file can give the content, it is read again as the same one.
 ///
-/// Refused for want of memory alone.
+/// Refused: `NoMemory` alone.
 pub fn write_audits(alloc: Global, content: &AuditsContent) -> Result<String, Refusal>
     ensures table { IfOk result (λ s. parse_document (string_bytes s) ≡ Some (audits_table content.now)) }
     ensures read { IfOk result (λ s.

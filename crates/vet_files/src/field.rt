@@ -30,7 +30,7 @@ use vet_base::text::Text;
 use vet_base::version::{VetVersion, version_text_reads_back};
 use vet_entries::user::User;
 
-/// The refusal of what stands in a table at a key, or want of memory.
+/// The refusal of the value at a key of a table, or `NoMemory` if there is none for it.
 pub fn fault(alloc: Global, path: &str, key: &str) -> Refusal
     ensures { (result ≡ Refusal.NoMemory) ⊎ (result ≡ fault path.now key.now) }
 {

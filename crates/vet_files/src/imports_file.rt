@@ -82,7 +82,7 @@ pub fn read_imports(alloc: Global, bytes: &[u8]) -> Result<Found<ImportsContent>
 /// `imports_table` of settings and content; where an imports file can give the content, it is read again as the
 /// same one.
 ///
-/// Refused for want of memory alone.
+/// Refused: `NoMemory` alone.
 pub fn write_imports(
     alloc: Global,
     settings: &[PeerSettings],

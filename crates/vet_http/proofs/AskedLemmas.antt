@@ -168,7 +168,7 @@ module _ (a : Told Answered) where
   pub refused_as : (given asked : Option Command) → given ≡ asked → IsRefused given a → IsRefused asked a
   refused_as given asked is refused = subst (λ (o : Option Command). IsRefused o a) is refused
 
-  -- whatever was asked for, it was refused for want of memory or by the store
+  -- whatever was asked for, it was refused because memory ran out, or by the store
   pub store_refused : (asked : Option Command) (e : Refusal) → IsOfStore e → IsErrAnd a (λ x. x ≡ e)
       → IsRefused asked a
   unfolding IsRefused

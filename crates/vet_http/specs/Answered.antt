@@ -12,7 +12,7 @@ abbrev pub reply_of : Answered → Reply
 reply_of (answered.Reply reply) = reply
 reply_of (answered.Outcome outcome) = outcome_reply outcome
 
--- the reply to what is answered. In place of that to a refusal it may be the one that tells of want of memory.
+-- the reply to an answer; for a refusal, it may be the reply that memory ran out
 unfoldable pub Tells : Told Answered → Reply → Type 0
 Tells (Ok answered) reply = reply ≡ reply_of answered
 Tells (Err refusal) reply = (reply ≡ refusal_reply refusal) ⊎ (reply ≡ refusal_reply NoMemory)

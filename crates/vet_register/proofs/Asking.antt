@@ -116,7 +116,7 @@ module _ {K : Type 0} (r : RegisterView K) (day : DayValue) (a : Action) where
   told_exactly (Ok (Already n)) then f h = cc h
   told_exactly (Ok Accepted) then f h = inl h
 
-  -- what is refused was refused by the verdict, or for want of memory
+  -- what is refused was refused by the verdict, or because memory ran out
   pub refusal_told : {B : Type 0} (wants : Bool) (t : Told Answer) (then : Answer → Told B) (f : Refusal)
       → AsksBy wants r day a t (Err f) → (f ≡ NoMemory) ⊎ ((t >>= then) ≡ Err f)
   refusal_told true t then f (inl lacks) = inl (cc lacks)

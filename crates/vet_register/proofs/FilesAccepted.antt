@@ -123,7 +123,7 @@ pub second_fails : (a b : Bool) → b ≡ false → (a && b) ≡ false
 second_fails true b h = h
 second_fails false b h = refl
 
--- what is refused that would be told is refused for want of memory
+-- if something acceptable is refused, memory ran out
 pub memory_wants : {A : Type 0} (t : Told A) (x : A) (e : Refusal) → t ≡ Ok x → Gives (λ y. y) t (Err e) → e ≡ NoMemory
 memory_wants t x e told (inl lacks) = lacks
 memory_wants t x e told (inr refused) = cc (sym told ∙ refused)

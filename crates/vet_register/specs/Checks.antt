@@ -7,6 +7,6 @@ use Rattle.vet_base.specs.declared.refusal.Refusal.TheVariants.{NoMemory, NotARe
 abbrev pub Faults : Type 0 → Refusal → Type 0
 Faults P e = (e ≡ NoMemory) ⊎ ((e ≡ NotARegister) × (P → ⊥))
 
--- what passes holds, and what is refused doesn't, but for want of memory
+-- what passes holds, and what is refused doesn't, unless memory ran out
 abbrev pub Checks : Type 0 → Result (Unit {0}) Refusal → Type 0
 Checks P answer = MatchResult answer (λ _. P) (Faults P)

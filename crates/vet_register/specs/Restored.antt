@@ -1,7 +1,7 @@
 -- What is checked of a state before its demand and its standing are found (ours): all but that its counts are balanced.
 --
 -- A register is made of a state that was kept elsewhere (Register::restore): of a sound one it is the register of
--- that state. Any other is refused as 31 NotARegister; and each may meet a want of memory. So does each part of it:
+-- that state. Any other is refused as 31 NotARegister; and memory may run out for each. So it is with each part:
 -- a check (Checks, Faults) passes what holds, and refuses what doesn't. All but the counts is checked before the
 -- demand is found (IsSoundButCounts, AreLimits). Of a peer it isn't asked which content a reader gave. It is asked
 -- whether there are criteria that define the peer's (AreDefinedBy, AreOfPeer): if so, those beside the built-in

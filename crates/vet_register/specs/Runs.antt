@@ -2,7 +2,7 @@
 --
 -- Of a command that is run, the state after it is the next one where it is accepted, else the same. Turns
 -- (AreTurns): commands are run one after the other. Each is told the verdict, with its outcome, in the state that
--- those before it left (IsTurn), and leads to the state after it. Or it meets a want of memory, and changes
+-- those before it left (IsTurn), and leads to the state after it. Or memory runs out for it, and it changes
 -- nothing.
 use Rattle.std.specs.Prelude.{◌≡◌, ◌⊎◌, List, [], ◌∷◌, Result, Ok, Err}
 use Rattle.vet_base.specs.Gives.{Told, ◌>>=◌}
@@ -36,7 +36,7 @@ left s c (Err e) = s
 abbrev pub after : State → Command → State
 after s c = left s c (verdict s c)
 
--- a command was answered in one state, and left the other: it was told its verdict, or met a want of memory and changed
+-- a command was answered in one state, and left the other: it was told its verdict, or memory ran out and it changed
 -- nothing
 abbrev pub IsTurn : State → Command → Result Outcome Refusal → State → Type 0
 IsTurn s c answer end = ((answer ≡ told s c) × (end ≡ after s c)) ⊎ ((answer ≡ Err NoMemory) × (end ≡ s))

@@ -3,8 +3,8 @@
 //! **The bytes of a reply are those of its definition: the line of its status, the lines of its fields, an empty line
 //! and the body. `Content-Length` tells the length of the body.**
 //!
-//! What a command was told is replied after its change is kept, where want of memory would be told too late. So room is
-//! taken first, and head and body are written into that.
+//! A command is answered after its change is kept, when it is too late to say that memory ran out. So room is taken
+//! first, and head and body are written into that.
 ghost use Rattle.std.specs.Prelude.{◌≡◌, ◌+◌, ◌≤◌, ◌++◌, [], IfOk, codes, length, string_bytes};
 ghost use Rattle.std.specs.Prelude.{string_capacity, string_len};
 ghost use Rattle.vet_requests.specs.Reply.{allow_line, field_line, fixed_body, not_allowed, plain_reply, reply_head};
@@ -64,7 +64,7 @@ pub const MOST_REPLY_HEAD_BYTES: usize = 160;
 pub(crate) const MOST_ALLOW_BYTES: usize = 8;
 
 impl Reply {
-    /// The reply with a body. Refused for want of memory alone.
+    /// The reply with a body. Fails only if memory runs out.
     pub fn with(
         alloc: Global,
         status: Status,
@@ -76,14 +76,14 @@ impl Reply {
         Reply::laid_out(alloc, status, kind, "", body)
     }
 
-    /// The reply of a status alone. Refused for want of memory alone.
+    /// The reply of a status alone. Fails only if memory runs out.
     pub fn plain(alloc: Global, status: Status) -> Result<Reply, AllocError>
         ensures { IfOk result (λ r. r ≡ plain_reply status) }
     {
         Reply::laid_out(alloc, status, ContentType::Text, "", fixed_body(status))
     }
 
-    /// The reply where a target has other methods: these. Refused for want of memory alone.
+    /// The reply where a target has other methods: these. Fails only if memory runs out.
     pub fn not_allowed(alloc: Global, methods: &str) -> Result<Reply, AllocError>
         requires { length methods.now ≤ MOST_ALLOW_BYTES }
         ensures { IfOk result (λ r. r ≡ not_allowed methods.now) }

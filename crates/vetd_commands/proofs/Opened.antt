@@ -63,7 +63,7 @@ module _ {S : Type 0} (g : Ghosts S) (before : Held S) where
       subst (λ (h : Held S). IsShown g before view (text t) h) (sym same)
       record { register = register; opened = opened; shows = shows }
 
-  -- of a text that was not made, for want of memory
+  -- of a text that was not made, since memory ran out
   pub is_not_shown : {T : Type 0} (conn after : Held S) (register : State) (told : Result T Refusal) → after ≡ conn
       → IsOpenedAs g before register conn → IfErr told (λ refusal. refusal ≡ NoMemory)
       → IfErr told (λ refusal. IsNotShown g before refusal after)

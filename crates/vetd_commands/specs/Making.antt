@@ -57,8 +57,8 @@ FoundBy finds path (Ok conn) = finds path (Ok conn) × (conn.in_transaction ≡ 
 FoundBy finds path (Err refusal) = finds path (Err refusal) × (IsOfStore refusal ⊎ (refusal ≡ NotARegister))
 
 module _ {S : Type 0} (g : Ghosts S) (Gives : Giving S) where
-  -- The answer to what is asked, and the connection that is left. A register was made; or there is no connection, for
-  -- want of memory or as the path gave none; or there is one, and no register was made.
+  -- The answer to what is asked, and the connection that is left. A register was made; or there is no connection, since
+  -- memory ran out or the path gave none; or there is one, and no register was made.
   abbrev pub IsAnswerFor : NewAsked → Answer → Option (Held S) → Type 0
   IsAnswerFor asked (Prints text) left = (text ≡ created_line) × ((before : Held S) × (Gives asked.path (Ok before)
       × ((after : Held S) × ((left ≡ Some after) × IsNewRegister g asked.moves_limit before after))))

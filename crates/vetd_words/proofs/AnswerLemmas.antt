@@ -63,7 +63,7 @@ any_input before after asked none =
     (at.0, record { told = at.1; read = unless_asked _ asked none })
 
 module _ {T : Type 0} (text : T → List ℕ) where
-  -- an outcome that is no want of memory is answered as what is told
+  -- an outcome is answered as what is told, unless it is that memory ran out
   same_answer : (told : Told (List ℕ)) (outcome : Result T Refusal) → Gives text told outcome → outcome ≢ Err NoMemory
       → answer_for text outcome ≡ answer_for (λ (t : List ℕ). t) told
   same_answer told (Ok line) same other = ap (answer_for (λ (t : List ℕ). t)) (sym same)

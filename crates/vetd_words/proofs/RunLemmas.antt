@@ -26,7 +26,7 @@ is_for_want Nothing kind (Err Endless) none memory other =
 is_for_want Nothing kind (Err NoMemory) none memory other = refl
 
 module _ (meant : Option Telling) where
-  -- what was asked is what is meant, but for want of memory
+  -- what was asked is what is meant, unless memory ran out
   same_asked : (asked : Result FileQuery Error) (r : Result ℕ IoFault) → IfOk asked (λ a. meant ≡ Some (line_told a))
       → IfErr asked (λ error. kind_of error ≢ OutOfMemory → meant ≡ None)
       → IfErr asked (λ error. kind_of error ≡ OutOfMemory → r ≡ Err NoMemory)
