@@ -1,7 +1,7 @@
--- Tables of criteria, and what a set of them implies in the end (The Cargo Vet Book: criteria, `implies`).
+-- Tables of criteria, and all that a set of them implies (The Cargo Vet Book: criteria, `implies`).
 --
 -- The closure of a set is closure_of. It is found by definitions: at most MOST_CRITERIA criteria with different names,
--- including the built-in two. One of them may imply a name that no criterion has (defined).
+-- including the two built-in ones. One of them may imply a name that no criterion has (defined).
 use Rattle.std.specs.Prelude.{ℕ, ◌≡◌, ◌≤◌, true, false, Bool, not, List, [], ◌∷◌, codes, Option, Some, None}
 use Rattle.std.specs.Prelude.{if◌then◌else◌, slice_index_or, find, ◌↔◌, ◌&&◌, slice_get}
 use Rattle.std.specs.List.{position}
@@ -20,17 +20,17 @@ use Rattle.vet_base.specs.Words.{Name}
 abbrev pub Criteria : Type 0
 Criteria = map.FinMap (slice_cmp nat_cmp) Criterion
 
--- what a name implies: a name that the table lacks implies nothing
+-- the names that a name implies; a name that the table lacks implies none
 abbrev pub implied_by : Criteria → Name → NameSet
 implied_by table name = option_map_or (λ c. c.implies) (map.get table name) set.empty
 
--- the least set that holds some names and, with each name, what it implies
+-- the least set that contains some names and, with each name, the names that it implies
 pub data InClosure (table : Criteria) (names : NameSet) : Name → Type 0 where
   named : {n : Name} → set.contains names n ≡ true → InClosure table names n
   implied : {m n : Name} → InClosure table names m → set.contains (implied_by table m) n ≡ true
       → InClosure table names n
 
--- what is reached by some criteria: where they reach the name of one more, then also what that one implies
+-- the names that criteria reach; if the rest reach the name of the first, also those reached from what it implies
 unfoldable pub reached_by : List (Name × Criterion) → NameSet → NameSet
 reached_by [] names = names
 reached_by ((name, c) ∷ rest) names =
@@ -58,36 +58,36 @@ is_in table places name = option_map_or (set.contains places) (place_of table na
 abbrev pub least_unknown : Criteria → NameSet → Option Name
 least_unknown table names = find (λ n. not (map.contains_key table n)) (members names)
 
--- the closure of some names has a name just where it is one of them, or a name of the closure implies it
+-- the closure of some names has a name exactly if it is one of them, or a name of the closure implies it
 abbrev pub ClosureIsLeast : Type 0
 ClosureIsLeast = (table : Criteria) (names : NameSet) (n : Name)
     → (set.contains (closure_of table names) n ≡ true) ↔ InClosure table names n
 
--- a name is among the places of a set where the table holds it and it is in the set
+-- the place of a name is among those of a set of names exactly if the table and the set have the name
 abbrev pub PlacedNamesAreIn : Type 0
 PlacedNamesAreIn = (table : Criteria) (names : NameSet) (n : Name)
     → is_in table (placed table names) n ≡ (map.contains_key table n && set.contains names n)
 
--- the place of a name is where it stands among the table's names
+-- the place of a name is its position among the table's names
 abbrev pub PlacesAreOfNames : Type 0
 PlacesAreOfNames = (table : Criteria) (n : Name) (p : ℕ)
     → (place_of table n ≡ Some p) ↔ (slice_get (map.keys table) p ≡ Some n)
 
--- the closure of the one criterion at a place: past the table's end there is none
+-- the closure of only the criterion at a place; past the table's end it is empty
 abbrev pub closure_at : Criteria → ℕ → Places
 closure_at table p =
     option_map_or (λ n. placed table (closure_of table (set.insert set.empty n))) (slice_get (map.keys table) p)
     set.empty
 
--- whether the criterion at a place is in a set or implies in the end one that is
+-- whether the criterion at a place is in a set or implies one that is, directly or through others
 abbrev pub leads_to : Criteria → Places → ℕ → Bool
 leads_to table places p = meet (closure_at table p) places
 
--- the criteria that are in a set or imply in the end one that is
+-- the criteria that are in a set or imply one that is, directly or through others
 abbrev pub leading_to : Criteria → Places → Places
 leading_to table places = set.retain (places_below (map.len table)) (leads_to table places)
 
--- a place is among those that lead to a set just where it leads there, whatever the table's length
+-- a place is among those that lead to a set exactly if it leads there, whatever the table's length
 abbrev pub LedTo : Type 0
 LedTo = (table : Criteria) (places : Places) (p : ℕ)
     → set.contains (leading_to table places) p ≡ leads_to table places p
@@ -109,7 +109,7 @@ deploy_criterion =
 abbrev pub built_in_criteria : Criteria
 built_in_criteria = map.insert (map.insert map.empty safe_to_run run_criterion) safe_to_deploy deploy_criterion
 
--- what holds of every table
+-- these criteria form a table
 pub record IsTable (table : Criteria) : Type 0 where
   pub few : map.len table ≤ MOST_CRITERIA
   pub named : (n : Name) (c : Criterion) → map.get table n ≡ Some c → c.name ≡ n

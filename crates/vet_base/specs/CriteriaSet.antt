@@ -17,15 +17,15 @@ has place places = contains places place
 abbrev pub meet : Places → Places → Bool
 meet a b = list_any (contains b) (items a)
 
--- a set meets what is in either of two just where it meets one of them
+-- a set meets the union of two sets exactly if it meets one of them
 abbrev pub MeetOfUnions : Type 0
 MeetOfUnions = (a b c : Places) → meet a (union b c) ≡ (meet a b || meet a c)
 
--- no set meets the one without places
+-- no set meets the empty set
 abbrev pub MeetOfNothing : Type 0
 MeetOfNothing = (a : Places) → meet a empty ≡ false
 
--- the places from 0 on, below a number
+-- the places from 0 up to, but not including, a number
 unfoldable pub places_below : ℕ → FinSet nat_cmp
 places_below zero = empty
 places_below (suc n) = insert (places_below n) n

@@ -36,7 +36,7 @@ same_nat f q x t = ap f (sym (nat_cmp-IsAntisymmetric q x t))
 pub same_places : (a b : FinSet nat_cmp) → ((q : ℕ) → set.contains a q ≡ set.contains b q) → a ≡ b
 same_places = set.same_set nat_cmp_total nat_cmp-IsAntisymmetric
 
--- a place is among those of a word just where its bit is set
+-- a place is among those of a word exactly if its bit is set
 pub contains-set_places : (n word q : ℕ) → word < 2 ^ n → set.contains (set_places n word) q ≡ (bit_at word q == 1)
 contains-set_places n word q l =
     set.contains-retain (places_below n) (λ p. bit_at word p == 1) q (same_nat (λ p. bit_at word p == 1) q)
@@ -46,7 +46,7 @@ contains-set_places n word q l =
       | inr high ↦ rw (bit_at_above word n q l high) (and_right (nat_lt q n) false refl)
     ]
 
--- what a bit adds
+-- the value that a bit adds
 bit_part : (word q : ℕ) → cond (bit_at word q == 1) (2 ^ q) 0 ≡ bit_at word q * 2 ^ q
 bit_part word q = elim (cases_eq (bit_at word q) 1) [
   | inl one ↦ rw (one) (omega arith)
@@ -74,7 +74,7 @@ word_of_bits (suc n) word places each =
     one_more : (n : ℕ) → 1 + n ≡ suc n
     one_more n = omega arith
 
--- the word comes back
+-- the word of a word's places is that word
 pub same_word : (n word : ℕ) → word < 2 ^ n → word_below n (set_places n word) ≡ word
 same_word n word l =
     word_of_bits n word (set_places n word) (λ q _. contains-set_places n word q l) ∙ mod-eq_of_lt l

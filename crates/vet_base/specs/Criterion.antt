@@ -1,4 +1,4 @@
--- When criteria are the same (ours).
+-- Equality of criteria (ours).
 use Rattle.std.specs.Prelude.{◌&&◌, Bool, Option, nat_eq}
 use Rattle.std.specs.Option.{option_eq}
 use Rattle.std.specs.Cmp.Lexicographic.{pointwise}
@@ -10,7 +10,7 @@ use Rattle.vet_base.specs.Words.{Name, Text}
 abbrev pub criterion_name : Criterion → Name
 criterion_name c = c.name
 
--- two texts are the same, or both are missing
+-- two texts are the same, or both are absent
 abbrev pub same_text : Option Text → Option Text → Bool
 same_text = option_eq (pointwise nat_eq)
 

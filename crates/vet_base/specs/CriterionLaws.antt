@@ -1,4 +1,4 @@
--- When criteria are the same: an equivalence, which only equals satisfy (ours).
+-- Equality of criteria is an equivalence, and only equal ones satisfy it (ours).
 use Rattle.std.specs.Prelude.{◌≡◌}
 use Rattle.std.specs.Bool.{Decides}
 use Rattle.std.specs.Cmp.{IsEquivalence, and_equiv, on_equiv}
@@ -20,7 +20,7 @@ criterion_eq_equiv =
     (on_equiv (λ (c : Criterion). c.url) (options_equiv nat_list_eq_equiv)))
     (on_equiv (λ (c : Criterion). c.implies) same_names_equiv)
 
--- only a criterion itself is equal to it
+-- a criterion is equal only to itself
 pub criterion_eq-Decides : (a b : Criterion) → Decides (criterion_eq a b) (a ≡ b)
 criterion_eq-Decides a b =
     Decides-like (criterion_eq a b)

@@ -1,6 +1,6 @@
--- Which texts are days, and how days are numbered (ours: `YYYY-MM-DD`, of the proleptic Gregorian calendar).
+-- The texts that are days, and the numbers of days (ours: `YYYY-MM-DD`, of the proleptic Gregorian calendar).
 --
--- Days are the same where year, month and day are (same_day).
+-- Days are the same if year, month and day are (same_day).
 use Rattle.std.specs.Prelude.{ℕ, ◌+◌, ◌-◌, ◌*◌, ◌/◌, ◌%◌, ◌==◌, ◌&&◌, nat_le, Bool, [], ◌∷◌, ◌++◌, Option, Some, None}
 use Rattle.std.specs.Prelude.{length, slice_index, if◌then◌else◌, option_and_then, option_map, ℤ, pos}
 use Rattle.std.specs.Char.{is_ascii_digit}
@@ -22,11 +22,11 @@ is_day d =
     nat_le d.year LAST_YEAR && nat_le 1 d.month && nat_le d.month 12 && nat_le 1 d.day
     && nat_le d.day (days_in_month (pos d.year) d.month)
 
--- its number, where 1970-01-01 is 0
+-- the number of a day; 1970-01-01 has number 0
 abbrev pub day_number : DayValue → ℤ
 day_number d = days_from_civil (pos d.year) d.month d.day
 
--- days are equal, and ordered, by their numbers
+-- days are compared by their numbers
 abbrev pub day_eq : DayValue → DayValue → Bool
 day_eq = on day_number int_eq
 
@@ -37,7 +37,7 @@ day_cmp = on day_number int_cmp
 abbrev pub same_day : DayValue → DayValue → Bool
 same_day a b = (a.year == b.year) && ((a.month == b.month) && (a.day == b.day))
 
--- what the two digits at a place are worth, if they are digits
+-- the number that the two digits at a place write, if they are digits
 abbrev pub two_digits : Text → ℕ → Option ℕ
 two_digits text i =
     if is_ascii_digit (slice_index text i) && is_ascii_digit (slice_index text (i + 1))
@@ -47,7 +47,7 @@ two_digits text i =
 abbrev pub has_dashes : Text → Bool
 has_dashes text = (length text == 10) && (slice_index text 4 == 45) && (slice_index text 7 == 45)
 
--- what the two digits at a place are worth, and the two after them
+-- the number that the four digits at a place write, if they are digits
 abbrev pub four_digits : Text → ℕ → Option ℕ
 four_digits text i =
     option_and_then (λ high. option_map (λ low. 100 * high + low) (two_digits text (i + 2))) (two_digits text i)
@@ -64,11 +64,11 @@ written_day text =
 abbrev pub checked_day : DayValue → Option DayValue
 checked_day d = if is_day d then Some d else None
 
--- the day that a text is, if it is one
+-- the day that a text is read as, if it is one
 abbrev pub read_day : Text → Option DayValue
 read_day text = option_and_then checked_day (written_day text)
 
--- two digits, and four
+-- the text of two digits, and of four
 abbrev pub two_text : ℕ → Text
 two_text n = (48 + n / 10) ∷ (48 + n % 10) ∷ []
 

@@ -1,4 +1,4 @@
--- When days are the same, and their order (ours).
+-- Equality and order of days (ours).
 use Rattle.std.specs.Prelude.{◌≡◌}
 use Rattle.std.specs.Bool.{Decides}
 use Rattle.std.specs.Cmp.{IsTotalOrder, int_cmp_total, on_total}

@@ -1,4 +1,4 @@
--- The table that the criteria of a file define beside the built-in ones, or what refuses them (ours).
+-- The table that the criteria of a file and the built-in ones define, or the refusal of these criteria (ours).
 use Rattle.std.specs.Prelude.{Bool, true, false, not, nat_lt, List, Option, Some, None, Ok, Err, if◌then◌else◌, find}
 use Rattle.std.specs.Prelude.{fold}
 use Rattle.std.specs.List.{list_any}
@@ -14,11 +14,11 @@ use Rattle.vet_base.specs.Gives.{Told}
 use Rattle.vet_base.specs.Names.{members}
 use Rattle.vet_base.specs.Words.{Name}
 
--- the built-in criteria and these, of which a later one stands in place of an earlier one of its name
+-- the built-in criteria and these; a later one replaces an earlier one of the same name
 abbrev pub defined : List Criterion → Criteria
 defined criteria = fold (λ table c. map.insert table c.name c) built_in_criteria criteria
 
--- the lesser of two names, where there are
+-- the lesser of two names, or the only one that is present
 abbrev pub lesser : Option Name → Option Name → Option Name
 lesser None b = b
 lesser (Some a) None = Some a
@@ -32,13 +32,13 @@ least_implied known c = find (λ n. not (known n)) (members c.implies)
 abbrev pub least_undefined : (Name → Bool) → List Criterion → Option Name
 least_undefined known criteria = fold (λ least c. lesser least (least_implied known c)) None criteria
 
--- an unknown name comes before a built-in one
+-- an unknown name is refused before a built-in one
 abbrev pub table_unless : Option Name → Bool → Criteria → Told Criteria
 table_unless (Some n) built_in table = Err (UnknownCriterion n)
 table_unless None true table = Err BuiltInCriterion
 table_unless None false table = Ok table
 
--- the table of some criteria: refused are too many, then what is implied and not defined, then what is built in
+-- the table of some criteria; too many are refused, then an implied name that none has, then a built-in one
 abbrev pub table_told : List Criterion → Told Criteria
 table_told criteria =
     if nat_lt MOST_CRITERIA (map.len (defined criteria)) then Err TooManyCriteria

@@ -1,8 +1,8 @@
--- Criteria by their names, how they are kept, and when they are the same (ours).
+-- Criteria by their names: how they are kept, and their equality (ours).
 --
--- Two definitions are equal where they have equal criteria under the same names (criteria_eq, criteria_eq-Decides).
--- Of criteria without doubles and built-in names this is to have the same criteria, in whatever order
--- (SameDefinitions).
+-- Two definitions are equal if they have equal criteria under the same names (criteria_eq, criteria_eq-Decides).
+-- Lists of criteria without duplicate or built-in names define the same exactly if they have the same criteria, in any
+-- order (SameDefinitions).
 use Rattle.std.specs.Prelude.{◌≡◌, ◌≤◌, ◌↔◌, ◌&&◌, Bool, false, List, length, map as mapped}
 use Rattle.std.specs.List.{All}
 use Rattle.std.specs.Cmp.Lexicographic.{pointwise}
@@ -21,7 +21,7 @@ use Rattle.vet_base.specs.Words.{Name}
 abbrev pub by_name : List Criterion → List (Name × Criterion)
 by_name criteria = mapped (λ c. (c.name, c)) criteria
 
--- the names stand beside the criteria, in order, and are not too many
+-- the names are those of the criteria, in order, and at most MOST_CRITERIA
 pub record IsKept (names : List Name) (criteria : List Criterion) : Type 0 where
   pub named : mapped (λ c. c.name) criteria ≡ names
   pub rising : IsRising names
@@ -31,11 +31,12 @@ pub record IsKept (names : List Name) (criteria : List Criterion) : Type 0 where
 abbrev pub entry_eq : Name × Criterion → Name × Criterion → Bool
 entry_eq a b = bytes_eq a.0 b.0 && criterion_eq a.1 b.1
 
--- whether criteria by their names are the same
+-- whether two definitions are the same
 abbrev pub criteria_eq : Criteria → Criteria → Bool
 criteria_eq a b = pointwise entry_eq (map.entries a) (map.entries b)
 
--- criteria of different names, none of them built in, define the same just where the same criteria are among them
+-- two lists of criteria with different names, none of them built in, define the same exactly if they have the same
+-- criteria
 abbrev pub SameDefinitions : Type 0
 SameDefinitions =
     (a b : List Criterion) → NamedOnce (λ c. c.name) a → NamedOnce (λ c. c.name) b

@@ -1,4 +1,4 @@
--- When criteria by their names are the same (ours).
+-- Equality of criteria by their names (ours).
 use Rattle.std.specs.Prelude.{ℕ, ◌≡◌, List}
 use Rattle.std.specs.Bool.{Decides}
 use Rattle.std.specs.Cmp.Lexicographic.{bytes_decides, pointwise_decides}
@@ -10,14 +10,14 @@ use Rattle.vet_base.specs.Criteria.{Criteria}
 use Rattle.vet_base.specs.CriterionLaws.{criterion_eq-Decides}
 use Rattle.vet_base.specs.Definitions.{criteria_eq, entry_eq}
 
--- only a name with its criterion itself is equal to it
+-- a name with its criterion is equal only to itself
 pub entry_eq-Decides : (a b : List ℕ × Criterion) → Decides (entry_eq a b) (a ≡ b)
 entry_eq-Decides a b =
     Decides-like _ (λ h. λ i. (h.0 i, h.1 i))
     (λ e. (ap (λ (p : List ℕ × Criterion). p.0) e, ap (λ (p : List ℕ × Criterion). p.1) e))
     (Decides-and _ _ (bytes_decides a.0 b.0) (criterion_eq-Decides a.1 b.1))
 
--- only a table itself is equal to it
+-- a definition is equal only to itself
 pub criteria_eq-Decides : (a b : Criteria) → Decides (criteria_eq a b) (a ≡ b)
 criteria_eq-Decides a b =
     let h = pointwise_decides entry_eq-Decides (map.entries a) (map.entries b) in

@@ -1,4 +1,4 @@
--- When deltas are the same: an equivalence, which only equals satisfy (ours).
+-- Equality of deltas is an equivalence, and only equal ones satisfy it (ours).
 use Rattle.std.specs.Prelude.{◌≡◌}
 use Rattle.std.specs.Bool.{Decides}
 use Rattle.std.specs.Cmp.{IsEquivalence, and_equiv, on_equiv, eq_by_cmp_equiv}
@@ -15,7 +15,7 @@ delta_eq_equiv =
     (on_equiv (λ (d : Delta). d.from) (eq_by_cmp_equiv version_total))
     (on_equiv (λ (d : Delta). d.to) (eq_by_cmp_equiv version_total))
 
--- only a delta itself is equal to it
+-- a delta is equal only to itself
 pub delta_eq-Decides : (a b : Delta) → Decides (delta_eq a b) (a ≡ b)
 delta_eq-Decides a b =
     Decides-like (delta_eq a b)

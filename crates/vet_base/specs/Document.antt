@@ -1,4 +1,4 @@
--- How long a document may be (ours).
+-- The limit on the length of a document (ours).
 use Rattle.std.specs.Prelude.{length, nat_lt}
 use Rattle.vet_base.specs.declared.limits.TheConstants.{MOST_INPUT_BYTES}
 use Rattle.vet_base.specs.declared.refusal.Limit.TheVariants.{Input}

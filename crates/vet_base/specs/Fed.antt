@@ -1,10 +1,10 @@
--- What values feed a hasher (ours).
+-- The writes of values to a hasher (ours).
 use Rattle.std.specs.Prelude.{[], ◌++◌, unwrap_or}
 use Rattle.std.specs.Hash as fed
 use Rattle.vet_base.specs.Names.{NameSet, members}
 use Rattle.vet_base.specs.Version.{VersionValue}
 
--- the names of a set in order
+-- the names of a set, in order
 abbrev pub names_fed : NameSet → fed.HashWrites
 names_fed names = fed.slice fed.str (members names)
 

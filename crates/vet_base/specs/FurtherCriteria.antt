@@ -1,4 +1,4 @@
--- The criteria beside the built-in ones (ours).
+-- The criteria besides the built-in ones (ours).
 use Rattle.std.specs.Prelude.{◌≡◌, not, Bool, false, List, filter}
 use Rattle.std.specs.List.{All}
 use Rattle.std.specs.FinMap as map
@@ -12,11 +12,11 @@ use Rattle.vet_base.specs.Items.{NamedOnce, SameItems}
 abbrev pub is_further : Criterion → Bool
 is_further c = not (is_built_in c.name)
 
--- those of a table, in the order of their names
+-- the criteria of a table that are not built in, in the order of their names
 abbrev pub further : Criteria → List Criterion
 further table = filter is_further (map.values table)
 
--- what criteria of different names, none of them built in, define beside the built-in ones are these, each once
+-- criteria with different names, none of them built in, define exactly these besides the built-in ones, each once
 abbrev pub FurtherAreDefined : Type 0
 FurtherAreDefined =
     (criteria : List Criterion)

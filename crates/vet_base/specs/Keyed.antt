@@ -1,4 +1,4 @@
--- Lists of items in the order of their keys, no key twice (ours), and edits of them.
+-- Lists of items in the order of their keys, with no key twice (ours), and edits of them.
 use Rattle.std.specs.Prelude.{ℕ, ◌≡◌, ◌<◌, ◌≤◌, ◌+◌, ◌-◌, not, true, Bool, List, [], ◌∷◌, ◌++◌, Option, length, filter}
 use Rattle.std.specs.Prelude.{find, insert, remove, slice_index_or, slice_set}
 use Rattle.std.specs.List.{AllPairs}
@@ -11,12 +11,12 @@ use Rattle.std.specs.declared.result.Result.TheVariants.{Ok, Err}
 use Rattle.vet_base.specs.declared.keyed.KeyedEdit.{KeyedEdit}
 use Rattle.vet_base.specs.declared.keyed.KeyedEdit.TheVariants as edit
 
--- items, and for how many more there is room
+-- items, and the number of further ones for which there is room
 pub record KeyedRoom (E : Type 0) : Type 0 where
   pub items : List E
   pub room : ℕ
 
--- an item's key is this one, is a lesser one, is a greater one
+-- an item's key is equal to, less than, or greater than this one
 abbrev pub is_of : {K E : Type 0} → (K → K → Ordering) → (E → K) → K → E → Bool
 is_of cmp key k e = is_eq (cmp (key e) k)
 
@@ -34,20 +34,20 @@ IsByKey cmp key items = AllPairs (λ a b. cmp (key a) (key b) ≡ Less) items
 abbrev pub item_of : {K E : Type 0} → (K → K → Ordering) → (E → K) → List E → K → Option E
 item_of cmp key items k = find (is_of cmp key k) items
 
--- the items of lesser keys, then this one, then those of greater keys
+-- the items with lesser keys, then this one, then those with greater keys
 abbrev pub with_item : {K E : Type 0} → (K → K → Ordering) → (E → K) → List E → E → List E
 with_item cmp key items e = filter (is_before cmp key (key e)) items ++ (e ∷ filter (is_behind cmp key (key e)) items)
 
--- the items but that of a key
+-- the items except that of a key
 abbrev pub without_item : {K E : Type 0} → (K → K → Ordering) → (E → K) → List E → K → List E
 without_item cmp key items k = filter (λ e. not (is_of cmp key k e)) items
 
--- these items set one after another, so that of those of one key the last stays
+-- the items after these are set one after another, so that the last one of each key remains
 abbrev pub all_set : {K E : Type 0} → (K → K → Ordering) → (E → K) → List E → List E → List E
 all_set cmp key held [] = held
 all_set cmp key held (e ∷ more) = all_set cmp key (with_item cmp key held e) more
 
--- where the item of a key stands, or belongs: in front are the lesser keys, and behind the greater ones
+-- the place of the item of a key, or where one belongs: after the lesser keys, and before the greater ones
 abbrev pub IsPlace : {K E : Type 0} → (K → K → Ordering) → (E → K) → List E → K → Result ℕ ℕ → Type 0
 IsPlace {K} {E} cmp key items k (Ok place) = (place < length items) × ((d : E) → key (slice_index_or items place d) ≡ k)
 IsPlace cmp key items k (Err place) = (place ≤ length items)
@@ -61,7 +61,7 @@ edited (edit.Put place e) items = insert items place e
 edited (edit.Take place) items = remove items place
 edited (edit.Swap place e) items = slice_set items place e
 
--- an edit leaves the keys in order, and there is room for what is put in
+-- an edit leaves the keys in order, and there is room for an inserted item
 abbrev pub Fits : {K E : Type 0} → (K → K → Ordering) → (E → K) → KeyedEdit E → KeyedRoom E → Type 0
 Fits cmp key (edit.Put place e) k = IsPlace cmp key k.items (key e) (Err place) × (0 < k.room)
 Fits cmp key (edit.Take place) k = place < length k.items

@@ -1,11 +1,11 @@
--- When two optional values are the same (ours).
+-- Equality of optional values (ours).
 use Rattle.std.specs.Prelude.{◌≡◌, Bool, Option, Some, None}
 use Rattle.std.specs.Bool.{Decides}
 use Rattle.std.specs.Option.{option_eq}
 use Rattle.std.proofs.Common.{refl, ap}
 use Rattle.std.proofs.lemmas.Option.{same_Some}
 
--- where a word decides whether two values are the same, it decides so of values that may be missing
+-- if a function decides whether two values are the same, it also decides so for values that may be absent
 pub options_decide : {X : Type 0} {E : X → X → Bool} → ((a b : X) → Decides (E a b) (a ≡ b)) → (a b : Option X)
     → Decides (option_eq E a b) (a ≡ b)
 options_decide d None None = (λ _. refl, λ _. refl)

@@ -59,7 +59,7 @@ refusal_number refusal = (refusal_row refusal).number
 abbrev pub refusal_name : Refusal → Text
 refusal_name refusal = (refusal_row refusal).name
 
--- the word of a limit: the noun of what there is too much of
+-- the word of a limit: the noun of the thing that exceeds it
 abbrev pub limit_word : Limit → Text
 limit_word limit.Text = codes "text"
 limit_word limit.PeerCriteria = codes "peer-criteria"

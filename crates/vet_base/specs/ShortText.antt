@@ -1,4 +1,4 @@
--- The bytes of a short text, wherever they are (ours).
+-- The bytes of a short text, wherever they are stored (ours).
 use Rattle.std.specs.Prelude.{ℕ, List, string_bytes}
 use Rattle.vet_base.specs.declared.short_text.Storage.{Storage}
 use Rattle.vet_base.specs.declared.short_text.Storage.TheVariants.{Inline, Allocated}

@@ -1,4 +1,4 @@
--- Which texts are short enough to be held (ours).
+-- The texts that are short enough to be held (ours).
 use Rattle.std.specs.Prelude.{nat_le, length, Option, Some, None, if◌then◌else◌}
 use Rattle.vet_base.specs.declared.limits.TheConstants.{MOST_TEXT_BYTES}
 use Rattle.vet_base.specs.Words as words

@@ -1,4 +1,4 @@
--- The order of versions is total, and in it only equals tie (ours).
+-- The order of versions is total, and only equal versions tie in it (ours).
 use Rattle.std.specs.Prelude.{ℕ, ◌≡◌, ◌⊎◌, List, [], ◌∷◌, ◌++◌, Option, Some, None}
 use Rattle.std.specs.Option.{option_cmp}
 use Rattle.std.specs.Ordering.{nat_cmp, is_eq}
@@ -29,7 +29,7 @@ version_total = then_total (on_total (λ (v : VersionValue). v.parts) precedence
     (then_total (on_total (λ (v : VersionValue). parts_text v.parts) nat_list_cmp_total)
     (on_total (λ (v : VersionValue). v.revision) (options_total nat_list_cmp_total)))
 
--- a common front does not count
+-- a common prefix does not count
 after_front : (front x y : List ℕ) → slice_cmp nat_cmp (front ++ x) (front ++ y) ≡ slice_cmp nat_cmp x y
 after_front [] x y = refl
 after_front (b ∷ front) x y = rw (tied_itself nat_cmp_total b) (after_front front x y)
@@ -40,7 +40,7 @@ marked_cmp [] (b ∷ y) = refl
 marked_cmp (a ∷ x) [] = refl
 marked_cmp (a ∷ x) (b ∷ y) = refl
 
--- where precedence ties, only build metadata tells the texts apart
+-- if precedence ties, only build metadata tells the texts apart
 pub tied_texts : (p q : Parts) → parts_precedence p q ≡ Equal
     → slice_cmp nat_cmp (parts_text p) (parts_text q) ≡ slice_cmp nat_cmp p.4 q.4
 tied_texts p q e =
@@ -60,7 +60,7 @@ revision_tied (Some x) None e = cc e
 revision_tied (Some x) (Some y) e =
     ap (λ (t : List ℕ). Some t) (slice_cmp-IsAntisymmetric nat_cmp-IsAntisymmetric x y e)
 
--- parts of the same precedence that print alike are the same
+-- parts with the same precedence and the same text are the same
 same_parts : (p q : Parts) → parts_precedence p q ≡ Equal → slice_cmp nat_cmp (parts_text p) (parts_text q) ≡ Equal
     → p ≡ q
 same_parts p q e t =
@@ -76,7 +76,7 @@ same_parts p q e t =
 same_version : (a b : VersionValue) → a.parts ≡ b.parts → a.revision ≡ b.revision → a ≡ b
 same_version a b p r = λ i. record { parts = p i; revision = r i }
 
--- only a version itself ties with it
+-- a version ties only with itself
 pub version_cmp-IsAntisymmetric : (a b : VersionValue) → version_cmp a b ≡ Equal → a ≡ b
 version_cmp-IsAntisymmetric a b e =
     let more = then_second (parts_precedence a.parts b.parts) _ e in

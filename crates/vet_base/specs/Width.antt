@@ -1,4 +1,4 @@
--- How many bits the word of a set of criteria has.
+-- The number of bits in the word of a set of criteria.
 use Rattle.std.specs.Int.{Width, w128}
 
 -- the type of the word; a table has at most as many criteria

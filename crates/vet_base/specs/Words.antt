@@ -1,4 +1,4 @@
--- Words for lists of numbers, by what they hold (ours).
+-- Names for lists of numbers, by their contents (ours).
 use Rattle.std.specs.Prelude.{ℕ, List}
 
 -- the bytes of a document
@@ -17,6 +17,6 @@ Name = List ℕ
 abbrev pub Key : Type 0
 Key = List ℕ
 
--- the text of a path, which tells where a table stands in a document
+-- the text of a path, which says where a table is in a document
 abbrev pub Path : Type 0
 Path = List ℕ

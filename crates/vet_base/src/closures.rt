@@ -1,11 +1,11 @@
-//! What each criterion of a table implies in the end, found once for many looks.
+//! The closures of all criteria of a table, computed once for many look-ups.
 //!
-//! **The closures of a table tell the closure of any of its names, and all that lead to some, as the table
-//! itself does.**
+//! **The closures of a table give the closure of any of its names, and the criteria that lead to a set, exactly as the
+//! table itself does.**
 //!
-//! They are found criterion by criterion, from the last one on. What was found then counts only ways through
-//! the criteria seen so far. One more criterion adds to each closure that has it what its own names reach.
-//! So a table of n criteria costs n looks at what each implies and n times n unions.
+//! They are computed criterion by criterion, from the last one back to the first. At each point they count only ways
+//! through the criteria seen so far. One more criterion adds, to each closure that has it, all that its own implied
+//! names reach. So a table of n criteria costs n looks at the names that each implies and n times n unions.
 ghost use Rattle.std.specs.Prelude.{◌≡◌, ◌↔◌, ◌≤◌, ℕ, true, slice_index_or};
 ghost use Rattle.std.specs.FinSet as set;
 ghost use Rattle.vet_base.specs.Closures.{AreClosures, apart_at, closed_at, led_on};
@@ -16,14 +16,15 @@ ghost use Rattle.vet_base.specs.Names.{NameSet};
 use crate::criteria_set::CriteriaSet;
 use crate::limits::MOST_CRITERIA;
 
-/// What each criterion of a table implies in the end, and it itself. A change of that table makes it void.
+/// The closure of each criterion of a table: the criterion, and all that it implies directly or through others. A
+/// change of that table makes it void.
 #[derive(Drop)]
 pub struct Closures {
     closed: [CriteriaSet; MOST_CRITERIA],
 }
 
 impl Closures {
-    /// The closure of the names that are placed in a set. Costs a look a place.
+    /// The closure of the names whose places are in a set. Costs one look for each place.
     pub fn close(&self, set: &CriteriaSet) -> CriteriaSet
         ensures closure { (table : Criteria) (names : NameSet) → AreClosures table self.now
             → set.now ≡ placed table names → result ≡ placed table (closure_of table names) }
@@ -31,7 +32,7 @@ impl Closures {
         self.joined(set)
     }
 
-    /// The criteria that are in the set or imply in the end one that is. Costs a look at each closure.
+    /// The criteria that are in the set or imply one that is, directly or through others. Costs a look at each closure.
     pub fn leading_to(&self, set: &CriteriaSet) -> CriteriaSet
         ensures { (table : Criteria) → AreClosures table self.now → result ≡ leading_to table set.now }
     {
@@ -44,7 +45,7 @@ impl Closures {
         leading
     }
 
-    /// Each of the first places by itself.
+    /// The closures in which each of the first `count` places has only itself, and all others are empty.
     pub(crate) fn apart(count: usize) -> Closures
         requires { count ≤ MOST_CRITERIA }
         ensures { (p : ℕ) → closed_at result p ≡ apart_at count p }
@@ -56,7 +57,7 @@ impl Closures {
         Closures { closed }
     }
 
-    /// What stands at the places of a set, in one.
+    /// The union of the closures at the places of a set.
     pub(crate) fn joined(&self, set: &CriteriaSet) -> CriteriaSet
         ensures { (q : ℕ) → (has q result ≡ true)
             ↔ ((p : ℕ) × (has p set.now ≡ true) × (has q (closed_at self.now p) ≡ true)) }
@@ -64,7 +65,7 @@ impl Closures {
         union_at(&self.closed, set)
     }
 
-    /// Whatever has a place has these too.
+    /// Adds these places to each closure that has the given one.
     pub(crate) fn lead_on(&mut self, place: usize, to: &CriteriaSet)
         ensures { (p : ℕ) → closed_at self.new p ≡ led_on place to.now (closed_at self.old p) }
     {
@@ -76,7 +77,7 @@ impl Closures {
     }
 }
 
-/// What stands at the places of a set, in one.
+/// The union of the sets at some places.
 pub fn union_at(sets: &[CriteriaSet; MOST_CRITERIA], places: &CriteriaSet) -> CriteriaSet
     ensures { (q : ℕ) → (has q result ≡ true)
         ↔ ((p : ℕ) × (has p places.now ≡ true) × (has q (slice_index_or sets.now p set.empty) ≡ true)) }

@@ -6,7 +6,7 @@ ghost use Rattle.vet_base.specs.CriteriaSet.{meet, MeetOfNothing, MeetOfUnions};
 use crate::limits::MOST_CRITERIA;
 use std::marker::Model;
 
-// One bit a place. The definitions have its width, and `MOST_CRITERIA` is at most that.
+// One bit for each place. The definitions have its width, and `MOST_CRITERIA` is at most that.
 type Word = u128;
 
 /// A set of criteria of one table, by their places among the table's names. A change of that table makes it
@@ -40,7 +40,7 @@ impl Model for CriteriaSet {
 }
 
 impl CriteriaSet {
-    /// No criteria.
+    /// The empty set.
     pub fn empty() -> CriteriaSet
         ensures { result ≡ set.empty }
     {
@@ -65,7 +65,7 @@ impl CriteriaSet {
         }
     }
 
-    /// What is in either set.
+    /// The criteria that are in either set.
     pub fn union(&self, other: &CriteriaSet) -> CriteriaSet
         ensures { result ≡ set.union self.now other.now }
     {
@@ -74,7 +74,7 @@ impl CriteriaSet {
         }
     }
 
-    /// What is in both sets.
+    /// The criteria that are in both sets.
     pub fn common(&self, other: &CriteriaSet) -> CriteriaSet
         ensures { (p : ℕ) → set.contains result p ≡ (set.contains self.now p && set.contains other.now p) }
     {
@@ -83,7 +83,7 @@ impl CriteriaSet {
         }
     }
 
-    /// What is in this set and not in the other.
+    /// The criteria that are in this set and not in the other.
     pub fn less(&self, other: &CriteriaSet) -> CriteriaSet
         ensures { (p : ℕ) → set.contains result p ≡ (set.contains self.now p && not (set.contains other.now p)) }
     {
@@ -111,7 +111,7 @@ impl CriteriaSet {
         self.word & !other.word != 0
     }
 
-    /// Whether there are no criteria.
+    /// Whether the set is empty.
     pub fn is_empty(&self) -> bool
         ensures { IsTrue result ↔ (self.now ≡ set.empty) }
     {
@@ -119,12 +119,12 @@ impl CriteriaSet {
     }
 }
 
-/// A set meets the union of two just where it meets one of them.
+/// A set meets the union of two sets exactly if it meets one of them.
 pub fn meet_of_unions()
     ensures { MeetOfUnions }
 {}
 
-/// No set meets the empty one.
+/// No set meets the empty set.
 pub fn meet_of_nothing()
     ensures { MeetOfNothing }
 {}

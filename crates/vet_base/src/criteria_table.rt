@@ -1,25 +1,25 @@
 //! The table of criteria, and the closure of a set of them.
 //!
-//! **The closure of some names is the least set that holds them and, with each name, what it implies.**
+//! **The closure of some names is the least set that contains them and, with each name, the names that it implies.**
 //!
 //! A table has the names in the order of their bytes. A criterion is its place there, counted from 0, and a set of
 //! criteria is a set of places below `MOST_CRITERIA` (`criteria_set`). So sets are joined and compared without looking
 //! at a name, and take no memory. Names are looked up once, when they are read. A set has a meaning only for the table
-//! that made it: after a change of the table another name may be at the same place.
+//! that made it: after a change of the table, another name may be at the same place.
 //!
-//! What is implied may go in circles, so nobody follows it from name to name until it ends. The closures of all
-//! criteria are found together (`closures`), criterion by criterion, from the last one on. What was found then counts
-//! the ways through the criteria seen so far. One more criterion adds to each closure that has it what its own names
-//! reach. After the last one all ways are counted, whatever circles there are.
+//! Criteria may imply one another in a cycle, so the code never follows them from name to name until it ends. The
+//! closures of all criteria are computed together (`closures`), criterion by criterion, from the last one back to the
+//! first. At each point they count the ways through the criteria seen so far. One more criterion adds, to each closure
+//! that has it, all that its own implied names reach. At the end all ways are counted, whatever the cycles.
 //!
 //! The definition goes the same way (`reached_by`), and a law ties it to the least set (`closure_is_least`): a name is
-//! in the closure just where it is one of those given, or a name of the closure implies it.
+//! in the closure exactly if it is one of those given, or a name of the closure implies it.
 //!
-//! The same closures tell which criteria *lead to* a set: those whose closure has a place of the set. A violation
+//! The same closures give the criteria that *lead to* a set: those whose closure has a place of the set. A violation
 //! condemns for these.
 //!
-//! Cost: for a table of n criteria, n looks at what each implies and n times n unions of words. Closing a set then
-//! costs one look for each place. To close many sets of one table, make its closures once.
+//! Cost: for a table of n criteria, n looks at the names that each implies and n times n unions of words. Closing a set
+//! then costs one look for each place. To close many sets of one table, make its closures once.
 ghost use Rattle.std.specs.Prelude.{◌≡◌, ◌⊎◌, ◌<◌, true, IfOk, IfErr, OnOk, OnErr, IfSome};
 ghost use Rattle.std.specs.Option.{option_copied};
 ghost use Rattle.std.specs.FinMap as map;
@@ -82,9 +82,9 @@ impl CriteriaTable {
         })
     }
 
-    /// The table of the built-in criteria and of these. Refused: `TooManyCriteria` where there would be more
-    /// than a table holds, `UnknownCriterion` of the least name that one of them implies and that none of all
-    /// these has, `BuiltInCriterion` where one is named as a built-in one, and `NoMemory`.
+    /// The table of the built-in criteria and these. Refused, in this order: `TooManyCriteria` if there would be more
+    /// than a table holds, `UnknownCriterion` with the least name that one of these implies and that is not in the
+    /// table, and `BuiltInCriterion` if one of these has a built-in name. `NoMemory` may come at any point.
     pub fn of(alloc: Global, criteria: Vec<Criterion>) -> Result<CriteriaTable, Refusal>
         ensures told { Gives (λ table. table) (table_told criteria.items) result }
         ensures table { IfOk result IsTable }
@@ -137,15 +137,15 @@ impl CriteriaTable {
         None
     }
 
-    /// The names that the table holds, without what they imply.
+    /// The set of those of these names that the table has, without the names that they imply.
     pub fn set_of(&self, names: &Names) -> CriteriaSet
         ensures { result ≡ placed self.now names.now }
     {
         self.definitions.set_of(names)
     }
 
-    /// What some names imply in the end, and they themselves. Refused: `UnknownCriterion` of the least name
-    /// that the table lacks, and then `NoMemory`.
+    /// The closure of some names: these, and all that they imply directly or through others. Refused:
+    /// `UnknownCriterion` with the least name that the table lacks, or `NoMemory` in place of that refusal only.
     pub fn closure(&self, names: &Names) -> Result<CriteriaSet, Refusal>
         ensures known { least_unknown self.now names.now ≡ None
             → result ≡ Ok (placed self.now (closure_of self.now names.now)) }
@@ -158,14 +158,14 @@ impl CriteriaTable {
         Ok(self.closures().close(&self.set_of(names)))
     }
 
-    /// The criteria that are in the set or imply in the end one that is. Costs what `closures` does.
+    /// The criteria that are in the set or imply one that is, directly or through others. Costs what `closures` does.
     pub fn leading_to(&self, set: &CriteriaSet) -> CriteriaSet
         ensures { result ≡ leading_to self.now set.now }
     {
         self.closures().leading_to(set)
     }
 
-    /// The closures of all its criteria, for many looks.
+    /// The closures of all its criteria, for many look-ups.
     pub fn closures(&self) -> Closures
         ensures { AreClosures self.now result }
     {
@@ -191,10 +191,10 @@ impl CriteriaTable {
         None
     }
 
-    /// Adds a criterion, or puts it in place of the one of its name. Refused: `TooManyCriteria` for a new
-    /// name in a full table, `UnknownCriterion` of the least name that it implies and that is neither in the
-    /// table nor its own, `BuiltInCriterion`, and `NoMemory`, which stands in place of no other refusal than
-    /// `UnknownCriterion`. A name that is held takes no memory. After a refusal the table is as it was.
+    /// Adds a criterion, or replaces the one of its name, which takes no memory. Refused, in this order:
+    /// `TooManyCriteria` if its name is new and the table is full, `UnknownCriterion` with the least name that it
+    /// implies and that is neither in the table nor its own, and `BuiltInCriterion` if its name is built in. `NoMemory`
+    /// replaces no refusal but `UnknownCriterion`. After a refusal the table is as it was.
     pub fn set(&mut self, criterion: Criterion) -> Result<(), Refusal>
         ensures refused { IfErr (set_verdict self.old criterion) (λ e. Refuses e result) }
         ensures memory { set_verdict self.old criterion ≡ Ok tt → IfErr result (λ e. e ≡ Refusal.NoMemory) }
@@ -220,9 +220,9 @@ impl CriteriaTable {
         false
     }
 
-    /// Removes the criterion of a name. Refused: `UnknownCriterion` where the table lacks the name,
-    /// `BuiltInCriterion`, and `CriterionInUse` where another criterion implies it. After a refusal the table
-    /// is as it was. It takes no memory.
+    /// Removes the criterion of a name. Refused, in this order: `UnknownCriterion` if the table lacks the name,
+    /// `BuiltInCriterion` if it is built in, and `CriterionInUse` if another criterion implies it. After a refusal the
+    /// table is as it was. Takes no memory.
     pub fn remove(&mut self, name: Name) -> Result<(), Refusal>
         ensures refused { IfErr (remove_verdict self.old name) (λ e. result ≡ Err e) }
         ensures done { remove_verdict self.old name ≡ Ok tt → result ≡ Ok tt }
@@ -273,29 +273,29 @@ pub fn is_built_in(name: &Name) -> bool
     name.as_str() == SAFE_TO_RUN || name.as_str() == SAFE_TO_DEPLOY
 }
 
-/// The closure of some names holds a name just where it is one of them, or a name of the closure implies it.
+/// The closure of some names has a name exactly if it is one of them, or a name of the closure implies it.
 pub fn closure_is_least()
     ensures { ClosureIsLeast }
 {}
 
-/// A name is among the places of a set where the table holds it and it is in the set.
+/// The place of a name is among those of a set of names exactly if the table and the set have the name.
 pub fn placed_names_are_in()
     ensures { PlacedNamesAreIn }
 {}
 
-/// The place of a name is where it stands among the table's names.
+/// The place of a name is its position among the table's names.
 pub fn places_are_of_names()
     ensures { PlacesAreOfNames }
 {}
 
-/// The criterion at a place leads to a set just where its closure meets it; none stands past the table's
-/// end.
+/// The criterion at a place leads to a set exactly if its closure meets the set. No place past the table's end leads
+/// to one.
 pub fn led_to()
     ensures { LedTo }
 {}
 
 impl CriteriaTable {
-    // Whether a criterion may be set.
+    // Checks that a criterion may be set. Refused as `set` is.
     fn check_set(&self, criterion: &Criterion) -> Result<(), Refusal>
         ensures { Answers (set_verdict self.now criterion.now) result }
     {

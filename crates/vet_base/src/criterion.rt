@@ -1,4 +1,4 @@
-//! What is held of a criterion.
+//! Criteria.
 ghost use Rattle.std.specs.Prelude.{◌≡◌, ◌↔◌, IsTrue};
 ghost use Rattle.std.specs.Cmp.{partial_equiv_from_equiv};
 ghost use Rattle.vet_base.specs.Criterion.{criterion_eq, criterion_name};
@@ -10,13 +10,13 @@ use crate::names::Names;
 use crate::text::Text;
 use std::alloc::AllocError;
 
-/// A criterion: what an audit can say of a package.
+/// A criterion: a statement that an audit can make about a package.
 pub struct Criterion {
     /// Its name.
     pub name: Name,
-    /// What it says.
+    /// A description of it.
     pub description: Option<Text>,
-    /// Where more is said of it.
+    /// The url of a description.
     pub url: Option<Text>,
     /// The criteria that it implies.
     pub implies: Names,
@@ -51,7 +51,7 @@ impl PartialEq for Criterion {
 
     ghost laws = { partial_equiv_from_equiv criterion_eq_equiv };
 
-    // Only a criterion itself is equal to it.
+    // A criterion is equal only to itself.
     fn eq(&self, other: &Criterion) -> bool
         ensures value { result ≡ criterion_eq self.now other.now }
         ensures same { IsTrue result ↔ (self.now ≡ other.now) }

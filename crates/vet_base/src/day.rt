@@ -19,7 +19,7 @@ use std::hash::{Hash, Hasher};
 use std::marker::Model;
 
 /// A day of the proleptic Gregorian calendar, from 0000-01-01 to 9999-12-31. Its text is the ten bytes
-/// `YYYY-MM-DD`. Days are equal, and ordered, by their numbers, where 1970-01-01 is 0.
+/// `YYYY-MM-DD`. Days are compared by their numbers; 1970-01-01 has number 0.
 #[derive(Clone, Copy)]
 pub struct Day {
     year: u16,
@@ -40,7 +40,7 @@ impl Model for Day {
     ghost inverse = { λ d. record { year = d.year; month = d.month; day = d.day } };
 }
 
-// The number that two digits write.
+// The number that the two digits at a place write, if they are digits.
 fn two_digits(text: &[u8], i: usize) -> Option<u8>
     requires { i + 1 < length text.now }
     ensures value { result ≡ two_digits text.now i }
@@ -63,7 +63,7 @@ fn four_digits(text: &[u8], i: usize) -> Option<u16>
     Some(u16::from(high) * 100 + u16::from(low))
 }
 
-// The year, the month and the day that `YYYY-MM-DD` writes, which the calendar need not have.
+// The year, the month and the day that `YYYY-MM-DD` writes. The calendar need not have that day.
 fn written_day(text: &[u8]) -> Option<(u16, u8, u8)>
     ensures { option_map (λ p. record { year = p.0; month = p.1; day = p.2 }) result ≡ written_day text.now }
 {
@@ -87,8 +87,8 @@ fn is_day(year: u16, month: u8, day: u8) -> bool
 }
 
 impl Day {
-    /// The day that a text is, if it is one: exactly the ten bytes `YYYY-MM-DD`, of a day that the
-    /// calendar has. The year 0000 is read.
+    /// Reads a day: exactly ten bytes `YYYY-MM-DD` that name a day of the calendar, year 0000 included. `None` if the
+    /// text is anything else.
     pub fn read(text: &str) -> Option<Day>
         ensures { result ≡ read_day text.now }
     {
@@ -96,7 +96,7 @@ impl Day {
         Day::from_parts(year, month, day)
     }
 
-    /// The day that a text is. Refused: `BadDay`.
+    /// Reads a day. Refused: `BadDay` if the text is not one.
     pub fn parse(text: &str) -> Result<Day, Refusal>
         ensures { result ≡ found_or Refusal.BadDay (read_day text.now) }
     {
@@ -114,7 +114,7 @@ impl Day {
         }
     }
 
-    // The same day as `jiff_core` has it.
+    // The same day as a date of `jiff_core`.
     fn date(self) -> Date
         ensures value { epoch_day result ≡ day_number self }
         ensures day { is_day self ≡ true }
@@ -138,7 +138,7 @@ impl Day {
         }
     }
 
-    /// The day's number, where 1970-01-01 is 0: from -719,528 to 2,932,896.
+    /// The day's number, from -719,528 to 2,932,896. 1970-01-01 has number 0.
     pub fn number(self) -> i32
         ensures value { result ≡ day_number self }
         ensures range { IsBetween FIRST_DAY_NUMBER LAST_DAY_NUMBER result }
@@ -147,8 +147,8 @@ impl Day {
         self.date().to_unix_epoch_day()
     }
 
-    /// The day of a number, where 1970-01-01 is 0, and `None` exactly where the number is before 0000-01-01 or past
-    /// 9999-12-31.
+    /// The day with a number; 1970-01-01 has number 0. `None` exactly if the number is that of a day before 0000-01-01
+    /// or past 9999-12-31.
     pub fn of_number(number: i64) -> Option<Day>
         ensures there { IsSome result ↔ IsBetween FIRST_DAY_NUMBER LAST_DAY_NUMBER number }
         ensures number { IfSome result (λ d. day_number d ≡ number) }
@@ -163,7 +163,7 @@ impl Day {
         }
     }
 
-    /// The day that many days later, and `None` exactly where that is past 9999-12-31.
+    /// The day that many days later. `None` exactly if that is past 9999-12-31.
     pub fn plus(self, days: u32) -> Option<Day>
         ensures past { IsNone result ↔ (LAST_DAY_NUMBER <ℤ (day_number self +ℤ pos days)) }
         ensures number { IfSome result (λ d. day_number d ≡ day_number self +ℤ pos days) }
@@ -183,14 +183,14 @@ impl fmt::Display for Day {
     }
 }
 
-/// A day's text is read as that day.
+/// The text of a day is read back as that day.
 pub fn day_text_reads_back(day: Day)
     ensures { read_day (day_text day) ≡ Some day }
 {
     let _ = &day.year;
 }
 
-/// Two days of one number are the same day. Does nothing.
+/// Two days with the same number are the same day. Does nothing.
 pub fn a_number_is_of_one_day(a: Day, b: Day)
     ensures { day_number a ≡ day_number b → a ≡ b }
 {
@@ -203,7 +203,7 @@ impl PartialEq for Day {
 
     ghost laws = { partial_equiv_from_equiv (on_equiv day_number int_eq_equiv) };
 
-    // Only a day itself ties with it.
+    // A day is equal only to itself.
     fn eq(&self, other: &Day) -> bool
         ensures value { result ≡ day_eq self.now other.now }
         ensures same { IsTrue result ↔ (self.now ≡ other.now) }

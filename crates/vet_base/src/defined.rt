@@ -1,4 +1,4 @@
-//! What the criteria of a file define beside the built-in ones.
+//! The criteria that those of a file define, together with the built-in ones.
 ghost use Rattle.std.specs.Prelude.{◌≡◌, ℕ, List, IfOk, IfErr, true};
 ghost use Rattle.std.specs.FinSet as set;
 ghost use Rattle.std.specs.FinMap as map;
@@ -45,7 +45,7 @@ impl CriteriaTable {
     }
 }
 
-// Whether some criteria may stand beside the built-in ones.
+// Checks that some criteria may be defined with the built-in ones. Refused as `CriteriaTable::of` is.
 pub(crate) fn check_defined(alloc: Global, criteria: &[Criterion]) -> Result<(), Refusal>
     ensures { Gives (λ _. defined criteria.now) (table_told criteria.now) result }
 {
@@ -62,7 +62,7 @@ pub(crate) fn check_defined(alloc: Global, criteria: &[Criterion]) -> Result<(),
     Ok(())
 }
 
-// Whether one of some criteria is named as a built-in one.
+// Whether one of some criteria has a built-in name.
 fn has_built_in(criteria: &[Criterion]) -> bool
     ensures { result ≡ list_any (λ c. is_built_in c.name) criteria.now }
 {
@@ -81,7 +81,7 @@ fn built_in_names(alloc: Global) -> Result<Names, AllocError>
     Ok(names)
 }
 
-// The name that a text is.
+// Reads a name.
 fn name(alloc: Global, text: &str) -> Result<Name, AllocError>
     requires { is_name text.now ≡ true }
     ensures { IfOk result (λ name. name ≡ text.now) }
@@ -92,7 +92,7 @@ fn name(alloc: Global, text: &str) -> Result<Name, AllocError>
     }
 }
 
-/// The lesser of two names, as far as they are there.
+/// The lesser of two names. If one is absent it is the other, and if both are it is `None`.
 pub fn lesser<'a>(first: Option<&'a Name>, second: Option<&'a Name>) -> Option<&'a Name>
     ensures { option_copied result ≡ lesser (option_copied first.entry) (option_copied second.entry) }
 {

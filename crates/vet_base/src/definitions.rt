@@ -1,4 +1,4 @@
-//! Criteria by their names, as a table and as the words of a peer have them.
+//! Criteria by their names, as a table and the content of a peer hold them.
 ghost use Rattle.std.specs.Prelude.{◌≡◌, ◌<◌, ◌≤◌, [], ◌∷◌, ℕ, IfErr, IfOk, IfSome, None, Ok, OnErr, OnOk, false};
 ghost use Rattle.std.specs.Prelude.{insert, length, map as mapped, slice_index_or, true, vec_len};
 ghost use Rattle.std.specs.Option.{option_copied};
@@ -28,7 +28,7 @@ pub(crate) const SAFE_TO_RUN: &str = "safe-to-run";
 pub(crate) const SAFE_TO_DEPLOY: &str = "safe-to-deploy";
 
 /// At most `MOST_CRITERIA` criteria with different names. Unlike in a table, a criterion may imply a name that none of
-/// them has: that name implies nothing further.
+/// them has. Such a name implies nothing further.
 pub struct Definitions {
     names: Vec<Name>,
     criteria: Vec<Criterion>,
@@ -72,8 +72,8 @@ impl Definitions {
         Ok(Definitions { names, criteria })
     }
 
-    /// The built-in criteria and these, of which a later one stands in place of an earlier one of its name.
-    /// Costs a search and a move for each. Refused: `NoMemory`.
+    /// The built-in criteria and these, which must be at most 126. A later one replaces an earlier one of the same
+    /// name. Costs a search and a move for each. Refused: `NoMemory`.
     pub fn of(alloc: Global, criteria: Vec<Criterion>) -> Result<Definitions, Refusal>
         requires few { length criteria.items ≤ MOST_PEER_CRITERIA }
         ensures ok { IfOk result (λ d. d ≡ defined criteria.items) }
@@ -126,14 +126,14 @@ impl Definitions {
         self.names.binary_search(name).ok()
     }
 
-    /// The places of those of some names that a criterion has, without what they imply.
+    /// The places of those of these names that a criterion has, without the names that they imply.
     pub fn set_of(&self, names: &Names) -> CriteriaSet
         ensures { result ≡ placed self.now names.now }
     {
         self.places(names.as_slice())
     }
 
-    /// The closures of all the criteria, for many looks.
+    /// The closures of all the criteria, for many look-ups.
     pub fn closures(&self) -> Closures
         ensures { AreClosures self.now result }
     {
@@ -148,7 +148,7 @@ impl Definitions {
         closures
     }
 
-    /// The built-in criteria and these, where all find room.
+    /// The built-in criteria and these, which must have room together. Refused: `NoMemory`.
     pub(crate) fn with_built_in(
         alloc: Global,
         criteria: Vec<Criterion>,
@@ -164,7 +164,8 @@ impl Definitions {
         Ok(definitions)
     }
 
-    /// Adds a criterion, or puts it in place of the one of its name, which takes no memory.
+    /// Adds a criterion, or replaces the one of its name, which takes no memory. Refused: `NoMemory`; then the criteria
+    /// are as they were.
     pub(crate) fn set(&mut self, criterion: Criterion) -> Result<(), Refusal>
         requires room { map.contains_key self.old criterion.name ≡ false → map.len self.old < MOST_CRITERIA }
         ensures ok { OnOk result (self.new ≡ map.insert self.old criterion.name criterion) }
@@ -196,7 +197,7 @@ impl Definitions {
         let _ = self.criteria.remove(place);
     }
 
-    // The places of the names that a criterion has.
+    // The places of those of these names that a criterion has.
     fn places(&self, names: &[Name]) -> CriteriaSet
         ensures { result ≡ placed self.now (set.from_list names.now) }
     {
@@ -247,8 +248,8 @@ impl Eq for Definitions {
     ghost laws = { decided criteria_eq criteria_eq-Decides };
 }
 
-/// Criteria of different names, none of them built in, define the same just where the same criteria are among
-/// them, in whatever order.
+/// Two lists of criteria with different names, none of them built in, define the same exactly if they have the same
+/// criteria, in any order.
 pub fn same_definitions()
     ensures { SameDefinitions }
 {}
@@ -277,7 +278,7 @@ fn list_built_in(alloc: Global, criteria: &mut Vec<Criterion>) -> Result<(), Ref
     Ok(())
 }
 
-// A criterion of no more than a name and what it implies.
+// A criterion with a name and the names that it implies, without description and url.
 fn built_in(alloc: Global, name: &str, implies: Names) -> Result<Criterion, Refusal>
     requires { is_name name.now ≡ true }
     ensures ok { IfOk result (λ c.
@@ -292,7 +293,7 @@ fn built_in(alloc: Global, name: &str, implies: Names) -> Result<Criterion, Refu
     })
 }
 
-// Puts a criterion and its name at a place of their lists, or at none.
+// Inserts a criterion and its name at a place of their lists. If memory runs out, both lists are as they were.
 fn put(
     names: &mut Vec<Name>,
     criteria: &mut Vec<Criterion>,

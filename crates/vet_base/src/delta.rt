@@ -13,7 +13,7 @@ use std::alloc::{AllocError, Global};
 use std::fmt;
 use std::hash::Hash;
 
-/// From one version to another; either may be the greater. Its text is `FROM -> TO`, with any number of
+/// A delta from one version to another; either may be the greater. Its text is `FROM -> TO`, with any number of
 /// spaces around each version (ours).
 #[derive(Hash)]
 pub struct Delta {
@@ -30,7 +30,7 @@ impl Drop for Delta {
 }
 
 impl Delta {
-    /// The delta that a text is, if it is one.
+    /// Reads a delta. `None` if the text is not one. Fails only if memory runs out.
     pub fn read(alloc: Global, text: &str) -> Result<Option<Delta>, AllocError>
         ensures ok { IfOk result (λ d. d ≡ read_delta text.now) }
         ensures no_delta { read_delta text.now ≡ None → result ≡ Ok None }
@@ -50,7 +50,7 @@ impl Delta {
         Ok(Some(Delta { from, to }))
     }
 
-    /// The delta that a text is. Refused: `BadDelta`, and `NoMemory`.
+    /// Reads a delta. Refused: `BadDelta` if the text is not one, and `NoMemory`.
     pub fn parse(alloc: Global, text: &str) -> Result<Delta, Refusal>
         ensures told { Gives (λ d. d) (found_or Refusal.BadDelta (read_delta text.now)) result }
         ensures refused { read_delta text.now ≡ None → result ≡ Err Refusal.BadDelta }
@@ -67,7 +67,7 @@ impl fmt::Display for Delta {
     }
 }
 
-/// What is printed of a delta is read as that delta.
+/// The text of a delta is read back as that delta.
 pub fn delta_text_reads_back(delta: &Delta)
     ensures { read_delta (delta_text delta.now) ≡ Some delta.now }
 {
@@ -91,7 +91,7 @@ impl PartialEq for Delta {
 
     ghost laws = { partial_equiv_from_equiv delta_eq_equiv };
 
-    // Only a delta itself is equal to it.
+    // A delta is equal only to itself.
     fn eq(&self, other: &Delta) -> bool
         ensures value { result ≡ delta_eq self.now other.now }
         ensures same { IsTrue result ↔ (self.now ≡ other.now) }
@@ -112,7 +112,7 @@ impl Hash for Delta {
     ghost respects_eq = { (fed.same_Alike _ delta_eq-Decides).fed };
 }
 
-// What is told where there was no memory for the first version: that the second is none, if it is none.
+// The answer if memory ran out for the first version: no delta if the second text is not a version, otherwise an error.
 fn without_memory(alloc: Global, to: &str) -> Result<Option<Delta>, AllocError>
     ensures ok { IfOk result (λ d. (d ≡ None) × (read_version to.now ≡ None)) }
     ensures no_version { read_version to.now ≡ None → result ≡ Ok None }
@@ -123,7 +123,7 @@ fn without_memory(alloc: Global, to: &str) -> Result<Option<Delta>, AllocError>
     }
 }
 
-// The texts on both sides of the arrow: of the only `>`, directly after a `-`.
+// The texts on both sides of the arrow, which is the only `>`, directly after a `-`. Spaces around them are removed.
 fn ends_of(text: &str) -> Option<(&str, &str)>
     ensures { option_map (λ p. (p.0.now, p.1.now)) result ≡ ends_of text.now }
 {

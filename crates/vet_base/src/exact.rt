@@ -1,8 +1,8 @@
-//! Values of which no two differ unseen.
+//! Values whose order and copies are exact.
 ghost use Rattle.std.specs.Prelude.{◌≡◌};
 ghost use Rattle.std.specs.declared.cmp.Ordering.TheVariants.{Equal};
 
-/// Values of which only equal ones tie, and of which a copy is the value itself.
+/// Values that tie only if they are equal, and whose copies are equal to them.
 pub trait Exact: Ord + Clone + Drop {
     ghost only_equal: { (a b : Self) → Self.cmp a b ≡ Equal → a ≡ b };
 

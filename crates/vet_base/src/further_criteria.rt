@@ -1,4 +1,4 @@
-//! The criteria beside the built-in ones.
+//! The criteria besides the built-in ones.
 ghost use Rattle.std.specs.Prelude.{◌≡◌, ◌++◌, IfOk, OnOk, filter};
 ghost use Rattle.vet_base.specs.FurtherCriteria.{FurtherAreDefined, further, is_further};
 
@@ -14,12 +14,12 @@ pub fn further(alloc: Global, definitions: &Definitions) -> Result<Vec<Criterion
     further_among(alloc, definitions.criteria())
 }
 
-/// What criteria of different names, none of them built in, define beside the built-in ones are these, each once.
+/// Criteria with different names, none of them built in, define exactly these besides the built-in ones, each once.
 pub fn further_are_defined()
     ensures { FurtherAreDefined }
 {}
 
-/// Copies of those of some criteria that are not built in, in their order.
+/// Copies of the criteria of a list that are not built in, in the same order.
 pub fn further_among(alloc: Global, criteria: &[Criterion]) -> Result<Vec<Criterion>, AllocError>
     ensures { IfOk result (λ copies. copies.items ≡ filter is_further criteria.now) }
 {

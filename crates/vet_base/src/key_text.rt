@@ -1,4 +1,4 @@
-//! Paths and keys as a refusal tells them.
+//! Paths and keys as a refusal prints them.
 ghost use Rattle.std.specs.Prelude.{◌≡◌, IfOk, true};
 ghost use Rattle.vet_base.specs.KeyText.{is_visible, told_key};
 
@@ -9,8 +9,8 @@ use std::alloc::{AllocError, Global};
 use std::fmt;
 use std::marker::Model;
 
-/// A table's path or a key as a refusal tells it: 1 to 200 ASCII characters from `!` to `~`. Any other
-/// path or key is told as `?`.
+/// The path of a table, or a key, as a refusal prints it: 1 to 200 ASCII characters from `!` to `~`. Any other
+/// path or key is printed as `?`.
 #[derive(Clone, Drop, PartialEq, Eq)]
 pub struct KeyText {
     text: Text,
@@ -30,7 +30,7 @@ impl Model for KeyText {
 }
 
 impl KeyText {
-    /// The key or the path as it is told.
+    /// The path or key as a refusal prints it. Fails only if memory runs out.
     pub fn told(alloc: Global, key: &str) -> Result<KeyText, AllocError>
         ensures { IfOk result (λ k. k ≡ told_key key.now) }
     {
@@ -40,7 +40,7 @@ impl KeyText {
         })
     }
 
-    /// The text that is told.
+    /// The printed text.
     pub fn as_str(&self) -> &str
         ensures value { result.now ≡ self.now }
         ensures visible { is_visible self.now ≡ true }

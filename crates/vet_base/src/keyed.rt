@@ -1,4 +1,4 @@
-//! Lists of items in the order of their keys, no key twice.
+//! Lists of items in the order of their keys, with no key twice.
 ghost use Rattle.std.specs.Prelude.{◌≡◌, ◌==◌, Err, IfOk, ◌<◌, ◌≤◌, ◌+◌, ◌-◌, [], IfSome, None, IsTrue, OnErr, OnOk};
 ghost use Rattle.std.specs.Prelude.{Ok, insert, is_none, is_some, length, vec_capacity, vec_len};
 ghost use Rattle.std.specs.Bool.{Decides};
@@ -10,42 +10,42 @@ use crate::exact::Exact;
 use std::alloc::{AllocError, Global};
 use std::marker::Model;
 
-/// What stands in a list under a key of its own.
+/// An item that is found in a list by its key.
 pub trait HasKey: Drop {
-    /// What it is found by.
+    /// The type of its key.
     type Key: Exact;
 
     /// The key of an item.
     ghost key_of: { Self → Self.Key };
 
-    /// The key. Takes no memory.
+    /// The item's key. Takes no memory.
     fn key(&self) -> &Self::Key
         ensures { result.now ≡ key_of self.now };
 }
 
-/// Items of which a copy is the item itself, and of which only an item itself is equal to it.
+/// Items that are equal only to themselves, and whose copies are equal to them.
 pub trait ExactItem: HasKey + Clone + Eq {
-    /// A copy is the item itself.
+    /// A copy is equal to the item.
     ghost only_copies: { (a b : Self) → Self.is_clone a b → b ≡ a };
 
-    /// Only an item itself is equal to it.
+    /// An item is equal only to itself.
     ghost only_itself: { (a b : Self) → Decides (Self.eq a b) (a ≡ b) };
 }
 
-/// Items in the order of their keys, no key twice.
+/// Items in the order of their keys, with no key twice.
 #[derive(Drop)]
 pub struct Keyed<T: HasKey> {
     items: Vec<T>,
 }
 
-/// A change of such a list, which takes no memory.
+/// An edit of such a list. Making it takes no memory.
 #[derive(Drop)]
 pub enum KeyedEdit<T: Drop> {
-    /// This item at this place, where its key belongs.
+    /// Inserts this item at this place, where its key belongs.
     Put(usize, T),
-    /// The item at this place goes.
+    /// Removes the item at this place.
     Take(usize),
-    /// This item in place of the one at this place, which has the same key.
+    /// Replaces the item at this place with this one, which has the same key.
     Swap(usize, T),
 }
 
@@ -67,7 +67,7 @@ impl<T: HasKey> Model for Keyed<T> {
 }
 
 impl<T: HasKey> Keyed<T> {
-    /// No items. Takes no memory.
+    /// The empty list. Takes no memory.
     pub fn new(alloc: Global) -> Keyed<T>
         ensures { result.items ≡ [] }
     {
@@ -76,12 +76,12 @@ impl<T: HasKey> Keyed<T> {
         }
     }
 
-    /// Some items, in whatever order; of those of one key the last stays. Takes a time of n log n.
+    /// The list of some items, given in any order. The last one of each key remains. Takes a time of n log n.
     pub fn of(alloc: Global, mut items: Vec<T>) -> Result<Keyed<T>, AllocError>
         ensures { IfOk result (λ k. k.items ≡ all_set T.Key.cmp T.key_of [] items.items) }
     {
         items.sort_by(|a, b| a.key().cmp(b.key()))?;
-        // each belongs behind those before it, so that none is moved
+        // each item belongs after those before it, so none is moved
         set_one_by_one(alloc, items)
     }
 
@@ -93,7 +93,7 @@ impl<T: HasKey> Keyed<T> {
         self.items.as_slice()
     }
 
-    /// The items in the order of their keys, given away. Takes no memory.
+    /// Turns the list into its items, in the order of their keys. Takes no memory.
     pub fn into_items(self) -> Vec<T>
         ensures value { result.items ≡ self.items }
         ensures by_key { IsByKey T.Key.cmp T.key_of self.items }
@@ -109,7 +109,7 @@ impl<T: HasKey> Keyed<T> {
         self.items.len()
     }
 
-    /// Whether there are none. Takes no memory.
+    /// Whether there are no items. Takes no memory.
     pub fn is_empty(&self) -> bool
         ensures { result ≡ (length self.now.items == 0) }
     {
@@ -133,8 +133,8 @@ impl<T: HasKey> Keyed<T> {
         self.place_of(key).is_ok()
     }
 
-    /// Sets the item of its key: adds it, or puts it in place of the one held, which takes no memory. Costs a
-    /// binary search, and where it adds a move of what stands behind. Where there is no memory, all stays.
+    /// Adds an item, or replaces the one of its key, which takes no memory. Costs a binary search; adding also moves
+    /// the items after it. If memory runs out, the list is as it was.
     pub fn insert(&mut self, item: T) -> Result<(), AllocError>
         ensures ok { OnOk result (self.new.items ≡ with_item T.Key.cmp T.key_of self.old.items item) }
         ensures held { IsTrue (is_some (item_of T.Key.cmp T.key_of self.old.items (T.key_of item))) → result ≡ Ok tt }
@@ -152,7 +152,7 @@ impl<T: HasKey> Keyed<T> {
         }
     }
 
-    /// Makes room for one more item. Costs nothing where there is room; else a move of all to twice the room.
+    /// Makes room for one more item. Costs nothing if there is room; otherwise moves all items to twice the room.
     pub fn reserve(&mut self) -> Result<(), AllocError>
         ensures items { self.new.items ≡ self.old.items }
         ensures ok { OnOk result (0 < self.new.room) }
@@ -162,7 +162,7 @@ impl<T: HasKey> Keyed<T> {
         self.items.reserve(1)
     }
 
-    /// The edit that sets the item of its key; where the key is held it needs no room. Takes no memory, and a
+    /// The edit that adds an item, for which there must be room, or replaces the one of its key. Takes no memory, and a
     /// time of log n.
     pub fn edit_setting(&self, item: T) -> KeyedEdit<T>
         ensures edit { edited result self.now.items ≡ with_item T.Key.cmp T.key_of self.now.items item }
@@ -176,7 +176,7 @@ impl<T: HasKey> Keyed<T> {
         }
     }
 
-    /// The edit that drops the item of a key, if there is one. Takes no memory, and a time of log n.
+    /// The edit that removes the item of a key, if there is one. Takes no memory, and a time of log n.
     pub fn edit_dropping(&self, key: &T::Key) -> Option<KeyedEdit<T>>
         ensures none { is_none result ≡ is_none (item_of T.Key.cmp T.key_of self.now.items key.now) }
         ensures edit { IfSome result (λ e.
@@ -189,8 +189,8 @@ impl<T: HasKey> Keyed<T> {
         }
     }
 
-    /// Takes the item of a key out, if there is one, and leaves room for it. Takes no memory. Moves what stands behind
-    /// its place.
+    /// Removes and returns the item of a key, if there is one, and keeps its room. Takes no memory. Moves the items
+    /// after it.
     pub fn take(&mut self, key: &T::Key) -> Option<T>
         ensures item { result ≡ item_of T.Key.cmp T.key_of self.old.items key.now }
         ensures items { self.new.items ≡ without_item T.Key.cmp T.key_of self.old.items key.now }
@@ -202,7 +202,7 @@ impl<T: HasKey> Keyed<T> {
         }
     }
 
-    /// Puts an item of a new key in, for which there is room. Takes no memory. Moves what stands behind its place.
+    /// Inserts an item with a new key, for which there must be room. Takes no memory. Moves the items after it.
     pub fn put_reserved(&mut self, item: T)
         requires new { item_of T.Key.cmp T.key_of self.old.items (T.key_of item) ≡ None }
         requires room { 0 < self.old.room }
@@ -215,8 +215,8 @@ impl<T: HasKey> Keyed<T> {
         }
     }
 
-    /// Makes an edit that fits, and answers the one that undoes it. Takes no memory. A put or a take moves what
-    /// stands behind its place.
+    /// Makes an edit that fits, and returns the one that undoes it. Takes no memory. An insertion or a removal moves
+    /// the items after its place.
     pub fn apply(&mut self, edit: KeyedEdit<T>) -> KeyedEdit<T>
         requires { Fits T.Key.cmp T.key_of edit self.old }
         ensures items { self.new.items ≡ edited edit self.old.items }
@@ -237,12 +237,12 @@ impl<T: HasKey> Keyed<T> {
         }
     }
 
-    // Where the item of a key stands, or belongs.
+    // The place of the item of a key, or, as an error, the place where such an item belongs.
     fn place_of(&self, key: &T::Key) -> Result<usize, usize>
         ensures place { IsPlace T.Key.cmp T.key_of self.now.items key.now result }
         ensures by_key { IsByKey T.Key.cmp T.key_of self.now.items }
     {
-        // keys often come in their order
+        // keys often come in order
         if self.is_behind_all(key) {
             return Err(self.items.len());
         }
@@ -287,7 +287,7 @@ impl<T: ExactItem> PartialEq for Keyed<T> {
     }
 }
 
-// Some items, set in the order in which they stand.
+// The list after these items are set one after another.
 fn set_one_by_one<T: HasKey>(alloc: Global, items: Vec<T>) -> Result<Keyed<T>, AllocError>
     ensures { IfOk result (λ k. k.items ≡ all_set T.Key.cmp T.key_of [] items.items) }
 {
@@ -298,7 +298,7 @@ fn set_one_by_one<T: HasKey>(alloc: Global, items: Vec<T>) -> Result<Keyed<T>, A
     Ok(keyed)
 }
 
-// Puts an item in at a place where there is room, which takes no memory.
+// Inserts an item at a place. There must be room, so it takes no memory.
 fn put<T: Drop>(items: &mut Vec<T>, place: usize, item: T)
     requires place { place ≤ vec_len items.old }
     requires room { vec_len items.old < vec_capacity items.old }

@@ -1,11 +1,11 @@
 //! The values of the register: names, versions, requirements, deltas, days, texts and criteria, the limits
-//! that they keep, and the refusals that every call answers with.
+//! that they keep, and the refusals that every call returns.
 //!
-//! **A parser takes exactly the texts of its definition, and what `Display` prints of a name, a version, a
-//! requirement or a day is read again as the same value; the closure of some criteria is the least set that
-//! holds them and what they imply.**
+//! **A parser accepts exactly the texts of its definition. A name, version, requirement or day that `Display` prints
+//! is read back as the same value. The closure of some criteria is the least set that contains them and everything
+//! that they imply.**
 //!
-//! Scope of this crate: values alone. What an entry, a project or a class is stands in the crates above.
+//! Scope of this crate: only values. The crates above define entries, projects and classes.
 //!
 //! For example, `1.0.0---> 1.1.0` is a delta from `1.0.0--` to `1.1.0`, and `1.0.0--> 1.1.0` is refused as 5 BadDelta.
 //! The closure of `safe-to-deploy` is that and `safe-to-run`.

@@ -10,22 +10,22 @@ pub const MOST_VERSION_BYTES: usize = 256;
 /// The most bytes of a requirement's text.
 pub const MOST_REQ_BYTES: usize = 256;
 
-/// The hexadecimal digits of a revision.
+/// The number of hexadecimal digits of a revision.
 pub const REVISION_DIGITS: usize = 40;
 
-/// The most bytes of a free text, as notes or a url.
+/// The most bytes of a free text, such as notes or a url.
 pub const MOST_TEXT_BYTES: usize = 65_536;
 
-/// The most characters of a path or a key that a refusal tells.
+/// The most characters of a path or a key that a refusal prints.
 pub const MOST_KEY_BYTES: usize = 200;
 
 /// The most bytes of an audits file, of standard input or of a request's body.
 pub const MOST_INPUT_BYTES: usize = 8_388_608;
 
-/// The most reads that one run makes of its input.
+/// The most times that one run reads from its input.
 pub const MOST_READS: u32 = 10_000_000;
 
-/// The most criteria of a table, the built-in ones among them.
+/// The most criteria of a table, including the two built-in ones.
 pub const MOST_CRITERIA: usize = 128;
 
 /// The most further criteria in the file of a peer.
@@ -40,7 +40,7 @@ pub const MOST_ENTRIES: usize = 100_000;
 /// The most publisher records.
 pub const MOST_PUBLISHERS: usize = 100_000;
 
-/// The most days from the day of the command that adds it to the last day of a window.
+/// The most days from the day of the command that adds a window to its last day.
 pub const MOST_WINDOW_DAYS: u32 = 366;
 
 /// The most policies.
@@ -61,7 +61,7 @@ pub const MOST_MEMBERS: usize = 1_000;
 /// The most reviews.
 pub const MOST_REVIEWS: usize = 100_000;
 
-/// The most moves that a register may be made to record.
+/// The greatest moves limit that a register may have.
 pub const MOST_MOVES: usize = 1_000_000;
 
 /// The last step of the register.
@@ -73,14 +73,14 @@ pub const LAST_NUMBER: u64 = 9_223_372_036_854_775_806;
 /// The last year of a day.
 pub const LAST_YEAR: u16 = 9_999;
 
-/// The number of 0000-01-01, where 1970-01-01 is 0.
+/// The day number of 0000-01-01; that of 1970-01-01 is 0.
 pub const FIRST_DAY_NUMBER: i32 = -719_528;
 
-/// The number of 9999-12-31.
+/// The day number of 9999-12-31.
 pub const LAST_DAY_NUMBER: i32 = 2_932_896;
 
-/// Each limit is the number that the rules have. It is said here once more, so that a slip in a constant, which most
-/// proofs would bear, is refused. Does nothing.
+/// Each of these limits is the number that the rules state. They are repeated here, so that the prover refuses a slip
+/// in a constant, which most proofs would not notice. Does nothing.
 pub fn limits_are_as_ruled()
     ensures name { MOST_NAME_BYTES ≡ 64 }
     ensures version { MOST_VERSION_BYTES ≡ 256 }

@@ -15,8 +15,8 @@ use std::fmt;
 use std::hash::Hash;
 use std::marker::Model;
 
-/// What a package or a project is called: up to 64 ASCII letters and digits, `-` and `_` among them, and not
-/// none. Two names are the same only where their bytes are, and by these they are ordered.
+/// The name of a package or a project: 1 to 64 ASCII letters, digits, `-` and `_`. Names are compared by their
+/// bytes: `-` is not `_`, and `A` is not `a`.
 #[derive(Clone, Drop, PartialEq, Eq, PartialOrd, Ord, Hash)]
 pub struct PackageName {
     text: ShortText,
@@ -36,7 +36,7 @@ impl Model for PackageName {
 }
 
 impl PackageName {
-    /// The name that a text is, if it is one.
+    /// Reads a name. `None` if the text is not one. Fails only if memory runs out.
     pub fn read(alloc: Global, text: &str) -> Result<Option<PackageName>, AllocError>
         ensures ok { IfOk result (λ name. name ≡ read_package_name text.now) }
         ensures no_name { read_package_name text.now ≡ None → result ≡ Ok None }
@@ -49,7 +49,7 @@ impl PackageName {
         }))
     }
 
-    /// The name that a text is. Refused: `BadName`, and `NoMemory`.
+    /// Reads a name. Refused: `BadName` if the text is not one, and `NoMemory`.
     pub fn parse(alloc: Global, text: &str) -> Result<PackageName, Refusal>
         ensures told { Gives (λ name. name) (found_or Refusal.BadName (read_package_name text.now)) result }
         ensures refused { read_package_name text.now ≡ None → result ≡ Err Refusal.BadName }
@@ -104,8 +104,8 @@ impl fmt::Display for PackageName {
     }
 }
 
-/// The name of a criterion, a peer or a member: 1 to 64 ASCII characters from `!` to `~`, ordered by
-/// their bytes.
+/// The name of a criterion, a peer or a member: 1 to 64 ASCII characters from `!` to `~`. Names are compared by their
+/// bytes.
 #[derive(Clone, Drop, PartialEq, Eq, PartialOrd, Ord, Hash)]
 pub struct Name {
     text: ShortText,
@@ -125,7 +125,7 @@ impl Model for Name {
 }
 
 impl Name {
-    /// The name that a text is, if it is one.
+    /// Reads a name. `None` if the text is not one. Fails only if memory runs out.
     pub fn read(alloc: Global, text: &str) -> Result<Option<Name>, AllocError>
         ensures ok { IfOk result (λ name. name ≡ read_name text.now) }
         ensures no_name { read_name text.now ≡ None → result ≡ Ok None }
@@ -138,7 +138,7 @@ impl Name {
         }))
     }
 
-    /// The name that a text is. Refused: `BadName`, and `NoMemory`.
+    /// Reads a name. Refused: `BadName` if the text is not one, and `NoMemory`.
     pub fn parse(alloc: Global, text: &str) -> Result<Name, Refusal>
         ensures told { Gives (λ name. name) (found_or Refusal.BadName (read_name text.now)) result }
         ensures refused { read_name text.now ≡ None → result ≡ Err Refusal.BadName }

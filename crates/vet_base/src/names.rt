@@ -31,7 +31,7 @@ impl Model for Names {
 }
 
 impl Names {
-    /// No names.
+    /// The empty set.
     pub fn new(alloc: Global) -> Names
         ensures { result ≡ set.empty }
     {
@@ -40,7 +40,7 @@ impl Names {
         }
     }
 
-    /// The set of some names, in whatever order. Takes a time of n log n.
+    /// The set of some names, given in any order. Takes a time of n log n.
     pub fn of(alloc: Global, names: Vec<Name>) -> Result<Names, AllocError>
         ensures { IfOk result (λ n. n ≡ set.from_list names.items) }
     {
@@ -49,7 +49,7 @@ impl Names {
         })
     }
 
-    /// Adds a name. One that is held takes no memory. Where there is none, the set stays.
+    /// Adds a name, which takes no memory if the set has it. If memory runs out, the set is as it was.
     pub fn insert(&mut self, name: Name) -> Result<(), AllocError>
         ensures ok { OnOk result (self.new ≡ set.insert self.old name) }
         ensures held { set.contains self.old name ≡ true → result ≡ Ok tt }
@@ -66,7 +66,7 @@ impl Names {
         self.names.has(name)
     }
 
-    /// The least of these names that others lack.
+    /// The least of these names that another set lacks.
     pub fn least_outside<'a>(&'a self, known: &Names) -> Option<&'a Name>
         ensures { option_copied result ≡ find (λ n. not (set.contains known.now n)) (members self.now) }
     {
@@ -87,7 +87,7 @@ impl Names {
         self.names.items()
     }
 
-    /// Whether there are no names.
+    /// Whether the set is empty.
     pub fn is_empty(&self) -> bool
         ensures { IsTrue result ↔ (self.now ≡ set.empty) }
     {

@@ -1,4 +1,4 @@
-//! Sets of names of packages.
+//! Sets of package names.
 ghost use Rattle.std.specs.Prelude.{◌≡◌, ◌==◌, ◌↔◌, IsTrue, Ok, OnOk, OnErr, IfOk, true};
 ghost use Rattle.std.specs.FinSet as set;
 ghost use Rattle.vet_base.specs.Names.{IsRising, members};
@@ -8,7 +8,7 @@ use crate::name::PackageName;
 use std::alloc::{AllocError, Global};
 use std::marker::Model;
 
-/// A set of names of packages, in the order of their bytes.
+/// A set of package names, in the order of their bytes.
 #[derive(Drop)]
 pub struct PackageNames {
     names: Keyed<PackageName>,
@@ -29,7 +29,7 @@ impl Model for PackageNames {
 }
 
 impl PackageNames {
-    /// No names.
+    /// The empty set.
     pub fn new(alloc: Global) -> PackageNames
         ensures { result ≡ set.empty }
     {
@@ -38,7 +38,7 @@ impl PackageNames {
         }
     }
 
-    /// The set of some names, in whatever order. Takes a time of n log n.
+    /// The set of some names, given in any order. Takes a time of n log n.
     pub fn of(alloc: Global, names: Vec<PackageName>) -> Result<PackageNames, AllocError>
         ensures { IfOk result (λ s. s ≡ set.from_list names.items) }
     {
@@ -47,7 +47,7 @@ impl PackageNames {
         })
     }
 
-    /// Adds a name. One that is held takes no memory. Where there is none, the set stays.
+    /// Adds a name, which takes no memory if the set has it. If memory runs out, the set is as it was.
     pub fn insert(&mut self, name: PackageName) -> Result<(), AllocError>
         ensures ok { OnOk result (self.new ≡ set.insert self.old name) }
         ensures held { set.contains self.old name ≡ true → result ≡ Ok tt }
@@ -73,7 +73,7 @@ impl PackageNames {
         self.names.items()
     }
 
-    /// Whether there are no names.
+    /// Whether the set is empty.
     pub fn is_empty(&self) -> bool
         ensures { IsTrue result ↔ (self.now ≡ set.empty) }
     {

@@ -10,18 +10,18 @@ use std::cmp::Ordering;
 
 /// Values in an order in which different ones may tie.
 pub trait Ranked: Drop {
-    /// How two stand to each other.
+    /// The order of two values.
     ghost rank_cmp: { Self → Self → Ordering };
 
-    /// It is an order.
+    /// This order is total.
     ghost rank_total: { IsTotalOrder rank_cmp };
 
-    /// How two stand to each other. Takes no memory.
+    /// Compares two values in this order. Takes no memory.
     fn cmp_rank(&self, other: &Self) -> Ordering
         ensures { result ≡ rank_cmp self.now other.now };
 }
 
-/// Whether each of some values stands before those after it. Takes no memory, and compares neighbours alone.
+/// Whether each of some values comes before all those after it. Takes no memory, and compares only neighbours.
 pub fn are_ranked<T: Ranked>(values: &[T]) -> bool
     ensures { IsTrue result ↔ IsRanked T.rank_cmp values.now }
 {
@@ -33,8 +33,8 @@ pub fn are_ranked<T: Ranked>(values: &[T]) -> bool
     true
 }
 
-/// Some values in their order, one of those that tie. Where they are those of a list in which each stands before those
-/// after it, in whatever order and however often, they are that list. Takes a time of n log n.
+/// Puts values in order, and keeps one of those that tie. If they are the values of a list that is in order and without
+/// ties, in any order and with duplicates, the result is that list. Takes a time of n log n.
 pub fn rank<T: Ranked>(values: Vec<T>) -> Result<Vec<T>, AllocError>
     ensures { IfOk result (λ ranked.
         (list : List T) → IsRanked T.rank_cmp list → SameItems values.items list → ranked.items ≡ list) }

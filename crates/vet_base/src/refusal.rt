@@ -1,4 +1,4 @@
-//! Why a call refuses.
+//! The reasons for which a call is refused.
 ghost use Rattle.std.specs.Prelude.{◌≡◌};
 ghost use Rattle.vet_base.specs.Refusal.{limit_word, refusal_name, refusal_number};
 
@@ -6,33 +6,33 @@ use crate::key_text::KeyText;
 use crate::name::Name;
 use std::alloc::{AllocError, AllocFailed};
 
-/// Why a call refuses, in the order of the refusals' numbers. What a refusal tells beside its number and
-/// name goes by position.
+/// The reason for which a call is refused, in the order of the refusals' numbers. The fields of a refusal are what it
+/// reports besides its number and name.
 #[derive(Drop, PartialEq, Eq)]
 pub enum Refusal {
-    /// A text is no name.
+    /// A text is not a name.
     BadName,
-    /// A text is no version.
+    /// A text is not a version.
     BadVersion,
-    /// A text is no requirement of versions.
+    /// A text is not a version requirement.
     BadRequirement,
-    /// A text is no day.
+    /// A text is not a day.
     BadDay,
-    /// A text is no delta between two versions.
+    /// A text is not a delta between two versions.
     BadDelta,
     /// No criterion has this name.
     UnknownCriterion(Name),
-    /// A built-in criterion is neither set nor removed.
+    /// A built-in criterion would be set or removed.
     BuiltInCriterion,
     /// Something that is held names the criterion.
     CriterionInUse,
-    /// There would be more criteria than a register holds.
+    /// There would be more criteria than a table can hold.
     TooManyCriteria,
     /// No own entry has this number.
     UnknownEntry,
-    /// The last day of a window comes before its first.
+    /// The last day of a window is before its first, or that of an exemption before the day of the command.
     EmptyWindow,
-    /// The last day of a window comes more than 366 days after the day of the command.
+    /// The last day of a window is more than 366 days after the day of the command.
     WindowTooLong,
     /// No peer has this name.
     UnknownPeer,
@@ -40,12 +40,12 @@ pub enum Refusal {
     UnknownPolicy,
     /// No project has this name.
     UnknownProject,
-    /// An edge, in this record of a dependency table, names a node that the table lacks.
+    /// An edge in this record of a dependency table names a node that the table lacks.
     UnknownNode(u64),
-    /// A node, in this record of a dependency table, stood before as first-party and is third-party here, or
+    /// A node in this record of a dependency table is third-party here and was first-party in an earlier record, or
     /// the other way round.
     TwoParties(u64),
-    /// Something goes past its limit.
+    /// Something exceeds its limit.
     TooLarge(Limit),
     /// No member has this name.
     UnknownMember,
@@ -53,32 +53,32 @@ pub enum Refusal {
     UnknownReview,
     /// The review is finished or withdrawn.
     ReviewClosed,
-    /// The review is to be finished by another than the member who holds it, or withdrawn while another
-    /// holds it.
+    /// The review would be finished by anyone other than the member it is assigned to, or withdrawn while it is
+    /// assigned to another.
     NotYours,
     /// The entry that would finish the review does not end in its version.
     WrongTarget,
-    /// A review of a pair that no project demands.
+    /// A review would be opened without criteria, or of a pair that no project demands.
     NotDemanded,
     /// There is no room for the moves that the command would record.
     MovesFull,
-    /// The bytes are no TOML document.
+    /// The bytes are not a TOML document.
     TomlRefused,
-    /// This record makes the bytes no dependency table.
+    /// The bytes are not a dependency table, because of this record.
     CsvRefused(u64),
-    /// What stands in this table at this key does not belong there, or is missing.
+    /// The value in this table at this key does not belong there, or is missing.
     FieldRefused(KeyText, KeyText),
-    /// There was no memory.
+    /// Memory ran out.
     NoMemory,
     /// The store refused.
     StoreRefused,
-    /// The tables are those of no register.
+    /// The tables are not those of a register.
     NotARegister,
     /// The day of `SetDay` is before the register's day.
     DayGoesBack,
 }
 
-/// What went past its limit, which `limits` gives.
+/// The thing that exceeds its limit. The limits are in `limits`.
 #[derive(Clone, Copy, PartialEq, Eq)]
 pub enum Limit {
     /// A free text.
@@ -112,7 +112,7 @@ pub enum Limit {
 }
 
 impl Limit {
-    /// The word that a refusal tells.
+    /// The word that a refusal prints.
     pub fn word(self) -> &'static str
         ensures { result.now ≡ limit_word self }
     {

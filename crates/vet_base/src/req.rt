@@ -1,4 +1,4 @@
-//! Requirements of versions.
+//! Version requirements.
 ghost use Rattle.std.specs.Prelude.{◌≡◌, ◌↔◌, IsTrue, Some, None, Ok, Err, IfOk, nat_eq, option_map};
 ghost use Rattle.std.specs.Cmp.{partial_equiv_from_equiv};
 ghost use Rattle.std.specs.Cmp.Lexicographic.{nat_list_eq_equiv, pointwise};
@@ -17,8 +17,8 @@ use std::fmt;
 use std::hash::{Hash, Hasher};
 use std::marker::Model;
 
-/// A requirement of versions, as Cargo reads it: comparators between commas, at most 256 bytes. It is its
-/// text: two texts that ask the same of every version are two requirements.
+/// A version requirement, as Cargo reads it: comparators separated by commas, at most 256 bytes. It equals only
+/// requirements with the same text, even if another text matches the same versions.
 pub struct Req {
     text: String,
     req: VersionReq,
@@ -42,7 +42,7 @@ impl Drop for Req {
 }
 
 impl Req {
-    /// The requirement that a text is, if it is one.
+    /// Reads a requirement. `None` if the text is not one. Fails only if memory runs out.
     pub fn read(alloc: Global, text: &str) -> Result<Option<Req>, AllocError>
         ensures ok { IfOk result (λ r. r ≡ read_req text.now) }
         ensures no_req { read_req text.now ≡ None → result ≡ Ok None }
@@ -57,7 +57,7 @@ impl Req {
         Ok(Some(Req { text, req }))
     }
 
-    /// The requirement that a text is. Refused: `BadRequirement`, and `NoMemory`.
+    /// Reads a requirement. Refused: `BadRequirement` if the text is not one, and `NoMemory`.
     pub fn parse(alloc: Global, text: &str) -> Result<Req, Refusal>
         ensures told { Gives (λ r. r) (found_or Refusal.BadRequirement (read_req text.now)) result }
         ensures refused { read_req text.now ≡ None → result ≡ Err Refusal.BadRequirement }
@@ -65,8 +65,8 @@ impl Req {
         Req::read(alloc, text)?.ok_or(Refusal::BadRequirement)
     }
 
-    /// Whether the V of a version meets it. A pre-release meets it only where one of the comparators is of a
-    /// pre-release of these three numbers. The revision is not looked at.
+    /// Whether the V of a version matches. A pre-release matches only if one of the comparators has the same three
+    /// numbers and a pre-release of its own. The revision is ignored.
     pub fn matches(&self, version: &VetVersion) -> bool
         ensures { result ≡ req_matches self.now version.now.parts }
     {
@@ -145,7 +145,7 @@ impl Ord for Req {
 
     ghost matches_eq = { texts_ties };
 
-    // By the bytes of their texts.
+    // Requirements are ordered by the bytes of their texts.
     fn cmp(&self, other: &Req) -> Ordering {
         self.text.as_str().cmp(other.text.as_str())
     }
@@ -164,7 +164,7 @@ impl Hash for Req {
     }
 }
 
-// The requirement that `semver` reads, if it reads one. It refuses no text because memory runs out.
+// The requirement that `semver` reads, if it reads one. If memory runs out, this is an error, and not `None`.
 #[tactic(auto, using(crate::proofs::SemverErrors::requirement_no_memory))]
 fn semver_req(alloc: Global, text: &str) -> Result<Option<VersionReq>, AllocError>
     ensures ok { IfOk result (λ r. option_map comparators_of r ≡ result_ok (req_of text.now)) }

@@ -1,6 +1,6 @@
-//! Texts that are short as a rule, as names are.
+//! Texts that are usually short, such as names.
 //!
-//! A register holds and copies names by the hundred thousand. Most have some ten bytes, and to allocate each would
+//! A register holds and copies names by the hundred thousand. Most have some ten bytes, and allocating each would
 //! cost more than everything else that a command does. So the bytes of a short text are in the value itself, and a
 //! copy of it takes no memory.
 ghost use Rattle.std.specs.Prelude.{◌≡◌, IfOk};
@@ -12,7 +12,7 @@ use std::cmp::Ordering;
 use std::hash::{Hash, Hasher};
 use std::marker::Model;
 
-// Where the bytes are: in the value itself, or in memory of their own.
+// The place of the bytes: in the value itself, or in memory of their own.
 enum Storage {
     Inline(ArrayString<24>),
     Allocated(String),
@@ -27,7 +27,7 @@ impl Drop for Storage {
     }
 }
 
-/// A text, compared by its bytes. Up to 24 of them take no memory.
+/// A text, compared by its bytes. A text of up to 24 bytes takes no memory.
 #[derive(Clone, Drop)]
 pub(crate) struct ShortText {
     storage: Storage,
@@ -43,7 +43,7 @@ impl Model for ShortText {
 }
 
 impl ShortText {
-    /// A copy of a text.
+    /// A copy of a text. Fails only if memory runs out.
     pub(crate) fn of(alloc: Global, text: &str) -> Result<ShortText, AllocError>
         ensures { IfOk result (λ t. t ≡ text.now) }
     {

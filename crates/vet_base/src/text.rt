@@ -1,4 +1,4 @@
-//! Texts, and what names and keys are made of.
+//! Free texts.
 ghost use Rattle.std.specs.Prelude.{◌≡◌, ◌↔◌, ◌≤◌, ◌<◌, length, IfOk, IfErr, Err};
 ghost use Rattle.vet_base.specs.Text.{read_text};
 
@@ -30,7 +30,7 @@ impl Model for Text {
 }
 
 impl Text {
-    /// A copy of a text that is short enough.
+    /// A copy of a text of at most 65,536 bytes. Fails only if memory runs out.
     pub(crate) fn of(alloc: Global, text: &str) -> Result<Text, AllocError>
         requires { length text.now ≤ MOST_TEXT_BYTES }
         ensures { IfOk result (λ t. t ≡ text.now) }
@@ -50,7 +50,7 @@ impl Text {
         Ok(None)
     }
 
-    /// The text, where it has at most 65,536 bytes. Refused: `TooLarge` of `text`, and `NoMemory`.
+    /// A copy of a text. Refused: `TooLarge` of `text` if it has more than 65,536 bytes, and `NoMemory`.
     pub fn parse(alloc: Global, text: &str) -> Result<Text, Refusal>
         ensures ok { IfOk result (λ t. t ≡ text.now) }
         ensures refused { (result ≡ Err (Refusal.TooLarge Limit.Text))

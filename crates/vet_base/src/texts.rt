@@ -9,7 +9,7 @@ use std::alloc::{AllocError, Global};
 use std::hash::{Hash, Hasher};
 use std::marker::Model;
 
-/// A set of texts, in the order of their bytes, each once.
+/// A set of free texts, in the order of their bytes.
 #[derive(Drop)]
 pub struct Texts {
     texts: Keyed<Text>,
@@ -30,7 +30,7 @@ impl Model for Texts {
 }
 
 impl Texts {
-    /// No texts.
+    /// The empty set.
     pub fn new(alloc: Global) -> Texts
         ensures { result ≡ set.empty }
     {
@@ -39,7 +39,7 @@ impl Texts {
         }
     }
 
-    /// The set of some texts, in whatever order. Takes a time of n log n.
+    /// The set of some texts, given in any order. Takes a time of n log n.
     pub fn of(alloc: Global, texts: Vec<Text>) -> Result<Texts, AllocError>
         ensures { IfOk result (λ s. s ≡ set.from_list texts.items) }
     {
@@ -48,7 +48,7 @@ impl Texts {
         })
     }
 
-    /// Adds a text. One that is held takes no memory. Where there is none, the set stays.
+    /// Adds a text, which takes no memory if the set has it. If memory runs out, the set is as it was.
     pub fn insert(&mut self, text: Text) -> Result<(), AllocError>
         ensures ok { OnOk result (self.new ≡ set.insert self.old text) }
         ensures held { set.contains self.old text ≡ true → result ≡ Ok tt }
@@ -67,7 +67,7 @@ impl Texts {
         self.texts.items()
     }
 
-    /// Whether there are no texts.
+    /// Whether the set is empty.
     pub fn is_empty(&self) -> bool
         ensures { IsTrue result ↔ (self.now ≡ set.empty) }
     {

@@ -25,12 +25,12 @@ use std::fmt;
 use std::hash::{Hash, Hasher};
 use std::marker::Model;
 
-/// A version of a package: V, a version by Semantic Versioning 2.0.0, or `V@git:REV` with a revision of 40
-/// hexadecimal digits, which are held as small letters. A version with a revision is another version than
-/// V, and versions that differ in build metadata alone differ.
+/// A version of a package: V, a version by Semantic Versioning 2.0.0, or `V@git:REV` with a revision of 40 hexadecimal
+/// digits, which are held in lower case; at most 256 bytes. `V@git:REV` and `V` are different versions, and so are two
+/// that differ only in build metadata.
 ///
-/// Versions are ordered by the precedence of V (SemVer, 11), then by the bytes of V as printed, then one
-/// without a revision before one with, then by the revision's bytes.
+/// Versions are ordered by the precedence of V (SemVer, 11), then by the bytes of V as printed. Then a version without
+/// a revision comes before one with a revision, and last the bytes of the revision decide.
 #[derive(Clone)]
 pub struct VetVersion {
     version: Version,
@@ -57,7 +57,7 @@ impl Drop for VetVersion {
 }
 
 impl VetVersion {
-    /// The version that a text is, if it is one.
+    /// Reads a version. `None` if the text is not one. Fails only if memory runs out.
     pub fn read(alloc: Global, text: &str) -> Result<Option<VetVersion>, AllocError>
         ensures ok { IfOk result (λ v. v ≡ read_version text.now) }
         ensures no_version { read_version text.now ≡ None → result ≡ Ok None }
@@ -68,7 +68,7 @@ impl VetVersion {
         Ok(Some(VetVersion { version, revision }))
     }
 
-    /// The version that a text is. Refused: `BadVersion`, and `NoMemory`.
+    /// Reads a version. Refused: `BadVersion` if the text is not one, and `NoMemory`.
     pub fn parse(alloc: Global, text: &str) -> Result<VetVersion, Refusal>
         ensures told { Gives (λ v. v) (found_or Refusal.BadVersion (read_version text.now)) result }
         ensures refused { read_version text.now ≡ None → result ≡ Err Refusal.BadVersion }
@@ -76,7 +76,7 @@ impl VetVersion {
         VetVersion::read(alloc, text)?.ok_or(Refusal::BadVersion)
     }
 
-    /// The forty digits of the revision, in small letters, if there is one.
+    /// The forty digits of the revision, in lower case, if there is one.
     pub fn revision(&self) -> Option<&str>
         ensures { option_map (λ r. r.now) result ≡ self.now.revision }
     {
@@ -86,7 +86,7 @@ impl VetVersion {
         }
     }
 
-    // The digits of the revision, and no text where there is none.
+    // The digits of the revision, or the empty text if there is none.
     fn revision_text(&self) -> &str
         ensures { result.now ≡ unwrap_or self.now.revision [] }
     {
@@ -117,7 +117,7 @@ impl fmt::Display for VetVersion {
     }
 }
 
-/// A version's text is read as that version.
+/// The text of a version is read back as that version.
 pub fn version_text_reads_back(version: &VetVersion)
     ensures { read_version (version_text version.now) ≡ Some version.now }
 {
@@ -129,7 +129,7 @@ impl PartialEq for VetVersion {
 
     ghost laws = { partial_equiv_from_equiv (eq_by_cmp_equiv version_total) };
 
-    // Only a version itself ties with it.
+    // A version is equal only to itself.
     fn eq(&self, other: &VetVersion) -> bool
         ensures value { result ≡ version_eq self.now other.now }
         ensures same { IsTrue result ↔ (self.now ≡ other.now) }
@@ -253,7 +253,7 @@ fn are_hex_bytes(text: &[u8]) -> bool
     text.iter().all(|byte| byte.is_ascii_hexdigit())
 }
 
-// V with a revision, which is held as small letters.
+// V with a revision, which is held in lower case.
 fn at_revision(
     alloc: Global,
     text: &str,
@@ -270,7 +270,7 @@ fn at_revision(
     Ok(Some((version, Some(small))))
 }
 
-// The version that SemVer reads, if it reads one. It refuses no text because memory runs out.
+// The version that `semver` reads, if it reads one. If memory runs out, this is an error, and not `None`.
 #[tactic(auto, using(crate::proofs::SemverErrors::version_no_memory))]
 fn semver_version(alloc: Global, text: &str) -> Result<Option<Version>, AllocError>
     ensures ok { IfOk result (λ v. option_map parts_of v ≡ result_ok (version_parts text.now)) }
