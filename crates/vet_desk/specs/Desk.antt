@@ -1,4 +1,4 @@
--- The review desk (ours): what it holds, and what a command makes of it.
+-- The review desk (ours): its content, and the effect of a command.
 use Rattle.std.specs.Prelude.{ℕ, ◌+◌, ◌++◌, Bool, List, [], ◌∷◌, Option, Some, None, is_some, option_map}
 use Rattle.std.specs.FinSet as set
 use Rattle.std.specs.Ordering.{nat_cmp}
@@ -32,7 +32,7 @@ pub record DeskState : Type 0 where
   pub reviews : List Review
   pub next_review : ℕ
 
--- nobody and nothing; numbers begin at 1
+-- no members and no reviews; numbers begin at 1
 abbrev pub empty_desk : DeskState
 empty_desk = record { members = []; reviews = []; next_review = 1 }
 
@@ -40,21 +40,21 @@ empty_desk = record { members = []; reviews = []; next_review = 1 }
 abbrev pub own_name : Name → Name
 own_name name = name
 
--- a name is that of a member
+-- a name is a member's
 abbrev pub is_member : List Name → Name → Bool
 is_member members name = is_some (item_of (slice_cmp nat_cmp) own_name members name)
 
--- the members, and one of this name
+-- the members with one more of this name
 abbrev pub with_member : Name → List Name → List Name
 with_member name members = with_item (slice_cmp nat_cmp) own_name members name
 
 -- ---- the entry of a finished review
 
--- one member reviewed, and nothing is said of imports
+-- an audit by one member, without the flag `importable`
 abbrev pub audit_by : Name → Audit
 audit_by member = record { who = set.insert set.empty member; importable = None }
 
--- what the entry says of the package
+-- the kind of the entry: full for a version, or the delta
 abbrev pub kind_by : Name → Reviewed → Kind
 kind_by member (Version v) = kind.Full v (audit_by member)
 kind_by member (Delta d) = kind.Delta d (audit_by member)
@@ -69,14 +69,14 @@ entry_by member reviewed review = record {
   notes = None;
 }
 
--- the own entry that a command makes of the desk, held already or not: only to finish a review makes one
+-- the own entry that a command makes, whether or not an equal one is held; only finishing a review makes one
 abbrev pub entry_of : DeskState → DeskCommand → Option Entry
 entry_of d (FinishReview n member reviewed) = option_map (entry_by member reviewed) (review_of d.reviews n)
 entry_of d _ = None
 
 -- ---- the effect of a command
 
--- a review that nobody has begun
+-- a waiting review
 abbrev pub new_review : ℕ → DayValue → Name → VersionValue → NameSet → Review
 new_review number day name version criteria = record {
   number = number;
@@ -87,7 +87,7 @@ new_review number day name version criteria = record {
   state = Waiting;
 }
 
--- the reviews, that of a number finished with the entry of another, where one is given
+-- the reviews, with that of a number finished with the entry of the given number, if there is one
 abbrev pub with_entry : ℕ → Option ℕ → List Review → List Review
 with_entry n None reviews = reviews
 with_entry n (Some entry) reviews = with_state n (Finished entry) reviews

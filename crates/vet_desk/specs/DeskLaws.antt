@@ -1,4 +1,4 @@
--- What follows of the desk (ours): what a command changes and what it leaves, who may do what, and what stays so.
+-- Laws of the desk (ours): the changes that a command makes, who may do what, and the properties that stay.
 use Rattle.std.specs.Prelude.{◌≡◌, ◌↔◌, ◌⊎◌, ℕ, ◌<◌, ◌≤◌, true, false, IfSome, List, Option, Some, None, Ok}
 use Rattle.std.specs.FinSet as set
 use Rattle.vet_base.specs.Criteria.{Criteria, least_unknown}
@@ -16,9 +16,9 @@ use Rattle.vet_desk.specs.DeskVerdict.{desk_checked, finish_rules, still_open, t
 use Rattle.vet_desk.specs.Review.{are_open_beyond, are_open_for, in_state, review_of, with_state}
 use Rattle.vet_desk.specs.SoundDesk.{AreKnownTo, HaveEntriesGiven, IsSoundDesk}
 
--- ---- what changes
+-- ---- changes
 
--- who is added is a member, and who was one still is
+-- a name that is added is a member's, and for any other name nothing changes
 abbrev pub MemberIsAdded : Type 0
 MemberIsAdded = (name : Name) (members : List Name) → is_member (with_member name members) name ≡ true
 
@@ -26,62 +26,62 @@ abbrev pub MembersStay : Type 0
 MembersStay = (name other : Name) (members : List Name) → (other ≡ name → ⊥)
     → is_member (with_member name members) other ≡ is_member members other
 
--- the review of a number comes into another state, and nothing else of it changes
+-- the review of a number changes only in its state
 abbrev pub ReviewChangesItsState : Type 0
 ReviewChangesItsState = (n : ℕ) (state : ReviewState) (reviews : List Review) (r : Review)
     → review_of reviews n ≡ Some r
     → review_of (with_state n state reviews) n ≡ Some (in_state state r)
 
--- all other reviews stay
+-- all other reviews stay as they are
 abbrev pub OtherReviewsStay : Type 0
 OtherReviewsStay = (n m : ℕ) (state : ReviewState) (reviews : List Review) → (m ≡ n → ⊥)
     → review_of (with_state n state reviews) m ≡ review_of reviews m
 
 -- ---- who may do what
 
--- a review is open where it waits, or is somebody's
+-- a review is open exactly if it is waiting or assigned to somebody
 abbrev pub OpenWaitsOrIsAssigned : Type 0
 OpenWaitsOrIsAssigned = (r : Review) → (still_open r ≡ Ok tt)
     ↔ ((r.state ≡ Waiting) ⊎ ((member : Name) × (r.state ≡ Assigned member)))
 
--- only the member to whom it is assigned finishes it, and only for its version
+-- only the member to whom it is assigned can finish it, and only for its version
 abbrev pub OnlyItsMemberFinishes : Type 0
 OnlyItsMemberFinishes = (member : Name) (reviewed : Reviewed) (r : Review)
     → (finish_rules member reviewed r ≡ Ok tt) ↔ ((r.state ≡ Assigned member) × (target_of reviewed ≡ r.version))
 
--- any member withdraws one that waits, and else only the member to whom it is assigned
+-- any member can withdraw one that is waiting, otherwise only the member to whom it is assigned
 abbrev pub WaitingOrOwnIsWithdrawn : Type 0
 WaitingOrOwnIsWithdrawn = (member : Name) (r : Review) → (withdraw_rules member r ≡ Ok tt)
     ↔ ((r.state ≡ Waiting) ⊎ (r.state ≡ Assigned member))
 
--- ---- what stays so
+-- ---- properties that stay
 
--- a sound desk is sound after each command that is accepted
+-- a sound desk is sound after each accepted command
 abbrev pub DeskStaysSound : Type 0
 DeskStaysSound = (criteria : Criteria) (demand : List Pair) (d : DeskState) (day : DayValue) (entry : Option ℕ)
     (command : DeskCommand)
     → desk_checked criteria demand d command ≡ Ok tt → IsSoundDesk d → IsSoundDesk (desk_after day entry command d)
 
--- what open reviews name stays known
+-- the criteria that open reviews name stay known
 abbrev pub OpenCriteriaStayKnown : Type 0
 OpenCriteriaStayKnown = (criteria : Criteria) (demand : List Pair) (d : DeskState) (day : DayValue)
     (entry : Option ℕ) (command : DeskCommand)
     → desk_checked criteria demand d command ≡ Ok tt → AreKnownTo criteria d.reviews
     → AreKnownTo criteria (desk_after day entry command d).reviews
 
--- so it does where a criterion goes that none of them names
+-- so they do if a criterion is removed that none of them names
 abbrev pub UnnamedCriterionMayGo : Type 0
 UnnamedCriterionMayGo = (criteria other : Criteria) (name : Name) (reviews : List Review)
     → ((names : NameSet) → set.contains names name ≡ false → least_unknown criteria names ≡ None
     → least_unknown other names ≡ None)
     → are_open_for reviews name ≡ false → AreKnownTo criteria reviews → AreKnownTo other reviews
 
--- it is known to a table just where none of them names what the table lacks
+-- they are known to a table exactly if none of them names one that the table lacks
 abbrev pub KnownIsNotBeyond : Type 0
 KnownIsNotBeyond = (criteria : Criteria) (reviews : List Review) → (are_open_beyond criteria reviews ≡ false)
     ↔ AreKnownTo criteria reviews
 
--- the entries of finished reviews stay below the next number, also where this command gave one
+-- the entries of finished reviews stay below the next number, even if this command assigned one
 abbrev pub FinishedEntriesStayGiven : Type 0
 FinishedEntriesStayGiven = (next later : ℕ) (d : DeskState) (day : DayValue) (entry : Option ℕ)
     (command : DeskCommand) → next ≤ later

@@ -1,4 +1,4 @@
--- What a desk is seen as (ours), and what was prepared for it. This module alone of the desk's knows of room.
+-- The view of a desk, with its room (ours), and the changes prepared for it. Only this module of the desk has room.
 use Rattle.std.specs.Prelude.{◌≡◌, ℕ, ◌+◌, ◌++◌, ◌<◌, ◌≤◌, List, [], ◌∷◌, Option, Some, None, true, is_some, length}
 use Rattle.std.specs.Prelude.{slice_get, slice_set, Result, Ok, Err, MatchResult}
 use Rattle.std.specs.Coded.{coded×}
@@ -29,23 +29,23 @@ use Rattle.vet_desk.specs.Desk.{DeskState, desk_after, entry_of, is_member, own_
 use Rattle.vet_desk.specs.Review.{in_state, review_of}
 use Rattle.vet_desk.specs.SoundDesk.{IsSoundDesk}
 
--- for how many more members and reviews there is room
+-- the number of further members and reviews for which there is room
 pub record DeskRoom : Type 0 where
   pub members : ℕ
   pub reviews : ℕ
 
--- a desk: what it holds, and its room
+-- a desk: its content and its room
 pub record DeskView : Type 0 where
   pub content : DeskState
   pub room : DeskRoom
 
--- the members, and for how many more there is room
+-- the members and their room
 abbrev pub members_room : DeskView → KeyedRoom Name
 members_room d = record { items = d.content.members; room = d.room.members }
 
 -- ---- changes
 
--- the review at a place in another state
+-- the reviews, with the one at a place in another state
 abbrev pub with_state_there : Option Review → ℕ → ReviewState → List Review → List Review
 with_state_there None place state reviews = reviews
 with_state_there (Some review) place state reviews = slice_set reviews place (in_state state review)
@@ -53,7 +53,7 @@ with_state_there (Some review) place state reviews = slice_set reviews place (in
 abbrev pub with_state_at : ℕ → ReviewState → List Review → List Review
 with_state_at place state reviews = with_state_there (slice_get reviews place) place state reviews
 
--- the review at a place finished with the entry of a number, where one is given
+-- the reviews, with the one at a place finished with the entry of the given number, if there is one
 abbrev pub with_entry_at : ℕ → Option ℕ → List Review → List Review
 with_entry_at place None reviews = reviews
 with_entry_at place (Some entry) reviews = with_state_at place (Finished entry) reviews
@@ -77,9 +77,9 @@ FitsDesk (Open review) d = 0 < d.room.reviews
 FitsDesk (Turn place state) d = place < length d.content.reviews
 FitsDesk (Finish place made) d = place < length d.content.reviews
 
--- ---- what was prepared
+-- ---- prepared changes
 
--- what the change of a command rests on: room within the limits, a number, and what it refers to
+-- the change of a command can be prepared: the limits allow it, a number is left, and its references are held
 abbrev pub IsAcceptable : DeskState → DeskCommand → Type 0
 IsAcceptable d (AddMember name) = length d.members < MOST_MEMBERS
 IsAcceptable d (OpenReview name version criteria) = (length d.reviews < MOST_REVIEWS) × (d.next_review ≤ LAST_NUMBER)
@@ -87,23 +87,23 @@ IsAcceptable d (AssignReview n member) = (is_member d.members member ≡ true) �
 IsAcceptable d (FinishReview n member reviewed) = is_some (review_of d.reviews n) ≡ true
 IsAcceptable d (WithdrawReview n member) = is_some (review_of d.reviews n) ≡ true
 
--- a change is that of a command on a day: it leads where the command does, which is sound, and has the command's entry
+-- a change is that of a command on a day: it leads to the same desk, which is sound, and has the command's entry
 pub record IsDeskStep (d : DeskState) (day : DayValue) (command : DeskCommand) (change : DeskChange) : Type 0 where
   pub becomes : (entry : Option ℕ) → desk_changed change entry d ≡ desk_after day entry command d
   pub sound : (entry : Option ℕ) → IsSoundDesk (desk_after day entry command d)
   pub entry : entry_in change ≡ entry_of d command
 
--- this desk prepared the change for the command on this state, and still holds the room for it
+-- this desk prepared the change for the command in this state, and still has the room for it
 pub record IsDeskChange (d : DeskView) (day : DayValue) (command : DeskCommand) (change : DeskChange) : Type 0 where
   pub step : IsDeskStep d.content day command change
   pub fits : FitsDesk change d
 
--- a change that is answered was prepared so
+-- a change that is returned is prepared
 abbrev pub IsStepOf : DeskView → DayValue → DeskCommand → DeskStep → Type 0
 IsStepOf d day command step.Already = Unit {0}
 IsStepOf d day command (step.Change change) = IsDeskChange d day command change
 
--- what was prepared on the old desk is prepared on the new one
+-- each change that is prepared for the old desk is prepared for the new one
 abbrev pub KeepsDeskChanges : DeskView → DeskView → Type 0
 KeepsDeskChanges old new =
     (day : DayValue) (command : DeskCommand) (change : DeskChange) → IsDeskChange old day command change
@@ -113,12 +113,12 @@ KeepsDeskChanges old new =
 abbrev pub HoldsDeskRoom : DeskRoom → DeskRoom → Type 0
 HoldsDeskRoom old new = (old.members ≤ new.members) × (old.reviews ≤ new.reviews)
 
--- what an answer tells
+-- the verdict in an answer
 abbrev pub desk_answer : DeskStep → DeskAnswer
 desk_answer step.Already = Already
 desk_answer (step.Change change) = Accepted
 
--- the answer is the verdict; it wants memory for the name of a refusal, and for a change, and for nothing else
+-- the answer is the verdict; only copying the name of a refusal and preparing a change may run out of memory
 abbrev pub TellsDesk : Told DeskAnswer → Result DeskStep Refusal → Type 0
 TellsDesk (Err e) answer = Refuses e answer
 TellsDesk (Ok Already) answer = answer ≡ Ok step.Already

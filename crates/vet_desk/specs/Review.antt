@@ -1,4 +1,4 @@
--- Reviews (ours): what the state of one says, and where one stands among others.
+-- Reviews (ours): their states, and their places among others.
 use Rattle.std.specs.Prelude.{ℕ, ◌&&◌, not, Bool, true, false, List, Option, Some, None, is_some}
 use Rattle.std.specs.Ordering.{nat_cmp}
 use Rattle.std.specs.FinSet as set
@@ -11,7 +11,7 @@ use Rattle.vet_desk.specs.declared.review.Review.{Review}
 use Rattle.vet_desk.specs.declared.review.ReviewState.{ReviewState}
 use Rattle.vet_desk.specs.declared.review.ReviewState.TheVariants.{Waiting, Assigned, Finished, Withdrawn}
 
--- a review is closed once it is finished or withdrawn
+-- a review is closed if it is finished or withdrawn
 abbrev pub is_closed : ReviewState → Bool
 is_closed Waiting = false
 is_closed (Assigned member) = false
@@ -23,7 +23,7 @@ abbrev pub is_assigned_to : Name → ReviewState → Bool
 is_assigned_to name (Assigned member) = bytes_eq member name
 is_assigned_to name _ = false
 
--- a review is assigned to another than a member
+-- a review is assigned to a member other than this one
 abbrev pub is_anothers : Name → ReviewState → Bool
 is_anothers name (Assigned member) = not (bytes_eq member name)
 is_anothers name _ = false
@@ -36,7 +36,7 @@ review_number review = review.number
 abbrev pub review_of : List Review → ℕ → Option Review
 review_of reviews n = item_of nat_cmp review_number reviews n
 
--- a review put in place of the one of its number
+-- the reviews, with this one in place of the one of its number
 abbrev pub with_review : Review → List Review → List Review
 with_review review reviews = with_item nat_cmp review_number reviews review
 
@@ -44,12 +44,12 @@ with_review review reviews = with_item nat_cmp review_number reviews review
 abbrev pub in_state : ReviewState → Review → Review
 in_state state review = record review { state = state }
 
--- the same reviews, one of them in another state; where none is meant, as they are
+-- the reviews, with this one in another state; if there is none, they stay as they are
 abbrev pub with_state_of : Option Review → ReviewState → List Review → List Review
 with_state_of None state reviews = reviews
 with_state_of (Some review) state reviews = with_review (in_state state review) reviews
 
--- the same reviews, that of a number in another state
+-- the reviews, with that of a number in another state
 abbrev pub with_state : ℕ → ReviewState → List Review → List Review
 with_state n state reviews = with_state_of (review_of reviews n) state reviews
 
@@ -65,6 +65,6 @@ are_open_for reviews name = list_any (is_open_for name) reviews
 abbrev pub is_open_beyond : Criteria → Review → Bool
 is_open_beyond criteria review = not (is_closed review.state) && is_some (least_unknown criteria review.criteria)
 
--- one of some reviews that is not closed does
+-- one of some reviews that is not closed names a criterion that a table lacks
 abbrev pub are_open_beyond : Criteria → List Review → Bool
 are_open_beyond criteria reviews = list_any (is_open_beyond criteria) reviews

@@ -1,4 +1,4 @@
--- What holds of each desk (ours), and what its register keeps of it beside that.
+-- Soundness of a desk (ours), and the further properties that its register keeps.
 use Rattle.std.specs.Prelude.{◌≡◌, ℕ, ◌+◌, ◌<◌, ◌≤◌, true, false, List, None, length}
 use Rattle.std.specs.List.{All}
 use Rattle.std.specs.Ordering.{nat_cmp}
@@ -13,7 +13,7 @@ use Rattle.vet_desk.specs.declared.review.ReviewState.TheVariants.{Assigned, Fin
 use Rattle.vet_desk.specs.Desk.{DeskState, is_member, own_name}
 use Rattle.vet_desk.specs.Review.{is_closed, review_number}
 
--- whoever a review is assigned to is a member
+-- a review, if it is assigned, is assigned to a member
 abbrev pub IsByMember : List Name → ReviewState → Type 0
 IsByMember members (Assigned member) = is_member members member ≡ true
 IsByMember members _ = Unit {0}
@@ -21,16 +21,16 @@ IsByMember members _ = Unit {0}
 abbrev pub HasMember : List Name → Review → Type 0
 HasMember members review = IsByMember members review.state
 
--- a review's number lies below the next one
+-- the number of a review is below the next one
 abbrev pub IsNumberGiven : ℕ → Review → Type 0
 IsNumberGiven next review = review.number < next
 
--- members stand in the order of their names, no name twice, and within the limit
+-- members are in the order of their names, with no name twice, and within the limit
 pub record AreMembers (members : List Name) : Type 0 where
   pub by_name : IsByKey (slice_cmp nat_cmp) own_name members
   pub few : length members ≤ MOST_MEMBERS
 
--- the numbers of reviews rise, below the next one; an assigned one is a member's; and they are within the limit
+-- the numbers of reviews rise and are below the next one; each assigned one is a member's; the limit is kept
 pub record AreReviews (members : List Name) (reviews : List Review) (next : ℕ) : Type 0 where
   pub numbers_rise : IsByKey nat_cmp review_number reviews
   pub numbers_given : All (IsNumberGiven next) reviews
@@ -43,7 +43,7 @@ pub record IsSoundDesk (d : DeskState) : Type 0 where
   pub reviews : AreReviews d.members d.reviews d.next_review
   pub next_number : d.next_review ≤ LAST_NUMBER + 1
 
--- ---- what the register keeps of reviews
+-- ---- properties of reviews that the register keeps
 
 -- the criteria of a review are in a table, unless it is closed
 abbrev pub IsKnownTo : Criteria → Review → Type 0

@@ -1,4 +1,4 @@
-//! Changes that a desk prepared.
+//! Changes that a desk has prepared.
 ghost use Rattle.std.specs.Prelude.{◌≡◌};
 ghost use Rattle.std.specs.Option.{option_copied};
 ghost use Rattle.vet_desk.specs.DeskView.{entry_in};
@@ -8,21 +8,21 @@ use vet_base::keyed::KeyedEdit;
 use vet_base::name::Name;
 use vet_entries::entry::Entry;
 
-/// What an accepted command changes: the desk that prepared it installs it.
+/// The change of an accepted command, to be installed by the desk that prepared it.
 #[derive(Drop)]
 pub enum DeskChange {
-    /// A member comes.
+    /// Adds a member.
     Join(KeyedEdit<Name>),
-    /// This review is opened.
+    /// Opens this review.
     Open(Review),
-    /// The review at this place comes into this state.
+    /// Puts the review at this place into this state.
     Turn(usize, ReviewState),
-    /// The review at this place is finished, by this own entry.
+    /// Finishes the review at this place by this own entry.
     Finish(usize, Entry),
 }
 
 impl DeskChange {
-    /// The own entry of a review that is finished, whether or not an equal one is held. Takes no memory.
+    /// The own entry that finishes a review, whether or not an equal one is held. Takes no memory.
     pub fn entry(&self) -> Option<&Entry>
         ensures { option_copied result ≡ entry_in self.now }
     {
@@ -33,11 +33,11 @@ impl DeskChange {
     }
 }
 
-/// What a desk answers to a command that nothing refuses.
+/// The answer of a desk to a command that is not refused.
 #[derive(Drop)]
 pub enum DeskStep {
-    /// What it sets or adds is held already.
+    /// The member or assignment that the command adds is held already.
     Already,
-    /// What it would change.
+    /// The command is accepted, and makes this change.
     Change(DeskChange),
 }

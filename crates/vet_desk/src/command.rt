@@ -7,28 +7,29 @@ use vet_base::name::{Name, PackageName};
 use vet_base::names::Names;
 use vet_base::version::VetVersion;
 
-/// What a command asks of the desk.
+/// A command to the desk.
 pub enum DeskCommand {
     /// Adds a member.
     AddMember(Name),
-    /// Opens a review of a version of a package for some criteria. The same again opens another.
+    /// Opens a review of a version of a package for some criteria. The same command again opens another.
     OpenReview {
         package: PackageName,
         version: VetVersion,
         criteria: Names,
     },
-    /// Assigns the review of this number to a member, also where it is assigned to another.
+    /// Assigns the review of this number to a member, even if it is assigned to another.
     AssignReview {
         review: u64,
         member: Name,
     },
-    /// Finishes the review of this number, by the member to whom it is assigned.
+    /// Finishes the review of this number. Only the member to whom it is assigned can do so.
     FinishReview {
         review: u64,
         member: Name,
         reviewed: Reviewed,
     },
-    /// Withdraws the review of this number, by a member: one to whom it is assigned, or where it waits any.
+    /// Withdraws the review of this number. Any member can do so if it is waiting, otherwise only the one to whom it is
+    /// assigned.
     WithdrawReview {
         review: u64,
         member: Name,
@@ -61,11 +62,11 @@ impl Drop for DeskCommand {
     }
 }
 
-/// What a member reviewed to finish a review.
+/// The version or delta that a member reviewed to finish a review.
 pub enum Reviewed {
     /// This version, in full.
     Version(VetVersion),
-    /// What changed from a version to another.
+    /// The change from one version to another.
     Delta(Delta),
 }
 

@@ -1,11 +1,11 @@
-//! What the desk holds, and how it is asked and changed.
+//! The desk: its content, and the calls that read and change it.
 //!
-//! **What is prepared and then installed is one step of the desk.**
+//! **A change that is prepared and then installed is one step of the desk.**
 //!
-//! A command goes in two calls, as in the register that the desk is a part of. `prepare` judges it, copies what will
-//! be held and takes room for it; what the desk holds stays. `install` makes the change, takes no memory and can't
-//! fail. Reviews stand in the order of their numbers: one is found by halving, is changed where it stands, and a new
-//! one comes last, so that no command walks over the others.
+//! A command takes two calls, as in the register that the desk is a part of. `prepare` judges it, copies the values to
+//! be held and takes room for them. The content of the desk stays. `install` makes the change, takes no memory and
+//! cannot fail. Reviews are in the order of their numbers. One that is held is found by binary search and changed in
+//! place, and a new one is added at the end, so that no command looks at all the others.
 ghost use Rattle.std.specs.Prelude.{◌≡◌, ◌<◌, ◌↔◌, IfErr, IfOk, IfSome, IsSome, IsTrue, is_some, length, vec_capacity};
 ghost use Rattle.std.specs.Prelude.{vec_len};
 ghost use Rattle.std.specs.List.{All};
@@ -73,7 +73,7 @@ impl Drop for Desk {
 }
 
 impl Desk {
-    /// A desk without members and reviews. Takes no memory.
+    /// A desk without members and reviews, whose next review has number 1. Takes no memory.
     pub fn new(alloc: Global) -> Desk
         ensures { result.content ≡ empty_desk }
     {
@@ -84,8 +84,7 @@ impl Desk {
         }
     }
 
-    /// The desk of these members, reviews and next number of a review. Asks that they are sound. Refused:
-    /// `NoMemory`.
+    /// The desk with these members, reviews and next review number, which must be sound. Refused: `NoMemory`.
     pub fn restore(
         alloc: Global,
         members: Vec<Name>,
@@ -108,8 +107,8 @@ impl Desk {
         })
     }
 
-    /// The desk of these members, reviews and next number of a review, and `None` exactly where they are not sound.
-    /// Takes no memory, and a time of n log m for n reviews and m members.
+    /// The desk with these members, reviews and next review number. `None` exactly if they are not sound. Takes no
+    /// memory, and a time of n log m for n reviews and m members.
     pub fn restored(members: Keyed<Name>, reviews: Vec<Review>, next_review: u64) -> Option<Desk>
         ensures sound { IsSome result ↔ IsSoundDesk (record {
           members = members.items;
@@ -133,9 +132,9 @@ impl Desk {
         }
     }
 
-    /// What a command on a day is told, with these criteria and this demand, and what it would change. What the desk
-    /// holds stays, whatever is answered; room is taken for what `install` adds, and what was prepared before can
-    /// still be installed. Refused: what `judge` refuses, and `NoMemory`, never where the content is held already.
+    /// Judges a command on a day, with these criteria and this demand, and prepares its change. The content of the desk
+    /// stays, whatever the answer. Takes room for everything that `install` adds, and a change that was prepared before
+    /// can still be installed. Refused: as `judge` does, and `NoMemory`, but never if the answer is `Already`.
     pub fn prepare(
         &mut self,
         alloc: Global,
@@ -158,8 +157,8 @@ impl Desk {
         }
     }
 
-    /// Makes a change that this desk prepared on this state: one step of the desk. The number is that of the entry of
-    /// a finished review, and is there exactly where the change has an entry. Takes no memory.
+    /// Makes a change that this desk prepared in this state: one step of the desk. The number is that of the entry of
+    /// a finished review, and must be present exactly if the change has an entry. Takes no memory.
     pub fn install(&mut self, change: DeskChange, entry: Option<u64>)
         requires prepared { (day : DayValue) × ((command : DeskCommandValue)
             × IsDeskChange self.old day command change) }
@@ -210,7 +209,7 @@ impl Desk {
         self.next_review
     }
 
-    /// Whether a name is that of a member. Takes no memory, and a time of log n.
+    /// Whether a name is a member's. Takes no memory, and a time of log n.
     pub fn has_member(&self, name: &Name) -> bool
         ensures { result ≡ is_member self.now.content.members name.now }
     {
@@ -227,7 +226,7 @@ impl Desk {
         }
     }
 
-    /// Whether a review that isn't closed names a criterion. Takes no memory. Costs a look at each review, up to the
+    /// Whether a review that is not closed names a criterion. Takes no memory. Costs a look at each review, up to the
     /// first that does.
     pub fn names_criterion(&self, name: &Name) -> bool
         ensures { result ≡ are_open_for self.now.content.reviews name.now }
@@ -235,7 +234,7 @@ impl Desk {
         self.reviews.iter().any(|review| review.is_open_for(name))
     }
 
-    /// Whether a review that isn't closed names a criterion that a table lacks. Takes no memory. Costs a look at each
+    /// Whether a review that is not closed names a criterion that a table lacks. Takes no memory. Costs a look at each
     /// review, up to the first that does.
     pub fn names_beyond(&self, criteria: &CriteriaTable) -> bool
         ensures { result ≡ are_open_beyond criteria.now self.now.content.reviews }
@@ -245,7 +244,7 @@ impl Desk {
             .any(|review| review.is_open_beyond(criteria))
     }
 
-    // Where the review of a number stands, or would belong.
+    // The place of the review of a number, or, as an error, the place where it would belong.
     pub(crate) fn place_of(&self, number: u64) -> Result<usize, usize>
         ensures place { IsPlace nat_cmp review_number self.now.content.reviews number result }
         ensures sound { IsSoundDesk self.now.content }
@@ -255,14 +254,14 @@ impl Desk {
     }
 }
 
-// Whether there are not too many members.
+// Whether the members are within their limit.
 fn are_members(members: &Keyed<Name>) -> bool
     ensures { IsTrue result ↔ AreMembers members.now.items }
 {
     members.items().len() <= MOST_MEMBERS
 }
 
-// Whether reviews are sound, below this number.
+// Whether reviews are sound, with numbers below this one.
 fn are_reviews(members: &Keyed<Name>, reviews: &[Review], next_review: u64) -> bool
     ensures { IsTrue result ↔ AreReviews members.now.items reviews.now next_review }
 {
@@ -272,7 +271,7 @@ fn are_reviews(members: &Keyed<Name>, reviews: &[Review], next_review: u64) -> b
         && are_by_members(members, reviews)
 }
 
-// Whether whoever reviews are assigned to are members.
+// Whether each review that is assigned is assigned to a member.
 fn are_by_members(members: &Keyed<Name>, reviews: &[Review]) -> bool
     ensures { IsTrue result ↔ All (HasMember members.now.items) reviews.now }
 {
@@ -281,7 +280,7 @@ fn are_by_members(members: &Keyed<Name>, reviews: &[Review]) -> bool
         .all(|review| is_by_member(members, &review.state))
 }
 
-// Whether whoever a review is assigned to is a member.
+// Whether a review, if it is assigned, is assigned to a member.
 fn is_by_member(members: &Keyed<Name>, state: &ReviewState) -> bool
     ensures { IsTrue result ↔ IsByMember members.now.items state.now }
 {
@@ -291,7 +290,7 @@ fn is_by_member(members: &Keyed<Name>, state: &ReviewState) -> bool
     }
 }
 
-// Makes an edit of the members, for which there is room.
+// Makes an edit of the members, for which there must be room.
 fn join(members: &mut Keyed<Name>, edit: KeyedEdit<Name>)
     requires { Fits (slice_cmp nat_cmp) own_name edit members.old }
     ensures { members.new.items ≡ edited edit members.old.items }
@@ -299,7 +298,7 @@ fn join(members: &mut Keyed<Name>, edit: KeyedEdit<Name>)
     let _ = members.apply(edit);
 }
 
-// Brings the review at a place into a state.
+// Puts the review at a place into a state.
 fn turn(reviews: &mut Vec<Review>, place: usize, state: ReviewState)
     requires { place < length reviews.old.items }
     ensures items { reviews.new.items ≡ with_state_at place state reviews.old.items }

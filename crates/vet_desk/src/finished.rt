@@ -12,7 +12,7 @@ use vet_base::texts::Texts;
 use vet_entries::entry::{Entry, Source};
 use vet_entries::kind::{Audit, Kind};
 
-/// The entry of a review that a member finishes by what was reviewed. Refused: `NoMemory`.
+/// The entry that finishes a review, for the version or delta that this member reviewed. Refused: `NoMemory`.
 pub(crate) fn entry_by(
     alloc: Global,
     member: &Name,
@@ -42,7 +42,7 @@ fn kind_by(alloc: Global, member: &Name, reviewed: &Reviewed) -> Result<Kind, Re
     }
 }
 
-// One member reviewed, and nothing is said of imports.
+// An audit by one member, without the flag `importable`.
 fn audit_by(alloc: Global, member: &Name) -> Result<Audit, Refusal>
     ensures ok { IfOk result (λ a. a ≡ audit_by member.now) }
     ensures memory { IfErr result (λ e. e ≡ Refusal.NoMemory) }

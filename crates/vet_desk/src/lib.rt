@@ -1,15 +1,14 @@
-//! The review desk: who may review, and what is to be reviewed.
+//! The review desk: the members of an organisation, and the reviews that they do.
 //!
-//! **What a command changes at the desk is prepared by one call, which judges the command and does all that can
-//! fail, and made by another: the two are one step of the desk, and a finished review has the entry that the
-//! command makes.**
+//! **One call judges a command and prepares its change, which includes everything that can fail. Another call makes
+//! the change. The two are one step of the desk, and a finished review has the entry that the command makes.**
 //!
 //! Scope of this crate: members, and reviews from their opening to their end. Entries and their numbers are the
-//! register's, and so is the step that stands between the desk's limits: therefore the verdict can be asked for in
-//! parts.
+//! register's, and so is the limit of steps, which comes between the desk's limits. So each part of the verdict has a
+//! call of its own.
 //!
-//! For example, a review can be opened only of a pair that is demanded (24 NotDemanded), and be assigned only to a
-//! member (19 UnknownMember).
+//! For example, a review can be opened only of demanded pairs (24 NotDemanded), and can be assigned only to a member
+//! (19 UnknownMember).
 #![tactic(auto)]
 
 pub mod change;

@@ -1,13 +1,13 @@
-//! What an accepted command changes, and room for it: one function a command. What the desk holds stays.
+//! The change of an accepted command, and room for it: one function for each command. The content of the desk stays.
 //!
-//! A command to the desk goes in two calls. The verdict is a call for each of its parts (`verdict`), since the
-//! register asks for a step between two of them. `judge` asks for all in their order. What changes is made here, with
-//! its copies and its room, and the own entry that finishes a review by `finished`. `install` takes the number of that
-//! entry, which the register knows: that of an equal own entry, or the next one.
+//! A command to the desk takes two calls, `prepare` and `install`. The verdict has a call for each of its parts
+//! (`verdict`), since the register checks its step between two of them. `judge` checks all parts in order. The
+//! functions here make the change, with its copies and its room, and `finished` makes the own entry that finishes a
+//! review. `install` takes the number of that entry, which the register knows: that of an equal own entry, or the next.
 //!
-//! Reviews stand in the order of their numbers. A new one comes last, and one that is found by halving is changed
-//! where it stands. So no command walks over the others. Only the question whether an open review names a criterion
-//! does: it is asked where a criterion is removed, or files are replaced.
+//! Reviews are in the order of their numbers. A new one is added at the end, and one that is held is found by binary
+//! search and changed in place. So no command looks at all the others. Only the question whether an open review names
+//! a criterion does so. It is asked if a criterion is removed or files are replaced.
 ghost use Rattle.std.specs.Prelude.{◌≡◌, ◌<◌, ◌≤◌, ℕ, IfErr, IfOk, List, Ok, is_some, length, true};
 ghost use Rattle.std.specs.Ordering.{nat_cmp};
 ghost use Rattle.vet_base.specs.Day.{DayValue};
@@ -32,7 +32,7 @@ use vet_base::refusal::Refusal;
 use vet_base::version::VetVersion;
 
 impl Desk {
-    /// What a command on a day changes, and room for it.
+    /// The change of a command on a day, with room for it. Refused: `NoMemory`.
     pub(crate) fn change(
         &mut self,
         alloc: Global,
@@ -130,7 +130,7 @@ impl Desk {
         DeskChange::Turn(self.place_held(number), ReviewState::Withdrawn)
     }
 
-    // Where the review of a number stands, which is held.
+    // The place of the review of a number, which must be held.
     fn place_held(&self, number: u64) -> usize
         requires { is_some (review_of self.now.content.reviews number) ≡ true }
         ensures place { IsPlace nat_cmp review_number self.now.content.reviews number (Ok result) }
@@ -143,7 +143,7 @@ impl Desk {
     }
 }
 
-// A review that nobody has begun, of copies.
+// A waiting review, made of copies.
 fn new_review(
     number: u64,
     day: Day,

@@ -1,4 +1,4 @@
-//! Reviews: what is to be reviewed, and how far that has come.
+//! Reviews and their states.
 ghost use Rattle.std.specs.Prelude.{◌≡◌};
 ghost use Rattle.std.specs.Cmp.{nat_cmp_total, on_total};
 ghost use Rattle.std.specs.Ordering.{nat_cmp, on};
@@ -37,16 +37,16 @@ impl Drop for Review {
     }
 }
 
-/// How far a review has come. One that is finished or withdrawn is closed: it doesn't change any more, and shows no
+/// The state of a review. A finished or withdrawn review is closed: it does not change any more, and names no
 /// member.
 pub enum ReviewState {
-    /// Nobody has begun.
+    /// It is waiting, and assigned to nobody.
     Waiting,
-    /// This member is to do it.
+    /// It is assigned to this member.
     Assigned(Name),
-    /// It is done: the own entry of this number vouches, or did so until it was dropped.
+    /// It is finished, with the own entry of this number, which may have been dropped since.
     Finished(u64),
-    /// It won't be done.
+    /// It is withdrawn.
     Withdrawn,
 }
 
@@ -94,7 +94,7 @@ impl ReviewState {
         }
     }
 
-    /// Whether the review is assigned to another than this member.
+    /// Whether the review is assigned to a member other than this one.
     pub fn is_anothers(&self, name: &Name) -> bool
         ensures { result ≡ is_anothers name.now self.now }
     {
@@ -106,14 +106,14 @@ impl ReviewState {
 }
 
 impl Review {
-    /// Whether it isn't closed and names a criterion.
+    /// Whether the review is not closed and names a criterion.
     pub fn is_open_for(&self, name: &Name) -> bool
         ensures { result ≡ is_open_for name.now self.now }
     {
         !self.state.is_closed() && self.criteria.contains(name)
     }
 
-    /// Whether it isn't closed and names a criterion that a table lacks.
+    /// Whether the review is not closed and names a criterion that a table lacks.
     pub fn is_open_beyond(&self, criteria: &CriteriaTable) -> bool
         ensures { result ≡ is_open_beyond criteria.now self.now }
     {

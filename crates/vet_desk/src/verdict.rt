@@ -1,6 +1,6 @@
-//! What a command is told at the desk: a call for each part of the verdict, and one for all of them in their order.
+//! The verdict on a command to the desk: a call for each part of it, and one for all parts in order.
 //!
-//! The register asks for the parts by themselves, since what it asks itself stands between them.
+//! The register calls the parts separately, since its own checks come between them.
 ghost use Rattle.std.specs.Prelude.{◌≡◌};
 ghost use Rattle.std.specs.List.{list_all};
 ghost use Rattle.vet_base.specs.CriteriaChanges.{known};
@@ -22,19 +22,19 @@ use vet_base::refusal::{Limit, Refusal};
 use vet_base::version::VetVersion;
 use vet_demand::demand::Demand;
 
-/// What a command is told that nothing refuses.
+/// The verdict on a command that is not refused.
 #[derive(Clone, Copy, PartialEq, Eq)]
 pub enum DeskAnswer {
-    /// What it sets or adds is held already.
+    /// The member or assignment that the command adds is held already.
     Already,
-    /// It is accepted.
+    /// The command is accepted.
     Accepted,
 }
 
 impl Desk {
-    /// What a command is told, with these criteria and this demand. Refused, the first that holds: `TooLarge` of
+    /// The verdict on a command, with these criteria and this demand. Refused, the first that applies: `TooLarge` of
     /// `members`, `reviews` or `number`; `UnknownCriterion`, `UnknownMember`, `UnknownReview`; `ReviewClosed`,
-    /// `NotYours`, `WrongTarget`, `NotDemanded`. `NoMemory` comes in place of `UnknownCriterion` alone.
+    /// `NotYours`, `WrongTarget`, `NotDemanded`. `NoMemory` comes only in place of `UnknownCriterion`.
     pub fn judge(
         &self,
         command: &DeskCommand,
@@ -53,7 +53,7 @@ impl Desk {
         Ok(DeskAnswer::Accepted)
     }
 
-    /// Whether what a command would set or add is held already: the member, or the assignment. Takes no memory.
+    /// Whether the member or assignment that a command would add is held already. Takes no memory.
     pub fn is_held(&self, command: &DeskCommand) -> bool
         ensures { result ≡ desk_held self.now.content command.now }
     {
@@ -64,7 +64,8 @@ impl Desk {
         }
     }
 
-    /// Whether one more member or review is within the limit. Refused: `TooLarge` of `members` or `reviews`.
+    /// Checks that one more member or review is within the limit. Refused: `TooLarge` of `members` past 1,000, or of
+    /// `reviews` past 100,000.
     pub fn check_limits(&self, command: &DeskCommand) -> Result<(), Refusal>
         ensures { result ≡ desk_limits self.now.content command.now }
     {
@@ -75,7 +76,7 @@ impl Desk {
         }
     }
 
-    /// Whether there is a number for a review that is opened. Refused: `TooLarge` of `number`.
+    /// Checks that there is a number for a review to be opened. Refused: `TooLarge` of `number` past 2^63 - 2.
     pub fn check_number(&self, command: &DeskCommand) -> Result<(), Refusal>
         ensures { result ≡ desk_number self.now.content command.now }
     {
@@ -85,8 +86,8 @@ impl Desk {
         }
     }
 
-    /// Whether what a command refers to is held. Refused: `UnknownCriterion` of the least name that the table lacks,
-    /// or `NoMemory` in its place; `UnknownMember`, `UnknownReview`.
+    /// Checks that everything that a command refers to is held. Refused: `UnknownCriterion` with the least name that
+    /// the table lacks, or `NoMemory` in its place; `UnknownMember`, then `UnknownReview`.
     pub fn check_references(
         &self,
         command: &DeskCommand,
@@ -103,9 +104,9 @@ impl Desk {
         }
     }
 
-    /// Whether a review that is opened is of demanded pairs, and whether one that changes is open, and is the
-    /// member's to change. Of a review that isn't held nothing is asked. Refused: `ReviewClosed`, `NotYours`,
-    /// `WrongTarget`, `NotDemanded`.
+    /// Checks that a review to be opened is of demanded pairs, and that one to be changed is open and this member may
+    /// change it. A review that is not held is not checked. Refused, the first that applies: `ReviewClosed`,
+    /// `NotYours`, `WrongTarget`; for a review to be opened, `NotDemanded`.
     pub fn check_rules(&self, command: &DeskCommand, demand: &Demand) -> Result<(), Refusal>
         ensures { result ≡ desk_rules demand.now self.now.content command.now }
     {
@@ -165,7 +166,7 @@ impl Desk {
         Ok(())
     }
 
-    // A member and a review are held.
+    // Checks that a member and a review are held.
     fn check_both(&self, number: u64, member: &Name) -> Result<(), Refusal>
         ensures { result ≡ both_held self.now.content number member.now }
     {
@@ -179,7 +180,7 @@ impl Desk {
     }
 }
 
-// A name that is unknown is refused.
+// Refuses an unknown name.
 fn check_known(unknown: Option<&Name>) -> Result<(), Refusal>
     ensures { Answers (known (option_copied unknown.entry)) result }
 {
@@ -203,7 +204,7 @@ fn check_demanded(
     Ok(())
 }
 
-// Whether a version of a package is demanded for each of some criteria, of which there are some.
+// Whether a version of a package is demanded for each of some criteria, of which there must be at least one.
 fn are_demanded(
     demand: &Demand,
     package: &PackageName,
@@ -241,7 +242,7 @@ fn is_demanded(
     demand.contains(package, version, criterion)
 }
 
-// A review that is held is not closed.
+// Checks that a review that is held is not closed.
 fn check_open(review: Option<&Review>) -> Result<(), Refusal>
     ensures { result ≡ asked_of still_open (option_copied review.entry) }
 {
@@ -260,7 +261,7 @@ fn still_open(review: &Review) -> Result<(), Refusal>
     Ok(())
 }
 
-// A review that is held may be finished by a member who reviewed this.
+// Checks that a member who reviewed this may finish a review that is held.
 fn check_finish(review: Option<&Review>, member: &Name, reviewed: &Reviewed) -> Result<(), Refusal>
     ensures { result ≡ asked_of (finish_rules member.now reviewed.now) (option_copied review.entry) }
 {
@@ -277,7 +278,7 @@ fn check_finish(review: Option<&Review>, member: &Name, reviewed: &Reviewed) -> 
     Ok(())
 }
 
-// A review that is held may be withdrawn by a member.
+// Checks that a member may withdraw a review that is held.
 fn check_withdrawal(review: Option<&Review>, member: &Name) -> Result<(), Refusal>
     ensures { result ≡ asked_of (withdraw_rules member.now) (option_copied review.entry) }
 {
