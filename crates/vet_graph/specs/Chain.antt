@@ -9,7 +9,7 @@ use Rattle.vet_entries.specs.declared.step.Step.{Step}
 abbrev pub Condemned : Type 0
 Condemned = ℕ → VersionValue → Bool
 
--- the steps lead from where one stands to v, each from where the last arrived
+-- the steps lead from this version, or from nothing, to v, each from where the one before it arrived
 abbrev pub Leads : Option VersionValue → List Step → VersionValue → Type 0
 Leads at [] v = at ≡ Some v
 Leads at (s ∷ rest) v = (s.origin ≡ at) × Leads (Some s.target) rest v
@@ -29,7 +29,7 @@ IsClean condemned c chain = All (λ s. condemned c s.target ≡ false) chain
 abbrev pub HasNoExempt : List Step → Type 0
 HasNoExempt chain = All (λ s. s.exempt ≡ false) chain
 
--- the last step of the chain isn't exempt
+-- the last step of the chain is not exempt
 abbrev pub EndsReviewed : List Step → Type 0
 EndsReviewed chain = (front : List Step) × (s : Step) × (chain ≡ front ++ s ∷ []) × (s.exempt ≡ false)
 

@@ -1,5 +1,5 @@
--- The questions on chains, decided (ours): by a look at all lists of the package's steps that are no longer than their
--- number. Each answer comes with its proof, so the types say all.
+-- Decisions of the questions about chains (ours), by a look at all lists of the package's steps that are no longer than
+-- the number of steps. Each answer comes with its proof, so the types say everything.
 use Rattle.std.specs.Prelude.{◌≡◌, ◌≢◌, ℕ, ◌≤◌, true, false, List, [], ◌∷◌, ◌++◌, Option, Some, None, map, length}
 use Rattle.std.specs.List.{All, AllPairs, Contains}
 use Rattle.std.specs.Cmp.{decided}
@@ -44,7 +44,7 @@ length-le_from_chain steps c v chain h =
     (All-contains (Contains (targets steps)) (targets chain) q among
     ((is_member-Decides version_eq-Decides (targets chain) q).0 m))))
 
--- what is asked of a list of the package's steps
+-- the conditions on a list of the package's steps
 IsChainTest : ℕ → VersionValue → List Step → Type 0
 IsChainTest c v chain = All (λ s. has c s.criteria ≡ true) chain × Leads None chain v
     × AllPairs (λ s t. s.target ≢ t.target) chain
@@ -101,7 +101,7 @@ not_nil : (front : List Step) (s : Step) → [] ≡ front ++ s ∷ [] → ⊥
 not_nil [] s e = cc e
 not_nil (t ∷ front) s e = cc e
 
--- the last of one step is that step
+-- the last step of a list of one is that step
 pub one_last : (s : Step) (front : List Step) (t : Step) → s ∷ [] ≡ front ++ t ∷ [] → t.exempt ≡ false
     → s.exempt ≡ false
 one_last s [] t e h = rw (cons_injective _ _ _ _ e).0 h

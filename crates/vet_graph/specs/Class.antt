@@ -1,4 +1,4 @@
--- The class of a version for a criterion (ours): the first of five that holds.
+-- The class of a version for a criterion (ours): the first of five that applies.
 use Rattle.std.specs.Prelude.{◌≡◌, ℕ, true, List, MatchOption, codes}
 use Rattle.vet_base.specs.Criteria.{place_of}
 use Rattle.vet_base.specs.Version.{VersionValue}
@@ -12,7 +12,7 @@ use Rattle.vet_graph.specs.declared.class.Class.{Class}
 use Rattle.vet_graph.specs.declared.class.Class.TheVariants.{Conflicting, Full, Partial, Exempted, Unvetted}
 use Rattle.vet_graph.specs.Chain.{Condemned, EndsReviewed, HasChain, HasCleanChain, HasNoExempt, IsAny}
 
--- the version is condemned, and yet some chain leads to it
+-- the version is condemned, and some chain leads to it, clean or not
 abbrev pub IsConflicting : List Step → Condemned → ℕ → VersionValue → Type 0
 IsConflicting steps condemned c v = (condemned c v ≡ true) × HasChain steps c v
 
@@ -20,7 +20,7 @@ IsConflicting steps condemned c v = (condemned c v ≡ true) × HasChain steps c
 abbrev pub IsFull : List Step → Condemned → ℕ → VersionValue → Type 0
 IsFull steps condemned c v = HasCleanChain steps condemned c v HasNoExempt
 
--- some clean chain ends in a step that isn't exempt
+-- some clean chain ends in a step that is not exempt
 abbrev pub IsPartial : List Step → Condemned → ℕ → VersionValue → Type 0
 IsPartial steps condemned c v = HasCleanChain steps condemned c v EndsReviewed
 
@@ -28,7 +28,7 @@ IsPartial steps condemned c v = HasCleanChain steps condemned c v EndsReviewed
 abbrev pub IsExempted : List Step → Condemned → ℕ → VersionValue → Type 0
 IsExempted steps condemned c v = HasCleanChain steps condemned c v IsAny
 
--- the class is the first that holds
+-- the class is the first that applies
 abbrev pub IsClass : List Step → Condemned → ℕ → VersionValue → Class → Type 0
 IsClass steps condemned c v Conflicting = IsConflicting steps condemned c v
 IsClass steps condemned c v Full = ¬ IsConflicting steps condemned c v × IsFull steps condemned c v
@@ -41,15 +41,14 @@ IsClass steps condemned c v Unvetted =
     ¬ IsConflicting steps condemned c v × ¬ IsFull steps condemned c v × ¬ IsPartial steps condemned c v
     × ¬ IsExempted steps condemned c v
 
--- the class of a pair by these facts: what its package's steps and condemned versions give its version at the place of
--- its
--- criterion; nothing vouches for a criterion that has no place in the table
+-- the class of a pair by these facts: the class that the steps and condemned versions of its package give its version
+-- at the place of its criterion; nothing vouches for a criterion that has no place in the table
 abbrev pub IsClassOfPair : Facts → Pair → Class → Type 0
 IsClassOfPair facts p class =
     MatchOption (place_of facts.criteria p.criterion) (class ≡ Unvetted)
     (λ place. IsClass (steps_of facts p.«package») (is_condemned facts p.«package») place p.version class)
 
--- the word of a class: its name in small letters
+-- the word of a class: its name in lower case
 abbrev pub class_word : Class → Text
 class_word Conflicting = codes "conflicting"
 class_word Full = codes "full"

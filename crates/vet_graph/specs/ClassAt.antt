@@ -1,4 +1,4 @@
--- The class of a version as a function (ours): the first of five that holds, as each question on chains is decided.
+-- The class of a version as a function (ours): the first of five that applies, by decisions of questions on chains.
 use Rattle.std.specs.Prelude.{◌≡◌, ℕ, List}
 use Rattle.std.proofs.Common.{inl, inr}
 use Rattle.vet_base.specs.Version.{VersionValue}
@@ -10,7 +10,7 @@ use Rattle.vet_graph.specs.ChainDecisions.{conflicting, ends_reviewed, no_exempt
 use Rattle.vet_graph.specs.Class.{IsClass}
 use Rattle.vet_graph.specs.Decisions.{Answer}
 
--- the first of the classes that holds
+-- the first of the classes that applies
 unfoldable pub first_of : {A B C D : Type 0} → Answer A → Answer B → Answer C → Answer D → Class
 first_of (inl a) q r s = Conflicting
 first_of (inr a) (inl b) r s = Full
@@ -25,12 +25,12 @@ class_at steps condemned c v =
     (some_clean_chain steps condemned c v EndsReviewed ends_reviewed)
     (some_clean_chain steps condemned c v IsAny (λ _. inl tt))
 
--- the class of a version holds, and those before it don't
+-- the class of a version applies, and those before it do not
 abbrev pub ClassHolds : Type 0
 ClassHolds = (steps : List Step) (condemned : Condemned) (c : ℕ) (v : VersionValue)
     → IsClass steps condemned c v (class_at steps condemned c v)
 
--- no other class does so
+-- this is true of no other class
 abbrev pub ClassIsOnly : Type 0
 ClassIsOnly = (steps : List Step) (condemned : Condemned) (c : ℕ) (v : VersionValue) (k : Class)
     → IsClass steps condemned c v k → k ≡ class_at steps condemned c v

@@ -1,4 +1,4 @@
--- The class of a version by decisions is that of the definition, and no other one is (ours).
+-- The class that the function gives a version is that of the definition, and no other class is (ours).
 use Rattle.std.specs.Prelude.{◌≡◌, ℕ, List}
 use Rattle.std.proofs.Common.{refl, inl, inr}
 use Rattle.vet_base.specs.Version.{VersionValue}
@@ -21,7 +21,7 @@ class_answers steps condemned c v (inr a) (inr b) (inl d) s = (a, b, d)
 class_answers steps condemned c v (inr a) (inr b) (inr d) (inl e) = (a, b, d, e)
 class_answers steps condemned c v (inr a) (inr b) (inr d) (inr e) = (a, b, d, e)
 
--- it is the class that the definition names, and no other is
+-- it is the class of the definition, and no other class is
 pub class_at-is : (steps : List Step) (condemned : Condemned) (c : ℕ) (v : VersionValue)
     → IsClass steps condemned c v (class_at steps condemned c v)
 unfolding class_at

@@ -1,4 +1,4 @@
--- Questions about lists that have an answer (ours): each answer comes with its proof, so the types say all.
+-- Questions about lists that can be decided (ours). Each answer comes with its proof, so the types say everything.
 use Rattle.std.specs.Prelude.{◌≡◌, ◌⊎◌, ℕ, zero, suc, Bool, true, false, List, [], ◌∷◌, map}
 use Rattle.std.specs.List.{All, AllPairs, Contains, flat_map}
 use Rattle.std.proofs.Common.{refl, inl, inr, arith}
@@ -11,7 +11,7 @@ use Rattle.vet_base.proofs.ListLemmas.{Contains-cons_cases, Contains-here, Conta
 abbrev pub Answer : Type 0 → Type 0
 Answer P = P ⊎ (P → ⊥)
 
--- the answer to a question that has the same answer
+-- the answer to an equivalent question
 pub same_answer : {P Q : Type 0} → (P → Q) → (Q → P) → Answer P → Answer Q
 same_answer f g (inl p) = inl (f p)
 same_answer f g (inr n) = inr (λ q. n (g q))

@@ -1,4 +1,4 @@
--- Laws of the lists among which a decision looks (ours).
+-- Laws of the lists that a decision looks at (ours).
 use Rattle.std.specs.Prelude.{ℕ, zero, suc, ◌≤◌, List, [], ◌∷◌, map, length}
 use Rattle.std.specs.List.{All, Contains}
 use Rattle.std.proofs.Common.{get_or, arith}
@@ -7,7 +7,7 @@ use Rattle.vet_graph.specs.Decisions.{lists_up_to}
 use Rattle.vet_graph.specs.ListLaws.{All-flat_map, Contains-flat_map, Contains-map}
 use Rattle.vet_base.proofs.ListLemmas.{Contains-here, Contains-later}
 
--- each list of at most n of the elements is one of them, and each of them is of the elements
+-- each list of at most n of the elements is one of these lists, and each of these consists of the elements
 pub Contains-lists_up_to : {X : Type 0} (n : ℕ) (xs l : List X) → length l ≤ n → All (Contains xs) l
     → Contains (lists_up_to n xs) l
 unfolding lists_up_to

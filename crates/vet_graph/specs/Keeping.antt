@@ -1,4 +1,4 @@
--- What the values of a keeper and of its updates mean (ours).
+-- The meaning of the values of a keeper and of its updates (ours).
 use Rattle.std.specs.Prelude.{List}
 use Rattle.vet_demand.specs.declared.pair.Pair.{Pair}
 use Rattle.vet_entries.specs.Facts.{Facts}
@@ -6,9 +6,9 @@ use Rattle.vet_graph.specs.declared.moves.Move.{Move}
 use Rattle.vet_graph.specs.declared.standing.Stand.{Stand}
 use Rattle.vet_graph.specs.declared.touched.Touched.{Touched}
 
--- of a keeper: the class of each demanded pair, and whether what it holds is what some facts and a demand give;
--- of both: whether the keeper planned the update for some facts and a demand on what it holds, and still has the room
--- for it; of an update: its moves, and what it was told is touched
+-- for a keeper: the class of each demanded pair, and whether it holds the result for some facts and a demand;
+-- for both: whether the keeper planned the update for some facts and a demand in its present state, and still has the
+-- room for it; for an update: its moves, and the packages that were named as touched
 pub record Keeping (K U : Type 0) : Type 1 where
   pub standing : K → List Stand
   pub keeps : K → Facts → List Pair → Type 0

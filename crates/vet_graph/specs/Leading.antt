@@ -17,8 +17,8 @@ pub record KeepChains (steps : List Step) (c : ℕ) (v : VersionValue) (kept : L
   pub some : All (Contains steps) kept
   pub chains : (chain : List Step) → IsChain steps c v chain → All (Contains kept) chain
 
--- what is held is enough for the class of a pair whose criterion has this place: the steps of its package that chains
--- to its version take, with what condemns their targets, and the violations
+-- this is enough for the class of a pair whose criterion has this place: the steps of its package that chains to its
+-- version can take, with the criteria for which their targets are condemned, and the violations
 pub record AreStepsTo (facts : Facts) (p : Pair) (c : ℕ) (held : PackageSteps) : Type 0 where
   pub steps : KeepChains (steps_of facts p.«package») c p.version (steps_in held.steps)
   pub guards : AreGuarded (condemned_by held.violations.items) held.steps
@@ -26,7 +26,7 @@ pub record AreStepsTo (facts : Facts) (p : Pair) (c : ℕ) (held : PackageSteps)
 
 -- ---- steps turned around
 
--- a step from a version, turned around; one from nothing can't be
+-- a step from a version, turned around; a step from nothing cannot be turned
 abbrev pub turned_from : Step → Option VersionValue → List Step
 turned_from s None = []
 turned_from s (Some origin) =
@@ -35,7 +35,7 @@ turned_from s (Some origin) =
 abbrev pub turned : Step → List Step
 turned s = turned_from s s.origin
 
--- where a walk back from a version begins
+-- the first step of a walk back from a version
 abbrev pub walk_start : ℕ → VersionValue → Step
 walk_start c v = record { origin = None; target = v; criteria = set.insert set.empty c; exempt = false }
 

@@ -1,4 +1,4 @@
--- Laws of lists (ours): what they contain, and what holds of all of them.
+-- Laws of lists (ours): the items that they contain, and properties of all their items.
 use Rattle.std.specs.Prelude.{◌≡◌, ◌≢◌, ◌⊎◌, zero, suc, List, [], ◌∷◌, map}
 use Rattle.std.specs.List.{All, AllPairs, Contains, flat_map}
 use Rattle.std.proofs.Common.{refl, ◌∙◌, ap, inl, inr, arith}

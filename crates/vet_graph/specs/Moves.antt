@@ -11,26 +11,26 @@ use Rattle.vet_graph.specs.declared.moves.Move.{Move}
 use Rattle.vet_graph.specs.declared.standing.Stand.{Stand}
 use Rattle.vet_graph.specs.Standing.{class_in, count_of, same_class, IsStanding}
 
--- a pair that stood is demanded no more
+-- a pair that was demanded no longer is
 abbrev pub leaves : Stand → Move
 leaves s = record { pair = s.pair; before = Some s.class; after = None }
 
--- a pair that wasn't demanded stands
+-- a pair that was not demanded now is
 abbrev pub comes : Stand → Move
 comes t = record { pair = t.pair; before = None; after = Some t.class }
 
--- a pair stands in both; it moves where the classes differ
+-- a pair is in both standings; it moves if its classes differ
 abbrev pub changes : Stand → Stand → List Move
 changes s t = cond (same_class s.class t.class) []
     (record { pair = s.pair; before = Some s.class; after = Some t.class } ∷ [])
 
--- the moves from what begins with s to what begins with t, by how their pairs compare: s leaves, both stay, or t comes
+-- the moves from a list that begins with s to one with t, by the order of their pairs: s leaves, both stay, or t comes
 abbrev pub moves_by : Ordering → Stand → Stand → List Move → List Move → List Move → List Move
 moves_by Less s t less equal greater = leaves s ∷ less
 moves_by Equal s t less equal greater = changes s t ++ equal
 moves_by Greater s t less equal greater = comes t ∷ greater
 
--- the moves from s and what follows it, where `more` gives those from what follows it
+-- the moves from s and the rest of its list; `more` gives those from this rest
 abbrev pub moves_past : Stand → (List Stand → List Move) → List Stand → List Move
 moves_past s more [] = leaves s ∷ more []
 moves_past s more (t ∷ after) =
@@ -41,11 +41,11 @@ abbrev pub moves_between : List Stand → List Stand → List Move
 moves_between [] after = map comes after
 moves_between (s ∷ before) after = moves_past s (moves_between before) after
 
--- how many moves arrive at a class
+-- the number of moves that arrive at a class
 abbrev pub arrivals_of : Class → List Move → ℕ
 arrivals_of class moves = count_by (λ m. option_eq same_class m.after (Some class)) moves
 
--- how many moves depart from a class
+-- the number of moves that depart from a class
 abbrev pub departures_of : Class → List Move → ℕ
 departures_of class moves = count_by (λ m. option_eq same_class m.before (Some class)) moves
 
@@ -56,23 +56,23 @@ pub record AreMoves (before after : List Stand) (moves : List Move) : Type 0 whe
       (λ m. (m.before ≡ class_in before m.pair) × (m.after ≡ class_in after m.pair) × (m.before ≢ m.after)) moves
   pub all : (p : Pair) → class_in before p ≢ class_in after p → Contains (map (λ m. m.pair) moves) p
 
--- where both standings are in order, the walk gives the moves
+-- if both standings are in order, the walk gives the moves
 abbrev pub MovesAreDifferences : Type 0
 MovesAreDifferences = (before after : List Stand) → IsStanding before → IsStanding after
     → AreMoves before after (moves_between before after)
 
--- what stands in a class, with what departed from it, is what stood there, with what arrived
+-- the number of pairs in a class after, plus the departures, is the number before, plus the arrivals
 abbrev pub MovesBalance : Type 0
 MovesBalance = (class : Class) (before after : List Stand)
     → count_of class after + departures_of class (moves_between before after)
     ≡ count_of class before + arrivals_of class (moves_between before after)
 
--- the arrivals of two runs of moves add up
+-- the arrivals of two lists of moves add up
 abbrev pub ArrivalsAdd : Type 0
 ArrivalsAdd = (class : Class) (first more : List Move)
     → arrivals_of class (first ++ more) ≡ arrivals_of class first + arrivals_of class more
 
--- the departures of two runs of moves add up
+-- the departures of two lists of moves add up
 abbrev pub DeparturesAdd : Type 0
 DeparturesAdd = (class : Class) (first more : List Move)
     → departures_of class (first ++ more) ≡ departures_of class first + departures_of class more

@@ -1,4 +1,4 @@
--- What is known of the steps of one package (ours).
+-- The steps of one package, as the code holds them (ours).
 use Rattle.std.specs.Prelude.{◌≡◌, List}
 use Rattle.vet_base.specs.Words.{Name}
 use Rattle.vet_entries.specs.Condemned.{condemned_by, violations_of}
@@ -9,7 +9,7 @@ use Rattle.vet_entries.specs.declared.step.Step.{Step}
 use Rattle.vet_graph.specs.declared.package_steps.PackageSteps.{PackageSteps}
 use Rattle.vet_graph.specs.Search.{AreGuarded, steps_in}
 
--- what is held is of a package of this name: these steps, with what these violations condemn their targets for
+-- a package of this name has these steps, with the criteria for which these violations condemn their targets
 pub record AreLinked (name : Name) (all : List Step) (condemning : List Violation) (held : PackageSteps)
     : Type 0 where
   pub named : held.«package» ≡ name
@@ -17,7 +17,7 @@ pub record AreLinked (name : Name) (all : List Step) (condemning : List Violatio
   pub guards : AreGuarded (condemned_by held.violations.items) held.steps
   pub violations : held.violations.items ≡ condemning
 
--- what is held is of this package: its steps, with what condemns their targets, and its violations
+-- this package has its steps, with the criteria for which their targets are condemned, and its violations
 pub record AreStepsOf (facts : Facts) (name : Name) (held : PackageSteps) : Type 0 where
   pub named : held.«package» ≡ name
   pub steps : steps_in held.steps ≡ steps_of facts name

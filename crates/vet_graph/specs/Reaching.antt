@@ -1,4 +1,4 @@
--- What a search for chains keeps while it goes on (ours).
+-- The invariants of a search for chains (ours).
 use Rattle.std.specs.Prelude.{◌≡◌, ◌≢◌, ◌↔◌, ℕ, ◌<◌, Bool, true, false, List, Option, Some, None, map, get_or, length}
 use Rattle.std.specs.List.{All, AllPairs, Contains}
 use Rattle.vet_base.specs.Version.{VersionValue}
@@ -22,7 +22,7 @@ abbrev pub Stands : {X : Type 0} → List X → Option X → Type 0
 Stands reached None = Unit {0}
 Stands reached (Some v) = Contains reached v
 
--- each version that was reached has a chain within what was reached, and stands there once
+-- each version that was reached has a chain of versions that were reached, and is among them once
 pub record IsSound (guarded : List GuardedStep) (open_step : GuardedStep → Bool)
     (reached : List VersionValue) : Type 0 where
   pub chains : (v : VersionValue) → Contains reached v
@@ -31,11 +31,11 @@ pub record IsSound (guarded : List GuardedStep) (open_step : GuardedStep → Boo
   pub once : AllPairs (λ v w. v ≢ w) reached
   pub of_steps : All (Contains (map (λ g. g.step.target) guarded)) reached
 
--- where this step is open and starts here, it leads to what was reached
+-- if this step is open and starts here, it leads to a version that was reached
 abbrev pub LeadsFrom : (GuardedStep → Bool) → List VersionValue → Option VersionValue → GuardedStep → Type 0
 LeadsFrom open_step reached at g = open_step g ≡ true → g.step.origin ≡ at → Contains reached g.step.target
 
--- the steps from nothing and from the first n versions lead into what was reached
+-- the open steps from nothing and from the first n versions lead to versions that were reached
 pub record IsDone (guarded : List GuardedStep) (open_step : GuardedStep → Bool) (reached : List VersionValue)
     (n : ℕ) : Type 0 where
   pub start : All (LeadsFrom open_step reached None) guarded
@@ -45,12 +45,12 @@ pub record IsDone (guarded : List GuardedStep) (open_step : GuardedStep → Bool
 abbrev pub StandsBefore : List GuardedStep → List ℕ → ℕ → Type 0
 StandsBefore guarded reached place = Stands (versions_at guarded reached) (origin_at guarded place)
 
--- where the step at a place is open, it leads to what was reached
+-- if the step at a place is open, it leads to a version that was reached
 abbrev pub LeadsOn : List GuardedStep → Terms → List ℕ → ℕ → Type 0
 LeadsOn guarded terms reached place = is_open terms (get_or guarded place no_step) ≡ true
     → Contains (versions_at guarded reached) (version_at guarded place)
 
--- what was reached are heads, marked as seen, and the versions to which they lead are soundly reached
+-- the places that were reached are heads, marked as seen, and the versions to which they lead are soundly reached
 pub record IsReaching (guarded : List GuardedStep) (links : Links) (terms : Terms) (reached : List ℕ)
     (seen : List Bool) : Type 0 where
   pub within : All (λ p. p < length guarded) reached

@@ -1,4 +1,4 @@
--- What a search for chains finds (ours).
+-- The answer of a search for chains (ours).
 use Rattle.std.specs.Prelude.{◌≡◌, ℕ, Bool, true, false, not, ◌&&◌, List, [], None, map, get_or}
 use Rattle.std.specs.List.{All, Contains}
 use Rattle.std.specs.FinSet as set
@@ -24,7 +24,7 @@ AreGuarded condemned guarded = All (λ g. (c : ℕ) → has c g.condemned ≡ co
 abbrev pub AreGuardedAt : ℕ → Condemned → List GuardedStep → Type 0
 AreGuardedAt c condemned guarded = All (λ g. has c g.condemned ≡ condemned c g.step.target) guarded
 
--- these versions are condemned for c as the steps carry it, and v is so where c is among these places
+-- these versions are condemned for c as the steps carry it, and v exactly if c is among these places
 abbrev pub Agrees : List GuardedStep → Places → ℕ → VersionValue → Condemned → Type 0
 Agrees guarded places c v condemned = AreGuardedAt c condemned guarded × (has c places ≡ condemned c v)
 
@@ -42,14 +42,14 @@ is_barred terms g = terms.barred && has terms.place g.condemned
 abbrev pub is_open : Terms → GuardedStep → Bool
 is_open terms g = has terms.place g.step.criteria && (not (is_barred terms g) && may_take terms.skip g.step)
 
--- a chain leads to v, by steps that aren't skipped and through no version that is barred
+-- a chain leads to v, by steps that are not skipped and through no version that is barred
 abbrev pub IsReached : List GuardedStep → Terms → VersionValue → Type 0
 IsReached guarded terms v =
     (chain : List GuardedStep) × All (Contains guarded) chain × IsChain (steps_in guarded) terms.place v
     (steps_in chain)
     × All (λ g. is_barred terms g ≡ false) chain × All (λ g. may_take terms.skip g.step ≡ true) chain
 
--- what a read past the end would give
+-- the step that a read past the end would give
 abbrev pub no_step : GuardedStep
 no_step = record {
   step =

@@ -1,4 +1,4 @@
--- The standing (ours): the demanded pairs in order, each with its class, and how many there are in each class.
+-- The standing (ours): the demanded pairs in order, each with its class, and the number of pairs in each class.
 use Rattle.std.specs.Prelude.{◌≡◌, ℕ, ◌+◌, Bool, true, false, cond, List, [], ◌∷◌, map, length, Option, Some, None}
 use Rattle.std.specs.List.{count_by}
 use Rattle.vet_demand.specs.declared.pair.Pair.{Pair}
@@ -21,20 +21,20 @@ same_class _ _ = false
 abbrev pub pairs_of : List Stand → List Pair
 pairs_of standing = map (λ s. s.pair) standing
 
--- each pair of the standing comes before those after it
+-- each pair of the standing comes before all those after it
 abbrev pub IsStanding : List Stand → Type 0
 IsStanding standing = IsInOrder (pairs_of standing)
 
--- the class at which a pair stands, where it is demanded
+-- the class of a pair, if it is demanded
 abbrev pub class_in : List Stand → Pair → Option Class
 class_in [] p = None
 class_in (s ∷ rest) p = cond (pair_eq s.pair p) (Some s.class) (class_in rest p)
 
--- how many pairs stand in a class
+-- the number of pairs in a class
 abbrev pub count_of : Class → List Stand → ℕ
 count_of class standing = count_by (λ s. same_class s.class class) standing
 
--- how many pairs stand in each class
+-- the number of pairs in each class
 abbrev pub counts_of : List Stand → Counts
 counts_of standing =
     record {
@@ -53,7 +53,7 @@ count_in Partial counts = counts.partial
 count_in Exempted counts = counts.exempted
 count_in Unvetted counts = counts.unvetted
 
--- all five counts together
+-- the sum of the five counts
 abbrev pub total_of : Counts → ℕ
 total_of counts = counts.conflicting + counts.full + counts.partial + counts.exempted + counts.unvetted
 

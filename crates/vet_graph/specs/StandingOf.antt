@@ -1,4 +1,4 @@
--- The class of each demanded pair, as chains of the entries' steps give it (ours).
+-- The class of each demanded pair, by chains of the entries' steps (ours).
 use Rattle.std.specs.Prelude.{◌≡◌, List, MatchOption, Option, map}
 use Rattle.std.specs.Option.{option_map_or}
 use Rattle.std.specs.List.{Contains}
@@ -35,24 +35,24 @@ class_of_pair facts p = class_by facts.criteria (steps_of facts p.«package») (
 abbrev pub standing_of : Facts → List Pair → List Stand
 standing_of facts demand = map (λ p. record { pair = p; class = class_of_pair facts p }) demand
 
--- nothing is held, so each class is the last
+-- each class by these facts is Unvetted
 abbrev pub NoneIsVetted : Facts → Type 0
 NoneIsVetted facts = (p : Pair) → class_of_pair facts p ≡ Unvetted
 
--- the class of each pair by any facts holds
+-- the class of each pair by any facts applies
 abbrev pub PairClassHolds : Type 0
 PairClassHolds = (facts : Facts) (p : Pair) → IsClassOfPair facts p (class_of_pair facts p)
 
--- no other class of a pair does so
+-- this is true of no other class of a pair
 abbrev pub PairClassIsOnly : Type 0
 PairClassIsOnly = (facts : Facts) (p : Pair) (k : Class) → IsClassOfPair facts p k → k ≡ class_of_pair facts p
 
--- a pair is answered the class at which it stands, or none where it is not demanded
+-- the answer for a pair is its class, or none if it is not demanded
 abbrev pub StandsAt : Facts → List Pair → Pair → Option Class → Type 0
 StandsAt facts demand p answer = MatchOption answer (¬ Contains demand p)
     (λ class. Contains demand p × IsClassOfPair facts p class)
 
--- each pair is found in the standing of a demand at the class at which it stands
+-- the standing of a demand gives each pair its class, or none if it is not demanded
 abbrev pub PairsStandAtTheirClass : Type 0
 PairsStandAtTheirClass = (facts : Facts) (demand : List Pair) (p : Pair)
     → StandsAt facts demand p (class_in (standing_of facts demand) p)

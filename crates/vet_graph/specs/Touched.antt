@@ -1,4 +1,4 @@
--- What stays outside the packages that a command touches (ours).
+-- The packages that a command does not touch stay the same (ours).
 use Rattle.std.specs.Prelude.{◌≡◌, ℕ, false, List, [], filter}
 use Rattle.std.specs.FinSet as set
 use Rattle.std.specs.Str.{bytes_eq}
@@ -23,18 +23,18 @@ pub record IsSameAt (name : Name) (old_facts : Facts) (old_demand : List Pair) (
   pub condemned : (c : ℕ) (v : VersionValue) → condemned_of old_facts name c v ≡ condemned_of facts name c v
   pub pairs : pairs_at name old_demand ≡ pairs_at name demand
 
--- the criteria are the same, and so is each package that isn't named
+-- the criteria are the same, and so is each package that is not named
 pub record IsSameBeside (names : NameSet) (old_facts : Facts) (old_demand : List Pair) (facts : Facts)
     (demand : List Pair) : Type 0 where
   pub criteria : old_facts.criteria ≡ facts.criteria
   pub packages : (name : Name) → set.contains names name ≡ false → IsSameAt name old_facts old_demand facts demand
 
--- some facts give no package a step, and condemn no version
+-- these facts give no package a step, and condemn no version
 pub record GiveNothing (facts : Facts) : Type 0 where
   pub steps : (name : Name) → steps_of facts name ≡ []
   pub condemned : (name : Name) (c : ℕ) (v : VersionValue) → condemned_of facts name c v ≡ false
 
--- what isn't touched is the same before and after; where all is, nothing is asked
+-- everything that is not touched is the same before and after; if all packages are touched, nothing is required
 abbrev pub SameOutside : Touched → Facts → List Pair → Facts → List Pair → Type 0
 SameOutside All old_facts old_demand facts demand = Unit {0}
 SameOutside (Packages names) old_facts old_demand facts demand = IsSameBeside names old_facts old_demand facts demand

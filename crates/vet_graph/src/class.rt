@@ -14,23 +14,23 @@ use vet_base::criteria_set::CriteriaSet;
 use vet_base::refusal::Refusal;
 use vet_base::version::VetVersion;
 
-/// How well a version is vouched for, for one criterion.
+/// How well a version is vouched for, for one criterion: the first of these classes that applies.
 #[derive(Clone, Copy, PartialEq, Eq)]
 pub enum Class {
-    /// The version is condemned, and yet some chain leads to it.
+    /// The version is condemned, and a chain leads to it, clean or not.
     Conflicting,
-    /// Some clean chain leads to it without an exempt step.
+    /// A clean chain without an exempt step leads to it.
     Full,
-    /// Some clean chain leads to it whose last step isn't exempt.
+    /// A clean chain whose last step is not exempt leads to it.
     Partial,
-    /// Some clean chain leads to it.
+    /// A clean chain leads to it.
     Exempted,
-    /// None of these.
+    /// None of these applies.
     Unvetted,
 }
 
 impl Class {
-    /// The class's word: its name in small letters.
+    /// The word of the class: its name in lower case.
     pub fn word(self) -> &'static str
         ensures { result.now ≡ class_word self }
     {
@@ -44,11 +44,11 @@ impl Class {
     }
 }
 
-/// The class of a version for the criterion at a place, by these steps, where these are the criteria for which
-/// the version is condemned (ours): that of the definition, for any versions that are condemned as the steps
-/// and the version say. Asks that there are such: steps to one version say the same of this criterion, and so
-/// does the version. Costs at most four searches, each of which looks at each step at most once. Refused:
-/// `NoMemory`.
+/// The class of a version for the criterion at a place, by these steps (ours). `condemned` has the criteria for which
+/// the version is condemned. The class is that of the definition, for any condemned versions that agree with the steps
+/// and with `condemned`. There must be such versions: for this criterion, all steps to one version carry the same, and
+/// those to `version` what `condemned` has. Costs at most four searches, each of which looks at each step at most once.
+/// Refused: `NoMemory`.
 pub(crate) fn class_of(
     alloc: Global,
     steps: &LinkedSteps,
@@ -78,7 +78,7 @@ pub(crate) fn class_of(
     Ok(Class::Unvetted)
 }
 
-// Whether the version is condemned, and yet some chain leads to it: through condemned versions too.
+// Whether the version is condemned and some chain leads to it, possibly through condemned versions.
 fn is_conflicting(
     alloc: Global,
     steps: &LinkedSteps,
@@ -115,7 +115,7 @@ fn is_fully_vetted(
     is_cleanly_reached(alloc, steps, place, Skip::Exempt, version)
 }
 
-// Whether some clean chain ends in a step that isn't exempt.
+// Whether some clean chain ends in a step that is not exempt.
 fn is_partly_vetted(
     alloc: Global,
     steps: &LinkedSteps,

@@ -1,4 +1,4 @@
-//! Steps, and what bars them.
+//! Steps, and the criteria for which their targets are condemned.
 
 use vet_base::criteria_set::CriteriaSet;
 use vet_entries::step::Step;
@@ -6,7 +6,7 @@ use vet_entries::step::Step;
 /// A step, and the criteria for which the version to which it leads is condemned.
 pub struct GuardedStep {
     pub step: Step,
-    /// By their places in the table.
+    /// These criteria, by their places in the table.
     pub condemned: CriteriaSet,
 }
 

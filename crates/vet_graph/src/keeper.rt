@@ -1,11 +1,11 @@
-//! What keeps the class of each demanded pair.
+//! Keepers of the class of each demanded pair.
 //!
-//! **The standing of a keeper is that which chains of steps give the demand that was applied last, however the
+//! **The standing of a keeper is the one that chains of steps give to the demand that was applied last, however the
 //! keeper finds it.**
 //!
-//! A change goes in two calls. `plan` finds the standing that other facts or another demand would give, and
-//! the moves to it, and does all that can fail; the standing stays. `apply` makes the planned standing the
-//! keeper's. Whoever keeps the classes in another way implements this trait, and callers stay as they are.
+//! A change takes two calls. `plan` finds the standing that other facts or another demand would give, and the moves to
+//! it. It does everything that can fail, and the standing stays. `apply` makes the planned standing the keeper's.
+//! Another way to keep the classes is another implementation of this trait, and callers stay as they are.
 ghost use Rattle.std.specs.Prelude.{◌≡◌, [], List, IfOk, IfErr, map};
 ghost use Rattle.vet_demand.specs.DemandOf.{HasDemanded};
 ghost use Rattle.vet_demand.specs.declared.pair.Pair.{Pair};
@@ -30,28 +30,27 @@ use vet_entries::facts::EntryFacts;
 
 /// Keeps the class of each demanded pair.
 ///
-/// An implementer says in the ghost member what its values mean, and the clauses of the calls are the contract
-/// that it has to prove and on which every caller rests.
+/// An implementer says in the ghost member what its values mean. The clauses of the calls are the contract that it
+/// has to prove, and that every caller relies on.
 pub trait Keeper: Drop {
-    /// A planned change: its moves, and what `apply` needs beside what the keeper holds.
+    /// A planned change: its moves, and everything that `apply` needs besides the keeper.
     type Update: Drop;
 
-    /// What the values of the keeper and of its updates mean. One that finds all anew holds the standing alone;
-    /// one that remembers more says here of which facts and demand that is.
+    /// The meaning of the keeper's values and of its updates. A keeper that recomputes every class holds only the
+    /// standing. One that remembers more says here which facts and demand this comes from.
     ghost keeping: { Keeping Self Self.Update };
 
-    /// A keeper of which nothing is demanded. It holds what any facts give that have no steps and condemn
-    /// nothing. Refused: `NoMemory`.
+    /// A keeper for an empty demand. It holds the result for any facts that give no steps and condemn no version.
+    /// Refused: `NoMemory`.
     fn empty(alloc: Global) -> Result<Self, Refusal>
         ensures standing { IfOk result (λ k. keeping.standing k ≡ []) }
         ensures keeps { IfOk result (λ k. (facts : Facts) → GiveNothing facts → keeping.keeps k facts []) }
         ensures memory { IfErr result (λ e. e ≡ Refusal.NoMemory) };
 
-    /// Plans the standing of a demand by some facts. Asks that the criteria of each entry, and each demanded
-    /// criterion, are in the facts' table; and that outside of what is touched these facts and this demand
-    /// are as those of which the keeper holds what they give. The standing stays, what is held still is what
-    /// the same facts and demand give, and what was planned before can still be applied; also where it is refused.
-    /// Refused: `NoMemory`.
+    /// Plans the standing of a demand by some facts. The criteria of each entry, and each demanded criterion, must be
+    /// in the facts' table. The keeper must hold the result for some facts and demand that are the same as these
+    /// outside of what is touched. The standing stays, the keeper still holds the result for the same facts and demand,
+    /// and updates that were planned before can still be applied, even if this call is refused. Refused: `NoMemory`.
     fn plan(
         &mut self,
         alloc: Global,
@@ -74,17 +73,17 @@ pub trait Keeper: Drop {
         ensures stays_planned { (u : Self.Update) (facts : Facts) (demand : List Pair)
             → keeping.plans self.old u facts demand → keeping.plans self.new u facts demand };
 
-    /// The moves from the standing on which an update was planned: each pair whose class differs, once, in
+    /// The moves of an update, from the standing on which it was planned: each pair whose class differs, once, in
     /// the order of the pairs. Takes no memory.
     fn moves(update: &Self::Update) -> &[Move]
         ensures { result.now ≡ keeping.moves_of update.now };
 
-    /// The packages that an update was told are touched. Takes no memory.
+    /// The packages that were named as touched when an update was planned. Takes no memory.
     fn touched(update: &Self::Update) -> &Touched
         ensures { result.now ≡ keeping.touched_of update.now };
 
-    /// Makes the standing that of the facts and the demand for which the update was planned. Asks that this
-    /// keeper planned the update on what it holds, and still has the room for it. Takes no memory.
+    /// Makes the standing that of the facts and the demand for which the update was planned. This keeper must have
+    /// planned the update in its present state, and must still have the room for it. Takes no memory.
     fn apply(&mut self, update: Self::Update)
         requires { (facts : Facts) × (demand : List Pair) × keeping.plans self.old update facts demand }
         ensures standing { (facts : Facts) (demand : List Pair) → keeping.plans self.old update facts demand
@@ -92,7 +91,7 @@ pub trait Keeper: Drop {
         ensures keeps { (facts : Facts) (demand : List Pair) → keeping.plans self.old update facts demand
             → keeping.keeps self.new facts demand };
 
-    /// The class at which a pair stands, or none where it isn't demanded. Takes no memory.
+    /// The class of a pair, or `None` if it is not demanded. Takes no memory.
     fn class(&self, package: &PackageName, version: &VetVersion, criterion: &Name) -> Option<Class>
         ensures value { result ≡ class_in (keeping.standing self.now)
             (record { «package» = «package».now; version = version.now; criterion = criterion.now }) }
@@ -103,7 +102,7 @@ pub trait Keeper: Drop {
         ensures stands { IfOk result (λ stands. map (λ s. s.now) stands.items ≡ keeping.standing self.now) }
         ensures memory { IfErr result (λ e. e ≡ Refusal.NoMemory) };
 
-    /// How many pairs stand in each class. Takes no memory.
+    /// The number of demanded pairs in each class. Takes no memory.
     fn counts(&self) -> Counts
         ensures value { result ≡ counts_of (keeping.standing self.now) }
         ensures in_order { IsStanding (keeping.standing self.now) };

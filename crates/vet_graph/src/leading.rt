@@ -1,10 +1,10 @@
 //! The steps that chains to a version can take.
 //!
-//! **Each chain to the version consists of these steps, so they alone give its class.** What leads elsewhere is left
-//! out, and nothing need be known of what condemns it.
+//! **Each chain to the version consists of these steps, so they are enough to give it its class.** Steps that lead
+//! elsewhere are left out, and their targets need not be judged.
 //!
-//! A search finds them that goes back from the version: each step from one version to another is turned around, and a
-//! further step leads from nothing to the version. Read from its end, a chain is a walk along these.
+//! A search back from the version finds them. Each step from one version to another is turned around, and a further
+//! step leads from nothing to the version. A chain, read from its end, is a walk along these.
 ghost use Rattle.std.specs.Prelude.{◌≡◌, ◌++◌, ◌<◌, IfErr, IfOk, OnOk, filter, length, true};
 ghost use Rattle.std.specs.BTreeSet.{contains};
 ghost use Rattle.std.specs.List.{All, Contains};
@@ -25,8 +25,8 @@ use vet_base::refusal::Refusal;
 use vet_base::version::VetVersion;
 use vet_entries::step::Step;
 
-/// Those of some steps that chains to a version can take, for the criterion at a place. Costs an index of the steps,
-/// and a search. Refused: `NoMemory`.
+/// The steps, among these, that chains to a version can take, for the criterion at a place. Costs an index of the
+/// steps, and a search. Refused: `NoMemory`.
 pub(crate) fn steps_to(
     alloc: Global,
     steps: Vec<Step>,
@@ -68,7 +68,7 @@ fn turned_steps(
     Ok(turned)
 }
 
-// Where a walk back from a version begins.
+// The first step of a walk back from a version.
 fn walk_start(place: usize, version: &VetVersion) -> Result<GuardedStep, Refusal>
     requires { place < MOST_CRITERIA }
     ensures start { IfOk result (λ g. g.step ≡ walk_start place version.now) }

@@ -1,4 +1,4 @@
-//! The steps of one package, with an index by where they start.
+//! The steps of one package, with an index by the versions at which they start.
 ghost use Rattle.std.specs.Prelude.{◌≡◌, ◌<◌, ◌+◌, IfOk, IfErr, length, unwrap_or};
 ghost use Rattle.std.specs.BTreeMap.{get};
 ghost use Rattle.vet_base.specs.VersionOrder.{version_cmp};
@@ -13,13 +13,13 @@ use vet_base::refusal::Refusal;
 use vet_base::version::VetVersion;
 use vet_demand::place_lists::{empty_lists, push_at};
 
-// Where each version is first led to, and which steps start there: all by the places of steps.
+// The first step to each version, and the steps that start there, all by the places of steps.
 pub(crate) struct Links {
-    // For each step the first that leads to the same version, its head.
+    // For each step, its head: the first step that leads to the same version.
     pub(crate) heads: Vec<usize>,
     // The steps from nothing.
     pub(crate) first: Vec<usize>,
-    // For each head the steps that start at its version.
+    // For each head, the steps that start at its version.
     pub(crate) after: Vec<Vec<usize>>,
 }
 
@@ -33,7 +33,7 @@ impl Drop for Links {
     }
 }
 
-/// The steps of one package, with an index by where they start.
+/// The steps of one package, with an index by the versions at which they start.
 pub struct LinkedSteps {
     steps: Vec<GuardedStep>,
     links: Links,
@@ -62,8 +62,8 @@ impl Drop for LinkedSteps {
 }
 
 impl LinkedSteps {
-    /// Some steps, with their index. Costs a look for the version to which each step leads, and for the one
-    /// at which it starts, among all of them. Refused: `NoMemory`.
+    /// Some steps, with their index. Costs two look-ups among all versions for each step: one of the version to which
+    /// it leads, and one of the version at which it starts. Refused: `NoMemory`.
     pub fn of(alloc: Global, steps: Vec<GuardedStep>) -> Result<LinkedSteps, Refusal>
         ensures ok { IfOk result (λ linked. linked ≡ steps.items) }
         ensures memory { IfErr result (λ e. e ≡ Refusal.NoMemory) }
@@ -87,7 +87,7 @@ impl LinkedSteps {
     }
 }
 
-// The heads of some steps, and by which head each version is known.
+// The heads of some steps, and the head by which each version is known.
 #[derive(Drop)]
 struct Heads {
     heads: Vec<usize>,
@@ -128,7 +128,7 @@ fn heads_of(alloc: Global, steps: &[GuardedStep]) -> Result<Heads, Refusal>
     Ok(Heads { heads, numbers })
 }
 
-// The head by which a version is known, which is this place if it isn't known yet.
+// The head by which a version is known. If it is not known yet, this place becomes its head.
 fn head_of(
     numbers: &mut BTreeMap<VetVersion, usize>,
     version: &VetVersion,
@@ -162,7 +162,7 @@ fn filed_of(alloc: Global, steps: &[GuardedStep], found: &Heads) -> Result<Filed
     Ok(filed)
 }
 
-// Files one more step under where it starts. A version to which no step leads is no head's.
+// Files one more step under its start. A step that starts at a version to which no step leads is not filed.
 fn file(
     steps: &[GuardedStep],
     found: &Heads,

@@ -11,7 +11,7 @@ use std::cmp::Ordering;
 use vet_base::refusal::Refusal;
 use vet_demand::pair::Pair;
 
-/// A pair whose class changed, with its class before and after: none where the pair isn't demanded.
+/// A pair whose class changed, with its class before and after: `None` if the pair is not demanded then.
 pub struct Move {
     pub pair: Pair,
     pub before: Option<Class>,
@@ -40,8 +40,8 @@ impl Clone for Move {
     }
 }
 
-/// The moves from one standing to another. One walk along both, and where both are in
-/// order, so are the moves. Refused: `NoMemory`.
+/// The moves from one standing to another, found by one walk along both. If both are in order, so are the moves.
+/// Refused: `NoMemory`.
 pub fn differences(alloc: Global, before: &[Stand], after: &[Stand]) -> Result<Vec<Move>, Refusal>
     ensures ok { IfOk result (λ moves. moves.items ≡ moves_between before.now after.now) }
     ensures memory { IfErr result (λ e. e ≡ Refusal.NoMemory) }
@@ -104,7 +104,7 @@ fn push_coming(moves: &mut Vec<Move>, stand: &Stand) -> Result<(), Refusal>
     push(moves, &stand.pair, None, Some(stand.class))
 }
 
-// Adds the move of a pair that stands in both, where the classes differ.
+// Adds the move of a pair that is in both standings, if its classes differ.
 fn push_changing(moves: &mut Vec<Move>, old: &Stand, new: &Stand) -> Result<(), Refusal>
     ensures ok { OnOk result (moves.new.items ≡ moves.old.items ++ changes old.now new.now) }
     ensures memory { IfErr result (λ e. e ≡ Refusal.NoMemory) }

@@ -1,4 +1,4 @@
-//! The steps of one package, and what bars them.
+//! The steps of one package, and the criteria for which their targets are condemned.
 ghost use Rattle.std.specs.Prelude.{◌≡◌, ◌<◌, IfOk, IfErr};
 ghost use Rattle.vet_entries.specs.Condemned.{condemned_by};
 ghost use Rattle.vet_entries.specs.LocalCriteria.{AreLocal};
@@ -22,7 +22,7 @@ use vet_entries::local_criteria::LocalCriteria;
 use vet_entries::package_entries::PackageEntries;
 use vet_entries::step::Step;
 
-// What is known of one package: its steps, each with what condemns its target, and its violations.
+// A package: its steps, each with the criteria for which its target is condemned, and its violations.
 pub(crate) struct PackageSteps {
     pub(crate) package: PackageName,
     pub(crate) steps: LinkedSteps,
@@ -57,8 +57,8 @@ pub(crate) fn found_steps(
     linked(alloc, package, steps, violations)
 }
 
-// The steps of the package of a pair that chains to its version take, for the criterion at this place. What condemns
-// other versions is not asked.
+// The steps of a pair's package that chains to its version can take, for the criterion at this place. Versions to
+// which none of these leads are not judged.
 pub(crate) fn found_steps_to(
     alloc: Global,
     pair: &Pair,
@@ -78,7 +78,7 @@ pub(crate) fn found_steps_to(
     linked(alloc, &pair.package, steps, violations)
 }
 
-// Steps of a package with its violations: each with what these condemn, and an index.
+// Steps of a package, each with the criteria for which these violations condemn its target, and an index.
 fn linked(
     alloc: Global,
     package: &PackageName,
@@ -96,8 +96,8 @@ fn linked(
     })
 }
 
-// Steps, each with the criteria for which these violations condemn its target. Each different version is judged
-// once, by each different requirement.
+// Steps, each with the criteria for which these violations condemn its target. Each distinct version is judged
+// once, by each distinct requirement.
 fn guarded(
     alloc: Global,
     steps: Vec<Step>,

@@ -13,9 +13,9 @@ use vet_entries::condemned::{condemned_by, violations_condemn};
 use vet_entries::facts::EntryFacts;
 use vet_entries::local_criteria::LocalCriteria;
 
-/// The class of a pair by these facts: `Unvetted` where the table lacks its criterion. Finds the local criteria
-/// of the package's entries and its steps, and searches those at most four times that chains to the version take. Asks
-/// of no other version whether it is condemned. Refused: `NoMemory`.
+/// The class of a pair by these facts; `Unvetted` if the table lacks its criterion. Finds the local criteria of the
+/// package's entries and its steps, and searches the steps that chains to the version can take at most four times.
+/// Judges only that version and those to which these steps lead. Refused: `NoMemory`.
 pub fn class_of_pair(alloc: Global, facts: &EntryFacts, pair: &Pair) -> Result<Class, Refusal>
     ensures is { IfOk result (IsClassOfPair facts.now.content pair.now) }
     ensures ok { IfOk result (λ class. class ≡ class_of_pair facts.now.content pair.now) }
@@ -33,7 +33,7 @@ pub fn class_of_pair(alloc: Global, facts: &EntryFacts, pair: &Pair) -> Result<C
     }
 }
 
-// The class of a pair, where these are its package's steps and violations.
+// The class of a pair, by these steps and violations of its package.
 pub(crate) fn class_by(
     alloc: Global,
     facts: &EntryFacts,

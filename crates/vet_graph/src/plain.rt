@@ -1,4 +1,4 @@
-//! A keeper of the classes of demanded pairs, which finds every class anew.
+//! A keeper of the classes of demanded pairs that recomputes every class.
 ghost use Rattle.std.specs.Prelude.{◌≡◌, [], IfOk, IfErr, IfSome, IsOk};
 ghost use Rattle.vet_entries.specs.Facts.{Facts};
 ghost use Rattle.vet_entries.specs.LocalCriteria.{AreLocal};
@@ -41,8 +41,8 @@ impl Model for PlainKeeper {
     ghost invariant = { λ k. IsStanding k.standing.items };
 }
 
-/// What other facts or another demand make of the standing, the moves from one to the other, and what was
-/// told is touched.
+/// A planned change: the standing by other facts or another demand, the moves to it, and the packages that were
+/// named as touched.
 #[derive(Drop)]
 pub struct PlainUpdate {
     standing: Vec<Stand>,
@@ -82,7 +82,7 @@ impl Keeper for PlainKeeper {
       touched_of = λ u. u.touched;
     } };
 
-    /// Nothing is demanded. Never refused.
+    /// A keeper for an empty demand. Never refused.
     fn empty(alloc: Global) -> Result<PlainKeeper, Refusal>
         ensures standing { IfOk result (λ k. k ≡ []) }
         ensures keeps { IfOk result (λ k. (facts : Facts) → GiveNothing facts → k ≡ standing_of facts []) }
@@ -94,9 +94,9 @@ impl Keeper for PlainKeeper {
         })
     }
 
-    /// Finds every class anew, whatever is touched. Finds the local criteria of each source at most once, and the
-    /// steps and the violations of each package once, and searches them at most four times for each of its pairs.
-    /// Refused: `NoMemory`.
+    /// Recomputes every class, whatever is touched. Finds the local criteria of each source at most once, and the
+    /// steps and the violations of each package once. Searches the steps at most four times for each pair of the
+    /// package. Refused: `NoMemory`.
     #[tactic(auto, using(crate::proofs::Standings::standing_in_order))]
     fn plan(
         &mut self,
@@ -151,7 +151,7 @@ impl Keeper for PlainKeeper {
     }
 }
 
-// Each pair of a demand with its class. The pairs of a package stand side by side, so its steps are found once.
+// Each pair of a demand with its class. The pairs of a package are adjacent, so its steps are found once.
 fn stands_of(alloc: Global, facts: &EntryFacts, demand: &[Pair]) -> Result<Vec<Stand>, Refusal>
     ensures ok { IfOk result (λ s. s.items ≡ standing_of facts.now.content demand.now) }
     ensures memory { IfErr result (λ e. e ≡ Refusal.NoMemory) }
@@ -167,7 +167,7 @@ fn stands_of(alloc: Global, facts: &EntryFacts, demand: &[Pair]) -> Result<Vec<S
     Ok(standing)
 }
 
-// The steps of a package, which may be held from the pair before.
+// The steps of a package, kept from the previous pair if that is of the same package.
 fn package_steps(
     alloc: Global,
     held: Option<PackageSteps>,
@@ -189,7 +189,7 @@ fn package_steps(
     found_steps(alloc, package, facts, local)
 }
 
-// A pair with its class, where these are its package's steps and violations.
+// A pair with its class, by these steps and violations of its package.
 fn stand_of(
     alloc: Global,
     facts: &EntryFacts,

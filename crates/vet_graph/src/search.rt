@@ -1,46 +1,47 @@
 //! The versions to which chains lead, by a worklist.
 //!
-//! A chain is a row of steps, each from where the one before arrived, the first from nothing, and no version is
-//! arrived at twice (`specs/Chain.antt`). There can be very many chains, so no one lists them. What stands below
-//! keeps a list of the versions reached so far, takes from it one after the other, and adds each version to which
-//! an open step leads from there and that is not in the list yet. A step is open where it vouches for the
-//! criterion, is not skipped, and, if that is asked, leads to no condemned version. The list is how the answer is
-//! found, never what it means: each contract speaks of chains alone.
+//! A chain is a list of steps. The first starts from nothing, each later one starts where the one before it arrived,
+//! and no version is arrived at twice (`specs/Chain.antt`). There can be very many chains, so the code does not list
+//! them. It keeps a list of the versions reached so far, takes one after the other from it, and adds each version to
+//! which an open step leads from there and that is not in the list yet. A step is open if it vouches for the criterion,
+//! is not skipped, and, if condemned versions are barred, leads to none. The list is only the way to the answer, and
+//! not its meaning: each contract speaks only of chains.
 //!
-//! **A version is in the answer exactly where a chain of open steps leads to it.**
+//! **A version is in the answer exactly if a chain of open steps leads to it.**
 //!
 //! Why each version in the list has a chain. It was added once, by one step, and that step starts from nothing or
-//! at a version that was in the list already. So its chain can be followed back, from step to step, to nothing:
-//! each time to a version that was added earlier, so none comes twice. Put the other way round: at each time
-//! each version in the list has a chain *all of whose versions are in the list*. A version that is to be added is
-//! not in the list, so it is on none of these chains, and the chain that goes on by one more step arrives at no
-//! version twice. No circle has to be cut out of anything, and a delta from a version to itself is a step to a
-//! version that is in the list already: it adds nothing.
+//! at a version that was in the list already. So its chain can be followed back to nothing, from step to step. Each
+//! of these leads back to a version that was added earlier, so none comes twice. In other words, at any time each
+//! version in the list has a chain *all of whose versions are in the list*. A version that is to be added is not in
+//! the list, so it is on none of these chains, and such a chain with one more step to it arrives at no version twice.
+//! No cycle has to be cut out of anything. A delta from a version to itself is a step to a version that is in the list
+//! already, so it adds nothing.
 //!
 //! Why each version with a chain is in the list. When the worklist has come to its end, each open step that
 //! starts from nothing, or at a version in the list, leads to a version in the list. Take the steps of a chain of
-//! open steps one after the other: the first starts from nothing, so it leads into the list; the second starts
-//! there, so it does too; and so on to the last. This holds for any walk, whether or not it comes by a version
-//! twice, so a walk leads to no version to which no chain does.
+//! open steps one after the other. The first starts from nothing, so it leads into the list; the second starts
+//! there, so it does too; and so on to the last. The same is true of any walk, even if it comes to a version twice.
+//! So a walk leads only to versions to which a chain leads.
 //!
-//! Three of the four questions of a class are one search each. Is there a chain at all: nothing is skipped,
-//! condemned versions are passed. Is there a clean chain: nothing is skipped, condemned versions are closed: they
-//! aren't reached, and nothing goes on from them. Is there one by reviews alone: exempt steps are skipped.
+//! Three of the four questions of a class are one search each. Is there a chain at all? Nothing is skipped, and the
+//! search passes through condemned versions. Is there a clean chain? Nothing is skipped, and condemned versions are
+//! closed: they are not reached, and nothing goes on from them. Is there a clean chain of reviews only? Condemned
+//! versions are closed, and exempt steps are skipped.
 //!
 //! Why the fourth needs a search of its own. Partial at a version v asks for a clean chain whose *last* step is
 //! a review. It is not enough that v is reached and that some review arrives at v from a version that is
-//! reached: that version may itself be reached only through v. With an exemption of v, a delta from v to w
-//! and one from w back to v there is such a walk, but it arrives at v twice, and the only chain to v is the
-//! exemption. But a chain to v arrives at v once, with its last step. So none of the steps before it leads to v,
+//! reached: that version may itself be reached only through v. Suppose there are an exemption of v, a delta from v to
+//! w, and one from w back to v. Then there is such a walk, but it arrives at v twice, and the only chain to v is the
+//! exemption. A chain to v arrives at v once, with its last step. So none of the steps before it leads to v,
 //! and the exempt steps to v are of no use to it: not as the last step, which is a review, and not before. All
-//! other exempt steps may be of use, further down. So v is partly vetted exactly where it is reached by a
-//! search that skips the exempt steps to v, and only these.
+//! other exempt steps may be of use, earlier in the chain. So v is partly vetted exactly if a search that skips
+//! the exempt steps to v, and only these, reaches it.
 //!
-//! What it costs. The index (`links`) is built once for a package. It gives each version a number, the place
-//! of the first step that leads to it, its head, and files each step under the head of the version at which
-//! it starts. So a version in the list knows its steps, and whether a version is in the list is one look at a mark.
-//! A version is taken from the list once, so a search looks at each step at most once, and a package of s steps
-//! costs the order of s log s for the index, and of s for each search.
+//! Cost. The index (`links`) is built once for a package. It gives each version a number, the place of its head, which
+//! is the first step that leads to it, and files each step under the head of the version at which it starts. So the
+//! steps from a version in the list are at hand, and one look at a mark shows whether a version is in the list. Each
+//! version is taken from the list once, so a search looks at each step at most once. A package of s steps costs the
+//! order of s log s for the index, and of s for each search.
 ghost use Rattle.std.specs.Prelude.{◌≡◌, ◌≢◌, ◌<◌, ◌↔◌, IsTrue, IfOk, IfErr, false, length, replicate, take};
 ghost use Rattle.std.specs.List.{All, AllPairs, Contains};
 ghost use Rattle.vet_base.specs.Version.{VersionValue};
@@ -55,14 +56,14 @@ use std::alloc::Global;
 use vet_base::refusal::Refusal;
 use vet_base::version::VetVersion;
 
-/// What a search asks of the steps of a chain.
+/// The terms of a search: the conditions on the steps of a chain.
 #[derive(Clone, Copy)]
 pub struct Terms<'v> {
     /// The place of the criterion for which each step vouches.
     pub place: usize,
-    /// Whether no step leads to a version that is condemned for it.
+    /// Whether steps to versions that are condemned for it are barred.
     pub barred: bool,
-    /// The steps that aren't taken.
+    /// The steps that are skipped.
     pub skip: Skip<'v>,
 }
 
@@ -99,7 +100,7 @@ pub fn search(alloc: Global, linked: &LinkedSteps, terms: &Terms<'_>) -> Result<
     reach(alloc, linked.steps(), linked.links(), terms)
 }
 
-// The heads of the versions reached so far, in the order in which they were; and for each place whether it is
+// The heads of the versions reached so far, in the order in which they were reached, and for each place whether it is
 // one of them.
 #[derive(Drop)]
 struct Reached {
@@ -167,7 +168,7 @@ fn extend_by(
     Ok(())
 }
 
-// Adds the version to which a step leads, where the step is open and the version is not reached yet.
+// Adds the version to which a step leads, if the step is open and the version is not reached yet.
 fn take_step(
     steps: &[GuardedStep],
     links: &Links,

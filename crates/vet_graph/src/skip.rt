@@ -1,11 +1,11 @@
-//! Which steps a search for chains leaves out.
+//! The steps that a search for chains skips.
 ghost use Rattle.std.specs.Prelude.{◌≡◌};
 ghost use Rattle.vet_graph.specs.Search.{may_take};
 
 use vet_base::version::VetVersion;
 use vet_entries::step::Step;
 
-/// Which steps a search skips.
+/// The steps that a search skips.
 #[derive(Clone, Copy)]
 pub enum Skip<'v> {
     Nothing,

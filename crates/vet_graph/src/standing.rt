@@ -10,7 +10,7 @@ use vet_base::refusal::Refusal;
 use vet_base::version::VetVersion;
 use vet_demand::pair::Pair;
 
-/// A demanded pair, and the class at which it stands.
+/// A demanded pair and its class.
 pub struct Stand {
     pub pair: Pair,
     pub class: Class,
@@ -22,7 +22,7 @@ impl Drop for Stand {
     }
 }
 
-/// How many demanded pairs stand in each class.
+/// The number of demanded pairs in each class.
 #[derive(Clone, Copy, PartialEq, Eq)]
 pub struct Counts {
     pub conflicting: u64,
@@ -33,7 +33,7 @@ pub struct Counts {
 }
 
 impl Counts {
-    /// How many stand in a class.
+    /// The number of pairs in a class.
     pub fn of(self, class: Class) -> u64
         ensures { result ≡ count_in class self }
     {
@@ -47,7 +47,7 @@ impl Counts {
     }
 }
 
-/// How many pairs of a standing stand in each class. Takes no memory; looks at each pair five times.
+/// The number of pairs of a standing in each class. Takes no memory, and looks at each pair five times.
 pub fn counts_of(standing: &[Stand]) -> Counts
     ensures { result ≡ counts_of standing.now }
 {
@@ -60,7 +60,7 @@ pub fn counts_of(standing: &[Stand]) -> Counts
     }
 }
 
-// How many pairs stand in a class.
+// The number of pairs in a class.
 fn count(standing: &[Stand], class: Class) -> u64
     ensures { result ≡ count_of class standing.now }
 {
@@ -73,7 +73,7 @@ fn count(standing: &[Stand], class: Class) -> u64
     count
 }
 
-/// Adds stands behind others. Refused: `NoMemory`.
+/// Adds stands after others. Refused: `NoMemory`.
 pub fn add_stands<'s>(all: &mut Vec<&'s Stand>, stands: &'s [Stand]) -> Result<(), Refusal>
     ensures added { OnOk result (map (λ s. s.now) all.new.items ≡ map (λ s. s.now) all.old.items ++ stands.now) }
     ensures memory { IfErr result (λ e. e ≡ Refusal.NoMemory) }
@@ -84,8 +84,8 @@ pub fn add_stands<'s>(all: &mut Vec<&'s Stand>, stands: &'s [Stand]) -> Result<(
     Ok(())
 }
 
-/// The class at which a pair stands, or none where it isn't demanded. Asks that the standing is in order.
-/// Takes no memory, and searches by halves.
+/// The class of a pair, or `None` if the standing lacks it. The standing must be in order. Takes no memory, and costs
+/// a binary search.
 pub fn class_in(
     standing: &[Stand],
     package: &PackageName,

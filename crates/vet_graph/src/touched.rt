@@ -4,13 +4,13 @@ ghost use Rattle.std.specs.Prelude.{◌≡◌};
 use std::alloc::AllocError;
 use vet_base::package_names::PackageNames;
 
-/// The packages that a command touches: outside these the steps, the condemned versions and the demanded
-/// pairs stay, and unless it is all of them the criteria stay too.
+/// The packages that a command touches. The steps, the condemned versions and the demanded pairs of all other packages
+/// stay as they are, and so do the criteria, unless all packages are touched.
 #[derive(Drop)]
 pub enum Touched {
-    /// Any package, and the criteria.
+    /// All packages, and the criteria too.
     All,
-    /// These packages alone.
+    /// Only these packages.
     Packages(PackageNames),
 }
 
