@@ -18,7 +18,7 @@ use Rattle.vet_demand.specs.declared.policies.KeyedPolicy.{KeyedPolicy}
 use Rattle.vet_demand.specs.declared.project.NamedProject.{NamedProject}
 use Rattle.vet_demand.specs.declared.project.Node.{Node}
 
--- an audited node, and what it needs
+-- an audited node with its needs
 pub record AuditedNode : Type 0 where
   pub node : Node
   pub needs : Places
@@ -28,7 +28,7 @@ audited_nodes [] needs = []
 audited_nodes (n ∷ nodes) [] = []
 audited_nodes (n ∷ nodes) (s ∷ needs) = (record { node = n.now; needs = s }) ∷ audited_nodes nodes needs
 
--- what the code holds as two lists
+-- the two lists that the code holds, as one
 abbrev pub audited_list : AuditedNodes → List AuditedNode
 audited_list a = audited_nodes a.nodes.items a.needs.items
 
@@ -43,23 +43,23 @@ audited_cmp a b = node_cmp a.node b.node
 abbrev pub AreInAuditedOrder : List AuditedNode → Type 0
 AreInAuditedOrder audited = AllPairs (λ a b. audited_cmp a b ≡ Less) audited
 
--- a pair is of one of these nodes and of one of these names, which the node needs
+-- a pair is of one of these nodes and of one of these names that the node needs
 abbrev pub IsAsked : List Name → List AuditedNode → Pair → Type 0
 IsAsked names audited q = (a : AuditedNode) × Contains audited a × IsPairOf a.node names a.needs (length names) q
 
--- exactly the pairs that projects demand are asked for
+-- these nodes ask for exactly the pairs that projects demand
 pub record AreAudited (policies : List KeyedPolicy) (criteria : Criteria) (projects : List NamedProject)
     (audited : List AuditedNode) : Type 0 where
   pub in_order : AreInAuditedOrder audited
   pub same : (q : Pair) → IsAsked (map.keys criteria) audited q ↔ IsDemanded projects policies criteria q
 
--- those that one project demands
+-- they ask for exactly those that one project demands
 pub record AreAuditedIn (policies : List KeyedPolicy) (criteria : Criteria) (project : ProjectValue)
     (audited : List AuditedNode) : Type 0 where
   pub in_order : AreInAuditedOrder audited
   pub same : (q : Pair) → IsAsked (map.keys criteria) audited q ↔ IsDemandedBy policies criteria project q
 
--- those that the first n nodes of a project demand; all of these come before the nodes from there on
+-- they ask for exactly those that the first n nodes of a project demand, and come before all its later nodes
 pub record AreAuditedBefore (policies : List KeyedPolicy) (criteria : Criteria) (project : ProjectValue) (n : ℕ)
     (audited : List AuditedNode) : Type 0 where
   pub in_order : AreInAuditedOrder audited
@@ -69,18 +69,18 @@ pub record AreAuditedBefore (policies : List KeyedPolicy) (criteria : Criteria) 
 
 -- ---- two lists in one
 
--- one list asks for just what two do
+-- one list asks for exactly the pairs that two lists ask for
 pub record AreMerged (first second all : List AuditedNode) : Type 0 where
   pub in_order : AreInAuditedOrder all
   pub same : (names : List Name) (q : Pair) → IsAsked names all q ↔ (IsAsked names first q ⊎ IsAsked names second q)
 
--- all of one list come before those of another from a place on
+-- all of one list come before those of another from place i on
 abbrev pub AreBefore : List AuditedNode → List AuditedNode → ℕ → Type 0
 AreBefore front others i =
     (j k : ℕ) (a d : AuditedNode) → j < length front → i ≤ k → k < length others
     → audited_cmp (slice_index_or front j a) (slice_index_or others k d) ≡ Less
 
--- the first i of one list and the first j of another are in one
+-- the first i nodes of one list and the first j of another are merged into one
 pub record IsMerging (first second : List AuditedNode) (i j : ℕ) (all : List AuditedNode) : Type 0 where
   pub in_order : AreInAuditedOrder all
   pub first_left : AreBefore all first i
@@ -88,7 +88,7 @@ pub record IsMerging (first second : List AuditedNode) (i j : ℕ) (all : List A
   pub same : (names : List Name) (q : Pair) → IsAsked names all q
       ↔ (IsAsked names (take i first) q ⊎ IsAsked names (take j second) q)
 
--- how the nodes at two places compare, where a list past its end gives way
+-- how the nodes at two places compare; if one list is at its end, the node of the other comes first
 abbrev pub AreHeads : List AuditedNode → List AuditedNode → ℕ → ℕ → Ordering → Type 0
 AreHeads first second i j Less =
     (i < length first) × ((a d : AuditedNode) → j < length second
@@ -100,7 +100,7 @@ AreHeads first second i j Greater =
     (j < length second) × ((a d : AuditedNode) → i < length first
     → audited_cmp (slice_index_or first i a) (slice_index_or second j d) ≡ Greater)
 
--- the node that is next where they compare so: the lesser one, or one with what either of two needs
+-- the next node if they compare so: the lesser one, or one with the needs of both
 abbrev pub IsHead : List AuditedNode → List AuditedNode → ℕ → ℕ → AuditedNode → Ordering → Type 0
 IsHead first second i j x Less = x ≡ slice_index_or first i x
 IsHead first second i j x Equal =
@@ -114,7 +114,7 @@ IsAfter i j m n Less = (m ≡ i + 1) × (n ≡ j)
 IsAfter i j m n Equal = (m ≡ i + 1) × (n ≡ j + 1)
 IsAfter i j m n Greater = (m ≡ i) × (n ≡ j + 1)
 
--- it is put behind others
+-- the next node is appended to others
 abbrev pub PutsHead : List AuditedNode → List AuditedNode → ℕ → ℕ → List AuditedNode → List AuditedNode
     → Ordering → Type 0
 PutsHead first second i j old new order = (x : AuditedNode) × IsHead first second i j x order × (new ≡ old ++ x ∷ [])

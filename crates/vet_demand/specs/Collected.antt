@@ -13,7 +13,7 @@ use Rattle.vet_demand.specs.declared.policies.KeyedPolicy.{KeyedPolicy}
 use Rattle.vet_demand.specs.declared.policy.Policy.{Policy}
 use Rattle.vet_demand.specs.declared.project.Node.{Node}
 
--- a list has just the pairs that it had before, and these
+-- a list has exactly the pairs that it had before and these
 abbrev pub Adds : (Pair → Type 0) → List Pair → List Pair → Type 0
 Adds P old new = (q : Pair) → Contains new q ↔ (Contains old q ⊎ P q)
 
@@ -25,7 +25,7 @@ IsPairOf node names set n q = (p : ℕ) × (p < n) × (has p set ≡ true) × (p
 abbrev pub IsAuditedPair : Node → Option Policy → List Name → Places → Pair → Type 0
 IsAuditedPair node policy names set q = (is_audited node.party policy ≡ true) × IsPairOf node names set (length names) q
 
--- a list in order stays so with these pairs of a node, where it had only pairs that come before all of that node
+-- a list gains these pairs of a node, and stays in order if it had only pairs that come before all of that node
 pub record AddsInOrder (node : Node) (names : List Name) (set : Places) (n : ℕ) (old new : List Pair) : Type 0 where
   pub adds : Adds (IsPairOf node names set n) old new
   pub rises : IsInOrder old → All (λ q. (c : Name) → pair_cmp q (pair_of node c) ≡ Less) old → IsInOrder new

@@ -1,4 +1,4 @@
--- What projects demand (ours): each pair once, in the order of reports.
+-- The demand of projects (ours): each pair once, in the order of reports.
 use Rattle.std.specs.Prelude.{◌≡◌, ◌↔◌, ◌<◌, Bool, true, false, ℕ, List, [], ◌∷◌, if◌then◌else◌, fold, length}
 use Rattle.std.specs.Prelude.{unwrap_or, Option, Some, None}
 use Rattle.std.specs.FinMap as map
@@ -25,7 +25,7 @@ abbrev pub says_audited : Option Policy → Bool
 says_audited None = false
 says_audited (Some p) = unwrap_or p.audit_as_crates_io false
 
--- whether what a node needs is demanded: where it is third-party, or its policy says that it is audited
+-- whether a node's needs are demanded: if it is third-party, or if its policy says that it is audited
 abbrev pub is_audited : Party → Option Policy → Bool
 is_audited Root policy = says_audited policy
 is_audited First policy = says_audited policy
@@ -59,7 +59,7 @@ pub record IsLeastDemand (projects : List NamedProject) (policies : List KeyedPo
   pub in_order : IsInOrder demand
   pub same : (p : Pair) → Contains demand p ↔ IsDemanded projects policies criteria p
 
--- ---- what policies name
+-- ---- the criteria that policies name
 
 -- all criteria of a list are in the table, if there is a list
 abbrev pub NamesAreKnown : Criteria → Option NameSet → Type 0
@@ -103,7 +103,7 @@ in_order = fold (insert_key pair_cmp) []
 unfoldable pub demand_of : List NamedProject → List KeyedPolicy → Criteria → List Pair
 demand_of projects policies criteria = in_order (flat_map (λ named. pairs_in policies criteria named.project) projects)
 
--- the function tells the least demand
+-- the function computes the least demand
 abbrev pub DemandIsLeast : Type 0
 DemandIsLeast =
     (projects : List NamedProject) (policies : List KeyedPolicy) (criteria : Criteria) → IsTable criteria
@@ -122,6 +122,6 @@ abbrev pub DemandedAreKnown : Type 0
 DemandedAreKnown = (projects : List NamedProject) (policies : List KeyedPolicy) (criteria : Criteria)
     → HasDemanded criteria (demand_of projects policies criteria)
 
--- where there are no projects, nothing is demanded
+-- if there are no projects, nothing is demanded
 abbrev pub NothingIsDemanded : Type 0
 NothingIsDemanded = (policies : List KeyedPolicy) (criteria : Criteria) → demand_of [] policies criteria ≡ []

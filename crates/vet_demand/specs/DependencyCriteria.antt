@@ -7,7 +7,7 @@ use Rattle.vet_base.specs.Keyed.{IsByKey, item_of, with_item}
 use Rattle.vet_base.specs.Words.{Name}
 use Rattle.vet_demand.specs.declared.dependency_criteria.DependencyItem.{DependencyItem}
 
--- the name at which an item stands
+-- the name of an item, which is its key
 abbrev pub item_name : DependencyItem → Name
 item_name i = i.«package»
 
@@ -15,7 +15,7 @@ item_name i = i.«package»
 abbrev pub IsByPackage : List DependencyItem → Type 0
 IsByPackage items = IsByKey (slice_cmp nat_cmp) item_name items
 
--- the criteria at a name
+-- the criteria of a name
 abbrev pub criteria_for : List DependencyItem → Name → Option NameSet
 criteria_for items name = option_map (λ i. i.criteria) (item_of (slice_cmp nat_cmp) item_name items name)
 
@@ -24,7 +24,7 @@ abbrev pub with_criteria : List DependencyItem → Name → NameSet → List Dep
 with_criteria items name criteria =
     with_item (slice_cmp nat_cmp) item_name items (record { «package» = name; criteria = criteria })
 
--- criteria are found at the name at which they were set, and at each other name what was found there stays
+-- criteria that are set are found at their name, and every other name keeps its criteria
 abbrev pub SetCriteriaAreFound : Type 0
 SetCriteriaAreFound = (items : List DependencyItem) (name : Name) (criteria : NameSet)
     → criteria_for (with_criteria items name criteria) name ≡ Some criteria

@@ -1,4 +1,4 @@
--- Only the criteria of dependencies themselves are equal to them (ours).
+-- Criteria of dependencies are equal only to themselves (ours).
 use Rattle.std.specs.Prelude.{◌≡◌, List}
 use Rattle.std.specs.Bool.{Decides}
 use Rattle.std.specs.Cmp.Lexicographic.{bytes_decides, pointwise_decides}
@@ -11,7 +11,7 @@ use Rattle.vet_demand.specs.DependencyCriteria.{dependency_eq, dependencies_eq}
 same_dependency : (a b : DependencyItem) → (a.«package» ≡ b.«package») × (a.criteria ≡ b.criteria) → a ≡ b
 same_dependency a b h = λ i. record { «package» = h.0 i; criteria = h.1 i }
 
--- only an item itself is equal to it
+-- an item is equal only to itself
 pub dependency_eq-Decides : (a b : DependencyItem) → Decides (dependency_eq a b) (a ≡ b)
 dependency_eq-Decides a b =
     Decides-like _ (same_dependency a b) (λ e. (

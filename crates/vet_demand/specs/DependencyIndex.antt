@@ -1,4 +1,4 @@
--- What is kept of the records of a dependency table (ours), so that nodes and edges are found without a walk.
+-- The index of a dependency table's records (ours), by which nodes and edges are found without a walk.
 use Rattle.std.specs.Prelude.{◌≡◌, ◌≢◌, ◌<◌, ◌≤◌, List, length}
 use Rattle.std.specs.BTreeMap.{is_at}
 use Rattle.std.specs.List.{All, AllPairs, list_any}

@@ -1,4 +1,4 @@
--- Records of a dependency table (RFC 4180 for records and fields; their forms are ours): what each states by itself.
+-- Records of a dependency table (RFC 4180 for records and fields; their forms are ours), each by itself.
 use Rattle.std.specs.Prelude.{ℕ, ◌==◌, ◌&&◌, nat_le, Bool, List, [], Option, Some, None, length, codes, if◌then◌else◌}
 use Rattle.std.specs.Prelude.{option_and_then, option_map, unwrap_or}
 use Rattle.std.specs.Char.{is_ascii_digit}
@@ -24,7 +24,7 @@ use Rattle.vet_demand.specs.declared.project.Party.TheVariants.{Root, First, Thi
 
 -- ---- fields
 
--- the field at a place, and no byte where there is none
+-- the field at a place, which is empty if there is none
 abbrev pub field : List Text → ℕ → Text
 field fields place = unwrap_or (field_at fields place) []
 
@@ -34,13 +34,13 @@ is_word fields place word = bytes_eq (field fields place) word
 abbrev pub has_five : List Text → Bool
 has_five fields = length fields == 5
 
--- the record that stands first
+-- whether a record is the header
 abbrev pub is_header : List Text → Bool
 is_header fields =
     has_five fields && is_word fields 0 (codes "what") && is_word fields 1 (codes "n") && is_word fields 2 (codes "p")
     && is_word fields 3 (codes "q") && is_word fields 4 (codes "r")
 
--- a number in 1 to 9 digits
+-- whether a text is a number in 1 to 9 digits
 abbrev pub is_number : Text → Bool
 is_number text = nat_le 1 (length text) && nat_le (length text) 9 && list_all is_ascii_digit text
 
@@ -93,7 +93,7 @@ edge_record number fields =
     then option_map (λ edge. EdgeRecord (record { record_number = number; edge = edge })) (edge_stated fields)
     else None
 
--- what the record of this number states, if it has the form of a node or of an edge
+-- the node or the edge that the record of this number states, if it has such a form
 abbrev pub record_stated : ℕ → List Text → Option DependencyRecord
 record_stated number fields =
     if has_five fields && is_word fields 0 (codes "node") then node_record fields

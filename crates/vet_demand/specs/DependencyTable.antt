@@ -21,9 +21,9 @@ use Rattle.vet_demand.specs.declared.project.Edge.{Edge}
 use Rattle.vet_demand.specs.declared.project.Party.{Party}
 use Rattle.vet_demand.specs.declared.project.Party.TheVariants.{Root, First, Third}
 
--- ---- what records state
+-- ---- the nodes and edges that records state
 
--- nodes by name and version, and edges in the order of their records, of equal ones the first
+-- nodes by name and version, and edges in the order of their records, the first of equal ones
 pub record StatedValue : Type 0 where
   pub nodes : List NumberedNode
   pub edges : List StatedEdge
@@ -50,13 +50,13 @@ is_third Root = false
 is_third First = false
 is_third Third = true
 
--- the record of this number states a node that stood before, with the same party or the other; root and first are one
+-- the fault of a node that an earlier record gave, with the same party or the other; root and first count as the same
 abbrev pub double_told : ℕ → Party → Option NumberedNode → Told (Unit {0})
 double_told number party None = Ok tt
 double_told number party (Some before) =
     if beq (is_third before.node.party) (is_third party) then Err (CsvRefused number) else Err (TwoParties number)
 
--- the first fault of a node after these; its own number is how many stood before
+-- the first fault of a node after these; its own number counts the nodes before it
 abbrev pub node_told : ℕ → List NumberedNode → NumberedNode → Told (Unit {0})
 node_told number nodes n =
     refuse_if (not (n.number == length nodes)) (CsvRefused number)
@@ -71,13 +71,13 @@ abbrev pub record_told : ℕ → StatedValue → DependencyRecord → Told (Unit
 record_told number s (NodeRecord n) = node_told number s.nodes n
 record_told number s (EdgeRecord e) = edge_told s.edges e
 
--- what is stated with the fields of this record, or its first fault
+-- the nodes and edges stated with the fields of this record, or its first fault
 abbrev pub fields_told : ℕ → StatedValue → List Text → Told StatedValue
 fields_told number s fields =
     found_or (CsvRefused number) (record_stated number fields)
     >>= (λ found. record_told number s found >>= (λ _. Ok (with_record s found)))
 
--- what is stated with these records, the first of them of this number, or the first fault
+-- the nodes and edges stated with these records, the first of which has this number, or the first fault
 abbrev pub records_told : ℕ → StatedValue → List (List Text) → Told StatedValue
 records_told number s [] = Ok s
 records_told number s (fields ∷ rest) = fields_told number s fields >>= (λ more. records_told (number + 1) more rest)
@@ -88,13 +88,13 @@ records_told number s (fields ∷ rest) = fields_told number s fields >>= (λ mo
 abbrev pub place_of : List NumberedNode → ℕ → Option ℕ
 place_of nodes number = position_from (λ n. n.number == number) 0 nodes
 
--- an edge between the places that numbers have, where both have one
+-- an edge between the places of the two numbers that it names, if both have one
 abbrev pub placed : (ℕ → Option ℕ) → Edge → Option Edge
 placed place e =
     option_and_then (λ from. option_map (λ to. record { from = from; to = to; kind = e.kind }) (place e.to))
     (place e.from)
 
--- the edges between places, or the first that names no node
+-- the edges between places, or the fault of the first that names no node
 abbrev pub placed_told : (ℕ → Option ℕ) → List StatedEdge → Told (List Edge)
 placed_told place [] = Ok []
 placed_told place (s ∷ rest) =
@@ -105,18 +105,18 @@ placed_told place (s ∷ rest) =
 abbrev pub in_edge_order : List Edge → List Edge
 in_edge_order = fold (insert_key edge_cmp) []
 
--- the edges between places, in order, or the first that names no node
+-- the edges between places, in order, or the fault of the first that names no node
 abbrev pub edges_told : (ℕ → Option ℕ) → List StatedEdge → Told (List Edge)
 edges_told place edges = placed_told place edges >>= (λ between. Ok (in_edge_order between))
 
--- the project of what is stated; at least one node has to be
+-- the project of the stated nodes and edges; there must be at least one node
 abbrev pub stated_told : StatedValue → Told ProjectValue
 stated_told s =
     refuse_if (length s.nodes == 0) (CsvRefused 2)
     >>= (λ _. edges_told (place_of s.nodes) s.edges)
     >>= (λ edges. Ok (record { nodes = map (λ n. n.node) s.nodes; edges = edges }))
 
--- what the records of a table state, or their first fault
+-- the nodes and edges that the records of a table state, or their first fault
 abbrev pub table_told : List (List Text) → Told StatedValue
 table_told [] = Err (CsvRefused 1)
 table_told (header ∷ rows) = refuse_if (not (is_header header)) (CsvRefused 1)
@@ -126,6 +126,6 @@ table_told (header ∷ rows) = refuse_if (not (is_header header)) (CsvRefused 1)
 abbrev pub project_told : List (List Text) → Told ProjectValue
 project_told rows = table_told rows >>= stated_told
 
--- the records of some bytes, the first of which may be a byte order mark
+-- the project that the records of some bytes state; the bytes may begin with a byte order mark
 abbrev pub project_of_bytes : Bytes → Told ProjectValue
 project_of_bytes bytes = project_told (records default_config (strip_bom bytes))

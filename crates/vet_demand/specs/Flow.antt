@@ -1,4 +1,4 @@
--- Where criteria begin in a project, and along which edges they go on (ours): by the places of nodes and of criteria.
+-- The nodes at which criteria begin in a project, and the edges along which they go on (ours), by places.
 use Rattle.std.specs.Prelude.{◌≡◌, ◌↔◌, ◌⊎◌, ◌<◌, true, ℕ, List, [], ◌∷◌, ◌++◌, Option, Some, None, get_or, length, map}
 use Rattle.std.specs.Borrow.{Bor}
 use Rattle.std.specs.FinMap as table
@@ -21,7 +21,7 @@ use Rattle.vet_demand.specs.declared.project.Node.{Node}
 abbrev pub ArePoliciesOf : List KeyedPolicy → List Node → List (Option (Bor Policy)) → Type 0
 ArePoliciesOf policies nodes found = map option_copied found ≡ map (policy_for policies) nodes
 
--- the places of what a node needs by itself
+-- the places of the criteria that a node needs by itself
 abbrev pub own_places : List KeyedPolicy → Criteria → Node → Places
 own_places policies criteria node = closed_places criteria (own_criteria node.party (policy_for policies node))
 
@@ -35,7 +35,7 @@ PassesAt policies criteria nodes p e =
 abbrev pub PassesOn : List KeyedPolicy → List Node → Edge → Type 0
 PassesOn policies nodes e = (takes_at policies nodes e.to ≡ true) × (passed_by policies nodes e ≡ None)
 
--- the criterion at place p begins at node v: it is needed there by itself, or one of these edges passes it as of a list
+-- the criterion at place p begins at node v: the node needs it by itself, or one of these edges passes it in a list
 abbrev pub Begins : List KeyedPolicy → Criteria → List Node → List Edge → ℕ → ℕ → Type 0
 Begins policies criteria nodes edges p v =
     (has p (closed_places criteria (own_at policies nodes v)) ≡ true)
@@ -45,7 +45,7 @@ Begins policies criteria nodes edges p v =
 abbrev pub GoesOn : List KeyedPolicy → List Node → List Edge → ℕ → ℕ → Type 0
 GoesOn policies nodes edges u v = (e : Edge) × Contains edges e × (e.from ≡ u) × (e.to ≡ v) × PassesOn policies nodes e
 
--- for each node the criteria that begin there, and the nodes to which it passes what it needs, by these edges
+-- for each node, the criteria that begin there and the nodes to which it passes its needs, by these edges
 pub record IsFlow (policies : List KeyedPolicy) (criteria : Criteria) (nodes : List Node) (edges : List Edge)
     (needs : List Places) (onward : List (List ℕ)) : Type 0 where
   pub count : length needs ≡ length nodes
@@ -54,7 +54,7 @@ pub record IsFlow (policies : List KeyedPolicy) (criteria : Criteria) (nodes : L
   pub begin : (p v : ℕ) → v < length nodes → stands p needs v ↔ Begins policies criteria nodes edges p v
   pub go_on : (u v : ℕ) → u < length nodes → Contains (get_or onward u []) v ↔ GoesOn policies nodes edges u v
 
--- the flow by one edge more
+-- the flow with one edge more
 abbrev pub Follows : List KeyedPolicy → Criteria → List Node → Edge → List Places → List (List ℕ) → List Places
     → List (List ℕ) → Type 0
 Follows policies criteria nodes e needs onward more_needs more_onward =

@@ -5,7 +5,7 @@ use Rattle.vet_base.specs.Words.{Name}
 use Rattle.vet_demand.specs.declared.project.NamedProject.{NamedProject}
 use Rattle.vet_demand.specs.Project.{project_eq}
 
--- the name at which a project stands
+-- the name of a project, which is its key
 abbrev pub project_name : NamedProject → Name
 project_name p = p.name
 

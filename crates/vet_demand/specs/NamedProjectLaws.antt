@@ -1,4 +1,4 @@
--- Only a project of its name itself is equal to it (ours).
+-- A project with its name is equal only to itself (ours).
 use Rattle.std.specs.Prelude.{◌≡◌}
 use Rattle.std.specs.Bool.{Decides}
 use Rattle.std.specs.Cmp.Lexicographic.{bytes_decides}
@@ -11,7 +11,7 @@ use Rattle.vet_demand.specs.NamedProject.{named_project_eq}
 same_named : (a b : NamedProject) → (a.name ≡ b.name) × (a.project ≡ b.project) → a ≡ b
 same_named a b h = λ i. record { name = h.0 i; project = h.1 i }
 
--- only a project of its name itself is equal to it
+-- a project with its name is equal only to itself
 pub named_project_eq-Decides : (a b : NamedProject) → Decides (named_project_eq a b) (a ≡ b)
 named_project_eq-Decides a b =
     Decides-like _ (same_named a b) (λ e. (ap (λ (p : NamedProject). p.name) e, ap (λ (p : NamedProject). p.project) e))

@@ -1,4 +1,4 @@
--- What the nodes of a project need (ours): the least that policies and edges ask for.
+-- The needs of a project's nodes (ours): the least that policies and edges ask for.
 use Rattle.std.specs.Prelude.{◌≡◌, ◌↔◌, ◌==◌, ◌<◌, ◌&&◌, ◌||◌, true, false, Bool, ℕ, List, [], ◌∷◌, Option, Some, None}
 use Rattle.std.specs.Prelude.{filter, get_or, is_none, length}
 use Rattle.std.specs.FinSet as set
@@ -14,14 +14,14 @@ use Rattle.vet_demand.specs.declared.project.Edge.{Edge}
 use Rattle.vet_demand.specs.declared.project.Node.{Node}
 use Rattle.vet_demand.specs.declared.project.Party.TheVariants.{Third}
 
--- what a read past the end would give
+-- the node that a read past the end would give
 abbrev pub no_node : Node
 no_node = record { «package» = []; version = record { parts = (0, 0, 0, [], []); revision = None }; party = Third }
 
 abbrev pub node_at : List Node → ℕ → Node
 node_at nodes place = get_or nodes place no_node
 
--- what the node at a place needs by itself
+-- the criteria that the node at a place needs by itself
 abbrev pub own_at : List KeyedPolicy → List Node → ℕ → NameSet
 own_at policies nodes place = own_criteria (node_at nodes place).party (policy_for policies (node_at nodes place))
 
@@ -29,18 +29,18 @@ own_at policies nodes place = own_criteria (node_at nodes place).party (policy_f
 abbrev pub takes_at : List KeyedPolicy → List Node → ℕ → Bool
 takes_at policies nodes place = takes (node_at nodes place).party (policy_for policies (node_at nodes place))
 
--- what an edge passes; none: what the node needs where it starts
+-- the criteria that an edge passes; none if it passes whatever the node where it starts needs
 abbrev pub passed_by : List KeyedPolicy → List Node → Edge → Option NameSet
 passed_by policies nodes e =
     passed_criteria e.kind (node_at nodes e.from).party (policy_for policies (node_at nodes e.from))
     (node_at nodes e.to).«package»
 
--- whether some criteria imply a criterion in the end, or have it
+-- whether the closure of some criteria has a criterion
 abbrev pub covers : Criteria → Name → NameSet → Bool
 covers criteria c names = set.contains (closure_of criteria names) c
 
--- at which places a criterion is needed: where it is by itself, where an edge passes a list that covers it, and where
--- an edge passes what its node needs, from a place where it is needed
+-- the places at which a criterion is needed: the node needs it by itself, an edge passes a list that covers it there,
+-- or an edge that passes what its node needs leads there from a place where it is needed
 pub data IsNeeded (policies : List KeyedPolicy) (criteria : Criteria) (project : ProjectValue) (c : Name) : ℕ
     → Type 0 where
   own : {v : ℕ} → v < length project.nodes → covers criteria c (own_at policies project.nodes v) ≡ true
@@ -54,7 +54,7 @@ pub data IsNeeded (policies : List KeyedPolicy) (criteria : Criteria) (project :
 
 -- ---- the same as a function
 
--- whether none or more of these edges lead from one place to another
+-- whether a path of these edges, perhaps of none, leads from one place to another
 unfoldable pub leads : List Edge → ℕ → ℕ → Bool
 leads [] u v = u == v
 leads (e ∷ rest) u v = leads rest u v || (leads rest u e.from && leads rest e.to v)
@@ -68,8 +68,8 @@ abbrev pub passes_listed : List KeyedPolicy → Criteria → List Node → Name 
 passes_listed policies criteria nodes c e =
     takes_at policies nodes e.to && option_map_or (covers criteria c) (passed_by policies nodes e) false
 
--- whether a criterion is needed at a place: edges that pass on needs lead there from a place where it is so by itself,
--- or from one to which an edge passes it
+-- whether a criterion is needed at a place: edges that pass on needs lead there from a place whose node needs it by
+-- itself, or from one to which an edge passes a list that covers it
 abbrev pub is_needed : List KeyedPolicy → Criteria → ProjectValue → Name → ℕ → Bool
 is_needed policies criteria project c v =
     let on = filter (passes_on policies project.nodes) project.edges in
@@ -77,7 +77,7 @@ is_needed policies criteria project c v =
     (range_with_len 0 (length project.nodes))
     || list_any (λ e. passes_listed policies criteria project.nodes c e && leads on e.to v) project.edges
 
--- the function tells the least needs
+-- the function computes the least needs
 abbrev pub NeedsAreLeast : Type 0
 NeedsAreLeast =
     (policies : List KeyedPolicy) (criteria : Criteria) (project : ProjectValue) (c : Name) (v : ℕ)

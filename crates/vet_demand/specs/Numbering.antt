@@ -1,4 +1,4 @@
--- Dependency tables that differ in the numbering of their nodes alone (ours).
+-- Dependency tables that differ only in the numbering of their nodes (ours).
 use Rattle.std.specs.Prelude.{ℕ, ◌≡◌, ◌<◌, ◌↔◌, List, [], ◌∷◌, Option, Some, None, IsSome, get_or, length, map}
 use Rattle.std.specs.List.{All, Contains, flat_map}
 use Rattle.std.specs.List.Sorted.{IsPermutation}
@@ -9,7 +9,7 @@ use Rattle.vet_demand.specs.declared.dependency_record.DependencyRecord.TheVaria
 use Rattle.vet_demand.specs.declared.dependency_record.NumberedNode.{NumberedNode}
 use Rattle.vet_demand.specs.declared.project.Edge.{Edge}
 
--- ---- what records state, whatever their own numbers
+-- ---- the nodes and edges that records state, whatever the numbers of these records
 
 abbrev pub node_of : Option DependencyRecord → List NumberedNode
 node_of (Some (NodeRecord n)) = n ∷ []
@@ -38,8 +38,8 @@ renumbered rename n = record { number = rename n.number; node = n.node }
 abbrev pub renamed : (ℕ → ℕ) → Edge → Edge
 renamed rename e = record { from = rename e.from; to = rename e.to; kind = e.kind }
 
--- The other records state the same nodes and edges by new numbers, in any order. Each node stands there once, and its
--- number is how many stand before it. Equal edges stand there however often.
+-- The other records state the same nodes and edges by new numbers, in any order. Each node occurs there once, and its
+-- number counts the nodes before it. Equal edges may occur any number of times.
 pub record AreRenumbered (rename : ℕ → ℕ) (rows others : List (List Text)) : Type 0 where
   pub apart : (j k : ℕ) → rename j ≡ rename k → j ≡ k
   pub formed : All (λ fields. IsSome (record_stated 0 fields)) others

@@ -1,4 +1,4 @@
--- The order of pairs is total, and in it only equals tie (ours).
+-- The order of pairs is total, and a pair ties only with itself (ours).
 use Rattle.std.specs.Prelude.{◌≡◌, ℕ, List}
 use Rattle.std.specs.Bool.{Decides}
 use Rattle.std.specs.Ordering.{nat_cmp, is_eq}
@@ -24,7 +24,7 @@ same_bytes = slice_cmp-IsAntisymmetric nat_cmp-IsAntisymmetric
 same_pair : (p q : Pair) → p.«package» ≡ q.«package» → p.version ≡ q.version → p.criterion ≡ q.criterion → p ≡ q
 same_pair p q a b c = λ i. record { «package» = a i; version = b i; criterion = c i }
 
--- only a pair itself ties with it
+-- a pair ties only with itself
 pub pair_cmp-IsAntisymmetric : (p q : Pair) → pair_cmp p q ≡ Equal → p ≡ q
 pair_cmp-IsAntisymmetric p q e =
     let more = then_second (slice_cmp nat_cmp p.«package» q.«package») _ e in

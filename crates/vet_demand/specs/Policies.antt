@@ -8,7 +8,7 @@ use Rattle.vet_demand.specs.declared.policy.Policy.{Policy}
 use Rattle.vet_demand.specs.declared.policy_key.PolicyKey.{PolicyKey}
 use Rattle.vet_demand.specs.declared.policies.KeyedPolicy.{KeyedPolicy}
 
--- the key at which a policy stands
+-- the key of a policy
 abbrev pub key_of : KeyedPolicy → PolicyKey
 key_of p = p.key
 
@@ -20,7 +20,7 @@ IsInKeyOrder policies = IsByKey policy_key_cmp key_of policies
 abbrev pub policy_of : List KeyedPolicy → PolicyKey → Option Policy
 policy_of policies key = option_map (λ p. p.policy) (item_of policy_key_cmp key_of policies key)
 
--- whether there is one
+-- whether a key has a policy
 abbrev pub has_policy : List KeyedPolicy → PolicyKey → Bool
 has_policy policies key = is_some (item_of policy_key_cmp key_of policies key)
 
@@ -28,11 +28,11 @@ has_policy policies key = is_some (item_of policy_key_cmp key_of policies key)
 abbrev pub with_policy : List KeyedPolicy → PolicyKey → Policy → List KeyedPolicy
 with_policy policies key policy = with_item policy_key_cmp key_of policies (record { key = key; policy = policy })
 
--- policies set one after another, so that of those of one key the last stays
+-- policies set one after another, so that the last one of each key remains
 abbrev pub in_key_order : List KeyedPolicy → List KeyedPolicy
 in_key_order policies = all_set policy_key_cmp key_of [] policies
 
--- a policy is found at its key, and at each other key what was found there stays
+-- a policy that is set is found at its key, and every other key keeps its policy
 abbrev pub SetPolicyIsFound : Type 0
 SetPolicyIsFound = (policies : List KeyedPolicy) (key : PolicyKey) (policy : Policy)
     → policy_of (with_policy policies key policy) key ≡ Some policy

@@ -1,4 +1,4 @@
--- Only policies themselves, key by key, are equal to them (ours).
+-- Policies with their keys are equal only to themselves (ours).
 use Rattle.std.specs.Prelude.{◌≡◌, List}
 use Rattle.std.specs.Bool.{Decides}
 use Rattle.std.specs.Cmp.Lexicographic.{pointwise_decides}
@@ -12,7 +12,7 @@ use Rattle.vet_demand.specs.Policies.{keyed_policy_eq, policies_eq}
 same_keyed : (a b : KeyedPolicy) → (a.key ≡ b.key) × (a.policy ≡ b.policy) → a ≡ b
 same_keyed a b h = λ i. record { key = h.0 i; policy = h.1 i }
 
--- only a policy of its key itself is equal to it
+-- a policy with its key is equal only to itself
 pub keyed_policy_eq-Decides : (a b : KeyedPolicy) → Decides (keyed_policy_eq a b) (a ≡ b)
 keyed_policy_eq-Decides a b =
     Decides-like _ (same_keyed a b) (λ e. (ap (λ (p : KeyedPolicy). p.key) e, ap (λ (p : KeyedPolicy). p.policy) e))

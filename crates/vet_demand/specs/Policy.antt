@@ -1,4 +1,4 @@
--- When policies are the same (ours).
+-- Equality of policies (ours).
 use Rattle.std.specs.Prelude.{◌&&◌, Bool}
 use Rattle.std.specs.Bool.{beq}
 use Rattle.std.specs.Option.{option_eq}
@@ -7,7 +7,7 @@ use Rattle.vet_base.specs.Names.{same_names}
 use Rattle.vet_demand.specs.DependencyCriteria.{dependencies_eq}
 use Rattle.vet_demand.specs.declared.policy.Policy.{Policy}
 
--- all that they say is the same
+-- two policies agree in every field
 abbrev pub policy_eq : Policy → Policy → Bool
 policy_eq a b =
     option_eq beq a.audit_as_crates_io b.audit_as_crates_io && option_eq same_names a.criteria b.criteria

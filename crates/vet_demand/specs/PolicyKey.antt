@@ -1,4 +1,4 @@
--- Which texts are keys of policies (The Cargo Vet Book, config), how they are printed, and their order (ours).
+-- The texts that are keys of policies (The Cargo Vet Book, config), how keys are printed, and their order (ours).
 use Rattle.std.specs.Prelude.{ℕ, ◌==◌, Bool, [], ◌∷◌, ◌++◌, length, Option, Some, None, Ok, if◌then◌else◌}
 use Rattle.std.specs.List.{position_or_len, before_first, after_first}
 use Rattle.std.specs.Option.{option_cmp}
@@ -29,13 +29,13 @@ abbrev pub versioned_key : Name → Text → Told PolicyKey
 versioned_key name rest = found_or BadName (read_package_name name)
     >>= (λ n. found_or BadVersion (read_version rest) >>= (λ v. Ok (record { «package» = n; version = Some v })))
 
--- the key that a text is, or its refusal
+-- the key that a text states, or its refusal
 abbrev pub key_told : Text → Told PolicyKey
 key_told text =
     if position_or_len is_colon text == length text then plain_key text
     else versioned_key (before_first is_colon text) (after_first is_colon text)
 
--- the key that a text is, if it is one
+-- the key that a text states, if it is well-formed
 abbrev pub read_key : Text → Option PolicyKey
 read_key text = result_ok (key_told text)
 
@@ -49,11 +49,11 @@ key_text k = k.«package» ++ key_version_text k.version
 
 -- ---- the order
 
--- by version, where none stands before one
+-- by version; an absent one comes before any other
 abbrev pub versions_cmp : Option VersionValue → Option VersionValue → Ordering
 versions_cmp = option_cmp version_cmp
 
--- by the bytes of the package's name, then without a version before with one, then by version
+-- by the bytes of the package's name, then a key without a version before one with a version, then by version
 abbrev pub policy_key_cmp : PolicyKey → PolicyKey → Ordering
 policy_key_cmp = then_cmp (on (λ k. k.«package») (slice_cmp nat_cmp)) (on (λ k. k.version) versions_cmp)
 

@@ -1,4 +1,4 @@
--- The order of keys of policies is total, and in it only equals tie (ours).
+-- The order of keys of policies is total, and a key ties only with itself (ours).
 use Rattle.std.specs.Prelude.{◌≡◌, Option, Some, None}
 use Rattle.std.specs.Bool.{Decides}
 use Rattle.std.specs.Ordering.{nat_cmp, is_eq}
@@ -26,13 +26,13 @@ version_tied (Some x) (Some y) e = ap (λ (v : VersionValue). Some v) (version_c
 same_key : (a b : PolicyKey) → a.«package» ≡ b.«package» → a.version ≡ b.version → a ≡ b
 same_key a b p v = λ i. record { «package» = p i; version = v i }
 
--- only a key itself ties with it
+-- a key ties only with itself
 pub policy_key_cmp-IsAntisymmetric : (a b : PolicyKey) → policy_key_cmp a b ≡ Equal → a ≡ b
 policy_key_cmp-IsAntisymmetric a b e =
     same_key a b (slice_cmp-IsAntisymmetric nat_cmp-IsAntisymmetric _ _ (then_first _ _ e))
     (version_tied _ _ (then_second (slice_cmp nat_cmp a.«package» b.«package») _ e))
 
--- two keys tie just where they are the same
+-- two keys tie exactly if they are the same
 pub policy_key_eq-Decides : (a b : PolicyKey) → Decides (policy_key_eq a b) (a ≡ b)
 policy_key_eq-Decides a b = (
   λ tied. policy_key_cmp-IsAntisymmetric a b ((Equal-is (policy_key_cmp a b)).0 tied),

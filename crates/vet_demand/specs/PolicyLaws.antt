@@ -1,4 +1,4 @@
--- Only a policy itself is equal to it (ours).
+-- A policy is equal only to itself (ours).
 use Rattle.std.specs.Prelude.{◌≡◌}
 use Rattle.std.specs.Bool.{Decides}
 use Rattle.std.specs.Cmp.{booleans_Decides}
@@ -11,7 +11,7 @@ use Rattle.vet_demand.specs.DependencyCriteriaLaws.{dependencies_eq-Decides}
 use Rattle.vet_demand.specs.declared.policy.Policy.{Policy}
 use Rattle.vet_demand.specs.Policy.{policy_eq}
 
--- only a policy itself is equal to it
+-- a policy is equal only to itself
 pub policy_eq-Decides : (a b : Policy) → Decides (policy_eq a b) (a ≡ b)
 policy_eq-Decides a b =
     Decides-like (policy_eq a b)

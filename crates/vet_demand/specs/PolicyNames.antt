@@ -1,4 +1,4 @@
--- Which criteria policies name (ours), and when all of them stay known.
+-- The criteria that policies name (ours), and when all of them stay known.
 use Rattle.std.specs.Prelude.{◌≡◌, Bool, false, List, [], ◌∷◌, Option, None, unwrap_or}
 use Rattle.std.specs.FinMap as map
 use Rattle.std.specs.FinSet as set
@@ -34,27 +34,27 @@ names_in p = set.union (set.union (names_listed p.criteria) (names_listed p.dev_
 abbrev pub policy_names : Name → KeyedPolicy → Bool
 policy_names name k = set.contains (names_in k.policy) name
 
--- policies stay known where one is set that names only known criteria
+-- policies stay known if one is set that names only known criteria
 abbrev pub KnownWithSet : Type 0
 KnownWithSet =
     (criteria : Criteria) (policies : List KeyedPolicy) (p : KeyedPolicy) → PoliciesAreKnown criteria policies
     → least_unknown criteria (names_in p.policy) ≡ None
     → PoliciesAreKnown criteria (with_item policy_key_cmp key_of policies p)
 
--- where one is dropped
+-- policies stay known if one is dropped
 abbrev pub KnownWithoutDropped : Type 0
 KnownWithoutDropped =
     (criteria : Criteria) (policies : List KeyedPolicy) (key : PolicyKey) → PoliciesAreKnown criteria policies
     → PoliciesAreKnown criteria (without_item policy_key_cmp key_of policies key)
 
--- where a criterion is set
+-- policies stay known if a criterion is set
 abbrev pub KnownByMoreCriteria : Type 0
 KnownByMoreCriteria =
     (criteria : Criteria) (policies : List KeyedPolicy) (name : Name) (c : Criterion)
     → PoliciesAreKnown criteria policies
     → PoliciesAreKnown (map.insert criteria name c) policies
 
--- and where one is removed that none of them names
+-- policies stay known if a criterion is removed that none of them names
 abbrev pub KnownByFewerCriteria : Type 0
 KnownByFewerCriteria =
     (criteria : Criteria) (policies : List KeyedPolicy) (name : Name) → list_any (policy_names name) policies ≡ false

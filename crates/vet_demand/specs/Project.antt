@@ -19,7 +19,7 @@ pub record ProjectValue : Type 0 where
   pub nodes : List Node
   pub edges : List Edge
 
--- ---- the words of parties and kinds, by their places
+-- ---- the places of parties and kinds in their orders
 
 abbrev pub party_place : Party → ℕ
 party_place Root = 0
@@ -43,7 +43,7 @@ kind_eq a b = nat_eq (kind_place a) (kind_place b)
 abbrev pub node_cmp : Node → Node → Ordering
 node_cmp = then_cmp (on (λ n. n.«package») (slice_cmp nat_cmp)) (on (λ n. n.version) version_cmp)
 
--- each node comes before those after it, so that no name stands twice with one version
+-- each node comes before those after it, so that no name occurs twice with one version
 abbrev pub AreInNodeOrder : List Node → Type 0
 AreInNodeOrder nodes = AllPairs (λ a b. node_cmp a b ≡ Less) nodes
 
@@ -53,7 +53,7 @@ node_eq a b = pointwise nat_eq a.«package» b.«package» && version_eq a.versi
 
 -- ---- edges
 
--- the order of edges: by the place from which, the place to which, and kind
+-- the order of edges: by the place where they start, then by the place where they end, then by kind
 abbrev pub edge_cmp : Edge → Edge → Ordering
 edge_cmp = then_cmp (on (λ e. e.from) nat_cmp) (then_cmp (on (λ e. e.to) nat_cmp) (on (λ e. kind_place e.kind) nat_cmp))
 
@@ -65,13 +65,13 @@ edge_eq = eq_by_cmp edge_cmp
 abbrev pub AreInEdgeOrder : List Edge → Type 0
 AreInEdgeOrder edges = AllPairs (λ a b. edge_cmp a b ≡ Less) edges
 
--- an edge is between two of so many nodes
+-- an edge is between two of this many nodes
 abbrev pub IsWithin : ℕ → Edge → Type 0
 IsWithin many e = (e.from < many) × (e.to < many)
 
 -- ---- projects
 
--- nodes in order, some but not too many, and edges between them in order, not too many
+-- nodes in order, at least one but not too many, and edges between them in order, not too many
 pub record IsProject (p : ProjectValue) : Type 0 where
   pub nodes_in_order : AreInNodeOrder p.nodes
   pub edges_in_order : AreInEdgeOrder p.edges

@@ -1,4 +1,4 @@
--- Only a project, a node or an edge itself is equal to it, and their orders are total (ours).
+-- Projects, nodes and edges are equal only to themselves, and the orders of nodes and edges are total (ours).
 use Rattle.std.specs.Prelude.{◌≡◌, refl}
 use Rattle.std.specs.Bool.{Decides}
 use Rattle.std.specs.Ordering.{nat_cmp, is_eq}
@@ -54,7 +54,7 @@ node_total = then_total (on_total (λ (n : Node). n.«package») nat_list_cmp_to
 same_node : (a b : Node) → ((a.«package» ≡ b.«package») × (a.version ≡ b.version)) × (a.party ≡ b.party) → a ≡ b
 same_node a b h = λ i. record { «package» = h.0.0 i; version = h.0.1 i; party = h.1 i }
 
--- only a node itself is equal to it
+-- a node is equal only to itself
 pub node_eq-Decides : (a b : Node) → Decides (node_eq a b) (a ≡ b)
 node_eq-Decides a b =
     Decides-like _ (same_node a b)
@@ -70,7 +70,7 @@ edge_total = then_total (on_total (λ (e : Edge). e.from) nat_cmp_total)
 same_edge : (a b : Edge) → a.from ≡ b.from → a.to ≡ b.to → a.kind ≡ b.kind → a ≡ b
 same_edge a b f t k = λ i. record { from = f i; to = t i; kind = k i }
 
--- only an edge itself ties with it
+-- an edge ties only with itself
 pub edge_cmp-IsAntisymmetric : (a b : Edge) → edge_cmp a b ≡ Equal → a ≡ b
 edge_cmp-IsAntisymmetric a b e =
     let more = then_second (nat_cmp a.from b.from) _ e in
@@ -86,7 +86,7 @@ edge_eq-Decides a b = (
 same_project : (a b : ProjectValue) → (a.nodes ≡ b.nodes) × (a.edges ≡ b.edges) → a ≡ b
 same_project a b h = λ i. record { nodes = h.0 i; edges = h.1 i }
 
--- only a project itself is equal to it
+-- a project is equal only to itself
 pub project_eq-Decides : (a b : ProjectValue) → Decides (project_eq a b) (a ≡ b)
 project_eq-Decides a b =
     Decides-like _ (same_project a b)

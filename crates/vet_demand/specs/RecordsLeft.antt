@@ -1,4 +1,4 @@
--- What a reader of records in memory still gives (ours).
+-- The records that a reader of bytes in memory has left (ours).
 use Rattle.std.specs.Borrow.{Bor}
 use Rattle.std.specs.Prelude.{ℕ, ◌≡◌, Bool, true, false, List, [], ◌∷◌, Option, Some}
 use Rattle.csv.specs.Reading.{Ready, default_config, is_flexible, reader_config, reader_state, reader_trim}
@@ -28,7 +28,7 @@ pub record IsReading (reader : BytesReader) (state : State) (left : Bytes) : Typ
   pub ahead : source_of bytes_ahead reader ≡ Some left
   pub now : reader_state reader ≡ state
 
--- the records that are left, if they are at most so many
+-- the records that are left, if there are at most this many
 abbrev pub RecordsLeft : BytesReader → ℕ → List (List Text) → Type 0
 RecordsLeft reader most rows = (state : State) × (left : Bytes) × IsReading reader state left
     × (records_from default_config most state left ≡ rows)
@@ -39,7 +39,7 @@ FirstIs false fields reader most rows = rows ≡ []
 FirstIs true fields reader most rows = (rest : List (List Text)) × (rows ≡ fields ∷ rest)
     × RecordsLeft reader most rest
 
--- what stands for an error of the reader at the record of this number
+-- the refusal for an error of the reader at the record of this number
 abbrev pub refusal_for : ℕ → ErrorKind → Refusal
 refusal_for number (kind.Io e) = NoMemory
 refusal_for number kind.OutOfMemory = NoMemory

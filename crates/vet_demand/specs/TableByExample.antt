@@ -12,7 +12,7 @@ version_one = record { parts = (1, 0, 0, [], []); revision = None }
 abbrev pub version_tenth : VersionValue
 version_tenth = record { parts = (0, 1, 0, [], []); revision = None }
 
--- a program, what it is tested by, and what that stands on
+-- a program, a package that its tests use, and a dependency of that package
 abbrev pub example_project : ProjectValue
 example_project = record {
   nodes =
@@ -31,7 +31,7 @@ example_table =
     ++ codes "edge,0,2,normal,\n"
     ++ codes "edge,1,0,dev,\n"
 
--- the same by other numbers: an edge stands twice, and a number, a field and ends of lines are spelled otherwise
+-- the same by other numbers: an edge occurs twice, and a number, a field and line ends are written differently
 abbrev pub other_table : Bytes
 other_table =
     codes "what,n,p,q,r\n"

@@ -1,4 +1,4 @@
--- The terms on which projects demand (ours).
+-- The terms of a demand (ours).
 use Rattle.std.specs.Prelude.{◌≡◌}
 use Rattle.std.specs.FinMap as map
 use Rattle.vet_base.specs.Closures.{AreClosures}
@@ -8,11 +8,11 @@ use Rattle.vet_base.specs.Names.{NameSet}
 use Rattle.vet_demand.specs.Passed.{only}
 use Rattle.vet_demand.specs.declared.terms.Terms.{Terms}
 
--- the places of what some criteria imply in the end, and of themselves
+-- the places of the closure of some criteria
 abbrev pub closed_places : Criteria → NameSet → Places
 closed_places criteria names = placed criteria (closure_of criteria names)
 
--- what was found once is that of the table
+-- the values that were computed once are those of the table
 pub record AreTerms (terms : Terms) : Type 0 where
   pub table : IsTable terms.criteria.now
   pub names : terms.names.now ≡ map.keys terms.criteria.now

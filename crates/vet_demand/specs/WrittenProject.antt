@@ -1,4 +1,4 @@
--- The dependency table that is written of a project (RFC 4180 for its lines; the forms of records are ours).
+-- The dependency table that is written for a project (RFC 4180 for its lines; the forms of records are ours).
 use Rattle.std.specs.Prelude.{ℕ, ◌≡◌, ◌+◌, true, List, [], ◌∷◌, ◌++◌, codes, map}
 use Rattle.std.specs.Fmt.{decimal}
 use Rattle.std.specs.List.{flat_map}
@@ -28,7 +28,7 @@ kind_word Normal = codes "normal"
 kind_word Build = codes "build"
 kind_word Dev = codes "dev"
 
--- a node's name is one, and its version is what its text is read as
+-- a node's name is well-formed, and the text of its version is read as that version
 pub record IsNamed (n : Node) : Type 0 where
   pub name : is_package_name n.«package» ≡ true
   pub version : IsVersion n.version
@@ -41,7 +41,7 @@ node_fields number n = codes "node" ∷ decimal number ∷ n.«package» ∷ ver
 abbrev pub edge_fields : Edge → List Text
 edge_fields e = codes "edge" ∷ decimal e.from ∷ decimal e.to ∷ kind_word e.kind ∷ [] ∷ []
 
--- the records of nodes, numbered on from the number of the first
+-- the records of nodes, numbered from this number on
 abbrev pub node_records : ℕ → List Node → List (List Text)
 node_records number [] = []
 node_records number (n ∷ rest) = node_fields number n ∷ node_records (number + 1) rest
@@ -62,6 +62,6 @@ line (field ∷ next ∷ rest) = field ++ (codes "," ++ line (next ∷ rest))
 abbrev pub lines : List (List Text) → Text
 lines = flat_map line
 
--- the table that is written of a project
+-- the table that is written for a project
 abbrev pub written_text : ProjectValue → Text
 written_text p = lines (written_records p)

@@ -1,10 +1,10 @@
-//! The audited nodes of projects, with what they need.
+//! The audited nodes of projects, with their needs.
 //!
-//! **They are in one list, each once, in the order of nodes, and ask for just the pairs that the projects demand.**
+//! **They are in one list, each once, in the order of nodes, and ask for exactly the pairs that the projects demand.**
 //!
-//! A project has its nodes in order. The lists of two halves of the projects are merged into one, so that a node of
-//! many projects is moved as often as the number of projects can be halved. What a node needs in one project or the
-//! other is put together there, before pairs are made of it.
+//! A project has its nodes in order. The lists of two halves of the projects are merged into one, so a node is moved as
+//! many times as the number of projects can be halved. The merge unites the needs that a node has in either half,
+//! before pairs are made of them.
 ghost use Rattle.std.specs.Prelude.{◌≡◌, ◌⊎◌, ◌<◌, ◌+◌, ◌^◌, ◌++◌, ◌∷◌, [], IfOk, IfErr, cond, length};
 ghost use Rattle.std.specs.Option.{option_copied};
 ghost use Rattle.vet_demand.specs.Audited.{AreAudited, AreAuditedIn, AreHeads, AreInAuditedOrder, AreMerged};
@@ -22,14 +22,14 @@ use std::cmp::Ordering;
 use vet_base::criteria_set::CriteriaSet;
 use vet_base::refusal::Refusal;
 
-/// Audited nodes, and audited_nodes each what it needs.
+/// Audited nodes, and in a second list the needs of each.
 #[derive(Drop)]
 pub(crate) struct AuditedNodes<'n> {
     pub(crate) nodes: Vec<&'n Node>,
     pub(crate) needs: Vec<CriteriaSet>,
 }
 
-// How many of each of two lists are merged.
+// The numbers of nodes that are already merged from each of two lists.
 #[derive(Clone, Copy)]
 struct Places {
     first: usize,
@@ -48,7 +48,7 @@ impl<'n> AuditedNodes<'n> {
         }
     }
 
-    // Puts a node behind the others.
+    // Appends a node with its needs.
     fn push(&mut self, node: &'n Node, needs: CriteriaSet) -> Result<(), Refusal>
         requires { AreParallel self.old }
         ensures parallel { IfOk result (λ _. AreParallel self.new) }
@@ -63,7 +63,7 @@ impl<'n> AuditedNodes<'n> {
 }
 
 impl Places {
-    // Where to go on when the nodes there, which compare so, are merged.
+    // The places after these, once the nodes here, which compare in this order, are merged.
     fn after(self, order: Ordering) -> Places
         requires { (self.first + 1 < 2 ^ 64) × (self.second + 1 < 2 ^ 64) }
         ensures { IsAfter self.first self.second result.first result.second order }
@@ -85,8 +85,8 @@ impl Places {
     }
 }
 
-/// The audited nodes of some projects. Costs for each project what it needs to find its needs, and a merge of their
-/// nodes for each time that the number of projects can be halved. Refused: `NoMemory`.
+/// The audited nodes of some projects. Costs the computation of each project's needs, and a merge of their nodes for
+/// each time that the number of projects can be halved. Refused: `NoMemory`.
 pub(crate) fn audited_in<'n>(
     alloc: Global,
     terms: &Terms<'_>,
@@ -134,7 +134,7 @@ fn audited_of<'n>(
     Ok(audited)
 }
 
-// Puts a node behind others, if it is audited.
+// Appends a node if it is audited.
 fn put_audited<'n>(
     node: &'n Node,
     policy: Option<&Policy>,
@@ -154,7 +154,7 @@ fn put_audited<'n>(
     audited.push(node, *needs)
 }
 
-// Two lists in one.
+// Merges two lists into one.
 fn merge<'n>(
     alloc: Global,
     first: &AuditedNodes<'n>,
@@ -182,7 +182,7 @@ fn merge<'n>(
     Ok(all)
 }
 
-// How the next nodes of two lists compare. A list that has come to its end gives way.
+// Compares the next nodes of two lists. If one list is at its end, the node of the other comes first.
 fn heads_cmp(first: &AuditedNodes<'_>, second: &AuditedNodes<'_>, at: Places) -> Ordering
     requires first { AreParallel first.now }
     requires second { AreParallel second.now }
@@ -198,7 +198,7 @@ fn heads_cmp(first: &AuditedNodes<'_>, second: &AuditedNodes<'_>, at: Places) ->
     first.nodes[at.first].cmp_place(second.nodes[at.second])
 }
 
-// Puts the lesser of the next nodes of two lists behind others, or both as one.
+// Appends the lesser of the next nodes of two lists. If they tie, they become one node with the needs of both.
 fn put_head<'n>(
     first: &AuditedNodes<'n>,
     second: &AuditedNodes<'n>,

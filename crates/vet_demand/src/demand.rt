@@ -1,4 +1,4 @@
-//! What is demanded: pairs, in the order of reports.
+//! Demands: pairs in the order of reports.
 ghost use Rattle.std.specs.Prelude.{◌≡◌, ◌↔◌, [], IsTrue, IfOk, IfErr, length};
 ghost use Rattle.std.specs.List.{Contains};
 ghost use Rattle.vet_demand.specs.Demand.{AreThePairs};
@@ -31,7 +31,7 @@ impl Model for Demand {
 }
 
 impl Demand {
-    /// The demand of nothing. Takes no memory.
+    /// The empty demand. Takes no memory.
     pub fn none(alloc: Global) -> Demand
         ensures { result ≡ [] }
     {
@@ -40,8 +40,7 @@ impl Demand {
         }
     }
 
-    /// The demand of some pairs, which may repeat and stand in any order. Takes a time of n log n.
-    /// Refused: `NoMemory`.
+    /// The demand of some pairs, in any order and with duplicates. Takes a time of n log n. Refused: `NoMemory`.
     pub fn of_pairs(alloc: Global, pairs: Vec<Pair>) -> Result<Demand, Refusal>
         ensures pairs { IfOk result (λ d. AreThePairs pairs.items d) }
         ensures memory { IfErr result (λ e. e ≡ Refusal.NoMemory) }
@@ -68,7 +67,7 @@ impl Demand {
         self.pairs.as_slice()
     }
 
-    /// How many pairs there are.
+    /// The number of pairs.
     pub fn len(&self) -> usize
         ensures { result ≡ length self.now }
     {

@@ -1,28 +1,28 @@
-//! What projects demand, by the policies and criteria that are held.
+//! The demand of projects, by the policies and criteria that are held.
 //!
 //! **The demand holds exactly the pairs that are needed at an audited node of some project, and the needs are the
 //! least that policies and edges ask for.**
 //!
-//! Each criterion is needed by itself. It begins at some nodes, and goes along some edges, and is needed just where
-//! such a way leads. So the least needs are what is reached, however the dependencies circle.
+//! Each criterion is needed separately. It begins at some nodes, goes along some edges, and is needed exactly at the
+//! nodes that it reaches. So the least needs are the nodes reached, whatever cycles the dependencies have.
 //!
-//! Where it begins (`passed`). A root begins with the closure of `safe-to-deploy`. A first-party node whose policy has
-//! criteria begins with the closure of these, and takes nothing else. An edge passes either a list, which a policy or
-//! a default names, or all that its node needs. A list is closed by itself and doesn't depend on what else is needed.
-//! So it begins at the node where the edge ends, and that edge is done with (`flow`).
+//! The starts (`passed`). A first-party node whose policy has criteria begins with the closure of these, and takes
+//! nothing else. Any other root begins with the closure of `safe-to-deploy`. An edge passes either a list, which a
+//! policy or a default names, or everything that its node needs. A list is closed by itself and doesn't depend on what
+//! else is needed. So it begins at the node where the edge ends, and the edge needs no further look (`flow`).
 //!
-//! Along which edges it goes. What remains are the edges that pass what their node needs. Criteria don't mix on their
-//! way, so each is led on by itself, by a worklist in which a node stands once (`spread`). When the list has come to
-//! its end, each node to which it leads has the criterion: that is complete. And each node in it was put there by one
-//! before it, back to a beginning: that is least.
+//! The edges. Those that remain pass what their node needs. Criteria don't mix on their way, so each is spread by
+//! itself, by a worklist that holds a node at most once (`spread`). When the list is at its end, each node to which it
+//! leads has the criterion, so the needs are complete. And each node in it was put there by an earlier one, back to a
+//! start, so the needs are the least.
 //!
-//! What is demanded (`audited`). A node's needs are demanded where it is third-party, or its policy says that it is
-//! audited as at crates.io. The nodes of a project stand in order. The lists of two halves of the projects are merged,
-//! so a node of many projects stands once, with what it needs in any of them. Pairs are made of it at the end, in the
-//! order of reports.
+//! The demand (`audited`). A node's needs are demanded if it is third-party, or if its policy says that it is audited
+//! as at crates.io. The nodes of a project are in order. The lists of two halves of the projects are merged, so a node
+//! of many projects occurs once, with what it needs in any of them. Pairs are made of it at the end, in the order of
+//! reports.
 //!
-//! What it costs. Each edge is looked at once, and once more for each criterion that the node gets where it starts. A
-//! node of one of n projects is moved log n times.
+//! The cost. Each edge is looked at once, and once more for each criterion that the node where it starts gets. A node
+//! of one of n projects is moved log n times.
 ghost use Rattle.std.specs.Prelude.{◌≡◌, ◌↔◌, ◌++◌, ◌∷◌, [], IfOk, IfErr, cond, length};
 ghost use Rattle.std.specs.List.{Contains};
 ghost use Rattle.vet_base.specs.Names.{IsRising};
@@ -45,8 +45,8 @@ use vet_base::keyed::Keyed;
 use vet_base::name::Name;
 use vet_base::refusal::Refusal;
 
-/// What projects demand: the least demand that these policies ask for, by the criteria of this table. What it costs
-/// is told above. Refused: `NoMemory`.
+/// The least demand that these policies ask of the projects, by the criteria of this table. The cost is given at the
+/// head of this module. Refused: `NoMemory`.
 pub fn demand(
     alloc: Global,
     projects: &[NamedProject],
@@ -86,7 +86,7 @@ fn pairs_of(alloc: Global, audited: &AuditedNodes<'_>, names: &[Name]) -> Result
     Ok(pairs)
 }
 
-// Adds the pairs of a node with what it needs, in the order of names.
+// Adds the pairs of a node with the criteria that it needs, in the order of names.
 fn add_node(
     node: &Node,
     needs: &CriteriaSet,

@@ -104,7 +104,7 @@ impl DependencyCriteria {
         }
     }
 
-    /// Some items, in whatever order; of those of one name the last stays. Takes a time of n log n.
+    /// Makes it from items in any order. The last item of each name remains. Takes a time of n log n.
     pub fn of(alloc: Global, items: Vec<DependencyItem>) -> Result<DependencyCriteria, AllocError>
         ensures { IfOk result (λ d. d ≡ all_set (slice_cmp nat_cmp) item_name [] items.items) }
     {
@@ -113,8 +113,8 @@ impl DependencyCriteria {
         })
     }
 
-    /// Sets the criteria at a name. Costs a binary search, and moves what stands behind the name. Where
-    /// there is no memory, all stays.
+    /// Sets the criteria of a name. Costs a binary search, and moves the items after the name. If memory runs out,
+    /// nothing changes.
     pub fn insert(&mut self, name: PackageName, criteria: Names) -> Result<(), AllocError>
         ensures ok { OnOk result (self.new ≡ with_criteria self.old name criteria) }
         ensures held { IsTrue (is_some (criteria_for self.old name)) → result ≡ Ok tt }
@@ -126,7 +126,7 @@ impl DependencyCriteria {
         })
     }
 
-    /// The criteria at a name, if there are some. Takes no memory, and a time of log n.
+    /// The criteria of a name, if there are any. Takes no memory, and a time of log n.
     pub fn get(&self, name: &PackageName) -> Option<&Names>
         ensures { option_copied result ≡ criteria_for self.now name.now }
     {
@@ -144,7 +144,7 @@ impl DependencyCriteria {
         self.items.items()
     }
 
-    /// How many names there are.
+    /// The number of names.
     pub fn len(&self) -> usize
         ensures { result ≡ length self.now }
     {

@@ -20,13 +20,13 @@ use std::cmp::Ordering;
 use vet_base::name::PackageName;
 use vet_base::version::VetVersion;
 
-// The fields of a record.
+// The number of fields of a record.
 const FIELDS: usize = 5;
 
 // The most digits of a number.
 const MOST_DIGITS: usize = 9;
 
-/// A node, and the number by which the edges of its table name it. Two are equal where name and version are.
+/// A node, and the number by which the edges of its table name it. Two are equal if their names and versions are.
 #[derive(Drop)]
 pub(crate) struct NumberedNode {
     pub number: usize,
@@ -40,7 +40,7 @@ pub(crate) struct StatedEdge {
     pub edge: Edge,
 }
 
-/// What a record states.
+/// A node or an edge, as a record states it.
 #[derive(Drop)]
 pub(crate) enum DependencyRecord {
     NodeRecord(NumberedNode),
@@ -48,7 +48,7 @@ pub(crate) enum DependencyRecord {
 }
 
 impl DependencyRecord {
-    /// What the record of this number states, if it has the form of a node or of an edge.
+    /// Reads the node or the edge that the record of this number states. `None` if it has the form of neither.
     pub(crate) fn read(
         alloc: Global,
         number: u64,
@@ -81,7 +81,7 @@ pub(crate) fn is_header(row: &ByteRecord) -> bool
         && is_word(row, 4, "r")
 }
 
-// The field at a place, and no byte where there is none.
+// The field at a place, which is empty if there is none.
 fn field(row: &ByteRecord, place: usize) -> &[u8]
     ensures { result.now ≡ field (fields_of row.now) place }
 {

@@ -16,12 +16,12 @@ use std::marker::Model;
 use vet_base::limits::{MOST_EDGES, MOST_NODES};
 use vet_base::refusal::{Limit, Refusal};
 
-/// What the records of a dependency table state, as far as they were read.
+/// The nodes and edges that the records of a dependency table state, as far as they were read.
 #[derive(Drop)]
 pub(crate) struct DependencyTable {
     pub nodes: BTreeSet<NumberedNode>,
     pub edges: Vec<StatedEdge>,
-    // The same edges, to be looked up.
+    // The same edges, for lookups.
     known: BTreeSet<Edge>,
 }
 
@@ -37,7 +37,7 @@ impl Model for DependencyTable {
 }
 
 impl DependencyTable {
-    /// A table of which nothing was read.
+    /// A table with no record read yet.
     pub(crate) fn new(alloc: Global) -> DependencyTable
         ensures { result ≡ nothing_stated }
     {
@@ -48,7 +48,7 @@ impl DependencyTable {
         }
     }
 
-    /// Takes what the record of this number states. Refused as the record's fault says, and `NoMemory`.
+    /// Adds what the record of this number states. Refused: the fault of the record, and `NoMemory`.
     pub(crate) fn take(&mut self, number: u64, found: DependencyRecord) -> Result<(), Refusal>
         ensures told { Gives (λ _. tt) (record_told number self.old found) result }
         ensures taken { OnOk result (self.new ≡ with_record self.old found) }
@@ -104,7 +104,7 @@ impl DependencyTable {
     }
 }
 
-// Refuses a node that stood before.
+// Refuses a node that an earlier record gave.
 fn judge_double(number: u64, party: Party, before: Option<&NumberedNode>) -> Result<(), Refusal>
     ensures { result ≡ double_told number party (option_copied before.entry) }
 {

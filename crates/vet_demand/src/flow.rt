@@ -1,10 +1,10 @@
-//! What the nodes of a project need, by their places.
+//! The needs of a project's nodes, by their places.
 //!
-//! **Each node has exactly the criteria that are needed there in the end.**
+//! **The set of each node has exactly the criteria that are needed there.**
 //!
-//! Along an edge a node passes either a list, which its policy or a default names, or all that it needs. What is
-//! passed as a list begins at the node where the edge ends, just as what that node needs by itself: so each edge
-//! is looked at once, and its list is closed once. The other edges alone are left to go along, whatever comes.
+//! Along an edge a node passes either a list, which its policy or a default names, or everything that it needs. A list
+//! begins at the node where the edge ends, like the criteria that this node needs by itself. So each edge is looked at
+//! once, and its list is closed once. Only the other edges remain to be followed (`spread`).
 ghost use Rattle.std.specs.Prelude.{◌≡◌, ◌<◌, IfOk, IfErr, get_or, length, map, set};
 ghost use Rattle.std.specs.FinSet as places;
 ghost use Rattle.std.specs.List.{All};
@@ -25,7 +25,7 @@ use vet_base::criteria_set::CriteriaSet;
 use vet_base::keyed::Keyed;
 use vet_base::refusal::Refusal;
 
-// For each node what begins there, and the nodes to which it passes what it needs.
+// For each node, the criteria that begin there and the nodes to which it passes its needs.
 #[derive(Drop)]
 struct Flow {
     needs: Vec<CriteriaSet>,
@@ -48,9 +48,9 @@ pub(crate) fn policies_of<'p>(
     Ok(found)
 }
 
-/// What each node of a project needs, of the criteria of the table; the policies of the nodes are handed in.
-/// Costs a look at each node and each edge, and one more for each criterion that the node gets, or the node
-/// where the edge starts. Refused: `NoMemory`.
+/// The criteria of the table that each node of a project needs, given the policies of the nodes. Costs a look at each
+/// node and each edge, and one more for each criterion that the node, or the node where the edge starts, gets. Refused:
+/// `NoMemory`.
 pub(crate) fn needs_of(
     alloc: Global,
     terms: &Terms<'_>,
@@ -73,7 +73,7 @@ pub(crate) fn needs_of(
     Ok(flow.needs)
 }
 
-// What begins at each node, and which nodes each passes what it needs.
+// The criteria that begin at each node, and the nodes to which each passes its needs.
 fn flow_of(
     alloc: Global,
     terms: &Terms<'_>,
@@ -98,7 +98,7 @@ fn flow_of(
     Ok(flow)
 }
 
-// What each node needs by itself.
+// The criteria that each node needs by itself.
 fn own_needs(
     alloc: Global,
     terms: &Terms<'_>,

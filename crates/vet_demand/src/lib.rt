@@ -1,13 +1,13 @@
-//! What projects demand.
+//! The demand of projects.
 //!
-//! **A demand holds exactly the pairs that it was given, or that projects ask for by policies, each once, in the
-//! order of reports; what projects ask for is the least that the rules do.**
+//! **A demand holds exactly the pairs that it was given, or that projects demand by their policies, each once, in the
+//! order of reports. Projects demand the least that the rules require.**
 //!
 //! Scope of this crate: pairs and demands, policies with their keys, projects, and the reader and the writer of
 //! dependency tables.
 //!
 //! For example, a root `app` with a normal edge to a third-party `serde 1.0.0` demands that version for
-//! `safe-to-deploy` and for `safe-to-run`, and with a dev edge for `safe-to-run` alone.
+//! `safe-to-deploy` and for `safe-to-run`, and with a dev edge only for `safe-to-run`.
 #![tactic(auto)]
 
 mod audited;

@@ -29,7 +29,7 @@ impl Drop for Pair {
 }
 
 impl Pair {
-    /// How it compares with the pair of these parts. Takes no memory.
+    /// Compares it with the pair of these parts. Takes no memory.
     pub fn cmp_parts(
         &self,
         package: &PackageName,
@@ -51,7 +51,7 @@ impl PartialEq for Pair {
 
     ghost laws = { partial_equiv_from_equiv (eq_by_cmp_equiv pair_total) };
 
-    // Only a pair itself ties with it.
+    // A pair ties only with itself.
     fn eq(&self, other: &Pair) -> bool
         ensures value { result ≡ pair_eq self.now other.now }
         ensures same { IsTrue result ↔ (self.now ≡ other.now) }

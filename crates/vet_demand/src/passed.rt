@@ -1,4 +1,4 @@
-//! What a node needs by itself, and what an edge passes.
+//! The criteria that a node needs by itself, and those that an edge passes.
 ghost use Rattle.std.specs.Prelude.{◌≡◌, option_map};
 ghost use Rattle.std.specs.Option.{option_copied};
 ghost use Rattle.vet_demand.specs.DemandOf.{is_audited};
@@ -15,8 +15,8 @@ use vet_base::keyed::Keyed;
 use vet_base::name::PackageName;
 use vet_base::names::Names;
 
-/// The policy of a node: the one of its version where there is one, else the one of its package, whole. Takes
-/// no memory, and a time of log n.
+/// The policy of a node: the one of its version if there is one, otherwise the one of its package. It is used whole.
+/// Takes no memory, and a time of log n.
 pub(crate) fn policy_for<'p>(policies: &'p Keyed<KeyedPolicy>, node: &Node) -> Option<&'p Policy>
     ensures { option_copied result ≡ policy_for policies.now.items node.now }
 {
@@ -26,7 +26,7 @@ pub(crate) fn policy_for<'p>(policies: &'p Keyed<KeyedPolicy>, node: &Node) -> O
     policy_of_parts(policies, &node.package, None)
 }
 
-/// Whether what a node needs is demanded: where it is third-party, or its policy says that it is audited.
+/// Whether a node's needs are demanded: if it is third-party, or if its policy says that it is audited.
 pub(crate) fn is_audited(party: Party, policy: Option<&Policy>) -> bool
     ensures { result ≡ is_audited party (option_copied policy.entry) }
 {
@@ -49,7 +49,7 @@ pub(crate) fn takes(party: Party, policy: Option<&Policy>) -> bool
     settled_criteria(party, policy).is_none()
 }
 
-/// What a node needs by itself.
+/// The criteria that a node needs by itself.
 #[tactic(auto, using(crate::proofs::Closing::none_closed))]
 pub(crate) fn own_set(terms: &Terms<'_>, party: Party, policy: Option<&Policy>) -> CriteriaSet
     requires { AreTerms terms.now }
@@ -64,7 +64,7 @@ pub(crate) fn own_set(terms: &Terms<'_>, party: Party, policy: Option<&Policy>) 
     }
 }
 
-/// What an edge to a name passes; none where it passes what the node needs at which it starts.
+/// The criteria that an edge to a name passes. `None` if it passes whatever the node where it starts needs.
 pub(crate) fn passed(
     terms: &Terms<'_>,
     kind: EdgeKind,
@@ -85,7 +85,7 @@ pub(crate) fn passed(
     }
 }
 
-// All that a node needs, however it is reached, where its policy says so.
+// All that a first-party node needs, however it is reached, if its policy has `criteria`.
 fn settled_criteria<'p>(party: Party, policy: Option<&'p Policy>) -> Option<&'p Names>
     ensures { option_copied result ≡ settled_criteria party (option_copied policy.entry) }
 {
@@ -108,7 +108,7 @@ fn listed_criteria<'p>(policy: Option<&'p Policy>, name: &PackageName) -> Option
     }
 }
 
-// What a policy gives for dev edges.
+// The criteria that a policy gives for dev edges; `safe-to-run` if it gives none.
 fn dev_criteria(terms: &Terms<'_>, policy: Option<&Policy>) -> CriteriaSet
     requires { AreTerms terms.now }
     ensures { result ≡ closed_places terms.now.criteria.now (dev_criteria (option_copied policy.entry)) }
@@ -122,7 +122,7 @@ fn dev_criteria(terms: &Terms<'_>, policy: Option<&Policy>) -> CriteriaSet
     }
 }
 
-// What is passed along a dev edge.
+// The criteria that are passed along a dev edge.
 #[tactic(auto, using(crate::proofs::Closing::none_closed))]
 fn dev_passed(
     terms: &Terms<'_>,

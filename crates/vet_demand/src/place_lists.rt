@@ -1,11 +1,11 @@
-//! Lists of places, as what leads on from each place.
+//! Lists of places: for each place, those to which it leads.
 ghost use Rattle.std.specs.Prelude.{◌≡◌, ◌<◌, ◌++◌, ◌∷◌, [], IfErr, IfOk, get_or, length, replicate, set};
 ghost use Rattle.vet_demand.specs.Spread.{lists_in};
 
 use std::alloc::Global;
 use vet_base::refusal::Refusal;
 
-/// So many lists, with nothing in them. Refused: `NoMemory`.
+/// This many empty lists. Refused: `NoMemory`.
 pub fn empty_lists(alloc: Global, count: usize) -> Result<Vec<Vec<usize>>, Refusal>
     ensures ok { IfOk result (λ lists. lists_in lists.items ≡ replicate count []) }
     ensures memory { IfErr result (λ e. e ≡ Refusal.NoMemory) }
@@ -17,7 +17,7 @@ pub fn empty_lists(alloc: Global, count: usize) -> Result<Vec<Vec<usize>>, Refus
     Ok(lists)
 }
 
-/// Puts a place behind one of some lists. Refused: `NoMemory`.
+/// Appends a place to one of some lists. Refused: `NoMemory`.
 pub fn push_at(lists: &mut Vec<Vec<usize>>, at: usize, place: usize) -> Result<(), Refusal>
     requires { at < length lists.old.items }
     ensures ok { IfOk result (λ _. lists_in lists.new.items

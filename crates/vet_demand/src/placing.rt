@@ -1,4 +1,4 @@
-//! The project of what a dependency table states: each node at its place, and edges between places.
+//! The project that a dependency table states: each node at its place, and edges between places.
 ghost use Rattle.std.specs.Prelude.{◌≡◌, ◌≢◌, IfOk, OnOk, map};
 ghost use Rattle.std.specs.BTreeMap.{get};
 ghost use Rattle.std.specs.List.{AllPairs};
@@ -16,15 +16,15 @@ use std::alloc::{AllocError, Global};
 use std::collections::{BTreeMap, BTreeSet};
 use vet_base::refusal::Refusal;
 
-// The nodes of a project, and for the number of each its place.
+// The nodes of a project, and the place of each by its number.
 #[derive(Drop)]
 struct PlacedNodes {
     nodes: Vec<Node>,
     places: BTreeMap<usize, usize>,
 }
 
-/// The project of what a table states. Refused: `CsvRefused` at 2, where it states no node; `UnknownNode` at the
-/// first record with an edge that names none; and `NoMemory`.
+/// The project that a table states. Refused: `CsvRefused` at 2 if it states no node; `UnknownNode` at the first record
+/// whose edge names a number that no node has; and `NoMemory`.
 pub(crate) fn project_of(alloc: Global, table: DependencyTable) -> Result<Project, Refusal>
     ensures { Gives (λ p. p) (stated_told table) result }
 {
@@ -74,7 +74,7 @@ fn placed_edges(
     Ok(list)
 }
 
-// An edge between the places of the nodes that it names, if there are such.
+// The edge between the places of the two nodes that it names, if both exist.
 fn placed(places: &BTreeMap<usize, usize>, edge: Edge) -> Option<Edge>
     ensures { result ≡ placed (get nat_cmp places.now) edge }
 {

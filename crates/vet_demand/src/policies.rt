@@ -14,7 +14,7 @@ use vet_base::keyed::{ExactItem, HasKey, Keyed};
 use vet_base::name::PackageName;
 use vet_base::version::VetVersion;
 
-/// A policy, and what it is of.
+/// A policy with its key.
 pub struct KeyedPolicy {
     pub key: PolicyKey,
     pub policy: Policy,
@@ -99,7 +99,7 @@ impl Policies {
         }
     }
 
-    /// Some policies, in whatever order; of those of one key the last stays. Takes a time of n log n.
+    /// Makes it from policies in any order. The last policy of each key remains. Takes a time of n log n.
     pub fn of(alloc: Global, policies: Vec<KeyedPolicy>) -> Result<Policies, AllocError>
         ensures { IfOk result (λ p. p ≡ in_key_order policies.items) }
     {
@@ -122,8 +122,8 @@ impl Policies {
         policy_of(&self.policies, key)
     }
 
-    /// Adds the policy of a key, or puts it in place of the one of this key, which takes no memory. Costs a
-    /// binary search, and moves what stands behind the key. Where there is no memory, all stays.
+    /// Adds the policy of a key, or replaces the one of this key, which takes no memory. Costs a binary search, and
+    /// moves the policies after the key. If memory runs out, nothing changes.
     pub fn insert(&mut self, key: PolicyKey, policy: Policy) -> Result<(), AllocError>
         ensures ok { OnOk result (self.new ≡ with_policy self.old key policy) }
         ensures held { IsTrue (has_policy self.old key) → result ≡ Ok tt }
@@ -140,7 +140,7 @@ impl Policies {
         self.policies.items()
     }
 
-    /// How many policies there are.
+    /// The number of policies.
     pub fn len(&self) -> usize
         ensures { result ≡ length self.now }
     {

@@ -1,4 +1,4 @@
-//! Policies: what is asked of a package and of its dependencies.
+//! Policies: the criteria that are asked of a package and of its dependencies.
 ghost use Rattle.std.specs.Prelude.{◌≡◌, ◌↔◌, IfOk, IsTrue};
 ghost use Rattle.std.specs.Cmp.{decided, partial_equiv_from_equiv};
 ghost use Rattle.vet_demand.specs.Policy.{policy_eq};
@@ -9,23 +9,23 @@ use std::alloc::AllocError;
 use vet_base::names::Names;
 use vet_base::text::Text;
 
-/// What is asked of a package and of its dependencies, in place of what is asked by default (The Cargo Vet
-/// Book, config). Criteria count with all that they imply. No criteria at all ask for nothing, and differ
-/// from an absent list, with which the default stays.
+/// The criteria that are asked of a package and of its dependencies, in place of the defaults (The Cargo Vet Book,
+/// config). Criteria count with everything that they imply. An empty list asks for nothing. It differs from an absent
+/// list, which keeps the default.
 pub struct Policy {
-    /// Whether the package, where it is first-party, is audited as the one of its name and version at
-    /// crates.io: only with `true` is it demanded itself. `false` and none ask for the same.
+    /// Whether the package, if it is first-party, is audited as the one of its name and version at crates.io. It is
+    /// demanded itself only if this is `true`; `false` and `None` mean the same.
     pub audit_as_crates_io: Option<bool>,
-    /// All that the package needs where it is first-party, however it is reached. Where there is none, a
-    /// root needs `safe-to-deploy` and what its dependants pass, and another package what these pass. Counts
-    /// for nothing where the package is third-party.
+    /// All that the package needs if it is first-party, however it is reached. If `None`, a root needs `safe-to-deploy`
+    /// and what its dependants pass, and any other package needs what these pass. Ignored if the package is
+    /// third-party.
     pub criteria: Option<Names>,
-    /// What the package passes along dev edges where it is first-party. Where there is none, `safe-to-run`.
+    /// The criteria that the package passes along dev edges if it is first-party. If `None`, `safe-to-run`.
     pub dev_criteria: Option<Names>,
-    /// What the package passes along the edges to a dependency of a name, in place of all else. Along the
-    /// dev edges of a third-party package nothing is passed.
+    /// The criteria that the package passes along the edges to a dependency of a name, in place of everything else. A
+    /// third-party package passes nothing along dev edges.
     pub dependency_criteria: DependencyCriteria,
-    /// What people wrote of the policy.
+    /// Free text about the policy.
     pub notes: Option<Text>,
 }
 
@@ -60,7 +60,7 @@ impl PartialEq for Policy {
 
     ghost laws = { partial_equiv_from_equiv (decided policy_eq policy_eq-Decides) };
 
-    // Only a policy itself is equal to it.
+    // A policy is equal only to itself.
     fn eq(&self, other: &Policy) -> bool
         ensures value { result ≡ policy_eq self.now other.now }
         ensures same { IsTrue result ↔ (self.now ≡ other.now) }
@@ -73,7 +73,7 @@ impl Eq for Policy {
     ghost laws = { decided policy_eq policy_eq-Decides };
 }
 
-// Whether all that two policies say is the same.
+// Whether two policies agree in every field.
 fn are_same(a: &Policy, b: &Policy) -> bool
     ensures { result ≡ policy_eq a.now b.now }
 {
@@ -84,7 +84,7 @@ fn are_same(a: &Policy, b: &Policy) -> bool
         && a.notes == b.notes
 }
 
-// A copy of some names, if there are some.
+// A copy of some names, if they are present.
 fn names_copied(names: &Option<Names>) -> Result<Option<Names>, AllocError>
     ensures { IfOk result (λ copy. copy ≡ names.now) }
 {

@@ -19,12 +19,12 @@ use vet_base::version::{VetVersion, version_text_reads_back};
 /// The key of a policy (The Cargo Vet Book, config): a package, or one version of a package. Its text is
 /// `PACKAGE` or `PACKAGE:VERSION`.
 ///
-/// Keys are ordered by the bytes of the package's name, then one without a version before one with, then by
+/// Keys are ordered by the bytes of the package's name, then a key without a version before one with a version, then by
 /// version.
 pub struct PolicyKey {
     pub package: PackageName,
-    /// The only version that the policy is of. Where there is none, it is of each version that has no policy
-    /// of its own.
+    /// The only version to which the policy applies. If `None`, it applies to each version that has no policy of its
+    /// own.
     pub version: Option<VetVersion>,
 }
 
@@ -38,7 +38,7 @@ impl Drop for PolicyKey {
 }
 
 impl PolicyKey {
-    /// The key that a text is, if it is one.
+    /// Reads a key from a text. `None` if the text is not a key.
     pub fn read(alloc: Global, text: &str) -> Result<Option<PolicyKey>, AllocError>
         ensures ok { IfOk result (λ k. k ≡ read_key text.now) }
         ensures no_key { read_key text.now ≡ None → result ≡ Ok None }
@@ -50,9 +50,9 @@ impl PolicyKey {
         }
     }
 
-    /// The key that a text is. The first `:` parts the package from the version. Refused: `BadName`, where
-    /// what stands before it, or all, is no package's name; `BadVersion`, where the rest is no version; and
-    /// `NoMemory`.
+    /// Parses a key from a text. The first `:` separates the package from the version. Refused: `BadName` if the text
+    /// before it, or the whole text if it has none, is not a package's name; `BadVersion` if the rest is not a version;
+    /// and `NoMemory`.
     pub fn parse(alloc: Global, text: &str) -> Result<PolicyKey, Refusal>
         ensures told { Gives (λ k. k) (key_told text.now) result }
         ensures refused { IfErr (key_told text.now) (λ e. result ≡ Err e) }
@@ -63,7 +63,7 @@ impl PolicyKey {
         }
     }
 
-    // How it compares with the key of a package, or of one version of it. Takes no memory.
+    // Compares it with the key of a package, or of one version of it. Takes no memory.
     pub(crate) fn cmp_parts(&self, package: &PackageName, version: Option<&VetVersion>) -> Ordering
         ensures { result ≡ policy_key_cmp self.now
             (record { «package» = «package».now; version = option_copied version.entry }) }
@@ -86,7 +86,7 @@ impl fmt::Display for PolicyKey {
     }
 }
 
-/// What is printed of a key is read as that key.
+/// The printed text of a key is read as that key.
 pub fn key_text_reads_back(key: &PolicyKey)
     ensures { read_key (key_text key.now) ≡ Some key.now }
 {
@@ -112,7 +112,7 @@ impl PartialEq for PolicyKey {
 
     ghost laws = { partial_equiv_from_equiv (eq_by_cmp_equiv policy_key_total) };
 
-    // Only a key itself ties with it.
+    // A key ties only with itself.
     fn eq(&self, other: &PolicyKey) -> bool
         ensures value { result ≡ policy_key_eq self.now other.now }
         ensures same { IsTrue result ↔ (self.now ≡ other.now) }
@@ -155,7 +155,7 @@ impl Exact for PolicyKey {
     ghost only_copies = { λ a b h. h };
 }
 
-// How two versions compare, where none stands before one.
+// Compares two versions. An absent one comes before any other.
 fn versions_cmp(a: Option<&VetVersion>, b: Option<&VetVersion>) -> Ordering
     ensures { result ≡ versions_cmp (option_copied a.entry) (option_copied b.entry) }
 {
@@ -188,8 +188,7 @@ fn plain(alloc: Global, name: &str) -> Result<PolicyKey, Refusal>
     })
 }
 
-// The key of a version of a package. A version that is none is told so even where there was no memory for
-// the name.
+// The key of one version of a package. A malformed version is refused as one even if memory ran out for the name.
 fn versioned(alloc: Global, name: &str, version: &str) -> Result<PolicyKey, Refusal>
     ensures told { Gives (λ k. k) (versioned_key name.now version.now) result }
     ensures refused { IfErr (versioned_key name.now version.now) (λ e. result ≡ Err e) }

@@ -1,4 +1,4 @@
-//! Which criteria policies name.
+//! The criteria that policies name.
 ghost use Rattle.std.specs.Prelude.{◌≡◌, ◌↔◌, IsTrue};
 ghost use Rattle.std.specs.FinSet as set;
 ghost use Rattle.std.specs.List.{list_any};
@@ -15,8 +15,8 @@ use vet_base::defined::lesser;
 use vet_base::name::Name;
 use vet_base::names::Names;
 
-/// The least criterion that a policy names, in whatever list, and that a table lacks. Takes no memory. Costs a look
-/// at each name of each list, up to the first that the table lacks.
+/// The least criterion that a policy names in any of its lists and that a table lacks, if there is one. Takes no
+/// memory. Costs a look at each name of each list, up to the first that the table lacks.
 pub fn least_unknown_of<'p>(policy: &'p Policy, criteria: &CriteriaTable) -> Option<&'p Name>
     ensures { option_copied result ≡ least_unknown criteria.now (names_in policy.now) }
 {
@@ -26,7 +26,7 @@ pub fn least_unknown_of<'p>(policy: &'p Policy, criteria: &CriteriaTable) -> Opt
     lesser(lesser(own, dev), passed)
 }
 
-/// Whether one of some policies names a criterion. Takes no memory. Costs a search in each of their lists, up to the
+/// Whether any of some policies names a criterion. Takes no memory. Costs a search in each of their lists, up to the
 /// first that has it.
 pub fn names_criterion(policies: &[KeyedPolicy], name: &Name) -> bool
     ensures { result ≡ list_any (policy_names name.now) policies.now }
@@ -34,7 +34,7 @@ pub fn names_criterion(policies: &[KeyedPolicy], name: &Name) -> bool
     policies.iter().any(|held| names(&held.policy, name))
 }
 
-/// Whether a table has each criterion that some policies name. Takes no memory. Costs a look at each name of each
+/// Whether a table has every criterion that some policies name. Takes no memory. Costs a look at each name of each
 /// list, up to the first that the table lacks.
 pub fn are_known(policies: &[KeyedPolicy], criteria: &CriteriaTable) -> bool
     ensures { IsTrue result ↔ PoliciesAreKnown criteria.now policies.now }
@@ -44,7 +44,7 @@ pub fn are_known(policies: &[KeyedPolicy], criteria: &CriteriaTable) -> bool
         .all(|held| least_unknown_of(&held.policy, criteria).is_none())
 }
 
-// The least name of a list, if there is one, that a table lacks.
+// The least name of a list that a table lacks. An absent list has no names.
 fn least_listed<'p>(names: &'p Option<Names>, criteria: &CriteriaTable) -> Option<&'p Name>
     ensures { option_copied result ≡ least_unknown criteria.now (names_listed names.now) }
 {
@@ -54,7 +54,7 @@ fn least_listed<'p>(names: &'p Option<Names>, criteria: &CriteriaTable) -> Optio
     }
 }
 
-// The least name of the lists for dependencies that a table lacks.
+// The least name in the lists for dependencies that a table lacks.
 fn least_passed<'p>(items: &'p [DependencyItem], criteria: &CriteriaTable) -> Option<&'p Name>
     ensures { option_copied result ≡ least_unknown criteria.now (names_passed items.now) }
 {
@@ -78,7 +78,7 @@ fn names(policy: &Policy, name: &Name) -> bool
     is_passed(policy.dependency_criteria.items(), name)
 }
 
-// Whether a list, if there is one, has a name.
+// Whether a list is present and has a name.
 fn is_listed(names: &Option<Names>, name: &Name) -> bool
     ensures { result ≡ set.contains (names_listed names.now) name.now }
 {

@@ -1,4 +1,4 @@
-//! Projects: what depends on what.
+//! Projects: nodes and the dependencies between them.
 ghost use Rattle.std.specs.Prelude.{◌≡◌, ◌↔◌, ◌<◌, ◌≤◌, IfSome, IsSome, IsTrue, length, refl};
 ghost use Rattle.std.specs.List.{All};
 ghost use Rattle.std.specs.Cmp.{decided, eq_by_cmp_equiv, partial_equiv_from_equiv, partial_order_from_total};
@@ -19,22 +19,22 @@ use vet_base::name::PackageName;
 use vet_base::ranked::{Ranked, are_ranked};
 use vet_base::version::VetVersion;
 
-/// Whose a package is. Roots and first-party packages are both first-party: what is asked of them stands in
-/// policies.
+/// The party to which a package belongs. `Root` and `First` are both first-party: policies say what is asked of these
+/// packages.
 #[derive(Clone, Copy)]
 pub enum Party {
     /// A package of the project from which dependencies start.
     Root,
     /// Another package of the project.
     First,
-    /// A package of others.
+    /// A package from outside the project.
     Third,
 }
 
-/// For what a package depends on another (The Cargo Book, dependencies).
+/// The purpose of a dependency (The Cargo Book, dependencies).
 #[derive(Clone, Copy)]
 pub enum EdgeKind {
-    /// For all that it does.
+    /// For everything that the package does.
     Normal,
     /// For its build script.
     Build,
@@ -42,15 +42,15 @@ pub enum EdgeKind {
     Dev,
 }
 
-/// A version of a package in a project, and whose it is.
+/// A version of a package in a project, with its party.
 pub struct Node {
     pub package: PackageName,
     pub version: VetVersion,
     pub party: Party,
 }
 
-/// That a node depends on a node. Nodes are told by their places, from 0, among the nodes of the project. Edges
-/// are ordered by the place from which, the place to which, and kind: normal, build, dev.
+/// A dependency of one node on another. Nodes are named by their places, from 0, among the nodes of the project. Edges
+/// are ordered by the place `from`, then the place `to`, then the kind: normal, build, dev.
 #[derive(Clone, Copy)]
 pub struct Edge {
     pub from: usize,
@@ -58,14 +58,14 @@ pub struct Edge {
     pub kind: EdgeKind,
 }
 
-/// What depends on what: 1 to 10,000 nodes in the order of their names' bytes and their versions, each name and
-/// version once, and at most 100,000 edges in their order, each once. Nodes may depend on each other in circles.
+/// A graph of dependencies: 1 to 10,000 nodes in the order of their names' bytes and their versions, each name and
+/// version once, and at most 100,000 edges in their order, each once. Nodes may depend on each other in cycles.
 pub struct Project {
     nodes: Vec<Node>,
     edges: Vec<Edge>,
 }
 
-/// A project, and its name, which has the form of a package's name.
+/// A project with its name, which has the form of a package's name.
 pub struct NamedProject {
     pub name: PackageName,
     pub project: Project,
@@ -87,9 +87,9 @@ impl Model for Project {
 }
 
 impl Project {
-    /// The project of these nodes and edges, and `None` exactly where they are none: where there is no node or more
-    /// than 10,000, or more than 100,000 edges, where nodes or edges don't stand in their order, each once, or where an
-    /// edge names a place that no node has. Takes no memory, and looks at each once.
+    /// The project of these nodes and edges. `None` exactly if they do not form one: if there is no node or more than
+    /// 10,000, or more than 100,000 edges, if nodes or edges are not in their order, each once, or if an edge names a
+    /// place that no node has. Takes no memory, and looks at each once.
     pub fn restore(nodes: Vec<Node>, edges: Vec<Edge>) -> Option<Project>
         ensures is { IsSome result ↔ IsProject (record { nodes = nodes.items; edges = edges.items }) }
         ensures value { IfSome result (λ p. p ≡ record { nodes = nodes.items; edges = edges.items }) }
@@ -189,7 +189,7 @@ impl Eq for EdgeKind {
 }
 
 impl Node {
-    /// How it compares with another by the bytes of the package's name, then by version. Takes no memory.
+    /// Compares it with another by the bytes of the package's name, then by version. Takes no memory.
     pub fn cmp_place(&self, other: &Node) -> Ordering
         ensures { result ≡ node_cmp self.now other.now }
     {
@@ -253,7 +253,7 @@ impl PartialEq for Edge {
 
     ghost laws = { partial_equiv_from_equiv (eq_by_cmp_equiv edge_total) };
 
-    // Only an edge itself ties with it.
+    // An edge ties only with itself.
     fn eq(&self, other: &Edge) -> bool
         ensures value { result ≡ edge_eq self.now other.now }
         ensures same { IsTrue result ↔ (self.now ≡ other.now) }
@@ -325,7 +325,7 @@ impl PartialEq for Project {
 
     ghost laws = { partial_equiv_from_equiv (decided project_eq project_eq-Decides) };
 
-    // Two tables that differ in numbering alone are equal as projects, since nodes stand in order.
+    // Two tables that differ only in numbering are equal as projects, since nodes are in order.
     fn eq(&self, other: &Project) -> bool
         ensures value { result ≡ project_eq self.now other.now }
         ensures same { IsTrue result ↔ (self.now ≡ other.now) }
@@ -401,7 +401,7 @@ impl ExactItem for NamedProject {
     ghost only_itself = { named_project_eq-Decides };
 }
 
-// Whether there are some nodes, but not too many, and not too many edges.
+// Whether there is at least one node, and neither too many nodes nor too many edges.
 fn are_few(nodes: &[Node], edges: &[Edge]) -> bool
     ensures { IsTrue result ↔ ((0 < length nodes.now) × (length nodes.now ≤ MOST_NODES)
         × (length edges.now ≤ MOST_EDGES)) }
@@ -409,7 +409,7 @@ fn are_few(nodes: &[Node], edges: &[Edge]) -> bool
     !nodes.is_empty() && nodes.len() <= MOST_NODES && edges.len() <= MOST_EDGES
 }
 
-// Whether nodes and edges stand in their order, and each edge is between two nodes.
+// Whether nodes and edges are in their order, and each edge is between two nodes.
 fn stand(nodes: &[Node], edges: &[Edge]) -> bool
     ensures { IsTrue result ↔ (AreInNodeOrder nodes.now × AreInEdgeOrder edges.now
         × All (IsWithin (length nodes.now)) edges.now) }
@@ -417,7 +417,7 @@ fn stand(nodes: &[Node], edges: &[Edge]) -> bool
     are_ranked(nodes) && are_ranked(edges) && are_within(nodes.len(), edges)
 }
 
-// Whether each edge is between two of so many nodes.
+// Whether each edge is between two of this many nodes.
 fn are_within(many: usize, edges: &[Edge]) -> bool
     ensures { IsTrue result ↔ All (IsWithin many) edges.now }
 {

@@ -1,12 +1,12 @@
-//! Criteria led on from node to node, by a worklist for each.
+//! Spreading criteria from node to node, with a worklist for each.
 //!
-//! **A criterion stands at a node in the end exactly where it starts, and where lists lead from there.**
+//! **At the end, a criterion is at exactly the nodes where it starts and those to which the lists lead from there.**
 //!
-//! Criteria don't mix on their way, so each is led on by itself. The worklist begins with the nodes at which
-//! the criterion stands, and takes them one after the other. Each node that one of them names and at which
-//! the criterion doesn't stand yet gets it, and goes behind the others. So a node is in the list exactly where
-//! the criterion stands at it, and stands there once: each node, and each edge, is looked at at most once for
-//! each criterion that it gets. When the list has come to its end, all that its nodes name is in it.
+//! Criteria don't mix on their way, so each is spread by itself. The worklist begins with the nodes that have the
+//! criterion, and takes them one after the other. Each node that one of them names and that lacks the criterion gets
+//! it, and is appended to the list. So the list holds exactly the nodes that have the criterion, each once: each node,
+//! and each edge, is looked at at most once for each criterion that it gets. When the list is at its end, all that its
+//! nodes name is in it.
 ghost use Rattle.std.specs.Prelude.{◌≡◌, ◌<◌, ◌≤◌, ◌++◌, ◌∷◌, [], IfOk, IfErr, cond, length, take};
 ghost use Rattle.std.specs.List.{All};
 ghost use Rattle.vet_base.specs.CriteriaSet.{has};
@@ -17,9 +17,8 @@ use vet_base::criteria_set::CriteriaSet;
 use vet_base::limits::MOST_CRITERIA;
 use vet_base::refusal::Refusal;
 
-/// Leads each of the first criteria on: from each node where it stands to those that the node names, and so
-/// on. Costs for each criterion a look at each node, and at each name of each node that gets it. Refused:
-/// `NoMemory`.
+/// Spreads each of the first `count` criteria: from each node that has it to the nodes that this one names, and so on.
+/// Costs for each criterion a look at each node, and at each name of each node that gets it. Refused: `NoMemory`.
 pub(crate) fn spread_all(
     alloc: Global,
     onward: &[Vec<usize>],
@@ -38,7 +37,7 @@ pub(crate) fn spread_all(
     Ok(())
 }
 
-// Leads one criterion on.
+// Spreads one criterion.
 fn spread(
     alloc: Global,
     onward: &[Vec<usize>],
@@ -61,7 +60,7 @@ fn spread(
     Ok(())
 }
 
-// The nodes at which a criterion stands.
+// The nodes that have a criterion.
 fn starts(alloc: Global, place: usize, sets: &[CriteriaSet]) -> Result<Vec<usize>, Refusal>
     ensures ok { IfOk result (λ reached. AreStarts place sets.now (length sets.now) reached.items) }
     ensures memory { IfErr result (λ e. e ≡ Refusal.NoMemory) }
@@ -73,7 +72,7 @@ fn starts(alloc: Global, place: usize, sets: &[CriteriaSet]) -> Result<Vec<usize
     Ok(reached)
 }
 
-// Puts a node behind others, if a criterion stands at it.
+// Appends a node if it has a criterion.
 fn start(
     node: usize,
     place: usize,
@@ -90,7 +89,7 @@ fn start(
     Ok(())
 }
 
-// Leads a criterion to some nodes.
+// Gives a criterion to some nodes, and appends those that lacked it.
 fn reach_all(
     nodes: &[usize],
     place: usize,
@@ -111,7 +110,7 @@ fn reach_all(
     Ok(())
 }
 
-// Leads a criterion to a node, where it doesn't stand there yet.
+// Gives a criterion to a node and appends the node, unless it already has the criterion.
 fn reach(
     node: usize,
     place: usize,

@@ -14,19 +14,19 @@ use csv::{ByteRecord, Error, ErrorKind, Reader, ReaderBuilder};
 use std::alloc::Global;
 use vet_base::refusal::Refusal;
 
-// The byte order mark in UTF-8, which may stand before a text.
+// The byte order mark in UTF-8, which may precede a text.
 const MARK: [u8; 3] = [0xEF, 0xBB, 0xBF];
 
-/// The project that a dependency table states: CSV (RFC 4180), whose first record is `what,n,p,q,r`. A record
-/// `node,N,NAME,VERSION,PARTY` states a node, where N is how many nodes stood before it; a record
-/// `edge,FROM,TO,KIND,` states that a node depends on a node. Tables that differ in the order of their
-/// numbers alone state the same project.
+/// Reads the project that a dependency table states. The table is CSV (RFC 4180), and its first record is
+/// `what,n,p,q,r`. A record `node,N,NAME,VERSION,PARTY` states a node, and N counts the node records before it; a
+/// record `edge,FROM,TO,KIND,` states that one node depends on another. Tables that differ only in numbering state the
+/// same project.
 ///
-/// Refused, with the number of the record: `CsvRefused`, where it has another form, or its node stood before with
-/// the same party (root and first are one), at 1 where there is no header and at 2 where there is no node;
-/// `TwoParties`, where its node stood before with another party; `UnknownNode`, where its edge names none. Refused
-/// too: `TooLarge`, with nodes or edges past their limit, and `NoMemory`. The first record at fault is told, a table
-/// without nodes after the last record, and `UnknownNode` after that.
+/// Refused, with the number of the record: `CsvRefused` if it has another form, or if an earlier record gave its node
+/// with the same party (root and first count as the same), at 1 if there is no header and at 2 if there is no node;
+/// `TwoParties` if an earlier record gave its node with the other party; `UnknownNode` if its edge names a number that
+/// no node has. Refused too: `TooLarge` for nodes or edges past their limit, and `NoMemory`. The first record at fault
+/// is reported, a table without nodes after the last record, and `UnknownNode` after that.
 pub fn read_project(alloc: Global, bytes: &[u8]) -> Result<Project, Refusal>
     ensures { Gives (λ p. p) (project_of_bytes bytes.now) result }
 {
@@ -34,7 +34,7 @@ pub fn read_project(alloc: Global, bytes: &[u8]) -> Result<Project, Refusal>
     project_of(alloc, table)
 }
 
-// What some bytes state.
+// Reads the table that some bytes state.
 fn table_of(alloc: Global, bytes: &[u8]) -> Result<DependencyTable, Refusal>
     ensures { Gives (λ t. t) (table_told (records default_config (strip_bom bytes.now))) result }
 {
@@ -47,7 +47,7 @@ fn table_of(alloc: Global, bytes: &[u8]) -> Result<DependencyTable, Refusal>
     read_table(alloc, &mut reader, &mut row, most)
 }
 
-// What the records state that a reader gives: the header, and at most so many.
+// Reads the header that a reader gives, and at most `most` records after it.
 fn read_table(
     alloc: Global,
     reader: &mut Reader<&[u8]>,
@@ -67,7 +67,7 @@ fn read_table(
     Ok(table)
 }
 
-// Takes what the records after the header state.
+// Adds what the records after the header state.
 fn read_rows(
     alloc: Global,
     reader: &mut Reader<&[u8]>,
@@ -90,7 +90,7 @@ fn read_rows(
     Ok(())
 }
 
-// Takes what a record states.
+// Adds what a record states.
 fn read_row(
     alloc: Global,
     number: u64,
@@ -105,7 +105,7 @@ fn read_row(
     table.take(number, found)
 }
 
-// Reads the record of this number, and tells whether there is one.
+// Reads the record of this number, and returns whether there is one.
 fn next_row(reader: &mut Reader<&[u8]>, row: &mut ByteRecord, number: u64) -> Result<bool, Refusal>
     ensures first { IfOk result (λ found. (most : ℕ) (rows : List (List (List ℕ)))
         → RecordsLeft reader.old (suc most) rows → FirstIs found (fields_of row.new) reader.new most rows) }
@@ -118,7 +118,7 @@ fn next_row(reader: &mut Reader<&[u8]>, row: &mut ByteRecord, number: u64) -> Re
     }
 }
 
-// What stands for an error of the reader. Bytes in memory give no error of their own.
+// The refusal for an error of the reader. Bytes in memory give no error of their own.
 fn refusal_of(error: &Error, number: u64) -> Refusal
     ensures { result ≡ refusal_for number (error_kind error.now) }
 {
@@ -128,7 +128,7 @@ fn refusal_of(error: &Error, number: u64) -> Refusal
     }
 }
 
-// How many bytes there are after a byte order mark.
+// The number of bytes after the byte order mark, if there is one.
 fn text_len(bytes: &[u8]) -> usize
     ensures value { result ≡ length (strip_bom bytes.now) }
     ensures small { result + 2 < 2 ^ 64 }

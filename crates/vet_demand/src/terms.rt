@@ -1,4 +1,4 @@
-//! The terms on which projects demand: policies, and the criteria of a table with what each implies.
+//! The terms of a demand: policies, and the criteria of a table with those that each implies.
 ghost use Rattle.std.specs.Prelude.{◌≡◌, true, IfOk, IfErr};
 ghost use Rattle.vet_base.specs.Name.{is_name};
 ghost use Rattle.vet_demand.specs.Passed.{only};
@@ -14,7 +14,7 @@ use vet_base::name::Name;
 use vet_base::names::Names;
 use vet_base::refusal::Refusal;
 
-/// Policies and a table, and what is found of them once for many looks.
+/// Policies and a table, with values that are computed from them once and looked up many times.
 #[derive(Drop)]
 pub(crate) struct Terms<'t> {
     pub(crate) policies: &'t Keyed<KeyedPolicy>,
@@ -56,7 +56,7 @@ impl<'t> Terms<'t> {
         })
     }
 
-    /// Some criteria and what they imply in the end.
+    /// The closure of some criteria.
     pub(crate) fn closed(&self, names: &Names) -> CriteriaSet
         requires { AreTerms self.now }
         ensures { result ≡ closed_places self.now.criteria.now names.now }
@@ -65,7 +65,7 @@ impl<'t> Terms<'t> {
     }
 }
 
-// One name alone.
+// The set of one name.
 fn only(alloc: Global, name: &str) -> Result<Names, Refusal>
     requires { is_name name.now ≡ true }
     ensures ok { IfOk result (λ names. names ≡ only name.now) }
