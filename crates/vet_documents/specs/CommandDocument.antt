@@ -32,11 +32,11 @@ word_told ms = required any_text COMMAND COMMAND ms >>= λ word. found_or (fault
 abbrev pub close_period_told : Members → Told Action
 close_period_told ms = only [] ms >>= λ _. Ok ClosePeriod
 
--- there is no key for the day, which is that of the command
+-- no key states the day, which is that of the command
 abbrev pub set_day_told : Members → Told Action
 set_day_told ms = only [] ms >>= λ _. Ok SetDay
 
--- what the command of a word asks for; who gives it matters to the desk alone
+-- the action that the command of a word asks for; the giver matters only to the desk
 abbrev pub action_told : Option Bytes → Members → CommandWord → Told Action
 action_told giver ms command.SetCriterion = set_criterion_told ms
 action_told giver ms command.RemoveCriterion = remove_criterion_told ms
@@ -59,7 +59,7 @@ action_told giver ms command.AssignReview = assign_review_told ms
 action_told giver ms command.FinishReview = finish_review_told giver ms
 action_told giver ms command.WithdrawReview = withdraw_review_told giver ms
 
--- the command of a document that is given on a day: its length goes first, then its form, then its keys
+-- the command of a document that is given on a day; its length is checked first, then its form, then its keys
 abbrev pub command_told : Bytes → DayValue → Option Bytes → Told Command
 command_told bytes day giver =
     length_told bytes >>= λ _.

@@ -7,12 +7,12 @@ use Rattle.vet_documents.specs.declared.command_word.CommandWord.TheVariants as 
 use Rattle.vet_documents.specs.declared.command_word.KindWord.{KindWord}
 use Rattle.vet_documents.specs.declared.command_word.KindWord.TheVariants as kind
 
--- what stands beside a text in a table
+-- the value beside a text in a table
 abbrev pub beside : {A : Type 0} → Text → List (Text × A) → Option A
 beside text [] = None
 beside text (row ∷ rest) = if bytes_eq text row.0 then Some row.1 else beside text rest
 
--- each command to the desk and its word
+-- each command to the review desk, with its word
 abbrev pub desk_commands : List (Text × CommandWord)
 desk_commands =
     (codes "add-member", command.AddMember)
@@ -22,7 +22,7 @@ desk_commands =
     ∷ (codes "withdraw-review", command.WithdrawReview)
     ∷ []
 
--- each command and its word
+-- each command, with its word
 abbrev pub commands : List (Text × CommandWord)
 commands =
     (codes "set-criterion", command.SetCriterion)
@@ -42,7 +42,7 @@ commands =
     ∷ (codes "set-day", command.SetDay)
     ∷ desk_commands
 
--- each kind of an entry and its word
+-- each kind of an entry, with its word
 abbrev pub kinds : List (Text × KindWord)
 kinds =
     (codes "full", kind.Full)

@@ -17,7 +17,7 @@ use Rattle.vet_files.specs.KeyNames.{CRITERIA, DELTA, VERSION}
 use Rattle.vet_register.specs.declared.command.Action.{Action}
 use Rattle.vet_register.specs.declared.command.Action.TheVariants.{Desk}
 
--- the name that bytes are, which need not be a text
+-- the name that some bytes state, which need not be text
 abbrev pub name_of_bytes : Bytes → Told Name
 name_of_bytes bytes = found_or BadName (if is_utf8 bytes then read_name bytes else None)
 
@@ -47,7 +47,7 @@ assign_review_told ms =
     only (REVIEW ∷ MEMBER ∷ []) ms >>= λ _.
     Ok (Desk (desk.AssignReview review name))
 
--- what finishes a review: a version, or a delta; with both the delta is at fault, with none the version
+-- the version or the delta that finishes a review; with both, the delta is at fault, with neither, the version
 abbrev pub version_reviewed_told : Members → Told Reviewed
 version_reviewed_told ms =
     required a_version COMMAND VERSION ms >>= λ version.

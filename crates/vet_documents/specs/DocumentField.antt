@@ -1,5 +1,5 @@
--- What stands at a key of a command document (ours). It is read as at a key of a file, but for a text that is no name,
--- version, requirement, day or delta: that has a refusal of its own.
+-- The values at the keys of a command document (ours). They are read as in a file, except that a text which is not a
+-- name, version, requirement, day or delta has a refusal of its own.
 use Rattle.std.specs.Prelude.{ℕ, Bool, List, ◌∷◌, ℤ, pos, negsuc, Option, Some, None, Ok, Err, if◌then◌else◌}
 use Rattle.std.specs.Prelude.{nat_lt, option_and_then}
 use Rattle.std.specs.FinSet as set
@@ -22,13 +22,13 @@ use Rattle.vet_demand.specs.declared.policy_key.PolicyKey.{PolicyKey}
 use Rattle.vet_files.specs.Field.{day_of, fault, items_told, one_or_list_told}
 use Rattle.vet_documents.specs.DocumentKeys.{COMMAND}
 
--- ---- one word for each type
+-- ---- the reader of each type
 
--- a text, however long
+-- a text, however long it is
 abbrev pub any_text : Path → Key → Data → Told Text
 any_text path key d = found_or (fault path key) (as_str d)
 
--- a text that is to be a value, with the refusal of one that isn't
+-- a value that a text states, or the refusal of a malformed text
 abbrev pub a_word : {A : Type 0} → (Text → Option A) → Refusal → Path → Key → Data → Told A
 a_word read refusal path key d = any_text path key d >>= λ text. found_or refusal (read text)
 
@@ -49,7 +49,7 @@ a_requirement = a_word read_req BadRequirement
 abbrev pub a_delta : Path → Key → Data → Told Delta
 a_delta = a_word read_delta BadDelta
 
--- the key of a policy: a package's name or, behind it, a version
+-- the key of a policy: a package's name, perhaps with a version after it
 abbrev pub a_policy_key : Path → Key → Data → Told PolicyKey
 a_policy_key path key d = any_text path key d >>= key_told
 
@@ -66,7 +66,7 @@ number_of (negsuc n) = None
 abbrev pub a_number : Path → Key → Data → Told ℕ
 a_number path key d = found_or (fault path key) (option_and_then number_of (as_integer d))
 
--- names: one, or a list of them; the first item at fault tells it
+-- names: one, or a list of them, which gives its first item at fault
 abbrev pub names : Path → Key → Data → Told NameSet
 names path key d = one_or_list_told a_name path key d >>= λ found. Ok (set.from_list found)
 
@@ -80,12 +80,12 @@ package_names path key d =
 abbrev pub is_among : List Key → Key → Bool
 is_among known key = list_any (λ k. bytes_eq k key) known
 
--- the first key that isn't among the known ones is a fault of the table; keys stand in the order of their bytes
+-- the first key that is not among the known ones is a fault of the table; keys are in the order of their bytes
 abbrev pub no_others : Path → List Key → Members → Told (Unit {0})
 no_others path known no_members = Ok tt
 no_others path known (member key d rest) =
     if is_among known key then no_others path known rest else Err (fault path key)
 
--- a document has these keys, and that of its command
+-- a document has only these keys, and that of its command
 abbrev pub only : List Key → Members → Told (Unit {0})
 only known = no_others COMMAND (COMMAND ∷ known)

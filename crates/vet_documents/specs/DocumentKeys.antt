@@ -42,7 +42,7 @@ RECORDS = codes "records"
 abbrev pub REVIEW : Key
 REVIEW = codes "review"
 
--- where the member stands who gives a command
+-- the path of the member who gives a command
 abbrev pub HEAD : Path
 HEAD = codes "head"
 

@@ -23,7 +23,7 @@ use Rattle.vet_register.specs.declared.command.Action.TheVariants.{AddEntry, Dro
 
 -- ---- audits
 
--- what an audit says beside its subject
+-- the parts of an audit beside its subject
 abbrev pub audited_told : Members → Told Audited
 audited_told ms =
     required names COMMAND CRITERIA ms >>= λ criteria.
@@ -102,7 +102,7 @@ exemption_told ms =
 abbrev pub kind_told : Members → Told KindWord
 kind_told ms = required any_text COMMAND KIND ms >>= λ word. found_or (fault COMMAND KIND) (beside word kinds)
 
--- what an entry of a kind says of its package
+-- the parts of an entry of a kind beside its package
 abbrev pub stated_told : Members → KindWord → Told Stated
 stated_told ms kind.Full = full_told ms
 stated_told ms kind.Delta = delta_told ms
@@ -111,7 +111,7 @@ stated_told ms kind.Wildcard = wildcard_told ms
 stated_told ms kind.Trusted = trusted_told ms
 stated_told ms kind.Exemption = exemption_told ms
 
--- the keys of an audit whose subject stands at a key
+-- the keys of an audit with its subject at a key
 abbrev pub audit_keys : Key → List Key
 audit_keys subject = PACKAGE ∷ KIND ∷ subject ∷ CRITERIA ∷ WHO ∷ NOTES ∷ IMPORTABLE ∷ []
 
@@ -133,7 +133,7 @@ entry_keys kind.Wildcard = wildcard_keys
 entry_keys kind.Trusted = trusted_keys
 entry_keys kind.Exemption = exemption_keys
 
--- an entry of a package that is one's own
+-- one's own entry for a package, with these parts
 abbrev pub entry_of : Name → Stated → Entry
 entry_of name stated = own_entry name stated.kind stated.criteria stated.notes
 

@@ -1,4 +1,4 @@
--- The document of the command that replaces what the three files hold (ours).
+-- The document of the command that replaces the contents of the three files (ours).
 use Rattle.std.specs.Prelude.{[], ◌∷◌, Ok}
 use Rattle.toml.specs.Data.{Members}
 use Rattle.vet_base.specs.Gives.{Told, ◌>>=◌}
@@ -14,7 +14,7 @@ use Rattle.vet_files.specs.KeyNames.{AUDITS, IMPORTS}
 use Rattle.vet_register.specs.declared.command.Action.{Action}
 use Rattle.vet_register.specs.declared.command.Action.TheVariants.{ReplaceFiles}
 
--- what three files hold, which are read in this order
+-- the contents of the three files, which are read in this order
 abbrev pub files_told : Bytes → Bytes → Bytes → Told FilesValue
 files_told audits config imports =
     audits_told audits >>= λ audits.
@@ -22,7 +22,7 @@ files_told audits config imports =
     imports_told imports >>= λ imports.
     Ok (files_of audits.content config.content imports.content)
 
--- the files are read when nothing else is at fault
+-- the files are read only if nothing else is at fault
 abbrev pub replace_files_told : Members → Told Action
 replace_files_told ms =
     required any_text COMMAND AUDITS ms >>= λ audits.

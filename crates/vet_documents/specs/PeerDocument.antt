@@ -19,14 +19,14 @@ use Rattle.vet_documents.specs.DocumentKeys.{COMMAND, PEER}
 use Rattle.vet_register.specs.declared.command.Action.{Action}
 use Rattle.vet_register.specs.declared.command.Action.TheVariants.{DropPeer, ImportPeer, SetPeer}
 
--- one more criterion of the peer, and the names at it
+-- the map with one more criterion of the peer, and its names
 abbrev pub next_mapped : NamesByName → Key → Data → Told NamesByName
 next_mapped found key d =
     found_or BadName (read_name key) >>= λ name.
     names CRITERIA_MAP key d >>= λ criteria.
     Ok (map.insert found name criteria)
 
--- the map of a peer; one that isn't there has no items
+-- the map of a peer; an absent one has no items
 abbrev pub mapped_told : Members → Told NamesByName
 mapped_told ms = table_at COMMAND CRITERIA_MAP ms >>= each_member next_mapped map.empty
 
@@ -51,7 +51,7 @@ drop_peer_told ms =
     only (PEER ∷ []) ms >>= λ _.
     Ok (DropPeer name)
 
--- the audits file of a peer is read when nothing else is at fault
+-- the audits file of a peer is read only if nothing else is at fault
 abbrev pub import_peer_told : Members → Told Action
 import_peer_told ms =
     required a_name COMMAND PEER ms >>= λ name.

@@ -18,18 +18,18 @@ use Rattle.vet_files.specs.Walk.{each_member}
 use Rattle.vet_register.specs.declared.command.Action.{Action}
 use Rattle.vet_register.specs.declared.command.Action.TheVariants.{DropPolicy, SetPolicy}
 
--- one more dependency, and the names at it
+-- the list with one more dependency, and its names
 abbrev pub next_dependency : List DependencyItem → Key → Data → Told (List DependencyItem)
 next_dependency found key d =
     found_or BadName (read_package_name key) >>= λ name.
     names DEPENDENCY_CRITERIA key d >>= λ criteria.
     Ok (with_criteria found name criteria)
 
--- the criteria along edges to dependencies; a map that isn't there has no items
+-- the criteria for dependencies, by their names; an absent map has no items
 abbrev pub dependencies_told : Members → Told (List DependencyItem)
 dependencies_told ms = table_at COMMAND DEPENDENCY_CRITERIA ms >>= each_member next_dependency []
 
--- the policy of a document that says this of its own package
+-- the policy of a document, given the keys about its own package
 abbrev pub dependency_policy_told : Members → Option Bool → Option NameSet → Option NameSet → Told Policy
 dependency_policy_told ms published criteria dev =
     dependencies_told ms >>= λ dependencies.

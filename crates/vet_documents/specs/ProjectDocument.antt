@@ -9,7 +9,7 @@ use Rattle.vet_files.specs.Field.{required}
 use Rattle.vet_register.specs.declared.command.Action.{Action}
 use Rattle.vet_register.specs.declared.command.Action.TheVariants.{DropProject, LoadProject}
 
--- the dependency table is read when nothing else is at fault
+-- the dependency table is read only if nothing else is at fault
 abbrev pub load_project_told : Members → Told Action
 load_project_told ms =
     required a_package COMMAND PROJECT ms >>= λ name.

@@ -18,7 +18,7 @@ use Rattle.vet_register.specs.declared.command.Action.TheVariants.{SetPublishers
 abbrev pub record_path : ℕ → Path
 record_path place = codes "records[" ++ (decimal place ++ codes "]")
 
--- the record of a table; a key that it doesn't know comes before the next table
+-- the record that a table states; an unknown key comes before the next table
 abbrev pub record_told : Path → Members → Told Publisher
 record_told path ms =
     required a_version path VERSION ms >>= λ version.
@@ -29,11 +29,11 @@ record_told path ms =
     no_others path (VERSION ∷ WHEN ∷ USER_ID ∷ USER_LOGIN ∷ USER_NAME ∷ []) ms >>= λ _.
     Ok (record { version = version; user = user; day = day; login = login; name = name })
 
--- the record at a place of the list; what is no table is a fault of the list
+-- the record at a place of the list; a value that is not a table is a fault of the list
 abbrev pub record_at : ℕ → Data → Told Publisher
 record_at place d = found_or (fault COMMAND RECORDS) (as_table d) >>= record_told (record_path place)
 
--- one more record
+-- the list with one more record
 abbrev pub next_record : List Publisher → ℕ → Data → Told (List Publisher)
 next_record found place d = record_at place d >>= λ more. Ok (found ++ more ∷ [])
 

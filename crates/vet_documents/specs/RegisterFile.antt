@@ -24,20 +24,20 @@ file_named name =
     else (if bytes_eq name (codes "config.toml") then Some Config
     else (if bytes_eq name (codes "imports.lock") then Some Imports else None))
 
--- what a file of a state says
+-- the table of a file of a state
 abbrev pub file_table : RegisterFile → State → Members
 file_table Audits s = audits_table (audits_of s.held.facts)
 file_table Config s = config_table (config_of s.held)
 file_table Imports s = imports_table (settings_of s.held.facts) (imports_of s.held.facts)
 
--- the reader of the file gives of a text what the state holds, with nothing passed over
+-- the reader of the file reads a text as what the state holds, and ignores nothing
 abbrev pub IsReadAgain : RegisterFile → State → Text → Type 0
 IsReadAgain Audits s text = GivesBack audits_told (SameAudits (audits_of s.held.facts)) text
 IsReadAgain Config s text = GivesBack config_told (SameConfig (config_of s.held)) text
 IsReadAgain Imports s text =
     GivesBack imports_told (SameImports (settings_of s.held.facts) (imports_of s.held.facts)) text
 
--- a text is a file of a state: `toml` reads it as what the file says, however it is laid out
+-- a text is a file of a state: `toml` reads it as the file's table, whatever its layout
 pub record IsFileOf (file : RegisterFile) (s : State) (text : Text) : Type 0 where
   pub table : parse_document text ≡ Some (file_table file s)
   pub again : IsReadAgain file s text

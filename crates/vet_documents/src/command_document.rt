@@ -1,6 +1,6 @@
 //! Command documents.
 //!
-//! **The bytes of a document give the command that its definition says of them, or the first fault.**
+//! **The bytes of a document give the command that its definition finds in them, or their first fault.**
 ghost use Rattle.std.specs.Option.{option_copied};
 ghost use Rattle.toml.specs.View.{table_view};
 ghost use Rattle.vet_base.specs.Gives.{Gives};
@@ -29,15 +29,15 @@ use vet_files::field::fault;
 use vet_files::read::document::read_document;
 use vet_register::command::{Action, Command};
 
-/// The command of a document that is given on a day, and by a member if one is named beside it. The member matters only
-/// for who finishes or withdraws a review, and then last.
+/// Reads the command of a document that is given on a day, and by a member if one is named beside it. The member
+/// matters only for a command that finishes or withdraws a review, and is looked at last.
 ///
-/// Refused, the first that holds: `TooLarge` of `input` for more than 8,388,608 bytes; `TomlRefused` where they are no
-/// TOML document in UTF-8. Then key by key in the order of the command: `BadName`, `BadVersion`, `BadRequirement`,
-/// `BadDay` and `BadDelta` of a text that is no such value, `TooLarge` of `text`, and `FieldRefused` of what else does
-/// not belong where it stands or is missing. Then `FieldRefused` of the least key that the command lacks, then what the
-/// readers of the files within the document refuse, and last `BadName` and `FieldRefused` of the member. `NoMemory` can
-/// come at any point.
+/// Refused, for the first reason that applies: `TooLarge` of `input` for more than 8,388,608 bytes; `TomlRefused` if
+/// they are not a TOML document in UTF-8. Then key by key, in the order of the command: `BadName`, `BadVersion`,
+/// `BadRequirement`, `BadDay` and `BadDelta` for a text that is not such a value, `TooLarge` of `text`, and
+/// `FieldRefused` for anything else that does not belong at its key or is missing. Then `FieldRefused` for the least
+/// key that is not one of the command's, then the refusals of the readers of the files within the document, and last
+/// `BadName` and `FieldRefused` for the member. `NoMemory` can come at any point.
 pub fn read_command(
     alloc: Global,
     document: &[u8],
@@ -64,7 +64,7 @@ fn read_word(alloc: Global, document: &Table) -> Result<CommandWord, Refusal>
     }
 }
 
-/// What the command of a word asks for. A further command is a row here, and a row of the table of words.
+/// The action that the command of a word asks for. A new command adds a row here, and a row in the table of words.
 fn read_action(
     alloc: Global,
     giver: Option<&[u8]>,
@@ -98,7 +98,7 @@ fn read_action(
     }
 }
 
-/// Closes the period.
+/// Reads the command that closes the period.
 fn read_close_period(alloc: Global, document: &Table) -> Result<Action, Refusal>
     ensures { Gives (λ action. action) (close_period_told (table_view document.now)) result }
 {
@@ -106,7 +106,7 @@ fn read_close_period(alloc: Global, document: &Table) -> Result<Action, Refusal>
     Ok(Action::ClosePeriod)
 }
 
-/// Sets the register's day to that of the command. `set-day` has no keys.
+/// Reads the command that sets the register's day to that of the command. `set-day` has no keys.
 fn read_set_day(alloc: Global, document: &Table) -> Result<Action, Refusal>
     ensures { Gives (λ action. action) (set_day_told (table_view document.now)) result }
 {

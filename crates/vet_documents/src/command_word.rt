@@ -2,7 +2,7 @@
 ghost use Rattle.std.specs.Prelude.{◌≡◌};
 ghost use Rattle.vet_documents.specs.CommandWord.{beside, commands, desk_commands, kinds};
 
-/// What a document asks for, by its word.
+/// The command of a document, by its word.
 #[derive(Clone, Copy)]
 pub(crate) enum CommandWord {
     SetCriterion,
@@ -28,7 +28,7 @@ pub(crate) enum CommandWord {
 }
 
 impl CommandWord {
-    /// The command of a word. A further command is a row here, and a row of the reader of documents.
+    /// The command of a word. A new command adds a row here, and a row in the reader of documents.
     pub(crate) fn of_word(word: &str) -> Option<CommandWord>
         ensures { result ≡ beside word.now commands }
     {
@@ -52,7 +52,7 @@ impl CommandWord {
         }
     }
 
-    /// The command to the desk of a word.
+    /// The command of a word, among those to the review desk.
     fn of_desk_word(word: &str) -> Option<CommandWord>
         ensures { result ≡ beside word.now desk_commands }
     {

@@ -15,7 +15,7 @@ use vet_files::field::optional;
 use vet_files::keys::{DESCRIPTION, DESCRIPTION_URL, IMPLIES};
 use vet_register::command::Action;
 
-/// Sets the criterion of a document.
+/// Reads the command that sets the criterion of a document.
 pub(crate) fn read_set_criterion(alloc: Global, document: &Table) -> Result<Action, Refusal>
     ensures { Gives (λ action. action) (set_criterion_told (table_view document.now)) result }
 {
@@ -29,7 +29,7 @@ pub(crate) fn read_set_criterion(alloc: Global, document: &Table) -> Result<Acti
     Ok(Action::SetCriterion(criterion))
 }
 
-/// Removes the criterion of a document.
+/// Reads the command that removes the criterion of a document.
 pub(crate) fn read_remove_criterion(alloc: Global, document: &Table) -> Result<Action, Refusal>
     ensures { Gives (λ action. action) (remove_criterion_told (table_view document.now)) result }
 {

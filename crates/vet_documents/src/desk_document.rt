@@ -18,7 +18,7 @@ use vet_files::field::{fault, value_at};
 use vet_files::keys::{CRITERIA, DELTA, VERSION};
 use vet_register::command::Action;
 
-/// Adds the member of a document.
+/// Reads the command that adds the member of a document.
 pub(crate) fn read_add_member(alloc: Global, document: &Table) -> Result<Action, Refusal>
     ensures { Gives (λ action. action) (add_member_told (table_view document.now)) result }
 {
@@ -27,7 +27,7 @@ pub(crate) fn read_add_member(alloc: Global, document: &Table) -> Result<Action,
     Ok(Action::Desk(DeskCommand::AddMember(name)))
 }
 
-/// Opens the review of a document.
+/// Reads the command that opens the review of a document.
 pub(crate) fn read_open_review(alloc: Global, document: &Table) -> Result<Action, Refusal>
     ensures { Gives (λ action. action) (open_review_told (table_view document.now)) result }
 {
@@ -47,7 +47,7 @@ pub(crate) fn read_open_review(alloc: Global, document: &Table) -> Result<Action
     }))
 }
 
-/// Assigns a review to a member.
+/// Reads the command that assigns a review to a member.
 pub(crate) fn read_assign_review(alloc: Global, document: &Table) -> Result<Action, Refusal>
     ensures { Gives (λ action. action) (assign_review_told (table_view document.now)) result }
 {
@@ -57,7 +57,7 @@ pub(crate) fn read_assign_review(alloc: Global, document: &Table) -> Result<Acti
     Ok(Action::Desk(DeskCommand::AssignReview { review, member }))
 }
 
-/// Finishes a review, as who gives the command. The member is looked at last.
+/// Reads the command that finishes a review, in the name of its giver. The giver is looked at last.
 pub(crate) fn read_finish_review(
     alloc: Global,
     document: &Table,
@@ -77,7 +77,7 @@ pub(crate) fn read_finish_review(
     }))
 }
 
-/// Withdraws a review, as who gives the command. The member is looked at last.
+/// Reads the command that withdraws a review, in the name of its giver. The giver is looked at last.
 pub(crate) fn read_withdraw_review(
     alloc: Global,
     document: &Table,
@@ -92,7 +92,7 @@ pub(crate) fn read_withdraw_review(
     Ok(Action::Desk(DeskCommand::WithdrawReview { review, member }))
 }
 
-/// What finishes a review: a version or a delta, and not both.
+/// The version or the delta that finishes a review. Both together are a fault.
 fn read_reviewed(alloc: Global, document: &Table) -> Result<Reviewed, Refusal>
     ensures { Gives (λ r. r) (reviewed_told (table_view document.now)) result }
 {
@@ -133,7 +133,7 @@ fn read_giver(alloc: Global, giver: Option<&[u8]>) -> Result<Name, Refusal>
     }
 }
 
-/// The name that bytes are, which need not be a text.
+/// The name that some bytes state. Bytes that are not UTF-8 are refused as `BadName`.
 fn name_of_bytes(alloc: Global, bytes: &[u8]) -> Result<Name, Refusal>
     ensures { Gives (λ n. n) (name_of_bytes bytes.now) result }
 {

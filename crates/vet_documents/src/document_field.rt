@@ -1,7 +1,7 @@
-//! What stands at a key of a command document.
+//! The values at the keys of a command document.
 //!
-//! A document is read by the readers of the files' tables, except that a text which is no name, version, requirement,
-//! day or delta has a refusal of its own. So its words are a type of field beside those of the files.
+//! A document is read by the readers of the files' tables, except that a text which is not a name, version,
+//! requirement, day or delta has a refusal of its own. So these values are a type of field beside those of the files.
 ghost use Rattle.std.specs.Prelude.{◌≡◌, IfOk, option_and_then};
 ghost use Rattle.toml.specs.Data.{as_integer, string};
 ghost use Rattle.toml.specs.View.{table_view, view};
@@ -24,9 +24,9 @@ use vet_base::version::VetVersion;
 use vet_demand::policy_key::PolicyKey;
 use vet_files::field::{Field, FromText, day_of, fault, required, value_at};
 
-/// A type whose values are texts of a document: a text that is none of them has a refusal of its own.
+/// A type whose values are texts in a document. A malformed text has a refusal of its own.
 pub(crate) trait DocumentWord: FromText {
-    /// The refusal of a text that is no value.
+    /// The refusal of a malformed text.
     ghost refusal: { Refusal };
 
     fn refused() -> Refusal
@@ -73,7 +73,7 @@ impl DocumentWord for Delta {
     }
 }
 
-/// A value as a document has it.
+/// A value as it is written in a document.
 #[derive(Drop)]
 pub(crate) struct Worded<V> {
     pub(crate) value: V,
@@ -107,7 +107,8 @@ impl<V: DocumentWord> Field for Worded<V> {
     }
 }
 
-/// The value whose text must stand at a key of the table of a path.
+/// The value of a required key of the table at a path. Refused: the type's own refusal if its text is malformed;
+/// `FieldRefused` if the key is absent or its value not a text; `NoMemory`.
 pub(crate) fn word_at<V: DocumentWord>(
     alloc: Global,
     path: &str,
@@ -120,7 +121,7 @@ pub(crate) fn word_at<V: DocumentWord>(
     Ok(value)
 }
 
-/// The text that must stand at a key of a document, however long it is.
+/// The text of a required key of a document, however long it is.
 pub(crate) fn text_at<'a>(alloc: Global, document: &'a Table, key: &str) -> Result<&'a str, Refusal>
     ensures { Gives (λ text. text.now) (required any_text COMMAND.now key.now (table_view document.now)) result }
 {
@@ -133,7 +134,7 @@ pub(crate) fn text_at<'a>(alloc: Global, document: &'a Table, key: &str) -> Resu
     }
 }
 
-/// The key of a policy that must stand at a key of a document.
+/// The policy key that is the value of a required key of a document.
 pub(crate) fn policy_key_at(
     alloc: Global,
     document: &Table,
@@ -145,7 +146,7 @@ pub(crate) fn policy_key_at(
     PolicyKey::parse(alloc, text)
 }
 
-/// The day that must stand at a key of the table of a path.
+/// The day of a required key of the table at a path.
 pub(crate) fn day_at(alloc: Global, path: &str, table: &Table, key: &str) -> Result<Day, Refusal>
     ensures { Gives (λ d. d) (required a_day path.now key.now (table_view table.now)) result }
 {
@@ -155,7 +156,7 @@ pub(crate) fn day_at(alloc: Global, path: &str, table: &Table, key: &str) -> Res
     }
 }
 
-/// The day at a key of the table of a path, or `None` if the key is absent. Refused: `BadDay` for a text that is not a
+/// The day of a key of the table at a path, or `None` if the key is absent. Refused: `BadDay` for a text that is not a
 /// day; `FieldRefused` for a value that is neither a text nor a local date; `NoMemory`.
 pub(crate) fn day_if_any(
     alloc: Global,
@@ -171,7 +172,7 @@ pub(crate) fn day_if_any(
     }
 }
 
-/// The day that a value is: a text, or a local date.
+/// The day that a value states, as a text or as a local date.
 fn read_day(alloc: Global, path: &str, key: &str, value: &Value) -> Result<Day, Refusal>
     ensures { Gives (λ d. d) (a_day path.now key.now (view value.now)) result }
 {
@@ -184,7 +185,7 @@ fn read_day(alloc: Global, path: &str, key: &str, value: &Value) -> Result<Day, 
     }
 }
 
-/// The number of an entry or a review that must stand at a key of a document.
+/// The number of an entry or a review, at a required key of a document.
 pub(crate) fn number_at(alloc: Global, document: &Table, key: &str) -> Result<u64, Refusal>
     ensures { Gives (λ n. n) (required a_number COMMAND.now key.now (table_view document.now)) result }
 {
@@ -197,7 +198,7 @@ pub(crate) fn number_at(alloc: Global, document: &Table, key: &str) -> Result<u6
     }
 }
 
-/// The number that a value is: a whole number from 1.
+/// The number that a value states: a whole number from 1.
 fn number_of(value: &Value) -> Option<u64>
     ensures { result ≡ option_and_then number_of (as_integer (view value.now)) }
 {

@@ -1,4 +1,4 @@
-//! The keys of command documents that the files lack, and which keys one may have.
+//! The keys of command documents that the files lack, and the refusal of unknown keys.
 ghost use Rattle.std.specs.Prelude.{◌≡◌, map};
 ghost use Rattle.toml.specs.View.{table_view};
 ghost use Rattle.vet_base.specs.Gives.{Gives};
@@ -36,12 +36,12 @@ pub(crate) const RECORDS: &str = "records";
 
 pub(crate) const REVIEW: &str = "review";
 
-// Where the member stands who gives a command.
+// The path of the member who gives a command.
 pub(crate) const HEAD: &str = "head";
 
 pub(crate) const VET_MEMBER: &str = "vet-member";
 
-/// Refuses the least key of a table of a path that isn't among these.
+/// Refuses the least key of the table at a path that is not among these.
 pub(crate) fn refuse_others(
     alloc: Global,
     path: &str,
@@ -58,7 +58,7 @@ pub(crate) fn refuse_others(
     Ok(())
 }
 
-/// Whether a key is among some.
+/// Whether a key is among some keys.
 fn is_among(known: &[&str], key: &str) -> bool
     ensures { result ≡ is_among (map (λ k. k.now) known.now) key.now }
 {

@@ -29,7 +29,7 @@ use vet_files::keys::{
 };
 use vet_register::command::Action;
 
-/// Adds the entry of a document.
+/// Reads the command that adds the entry of a document.
 pub(crate) fn read_add_entry(alloc: Global, document: &Table) -> Result<Action, Refusal>
     ensures { Gives (λ action. action) (add_entry_told (table_view document.now)) result }
 {
@@ -40,7 +40,7 @@ pub(crate) fn read_add_entry(alloc: Global, document: &Table) -> Result<Action, 
     Ok(Action::AddEntry(stated.entry_of(package)))
 }
 
-/// Drops the entry of a number.
+/// Reads the command that drops the entry of a number.
 pub(crate) fn read_drop_entry(alloc: Global, document: &Table) -> Result<Action, Refusal>
     ensures { Gives (λ action. action) (drop_entry_told (table_view document.now)) result }
 {
@@ -49,7 +49,7 @@ pub(crate) fn read_drop_entry(alloc: Global, document: &Table) -> Result<Action,
     Ok(Action::DropEntry(number))
 }
 
-/// What an entry says of its package.
+/// The parts of an entry beside its package.
 #[derive(Drop)]
 struct Stated {
     kind: Kind,
@@ -58,7 +58,7 @@ struct Stated {
 }
 
 impl Stated {
-    /// The entry of a package, which is one's own.
+    /// One's own entry for a package, with these parts.
     fn entry_of(self, package: PackageName) -> Entry
         ensures { result ≡ entry_of «package» self }
     {
@@ -88,7 +88,7 @@ fn read_kind(alloc: Global, document: &Table) -> Result<KindWord, Refusal>
     }
 }
 
-/// What an entry of a kind says of its package.
+/// The parts of an entry of a kind beside its package.
 fn read_stated(alloc: Global, document: &Table, kind: KindWord) -> Result<Stated, Refusal>
     ensures { Gives (λ s. s) (stated_told (table_view document.now) kind) result }
 {
@@ -102,7 +102,7 @@ fn read_stated(alloc: Global, document: &Table, kind: KindWord) -> Result<Stated
     }
 }
 
-/// Refuses the least key that goes with no entry of a kind.
+/// Refuses the least key that no entry of a kind has.
 fn refuse_unknown(alloc: Global, document: &Table, kind: KindWord) -> Result<(), Refusal>
     ensures { Gives (λ u. u) (only (entry_keys kind) (table_view document.now)) result }
 {
@@ -116,7 +116,7 @@ fn refuse_unknown(alloc: Global, document: &Table, kind: KindWord) -> Result<(),
     }
 }
 
-/// Refuses the least key that goes with no audit, whose subject stands at a key.
+/// Refuses the least key that no audit with its subject at this key has.
 fn refuse_beside_audit(alloc: Global, document: &Table, subject: &str) -> Result<(), Refusal>
     ensures { Gives (λ u. u) (only (audit_keys subject.now) (table_view document.now)) result }
 {
@@ -126,7 +126,7 @@ fn refuse_beside_audit(alloc: Global, document: &Table, subject: &str) -> Result
     refuse_others(alloc, COMMAND, document, &known)
 }
 
-/// Refuses the least key that goes with no wildcard.
+/// Refuses the least key that no wildcard has.
 fn refuse_beside_wildcard(alloc: Global, document: &Table) -> Result<(), Refusal>
     ensures { Gives (λ u. u) (only wildcard_keys (table_view document.now)) result }
 {
@@ -136,7 +136,7 @@ fn refuse_beside_wildcard(alloc: Global, document: &Table) -> Result<(), Refusal
     refuse_others(alloc, COMMAND, document, &known)
 }
 
-/// Refuses the least key that goes with no trusted publisher.
+/// Refuses the least key that no trusted publisher has.
 fn refuse_beside_trusted(alloc: Global, document: &Table) -> Result<(), Refusal>
     ensures { Gives (λ u. u) (only trusted_keys (table_view document.now)) result }
 {
@@ -144,7 +144,7 @@ fn refuse_beside_trusted(alloc: Global, document: &Table) -> Result<(), Refusal>
     refuse_others(alloc, COMMAND, document, &known)
 }
 
-/// Refuses the least key that goes with no exemption.
+/// Refuses the least key that no exemption has.
 fn refuse_beside_exemption(alloc: Global, document: &Table) -> Result<(), Refusal>
     ensures { Gives (λ u. u) (only exemption_keys (table_view document.now)) result }
 {
@@ -154,7 +154,7 @@ fn refuse_beside_exemption(alloc: Global, document: &Table) -> Result<(), Refusa
     refuse_others(alloc, COMMAND, document, &known)
 }
 
-/// What an audit says beside its subject.
+/// The parts of an audit beside its subject.
 #[derive(Drop)]
 struct Audited {
     criteria: Names,
@@ -162,7 +162,7 @@ struct Audited {
     audit: Audit,
 }
 
-/// What an audit says beside its subject.
+/// Reads the parts of an audit beside its subject.
 fn read_audited(alloc: Global, document: &Table) -> Result<Audited, Refusal>
     ensures { Gives (λ a. a) (audited_told (table_view document.now)) result }
 {

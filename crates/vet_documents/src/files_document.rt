@@ -1,4 +1,4 @@
-//! The document of the command that replaces what the three files hold.
+//! The document of the command that replaces the contents of the three files.
 ghost use Rattle.toml.specs.View.{table_view};
 ghost use Rattle.vet_base.specs.Gives.{Gives};
 ghost use Rattle.vet_documents.specs.FilesDocument.{files_told, replace_files_told};
@@ -15,7 +15,7 @@ use vet_files::imports_file::read_imports;
 use vet_files::keys::{AUDITS, IMPORTS};
 use vet_register::command::Action;
 
-/// Replaces what the three files hold, which are read when nothing else is at fault.
+/// Reads the command that replaces the contents of the three files. They are read only if nothing else is at fault.
 pub(crate) fn read_replace_files(alloc: Global, document: &Table) -> Result<Action, Refusal>
     ensures { Gives (λ action. action) (replace_files_told (table_view document.now)) result }
 {
@@ -32,7 +32,7 @@ pub(crate) fn read_replace_files(alloc: Global, document: &Table) -> Result<Acti
     Ok(Action::ReplaceFiles(files))
 }
 
-/// What three files hold, which are read in this order.
+/// The contents of the three files, which are read in this order.
 fn read_files(
     alloc: Global,
     audits: &str,

@@ -1,9 +1,9 @@
 //! The documents in which commands are sent, and the three files of a register as texts.
 //!
-//! **A document gives exactly the command that its definition says of its bytes, or its first fault in the order of its
-//! keys. The text of a file is one that is read as what the register holds.**
+//! **A document gives exactly the command that its definition finds in its bytes, or its first fault in the order of
+//! its keys. The text of a file is read back as what the register holds.**
 //!
-//! Scope of this crate: the words and keys of command documents, and which file of a register is written by its name.
+//! Scope of this crate: the words and keys of command documents, and the texts of a register's files, by their names.
 //! The readers of `vet_files` and `vet_demand` say what entries and files within a document mean. `vet_http` reexports
 //! the public names of this crate.
 //!

@@ -16,7 +16,7 @@ use vet_base::refusal::Refusal;
 use vet_files::field::sets::{read_items, read_one_or_list};
 use vet_files::field::{fault, value_at};
 
-/// The names that must stand at a key of a document.
+/// The names of a required key of a document.
 pub(crate) fn names_at(alloc: Global, document: &Table, key: &str) -> Result<Names, Refusal>
     ensures { Gives (λ n. n) (required names COMMAND.now key.now (table_view document.now)) result }
 {
@@ -26,7 +26,7 @@ pub(crate) fn names_at(alloc: Global, document: &Table, key: &str) -> Result<Nam
     }
 }
 
-/// The names at a key of a document, where something stands there.
+/// The names of a key of a document, or `None` if the key is absent.
 pub(crate) fn names_if_any(
     alloc: Global,
     document: &Table,
@@ -40,7 +40,7 @@ pub(crate) fn names_if_any(
     }
 }
 
-/// The names of packages at a key of a document, where something stands there.
+/// The names of packages of a key of a document, or `None` if the key is absent.
 pub(crate) fn packages_if_any(
     alloc: Global,
     document: &Table,
@@ -54,7 +54,7 @@ pub(crate) fn packages_if_any(
     }
 }
 
-/// The names that a value in the table of a path is: one, or a list of them.
+/// The names that a value in the table at a path states: one, or a list of them.
 pub(crate) fn read_names(
     alloc: Global,
     path: &str,
@@ -68,7 +68,7 @@ pub(crate) fn read_names(
     Ok(Names::of(alloc, names)?)
 }
 
-/// The names of packages that a value in the table of a path is: a list of them.
+/// The names of packages that a value in the table at a path states: a list of them.
 fn read_packages(
     alloc: Global,
     path: &str,
@@ -85,7 +85,7 @@ fn read_packages(
     Ok(PackageNames::of(alloc, names)?)
 }
 
-/// The values that a document has.
+/// The values themselves, in their order.
 fn unworded<V: Drop>(alloc: Global, found: Vec<Worded<V>>) -> Result<Vec<V>, AllocError>
     ensures { IfOk result (λ vs. vs.items ≡ found.items) }
 {

@@ -22,7 +22,7 @@ use vet_files::read::document::table_at;
 use vet_files::read::walk::{ReadMember, each_member};
 use vet_register::command::Action;
 
-/// Sets the peer of a document.
+/// Reads the command that sets the peer of a document.
 pub(crate) fn read_set_peer(alloc: Global, document: &Table) -> Result<Action, Refusal>
     ensures { Gives (λ action. action) (set_peer_told (table_view document.now)) result }
 {
@@ -36,7 +36,7 @@ pub(crate) fn read_set_peer(alloc: Global, document: &Table) -> Result<Action, R
     Ok(Action::SetPeer(settings))
 }
 
-/// Drops the peer of a name.
+/// Reads the command that drops the peer of a name.
 pub(crate) fn read_drop_peer(alloc: Global, document: &Table) -> Result<Action, Refusal>
     ensures { Gives (λ action. action) (drop_peer_told (table_view document.now)) result }
 {
@@ -45,7 +45,7 @@ pub(crate) fn read_drop_peer(alloc: Global, document: &Table) -> Result<Action, 
     Ok(Action::DropPeer(name))
 }
 
-/// Imports the audits file of a peer, which is read when nothing else is at fault.
+/// Reads the command that imports the audits file of a peer. The file is read only if nothing else is at fault.
 pub(crate) fn read_import_peer(alloc: Global, document: &Table) -> Result<Action, Refusal>
     ensures { Gives (λ action. action) (import_peer_told (table_view document.now)) result }
 {
@@ -83,7 +83,7 @@ fn read_map(alloc: Global, document: &Table) -> Result<CriteriaMap, Refusal>
     }
 }
 
-/// Reads what the criteria of a peer are in one's own, one after the other.
+/// Reads the names for each of the peer's criteria, one after the other.
 #[derive(Drop)]
 struct ReadCriteriaMap {}
 

@@ -24,7 +24,7 @@ use vet_files::read::document::table_at;
 use vet_files::read::walk::{ReadMember, each_member};
 use vet_register::command::Action;
 
-/// Sets the policy of a document.
+/// Reads the command that sets the policy of a document.
 pub(crate) fn read_set_policy(alloc: Global, document: &Table) -> Result<Action, Refusal>
     ensures { Gives (λ action. action) (set_policy_told (table_view document.now)) result }
 {
@@ -43,7 +43,7 @@ pub(crate) fn read_set_policy(alloc: Global, document: &Table) -> Result<Action,
     Ok(Action::SetPolicy(KeyedPolicy { key, policy }))
 }
 
-/// Drops the policy of a key.
+/// Reads the command that drops the policy of a key.
 pub(crate) fn read_drop_policy(alloc: Global, document: &Table) -> Result<Action, Refusal>
     ensures { Gives (λ action. action) (drop_policy_told (table_view document.now)) result }
 {
@@ -62,7 +62,7 @@ fn read_policy(alloc: Global, document: &Table) -> Result<Policy, Refusal>
     read_dependency_policy(alloc, document, audit_as_crates_io, criteria, dev_criteria)
 }
 
-/// The policy of a document, where what it says of its own package was read.
+/// The policy of a document, once the keys about its own package are read.
 fn read_dependency_policy(
     alloc: Global,
     document: &Table,
@@ -84,7 +84,7 @@ fn read_dependency_policy(
     })
 }
 
-/// The criteria along edges to dependencies.
+/// The criteria for dependencies, by their names.
 fn read_dependencies(alloc: Global, document: &Table) -> Result<DependencyCriteria, Refusal>
     ensures { Gives (λ d. d) (dependencies_told (table_view document.now)) result }
 {
@@ -95,7 +95,7 @@ fn read_dependencies(alloc: Global, document: &Table) -> Result<DependencyCriter
     }
 }
 
-/// Reads the criteria along edges to dependencies, one after the other.
+/// Reads the criteria for dependencies, one after the other.
 #[derive(Drop)]
 struct ReadDependencyCriteria {}
 

@@ -12,7 +12,8 @@ use vet_demand::project::NamedProject;
 use vet_demand::table_reader::read_project;
 use vet_register::command::Action;
 
-/// Loads the project of a document, whose dependency table is read when nothing else is at fault.
+/// Reads the command that loads the project of a document. The dependency table is read only if nothing else is at
+/// fault.
 pub(crate) fn read_load_project(alloc: Global, document: &Table) -> Result<Action, Refusal>
     ensures { Gives (λ action. action) (load_project_told (table_view document.now)) result }
 {
@@ -23,7 +24,7 @@ pub(crate) fn read_load_project(alloc: Global, document: &Table) -> Result<Actio
     Ok(Action::LoadProject(NamedProject { name, project }))
 }
 
-/// Drops the project of a name.
+/// Reads the command that drops the project of a name.
 pub(crate) fn read_drop_project(alloc: Global, document: &Table) -> Result<Action, Refusal>
     ensures { Gives (λ action. action) (drop_project_told (table_view document.now)) result }
 {

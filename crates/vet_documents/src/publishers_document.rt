@@ -20,7 +20,7 @@ use vet_files::listed::Listed;
 use vet_files::read::walk::{ReadItem, each_item};
 use vet_register::command::Action;
 
-/// Sets the publisher records of a package.
+/// Reads the command that sets the publisher records of a package.
 pub(crate) fn read_set_publishers(alloc: Global, document: &Table) -> Result<Action, Refusal>
     ensures { Gives (λ action. action) (set_publishers_told (table_view document.now)) result }
 {
@@ -44,7 +44,7 @@ fn read_records(alloc: Global, document: &Table) -> Result<Listed<Publisher>, Re
     }
 }
 
-/// Some records in order, each once.
+/// The publishers of some records: in order, each once.
 fn sorted(alloc: Global, records: Vec<Publisher>) -> Result<Publishers, Refusal>
     ensures value { IfOk result (λ p. p ≡ in_order records.items) }
     ensures memory { IfErr result (λ e. e ≡ Refusal.NoMemory) }
@@ -73,7 +73,7 @@ impl ReadItem for ReadRecords {
     }
 }
 
-/// The record whose table stands at a place of the list.
+/// The record at a place of the list. A value that is not a table is a fault of the list.
 fn read_record_at(alloc: Global, place: usize, value: &Value) -> Result<Publisher, Refusal>
     ensures { Gives (λ p. p) (record_at place (view value.now)) result }
 {
@@ -91,7 +91,7 @@ fn record_path(alloc: Global, place: usize) -> Result<String, AllocError>
     format!(in alloc; "records[{place}]")
 }
 
-/// The record of a table.
+/// The record that a table states.
 fn read_record(alloc: Global, path: &str, table: &Table) -> Result<Publisher, Refusal>
     ensures { Gives (λ p. p) (record_told path.now (table_view table.now)) result }
 {

@@ -1,6 +1,6 @@
 //! The three files of a register, by their names.
 //!
-//! **The text of a file is read by `toml` as what the register holds of it, and so by the reader of that file.**
+//! **`toml` reads the text of a file as what the register holds of it, and so does the reader of that file.**
 ghost use Rattle.std.specs.Prelude.{◌≡◌, IfErr, IfOk, string_bytes};
 ghost use Rattle.vet_documents.specs.RegisterFile.{IsFileOf, file_named};
 
@@ -21,7 +21,7 @@ pub enum RegisterFile {
 }
 
 impl RegisterFile {
-    /// The file of a name: `audits.toml`, `config.toml` or `imports.lock`.
+    /// The file of a name: `audits.toml`, `config.toml` or `imports.lock`. `None` for any other name.
     pub fn named(name: &str) -> Option<RegisterFile>
         ensures { result ≡ file_named name.now }
     {
