@@ -4,6 +4,6 @@ use Rattle.vet_base.specs.Words.{Bytes}
 use Rattle.vet_requests.specs.RequestFault.{ToldOf}
 use Rattle.vet_requests.specs.declared.request_fault.RequestFault.TheVariants.{BadRequest}
 
--- the body of a length at the front of what comes after a head; what comes after it isn't looked at
+-- the body of a length, at the start of the bytes after a head; anything after the body is ignored
 abbrev pub body_told : ℕ → Bytes → ToldOf Bytes
 body_told n after = if nat_lt (length after) n then Err BadRequest else Ok (take n after)

@@ -1,4 +1,4 @@
--- What the fields of a head say (RFC 9110, sections 5.1, 8.6 and 9.3.2; RFC 9112, section 6; `Vet-Member` is ours).
+-- The meaning of a head's fields (RFC 9110, sections 5.1, 8.6 and 9.3.2; RFC 9112, section 6; `Vet-Member` is ours).
 use Rattle.std.specs.Prelude.{ℕ, ◌+◌, ◌-◌, ◌*◌, ◌≤◌, ◌||◌, ◌&&◌, ◌≡◌, List, [], ◌∷◌, length, map, fold, codes}
 use Rattle.std.specs.Prelude.{Bool, if◌then◌else◌, nat_lt, not, Option, None, Some, IfSome, Ok, Err}
 use Rattle.std.specs.Char.{to_ascii_lowercase, is_ascii_digit}
@@ -16,7 +16,7 @@ use Rattle.vet_requests.specs.declared.fields.Occurrence.TheVariants.{Absent, On
 use Rattle.vet_requests.specs.declared.request_fault.RequestFault.TheVariants.{BadRequest, TooLarge, NotImplemented}
 use Rattle.vet_requests.specs.declared.request_limits.TheConstants.{MOST_FIELDS, MOST_LENGTH_DIGITS}
 
--- two names of fields, without regard to the case of letters
+-- two names of fields are the same, without regard to the case of letters
 abbrev pub same_name : Text → Text → Bool
 same_name a b = bytes_eq (map to_ascii_lowercase a) (map to_ascii_lowercase b)
 
@@ -30,12 +30,12 @@ values_of name (field ∷ fields) =
 abbrev pub number_of : Bytes → ℕ
 number_of digits = fold (λ n d. 10 * n + (d - 48)) 0 digits
 
--- 1 to 19 digits
+-- a text is 1 to 19 digits
 abbrev pub is_number : Bytes → Bool
 is_number text =
     nat_lt 0 (length text) && (not (nat_lt MOST_LENGTH_DIGITS (length text)) && list_all is_ascii_digit text)
 
--- what a head asks for: how long its body is, in place of the body
+-- the request of a head, with the length of its body in place of the body
 pub record AskedValue : Type 0 where
   pub method : Bytes
   pub target : Bytes
@@ -46,12 +46,12 @@ pub record AskedValue : Type 0 where
 abbrev pub count_told : ℕ → ToldOf (Unit {0})
 count_told count = if nat_lt MOST_FIELDS count then Err TooLarge else Ok tt
 
--- more than a head is asked for, and the body isn't coded for its transfer
+-- the method is not `HEAD`, and the body is not coded for its transfer
 abbrev pub form_told : Bytes → List Bytes → ToldOf (Unit {0})
 form_told method codings =
     if bytes_eq method (codes "HEAD") || nat_lt 0 (length codings) then Err NotImplemented else Ok tt
 
--- how long the body is
+-- the length of the body, or the fault of `Content-Length`
 abbrev pub length_told : List Bytes → ToldOf ℕ
 length_told [] = Ok 0
 length_told (text ∷ []) =
@@ -59,13 +59,13 @@ length_told (text ∷ []) =
     else (if nat_lt MOST_INPUT_BYTES (number_of text) then Err TooLarge else Ok (number_of text))
 length_told (text ∷ again ∷ more) = Err BadRequest
 
--- who asks
+-- the member who makes the request, if one is named, or the fault of `Vet-Member`
 abbrev pub member_told : List Bytes → ToldOf (Option Bytes)
 member_told [] = Ok None
 member_told (member ∷ []) = Ok (Some member)
 member_told (member ∷ again ∷ more) = Err BadRequest
 
--- what a method, a target and fields ask for, or the first fault
+-- the request of a method, a target and fields, or its first fault
 abbrev pub asked_told : Bytes → Bytes → List (Text × Bytes) → ToldOf AskedValue
 asked_told method target fields =
     count_told (length fields) >>= λ _.
@@ -74,11 +74,11 @@ asked_told method target fields =
     member_told (values_of (codes "vet-member") fields) >>= λ member.
     Ok (record { method = method; target = target; member = member; length = length })
 
--- what a head asks for, or its first fault
+-- the request of a head, or its first fault
 abbrev pub head_told : RequestHead → ToldOf AskedValue
 head_told head = asked_told head.method head.target (map name_and_value head.fields)
 
--- what was found of the fields of a name: none, the one that there is, or that there are more
+-- the fields of a name: none, the value of the only one by its place, or more than one
 abbrev pub IsOccurrence : Bytes → List Bytes → Occurrence → Type 0
 IsOccurrence bytes [] found = found ≡ Absent
 IsOccurrence bytes (value ∷ []) (Once span) = (span_bytes bytes span ≡ value) × IsWithin (length bytes) span
@@ -86,12 +86,12 @@ IsOccurrence bytes (value ∷ []) Absent = ⊥
 IsOccurrence bytes (value ∷ []) Again = ⊥
 IsOccurrence bytes (value ∷ again ∷ more) found = found ≡ Again
 
--- the member whose name stands at a place
+-- the member whose name is at a place
 abbrev pub member_at : Bytes → Option Span → Option Bytes
 member_at bytes None = None
 member_at bytes (Some span) = Some (span_bytes bytes span)
 
--- what a head asks for, where its parts stand in these bytes
+-- the request of a head whose parts are at these places of the bytes
 abbrev pub asked_at : Bytes → HeadSpans → AskedValue
 asked_at bytes asked = record {
   method = span_bytes bytes asked.method;
@@ -100,7 +100,7 @@ asked_at bytes asked = record {
   length = asked.length;
 }
 
--- its parts stand in the first n bytes
+-- its parts lie within the first n bytes
 pub record IsAskedWithin (n : ℕ) (asked : HeadSpans) : Type 0 where
   pub method : IsWithin n asked.method
   pub target : IsWithin n asked.target

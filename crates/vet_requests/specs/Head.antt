@@ -1,4 +1,4 @@
--- What stands at the front of a connection's bytes (RFC 9112, section 2; the limit is ours).
+-- The head at the start of a connection's bytes (RFC 9112, section 2; the limit is ours).
 use Rattle.std.specs.Prelude.{◌≤◌, ◌<◌, ◌⊎◌, List, length, take, ⊤}
 use Rattle.httparse.specs.Grammar.{RequestHead, ReadsRequest, HasNoRequest, NeverHasRequest, MayBecomeRequest}
 use Rattle.httparse.specs.Spans.{IsRequestAt, IsRequestWithin}
@@ -10,39 +10,39 @@ use Rattle.vet_requests.specs.declared.head.Parsed.{Parsed}
 use Rattle.vet_requests.specs.declared.head.Parsed.TheVariants as parsed
 use Rattle.vet_requests.specs.declared.request_limits.TheConstants.{MOST_HEAD_BYTES}
 
--- the bytes in which a head has to end
+-- the bytes in which a head must end
 abbrev pub front : Bytes → Bytes
 front input = take MOST_HEAD_BYTES input
 
--- this head of the grammar stands there
+-- they begin with this head of the grammar
 abbrev pub HasHead : Bytes → RequestHead → Type 0
 HasHead input head = (rest : Bytes) × ReadsRequest (front input) head rest
 
--- none does, and the input ends there, or no bytes can make a head of these
+-- they begin with no head, and the input ends there, or no head can begin with them
 abbrev pub HasNoHead : Bytes → Type 0
 HasNoHead input =
     HasNoRequest (front input) × ((length input ≤ MOST_HEAD_BYTES) ⊎ NeverHasRequest (front input))
 
--- none does, the input goes on, and some bytes could make a head of these, or they end within a target. A target
--- that can be no text by then is the one corner where a request has no head and a too long one: either is told.
+-- they begin with no head, the input goes on, and a head could begin with them, or they end within a target. A target
+-- that cannot be text by then is the one case that counts as no head and as too long: either may be answered.
 abbrev pub HasLongHead : Bytes → Type 0
 HasLongHead input =
     HasNoRequest (front input) × (MOST_HEAD_BYTES < length input) × MayBecomeRequest (front input)
 
--- what is found of an input in its first bytes: a head and where its parts are, or which of the two
+-- the finding about an input from its first bytes: a head with the places of its parts, or one of the two faults
 abbrev pub IsFound : Bytes → Bytes → List HeaderSpan → Head → Type 0
 IsFound input bytes fields (Whole spans) =
     (head : RequestHead) × (IsRequestAt (front bytes) fields spans head × HasHead input head)
 IsFound input bytes fields BadRequest = HasNoHead input
 IsFound input bytes fields TooLarge = HasLongHead input
 
--- where its parts are lies in the bytes
+-- the places of its parts lie within the bytes
 abbrev pub IsFoundWithin : Bytes → List HeaderSpan → Head → Type 0
 IsFoundWithin bytes fields (Whole spans) = IsRequestWithin bytes fields spans
 IsFoundWithin bytes fields BadRequest = ⊤
 IsFoundWithin bytes fields TooLarge = ⊤
 
--- what one parse says of some bytes
+-- the result of one parse of some bytes
 abbrev pub Says : Bytes → List HeaderSpan → Parsed → Type 0
 Says bytes fields (parsed.Whole spans) =
     ((head : RequestHead) × IsRequestAt bytes fields spans head) × IsRequestWithin bytes fields spans

@@ -1,15 +1,15 @@
--- What reads take, and how many are made (ours).
+-- The bytes that reads take, and the number of reads (ours).
 use Rattle.std.specs.Prelude.{ℕ, ◌≡◌, ◌++◌, ◌≤◌, Option, IfSome, length}
 use Rattle.std.specs.Io.KnownBytes.{Consumes}
 use Rattle.vet_base.specs.Words.{Bytes}
 
--- a reader, the bytes that it handed over, and how many reads were made of it
+-- a reader, the bytes that it handed over, and the number of reads made of it
 pub record Counted (R : Type 0) : Type 0 where
   pub source : R
   pub handed : Bytes
   pub made : ℕ
 
--- what is seen of a reader: the bytes that it has left, if it tells them, and those that it handed over
+-- the visible state of a reader: the bytes that it has left, if these are known, and those that it handed over
 pub record Heard : Type 0 where
   pub left : Option Bytes
   pub handed : Bytes
@@ -17,16 +17,17 @@ pub record Heard : Type 0 where
 abbrev pub heard : {R : Type 0} → (R → Option Bytes) → Counted R → Heard
 heard remaining reader = record { left = remaining reader.source; handed = reader.handed }
 
--- it handed over these bytes, behind those before
+-- it handed over these bytes, after those before
 pub record Hands (before after : Heard) (bytes : Bytes) : Type 0 where
   pub front : Consumes before.left after.left bytes
   pub kept : after.handed ≡ before.handed ++ bytes
 
--- no more than so many bytes were read
+-- at most this many bytes were read
 abbrev pub TakesAtMost : ℕ → Heard → Heard → Type 0
 TakesAtMost limit before after = (bytes : Bytes) × ((length bytes ≤ limit) × Hands before after bytes)
 
--- What was read, and what is told of it. It is told too of all the bytes that the reader tells.
+-- The bytes that were read, and what holds for them. It also holds for all the bytes that the reader had left, if these
+-- are known.
 pub record IsReadFrom (before after : Heard) (Told : Bytes → Type 0) : Type 0 where
   pub bytes : Bytes
   pub hands : Hands before after bytes

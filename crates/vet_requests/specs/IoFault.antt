@@ -1,4 +1,4 @@
--- What is printed of a fault (ours).
+-- The printed text of a fault (ours).
 use Rattle.std.specs.Prelude.{codes}
 use Rattle.vet_requests.specs.declared.io_fault.IoFault.{IoFault}
 use Rattle.vet_requests.specs.declared.io_fault.IoFault.TheVariants.{Input, Output, Endless, NoMemory}

@@ -1,4 +1,4 @@
--- The parameters of a target: what stands between its slashes, as the bytes stand (ours).
+-- The parameters of a target: the texts between its slashes, with their bytes as they came (ours).
 use Rattle.std.specs.Prelude.{ℕ, Bool, ◌==◌}
 use Rattle.std.specs.List.{after_first, before_first}
 use Rattle.vet_base.specs.Gives.{Told, found_or}
@@ -10,23 +10,23 @@ use Rattle.vet_base.specs.declared.refusal.Refusal.TheVariants.{BadName, BadVers
 abbrev pub is_slash : ℕ → Bool
 is_slash b = b == 47
 
--- what stands before the first slash; where there is none, all
+-- the text before the first slash, or all of it if there is none
 abbrev pub before_slash : Text → Text
 before_slash text = before_first is_slash text
 
--- what stands behind it; where there is none, nothing
+-- the text after the first slash, which is empty if there is none
 abbrev pub after_slash : Text → Text
 after_slash text = after_first is_slash text
 
--- the first parameter stands behind the second slash
+-- the first parameter, after the second slash
 abbrev pub first_parameter : Text → Text
 first_parameter target = before_slash (after_slash (after_slash target))
 
--- the second behind the third
+-- the second parameter, after the third slash
 abbrev pub second_parameter : Text → Text
 second_parameter target = first_parameter (after_slash target)
 
--- the third behind the fourth
+-- the third parameter, after the fourth slash
 abbrev pub third_parameter : Text → Text
 third_parameter target = second_parameter (after_slash target)
 

@@ -1,4 +1,4 @@
--- Which target has which route: a table of paths, and a target that is cut at its slashes (ours).
+-- The routes of targets: a table of paths, and targets split at their slashes (ours).
 use Rattle.std.specs.Prelude.{List, [], ◌∷◌, Bool, true, false, ◌&&◌, Option, Some, None, codes, if◌then◌else◌}
 use Rattle.std.specs.List.{slice_split}
 use Rattle.std.specs.Str.{bytes_eq, is_utf8}
@@ -9,12 +9,12 @@ use Rattle.vet_requests.specs.declared.route.Route.{Route}
 use Rattle.vet_requests.specs.declared.route.Route.TheVariants.{Class, Commands, File, Peer, Project, Report}
 use Rattle.vet_requests.specs.declared.route.Route.TheVariants.{StandingOf}
 
--- what a path has behind a slash: a word, or a parameter
+-- a part of a path after a slash: a word, or a parameter
 pub data Part : Type 0 where
   word : Text → Part
   parameter : Part
 
--- a path: each part stands behind a slash
+-- a path with its route; each part comes after a slash
 abbrev pub Path : Type 0
 Path = List Part × Route
 
@@ -37,7 +37,7 @@ paths =
     ∷ path (word (codes "commands") ∷ []) Commands
     ∷ []
 
--- a text is this word, or any text but the empty one for a parameter
+-- a text fits a word if it is that word, and a parameter if it is not empty
 abbrev pub fits : Part → Text → Bool
 fits (word w) text = bytes_eq text w
 fits parameter [] = false
@@ -55,11 +55,11 @@ abbrev pub route_among : List Path → List Text → Option Route
 route_among [] texts = None
 route_among (row ∷ rows) texts = if fit row.0 texts then Some row.1 else route_among rows texts
 
--- the route of a target that is a text: it begins with a slash, and is cut at those behind it
+-- the route of a target that is a text: it begins with a slash, and is split at those after it
 abbrev pub route_at : Text → Option Route
 route_at [] = None
 route_at (b ∷ rest) = if is_slash b then route_among paths (slice_split is_slash rest) else None
 
--- the route of a target; one that is no text, which no head has, has none
+-- the route of a target; a target that is not UTF-8, which no head has, has none
 abbrev pub route_of : Bytes → Option Route
 route_of target = if is_utf8 target then route_at target else None

@@ -1,4 +1,4 @@
--- The bytes of a reply (RFC 9112, status line, field lines, message body; which fields stand there is ours).
+-- The bytes of a reply (RFC 9112, status line, field lines, message body; the choice of fields is ours).
 use Rattle.std.specs.Prelude.{ℕ, [], ◌∷◌, ◌++◌, length, codes}
 use Rattle.std.specs.Fmt.{decimal}
 use Rattle.vet_base.specs.Words.{Text}
@@ -9,7 +9,7 @@ use Rattle.vet_requests.specs.declared.reply.Reply.{Reply}
 use Rattle.vet_requests.specs.declared.status.Status.{Status}
 use Rattle.vet_requests.specs.declared.status.Status.TheVariants as status
 
--- the kind of a text
+-- the value of the field `Content-Type`
 abbrev pub type_text : ContentType → Text
 type_text content.Text = codes "text/plain; charset=utf-8"
 type_text content.Csv = codes "text/csv; charset=utf-8"
@@ -23,12 +23,12 @@ status_line s = codes "HTTP/1.1 " ++ (decimal (status_number s) ++ (codes " " ++
 abbrev pub field_line : Text → Text → Text
 field_line name value = name ++ (codes ": " ++ (value ++ codes "\r\n"))
 
--- the line of the methods that a target has, where these are told
+-- the line of the methods that a target has, if any are given
 abbrev pub allow_line : Text → Text
 allow_line [] = []
 allow_line (m ∷ methods) = field_line (codes "Allow") (m ∷ methods)
 
--- the head of a reply whose body has so many bytes; the empty line ends it
+-- the head of a reply whose body has this many bytes; the empty line ends it
 abbrev pub reply_head : Status → ContentType → Text → ℕ → Text
 reply_head s kind methods bytes =
     status_line s
@@ -46,7 +46,7 @@ reply_with s kind methods body = record { status = s; bytes = reply_head s kind 
 abbrev pub text_reply : Status → Text → Reply
 text_reply s body = reply_with s content.Text [] body
 
--- the body that a status has where nothing more is to be told
+-- the fixed body of a status, which may be empty
 abbrev pub fixed_body : Status → Text
 fixed_body status.BadRequest = codes "bad request\n"
 fixed_body status.NotFound = codes "not found\n"
@@ -54,10 +54,10 @@ fixed_body status.MethodNotAllowed = codes "method not allowed\n"
 fixed_body status.ContentTooLarge = codes "too large\n"
 fixed_body _ = []
 
--- the reply of a status alone
+-- the reply of a status with its fixed body
 abbrev pub plain_reply : Status → Reply
 plain_reply s = text_reply s (fixed_body s)
 
--- the reply where a target has other methods, which it tells
+-- the reply to a method that a target lacks, with the methods that it has
 abbrev pub not_allowed : Text → Reply
 not_allowed methods = reply_with status.MethodNotAllowed content.Text methods (fixed_body status.MethodNotAllowed)

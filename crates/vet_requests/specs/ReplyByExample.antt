@@ -2,7 +2,7 @@
 use Rattle.std.specs.Prelude.{◌++◌, codes}
 use Rattle.vet_base.specs.Words.{Text}
 
--- to the first command
+-- the reply to the first command
 abbrev pub first_done : Text
 first_done =
     codes "HTTP/1.1 200 OK\r\n"
@@ -12,7 +12,7 @@ first_done =
     ++ (codes "\r\n"
     ++ codes "done 1 moves 0\n"))))
 
--- to a method that a project lacks
+-- the reply to a method that a project lacks
 abbrev pub other_method : Text
 other_method =
     codes "HTTP/1.1 405 Method Not Allowed\r\n"
@@ -23,7 +23,7 @@ other_method =
     ++ (codes "\r\n"
     ++ codes "method not allowed\n")))))
 
--- to a request for a head alone
+-- the reply to the method `HEAD`
 abbrev pub head_alone : Text
 head_alone =
     codes "HTTP/1.1 501 Not Implemented\r\n"

@@ -1,5 +1,5 @@
--- The paths as rows of `matchit`, in its order (ours). In a pattern a parameter is one token; beside it stands the text
--- of the path, and where in that each parameter's name stands.
+-- The paths as rows of `matchit`, in its order (ours). In a pattern a parameter is one token. A row also has the text
+-- of the path, and the places of the parameters' names in that text.
 use Rattle.std.specs.Prelude.{ℕ, List, [], ◌∷◌, ◌++◌, Option, codes}
 use Rattle.std.specs.Option.{option_map}
 use Rattle.matchit.specs.Order.{placed}
@@ -17,7 +17,7 @@ abbrev pub with_names : Text → Text → List (ℕ × ℕ) → Route → Text �
 with_names pattern text names route =
     (pattern, record { pattern = pattern; text = text; names = names; value = route })
 
--- a path without any
+-- a path without parameters
 abbrev pub plain : Text → Route → Text × RouteOf Route
 plain text route = with_names text text [] route
 
@@ -25,11 +25,11 @@ plain text route = with_names text text [] route
 abbrev pub one_parameter : Text
 one_parameter = param_token ∷ []
 
--- three, with slashes between
+-- three parameters, with slashes between them
 abbrev pub three_parameters : Text
 three_parameters = param_token ∷ 47 ∷ param_token ∷ 47 ∷ param_token ∷ []
 
--- each path as it is put in, the first last
+-- each path as it is inserted, the first one last
 unfoldable pub table : RowsOf (RouteOf Route)
 table =
     placed (plain (codes "/commands") Commands)
@@ -46,6 +46,6 @@ table =
     (placed (plain (codes "/standing") (Report report.Standing))
     (placed (plain (codes "/counts") (Report report.Counts)) [])))))))))))
 
--- the route that `matchit` finds of a target by these rows
+-- the route that `matchit` finds for a target by these rows
 abbrev pub routed_at : Text → Option Route
 routed_at target = option_map (λ (r : RouteOf Route). r.value) (first table target)

@@ -1,4 +1,4 @@
--- The statuses of replies (RFC 9110, status codes; which are used, and for which refusals, is ours).
+-- The statuses of replies (RFC 9110, status codes; the choice of them, and of those for refusals, is ours).
 use Rattle.std.specs.Prelude.{ℕ, codes}
 use Rattle.vet_base.specs.Words.{Text}
 use Rattle.vet_base.specs.declared.refusal.Refusal.{Refusal}

@@ -1,11 +1,11 @@
-//! What kind of text the body of a reply is.
+//! The kinds of text that the body of a reply can be.
 ghost use Rattle.std.specs.Prelude.{◌≡◌, ◌≤◌, length};
 ghost use Rattle.vet_requests.specs.Reply.{type_text};
 
-/// What kind of text a body is.
+/// The kind of text that a body is.
 #[derive(Clone, Copy)]
 pub enum ContentType {
-    /// Lines for people. An empty body is one too.
+    /// Lines for people. An empty body is of this kind too.
     Text,
     /// CSV (RFC 4180).
     Csv,
@@ -14,7 +14,7 @@ pub enum ContentType {
 }
 
 impl ContentType {
-    /// What stands behind `Content-Type` (RFC 9110, media type).
+    /// The value of the field `Content-Type` (RFC 9110, media type).
     pub fn text(self) -> &'static str
         ensures text { result.now ≡ type_text self }
         ensures short { length result.now ≤ 25 }

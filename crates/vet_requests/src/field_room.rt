@@ -5,7 +5,7 @@ ghost use Rattle.vet_requests.specs.declared.field_room.TheConstants.{FIELD_ROOM
 use httparse::spans::{EMPTY_HEADER_SPAN, HeaderSpan};
 use std::alloc::{AllocError, Global};
 
-/// Room for the fields of any head: each takes two bytes at least, and the empty line behind them one.
+/// Room for the fields of any head: each takes at least two bytes, and the empty line after them one.
 pub(crate) const FIELD_ROOM: usize = 8_193;
 
 /// Room for the fields of a head. It is made once for many requests.

@@ -1,4 +1,4 @@
-//! What the fields of a head say.
+//! The meaning of a head's fields.
 ghost use Rattle.std.specs.Prelude.{◌≡◌, ◌≤◌, All, IfOk, IfSome, codes, if◌then◌else◌, length, map};
 ghost use Rattle.httparse.specs.Grammar.{RequestHead};
 ghost use Rattle.httparse.specs.Spans.{IsHeaderWithin, IsRequestAt, IsRequestWithin, IsWithin, header_bytes};
@@ -12,7 +12,7 @@ use crate::request_limits::{MOST_FIELDS, MOST_LENGTH_DIGITS};
 use httparse::spans::{HeaderSpan, RequestSpans, Span};
 use vet_base::limits::MOST_INPUT_BYTES;
 
-/// The fields of a name.
+/// The fields of a name: none, the value of the only one by its place, or more than one.
 #[derive(Clone, Copy)]
 pub(crate) enum Occurrence {
     Absent,
@@ -20,19 +20,19 @@ pub(crate) enum Occurrence {
     Again,
 }
 
-/// What a head asks for, by where its parts stand.
+/// The request of a head, by the places of its parts.
 #[derive(Clone, Copy)]
 pub(crate) struct HeadSpans {
     pub(crate) method: Span,
     pub(crate) target: Span,
     pub(crate) member: Option<Span>,
-    /// How many bytes the head takes.
+    /// The length of the head, in bytes.
     pub(crate) head: usize,
-    /// How many bytes the body has.
+    /// The length of the body, in bytes.
     pub(crate) length: usize,
 }
 
-/// What the head asks for whose parts stand at these places, or its first fault.
+/// Reads the request of the head whose parts are at these places, or its first fault.
 pub(crate) fn read_asked(
     bytes: &[u8],
     fields: &[HeaderSpan],
@@ -68,7 +68,7 @@ fn check_count(fields: &[HeaderSpan]) -> Result<(), RequestFault>
     Ok(())
 }
 
-/// Refuses what asks for a head alone, and a body that is coded for its transfer.
+/// Refuses the method `HEAD`, and any `Transfer-Encoding` field.
 fn check_form(bytes: &[u8], method: &[u8], fields: &[HeaderSpan]) -> Result<(), RequestFault>
     requires { All (IsHeaderWithin (length bytes.now)) fields.now }
     ensures { result ≡ form_told method.now
@@ -83,7 +83,7 @@ fn check_form(bytes: &[u8], method: &[u8], fields: &[HeaderSpan]) -> Result<(), 
     }
 }
 
-/// How long the body is, or the fault of what is said of it.
+/// The length of the body, or the fault of `Content-Length`.
 fn read_length(bytes: &[u8], fields: &[HeaderSpan]) -> Result<usize, RequestFault>
     requires { All (IsHeaderWithin (length bytes.now)) fields.now }
     ensures told { result ≡ length_told
@@ -102,7 +102,7 @@ fn read_length(bytes: &[u8], fields: &[HeaderSpan]) -> Result<usize, RequestFaul
     }
 }
 
-/// Where the name of who asks stands, or the fault of its coming again.
+/// The place of the value of `Vet-Member`, if there is such a field, or the fault that there are several.
 fn read_member(bytes: &[u8], fields: &[HeaderSpan]) -> Result<Option<Span>, RequestFault>
     requires { All (IsHeaderWithin (length bytes.now)) fields.now }
     ensures told { Tells (member_at bytes.now) (member_told
@@ -116,7 +116,7 @@ fn read_member(bytes: &[u8], fields: &[HeaderSpan]) -> Result<Option<Span>, Requ
     }
 }
 
-/// The fields of a name.
+/// Finds the fields of a name.
 fn find_field(bytes: &[u8], fields: &[HeaderSpan], name: &str) -> Occurrence
     requires { All (IsHeaderWithin (length bytes.now)) fields.now }
     ensures { IsOccurrence bytes.now (values_of name.now (map (header_bytes bytes.now) fields.now)) result }
@@ -141,7 +141,7 @@ fn has_name(bytes: &[u8], field: HeaderSpan, name: &str) -> bool
     field.name.of(bytes).eq_ignore_ascii_case(name.as_bytes())
 }
 
-/// The number that 1 to 19 digits write.
+/// The number that 1 to 19 digits write. `None` for any other text.
 fn number(text: &[u8]) -> Option<u64>
     ensures { result ≡ (if is_number text.now then Some (number_of text.now) else None) }
 {

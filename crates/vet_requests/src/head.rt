@@ -1,9 +1,9 @@
 //! The head of a request, from a reader that gives its bytes in any pieces.
 //!
-//! A head has to end within the first 16,384 bytes. So after each read these, as far as they have come, are parsed
-//! anew: until a head stands there, none can, the input ends, or all of them are there. One byte more may be read,
-//! which tells whether the input goes on. The parser is given room for the fields of any head that is so short, so
-//! that it never runs out of it. How many fields a head may have is judged later, and only of a whole head.
+//! A head must end within the first 16,384 bytes. So after each read, as many of these as have come are parsed again,
+//! until they begin with a head, no head can begin with them, the input ends, or all of them have come. One byte more
+//! may be read, which shows whether the input goes on. The parser gets room for the fields of any head this short, so
+//! it never runs out of it. The number of fields is checked later, and only for a whole head.
 ghost use Rattle.std.specs.Prelude.{◌≡◌, ◌≢◌, ◌+◌, ◌≤◌, drop, length, IfOk, IfErr, IfSome, OnOk};
 ghost use Rattle.httparse.specs.Spans.{IsRequestWithin};
 ghost use Rattle.vet_base.specs.declared.limits.TheConstants.{MOST_READS};
@@ -18,18 +18,18 @@ use httparse::spans::{HeaderSpan, RequestSpans, parse_request};
 use httparse::{Error, Status};
 use std::io::Read;
 
-/// What stands at the front of a connection's bytes.
+/// The head at the start of a connection's bytes, or the reason why there is none.
 #[derive(Clone, Copy)]
 pub(crate) enum Head {
-    /// A head, with where its parts are.
+    /// A head, with the places of its parts.
     Whole(RequestSpans),
-    /// No head, and the input ends, or no head can begin so.
+    /// No head, and the input ends, or no head can begin with these bytes.
     BadRequest,
     /// No head, and the input goes on.
     TooLarge,
 }
 
-/// What one parse says of the bytes so far.
+/// The result of one parse of the bytes so far.
 #[derive(Clone, Copy)]
 pub(crate) enum Parsed {
     Whole(RequestSpans),
@@ -37,7 +37,7 @@ pub(crate) enum Parsed {
     Open,
 }
 
-/// The bytes in which a head has to end.
+/// The bytes in which a head must end.
 pub(crate) fn front_of(bytes: &[u8]) -> &[u8]
     ensures front { result.now ≡ front bytes.now }
     ensures short { length result.now ≤ MOST_HEAD_BYTES }
@@ -46,8 +46,8 @@ pub(crate) fn front_of(bytes: &[u8]) -> &[u8]
     &bytes[..bytes.len().min(MOST_HEAD_BYTES)]
 }
 
-/// Reads until a head is whole, or none can be. What is behind `start` of the bytes that the reader handed over is what
-/// was read, and the head's fields are in `fields`. Refused: `Input`, `Endless` and `NoMemory`.
+/// Reads until a head is whole, or none is possible. The bytes that were read are those that the reader handed over
+/// after the first `start`, and the head's fields are in `fields`. Refused: `Input`, `Endless` and `NoMemory`.
 pub(crate) fn read_head<R: Read>(
     reader: &mut CountedReader<R>,
     start: usize,
@@ -83,7 +83,7 @@ pub(crate) fn read_head<R: Read>(
     }
 }
 
-/// Parses the bytes in which a head has to end. The room is never too small for a head's fields.
+/// Parses the bytes in which a head must end. The room is never too small for a head's fields.
 fn parse_front(bytes: &[u8], fields: &mut [HeaderSpan]) -> Parsed
     requires short { length bytes.now ≤ MOST_HEAD_BYTES }
     requires room { length fields.old ≡ FIELD_ROOM }

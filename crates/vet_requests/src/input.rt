@@ -1,7 +1,7 @@
-//! Reads, counted, and the bytes that came of them.
+//! Counted reads, and the bytes that they gave.
 //!
-//! Each byte that a reader hands over is kept here, in one place of the code, and what is told of a reader is told of
-//! these bytes. So it holds of readers too that tell nothing of what they have, as sockets.
+//! Each byte that a reader hands over is kept here, in one place of the code, and the contracts about a reader speak of
+//! these bytes. So they hold even for a reader that does not say which bytes it has left, such as a socket.
 ghost use Rattle.std.specs.Prelude.{◌≡◌, ◌≢◌, [], ℕ, ◌+◌, ◌≤◌, ◌<◌, List, drop, length, take};
 ghost use Rattle.std.specs.Prelude.{IfOk, IfErr, IfSome, OnErr};
 ghost use Rattle.std.specs.Io.KnownBytes.{Consumes, IsAtEnd, Keeps};
@@ -14,8 +14,8 @@ use std::io::{ErrorKind, Read};
 use std::marker::Model;
 use vet_base::limits::MOST_READS;
 
-/// A reader that it alone holds, the bytes that came of it, and how many reads it has made of it: at most as many as a
-/// run may make.
+/// A reader that only this value holds, the bytes that it gave, and the number of reads made of it, which is at most
+/// the number that a run may make.
 #[derive(Drop)]
 pub struct CountedReader<R> {
     source: R,
@@ -32,7 +32,7 @@ impl<R> Model for CountedReader<R> {
 }
 
 impl<R> CountedReader<R> {
-    /// The reader, of which no read was made.
+    /// A reader of which no read was made yet.
     pub fn new(alloc: Global, source: R) -> CountedReader<R>
         ensures source { result.source ≡ source }
         ensures handed { result.handed ≡ [] }
@@ -52,7 +52,7 @@ impl<R> CountedReader<R> {
         self.handed.as_slice()
     }
 
-    /// Those behind the first `start` of them.
+    /// The bytes after the first `start` of them.
     pub fn handed_from(&self, start: usize) -> &[u8]
         requires { start ≤ length self.now.handed }
         ensures { result.now ≡ drop start self.now.handed }
@@ -62,8 +62,8 @@ impl<R> CountedReader<R> {
 }
 
 impl<R: Read> CountedReader<R> {
-    /// Reads up to the reader's end, or `limit` bytes, and returns how many came. Refused: `Input`, `Endless` where the
-    /// reads that a run may make did not reach that far, and `NoMemory`.
+    /// Reads up to the reader's end, or `limit` bytes, and returns how many came. Refused: `Input`; `Endless` if the
+    /// reads that a run may make are used up before that; `NoMemory`.
     pub fn read_at_most(&mut self, limit: usize) -> Result<usize, IoFault>
         ensures read { IfOk result (λ n. (bytes : List ℕ)
             × ((length bytes ≡ n)
@@ -87,8 +87,8 @@ impl<R: Read> CountedReader<R> {
         Ok(count)
     }
 
-    /// One read of at most `most` bytes that was not interrupted. Returns how many came, none only at the input's end.
-    /// Refused: `Input`, `Endless` where no read is left, and `NoMemory`, before anything is read.
+    /// Makes one read of at most `most` bytes, again if it is interrupted. Returns how many came, which is 0 only at
+    /// the input's end. Refused: `Input`; `Endless` if no read is left; `NoMemory`, before anything is read.
     pub(crate) fn read_more(&mut self, most: usize) -> Result<usize, IoFault>
         requires { 0 < most }
         ensures read { IfOk result (λ n. (bytes : List ℕ)
@@ -114,8 +114,8 @@ impl<R: Read> CountedReader<R> {
     }
 }
 
-/// One read that was not interrupted: how many bytes went to the front of `buf`. Each read is counted, the interrupted
-/// ones too. Refused: `Input`, and `Endless` where no read is left.
+/// Makes one read, again if it is interrupted, and returns how many bytes went to the start of `buf`. Each read is
+/// counted, even an interrupted one. Refused: `Input`, and `Endless` if no read is left.
 fn read_counted<R: Read>(source: &mut R, made: &mut u32, buf: &mut [u8]) -> Result<usize, IoFault>
     requires { made.old ≤ MOST_READS }
     ensures bound { IfOk result (λ n. n ≤ length buf.new) }

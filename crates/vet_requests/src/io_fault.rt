@@ -1,10 +1,10 @@
-//! Why a run ended with no answer.
+//! The reasons why a run ends without an answer.
 ghost use Rattle.std.specs.Prelude.{◌≡◌, Some};
 
 use std::alloc::AllocError;
 use std::fmt;
 
-/// Why a run ended with no answer.
+/// The reason why a run ended without an answer.
 #[derive(Clone, Copy, Debug, PartialEq, Eq)]
 pub enum IoFault {
     /// A read failed.
@@ -13,7 +13,7 @@ pub enum IoFault {
     Output,
     /// The run made as many reads as it may, and the input had not ended.
     Endless,
-    /// There was no memory.
+    /// Memory ran out.
     NoMemory,
 }
 

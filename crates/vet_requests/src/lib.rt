@@ -1,14 +1,14 @@
 //! Requests over HTTP and their replies as bytes, and how bytes are read and written.
 //!
 //! **A connection gives exactly the request that its bytes begin with, or its first fault. A target has the route that
-//! the table gives it, and what is asked there by a method is the row of the route. The bytes of a reply are those of
-//! its definition.**
+//! the table gives it, and a method asks for what the row of the route says. The bytes of a reply are those of its
+//! definition.**
 //!
 //! Scope of this crate: heads, fields and bodies of requests, their parameters, routes, statuses, replies, counted
-//! reads and whole writes. It knows no register: what is answered of one is told in `vet_http`, which gives all names
-//! of this crate on.
+//! reads and whole writes. It knows no register: `vet_http` says what is answered from one, and reexports all names of
+//! this crate.
 //!
-//! For example, of a body that is a byte shorter than its `Content-Length` nothing is answered but 400 `bad request`.
+//! For example, a body that is one byte shorter than its `Content-Length` is answered with 400 `bad request`.
 #![tactic(auto)]
 
 pub mod content_type;

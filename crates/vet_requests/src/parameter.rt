@@ -3,28 +3,28 @@ ghost use Rattle.std.specs.Prelude.{◌≡◌};
 ghost use Rattle.vet_requests.specs.Parameter.{after_slash, before_slash, first_parameter, second_parameter};
 ghost use Rattle.vet_requests.specs.Parameter.{third_parameter};
 
-/// The first parameter of a target: what stands behind its second slash, up to the next one or the end.
+/// The first parameter of a target: the text after its second slash, up to the next one or the end.
 pub fn first_parameter(target: &str) -> &str
     ensures { result.now ≡ first_parameter target.now }
 {
     before_slash(after_slash(after_slash(target)))
 }
 
-/// The second parameter, behind the third slash.
+/// The second parameter, after the third slash.
 pub fn second_parameter(target: &str) -> &str
     ensures { result.now ≡ second_parameter target.now }
 {
     first_parameter(after_slash(target))
 }
 
-/// The third parameter, behind the fourth slash.
+/// The third parameter, after the fourth slash.
 pub fn third_parameter(target: &str) -> &str
     ensures { result.now ≡ third_parameter target.now }
 {
     second_parameter(after_slash(target))
 }
 
-// What stands before the first slash; where there is none, all.
+// The text before the first slash, or all of it if there is none.
 fn before_slash(text: &str) -> &str
     ensures { result.now ≡ before_slash text.now }
 {
@@ -34,7 +34,7 @@ fn before_slash(text: &str) -> &str
     }
 }
 
-// What stands behind the first slash; where there is none, nothing.
+// The text after the first slash, which is empty if there is none.
 fn after_slash(text: &str) -> &str
     ensures { result.now ≡ after_slash text.now }
 {

@@ -1,10 +1,10 @@
 //! Replies.
 //!
 //! **The bytes of a reply are those of its definition: the line of its status, the lines of its fields, an empty line
-//! and the body. `Content-Length` tells the length of the body.**
+//! and the body. `Content-Length` gives the length of the body.**
 //!
-//! A command is answered after its change is kept, when it is too late to say that memory ran out. So room is taken
-//! first, and head and body are written into that.
+//! A command is answered after its change is kept, when it is too late to say that memory ran out. So room is reserved
+//! first, and head and body are written into it.
 ghost use Rattle.std.specs.Prelude.{◌≡◌, ◌+◌, ◌≤◌, ◌++◌, [], IfOk, codes, length, string_bytes};
 ghost use Rattle.std.specs.Prelude.{string_capacity, string_len};
 ghost use Rattle.vet_requests.specs.Reply.{allow_line, field_line, fixed_body, not_allowed, plain_reply, reply_head};
@@ -19,7 +19,7 @@ use itoa::Buffer;
 use std::alloc::{AllocError, Global};
 use std::marker::Model;
 
-/// A reply: its status, and all its bytes, in which the status stands too.
+/// A reply: its status, and all its bytes, which include the status.
 pub struct Reply {
     pub status: Status,
     pub bytes: ReplyBytes,
@@ -60,7 +60,7 @@ impl ReplyBytes {
 /// More bytes than any head has.
 pub const MOST_REPLY_HEAD_BYTES: usize = 160;
 
-/// The most bytes that the methods of a target are told in.
+/// The most bytes that the list of a target's methods takes.
 pub(crate) const MOST_ALLOW_BYTES: usize = 8;
 
 impl Reply {
@@ -76,14 +76,14 @@ impl Reply {
         Reply::laid_out(alloc, status, kind, "", body)
     }
 
-    /// The reply of a status alone. Fails only if memory runs out.
+    /// The reply of a status with its fixed body. Fails only if memory runs out.
     pub fn plain(alloc: Global, status: Status) -> Result<Reply, AllocError>
         ensures { IfOk result (λ r. r ≡ plain_reply status) }
     {
         Reply::laid_out(alloc, status, ContentType::Text, "", fixed_body(status))
     }
 
-    /// The reply where a target has other methods: these. Fails only if memory runs out.
+    /// The reply to a method that a target lacks, with the methods that it has. Fails only if memory runs out.
     pub fn not_allowed(alloc: Global, methods: &str) -> Result<Reply, AllocError>
         requires { length methods.now ≤ MOST_ALLOW_BYTES }
         ensures { IfOk result (λ r. r ≡ not_allowed methods.now) }
@@ -135,7 +135,7 @@ impl Reply {
     }
 }
 
-/// Room for a reply with a body of so many bytes.
+/// Room for a reply whose body has this many bytes.
 pub fn room_for(alloc: Global, bytes: usize) -> Result<String, AllocError>
     requires { bytes ≤ 9223372036854775807 }
     ensures empty { IfOk result (λ t. string_bytes t ≡ []) }
@@ -144,7 +144,7 @@ pub fn room_for(alloc: Global, bytes: usize) -> Result<String, AllocError>
     String::with_capacity(alloc, MOST_REPLY_HEAD_BYTES + bytes)
 }
 
-/// The body of a status that tells nothing more.
+/// The fixed body of a status, which may be empty.
 fn fixed_body(status: Status) -> &'static str
     ensures { result.now ≡ fixed_body status }
 {
@@ -157,7 +157,7 @@ fn fixed_body(status: Status) -> &'static str
     }
 }
 
-// Adds the head of a reply whose body has so many bytes.
+// Adds the head of a reply whose body has this many bytes.
 fn push_head(text: &mut String, status: Status, kind: ContentType, methods: &str, bytes: usize)
     requires room { string_len text.old + MOST_REPLY_HEAD_BYTES ≤ string_capacity text.old }
     requires short { length methods.now ≤ MOST_ALLOW_BYTES }
@@ -214,7 +214,7 @@ fn push_field(text: &mut String, name: &str, value: &str)
     push_word(text, "\r\n");
 }
 
-// Adds a text, for which there is room.
+// Adds a text for which there is room.
 fn push_word(text: &mut String, word: &str)
     requires { string_len text.old + length word.now ≤ string_capacity text.old }
     ensures bytes { string_bytes text.new ≡ string_bytes text.old ++ word.now }

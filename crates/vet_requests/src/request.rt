@@ -21,7 +21,7 @@ use std::alloc::{AllocError, Global};
 use std::io::Read;
 use std::marker::Model;
 
-/// What is asked of the register. All of it is bytes, as they came.
+/// A request to the register. All its parts are bytes, as they came.
 pub struct Request {
     method: Vec<u8>,
     target: Vec<u8>,
@@ -72,21 +72,21 @@ impl Request {
         }
     }
 
-    /// The method, as `GET`.
+    /// The method, such as `GET`.
     pub fn method(&self) -> &[u8]
         ensures { result.now ≡ self.now.method }
     {
         self.method.as_slice()
     }
 
-    /// The target, as `/counts`.
+    /// The target, such as `/counts`.
     pub fn target(&self) -> &[u8]
         ensures { result.now ≡ self.now.target }
     {
         self.target.as_slice()
     }
 
-    /// Who asks, where that is told. It is any bytes.
+    /// The member who makes the request, if one is named. The name may be any bytes.
     pub fn member(&self) -> Option<&[u8]>
         ensures { option_map (λ m. m.now) result ≡ self.now.member }
     {
@@ -104,8 +104,8 @@ impl Request {
     }
 }
 
-/// Reads a request, or the first fault of one. No more is read than 16,385 bytes and the body.
-/// Refused: `Input`, `Endless` where the reads that a run may make did not reach that far, and `NoMemory`.
+/// Reads a request, or its first fault. At most 16,385 bytes and the body are read. Refused: `Input`; `Endless` if the
+/// reads that a run may make are used up before that; `NoMemory`.
 pub fn read_request<R: Read>(
     alloc: Global,
     reader: &mut CountedReader<R>,
@@ -143,7 +143,7 @@ pub fn read_request_in<R: Read>(
     }
 }
 
-/// Reads what the head asks for that stands behind `start` of the bytes that the reader handed over.
+/// Reads the rest of the request whose head begins after the first `start` of the bytes that the reader handed over.
 fn read_behind<R: Read>(
     alloc: Global,
     reader: &mut CountedReader<R>,
@@ -168,7 +168,7 @@ fn read_behind<R: Read>(
     }
 }
 
-/// Reads the body that a head asks for, of which the front was read with the head.
+/// Reads the body of a request whose head was read. Its first bytes may have come with the head.
 fn read_rest<R: Read>(
     alloc: Global,
     reader: &mut CountedReader<R>,
@@ -193,7 +193,7 @@ fn read_rest<R: Read>(
     Ok(Ok(request_of(alloc, reader.handed_from(start), asked)?))
 }
 
-/// What a head asks for that stands in these bytes, with its body behind it.
+/// The request of a head at the start of these bytes, with its body after it.
 fn request_of(alloc: Global, bytes: &[u8], asked: HeadSpans) -> Result<Request, AllocError>
     requires within { IsAskedWithin (length bytes.now) asked }
     requires body { asked.head + asked.length ≤ length bytes.now }

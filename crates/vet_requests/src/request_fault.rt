@@ -1,22 +1,22 @@
-//! What is wrong with a request whose route isn't looked at.
+//! Faults of requests that are found before the route is looked at.
 ghost use Rattle.std.specs.Prelude.{◌≡◌};
 ghost use Rattle.vet_requests.specs.RequestFault.{fault_status};
 
 use crate::status::Status;
 
-/// What is wrong with a request whose route isn't looked at.
+/// A fault of a request that is found before its route is looked at.
 #[derive(Clone, Copy)]
 pub enum RequestFault {
-    /// It is no request, or its body was cut short, or a field that it may have once isn't what it should be.
+    /// It is not a request, its body was cut short, or a field that may occur once is repeated or malformed.
     BadRequest,
-    /// Its head or its body is longer than is read, or it has more fields.
+    /// Its head or its body is longer than the limit, or it has too many fields.
     TooLarge,
-    /// It asks for a head alone, or its body is coded for its transfer.
+    /// Its method is `HEAD`, or its body is coded for its transfer.
     NotImplemented,
 }
 
 impl RequestFault {
-    /// The status of the reply, which has no more to tell.
+    /// The status of the reply, which says nothing more.
     pub fn status(self) -> Status
         ensures { result ≡ fault_status self }
     {

@@ -10,8 +10,8 @@ pub const MOST_FIELDS: usize = 64;
 /// The most digits of the length of a body.
 pub const MOST_LENGTH_DIGITS: usize = 19;
 
-/// Each limit is the number that the rules have. It is said here once more, so that a slip in a constant, which most
-/// proofs would bear, is refused. Does nothing.
+/// Each limit is the number in the rules. It is stated here once more, so that a slip in a constant, with which most
+/// proofs would still hold, is refused. Does nothing.
 pub fn request_limits_are_as_ruled()
     ensures head { MOST_HEAD_BYTES ≡ 16384 }
     ensures fields { MOST_FIELDS ≡ 64 }

@@ -1,10 +1,10 @@
-//! Routes: which targets there are, by which methods, and what is asked there.
+//! Routes: the targets that exist, their methods, and the action of each method.
 //!
-//! **A target has the route that the table gives it. What is asked there by a method is the row of the route.**
+//! **A target has the route that the table gives it. A method asks for what the row of the route says.**
 //!
-//! A further report is a path in the table of `router`. Any other route is that too, and a row of `asked` and one of
-//! `methods`. What a path has in braces is a parameter: it matches what stands between two slashes, if that is not
-//! empty.
+//! A new report adds a path to the table of `router`. Any other new route adds that, and a row each to `asked` and
+//! `methods`. A name in braces in a path is a parameter: it matches any part of a target, between two slashes or after
+//! the last one, that is not empty.
 ghost use Rattle.std.specs.Prelude.{◌≡◌, ◌≤◌, IfErr, IfOk, length};
 ghost use Rattle.matchit.specs.Seek.{first};
 ghost use Rattle.std.specs.Prelude.{Some, None, if◌then◌else◌};
@@ -31,7 +31,7 @@ pub enum Route {
     Commands,
 }
 
-/// What is shown of the register.
+/// A part of the register that can be shown.
 #[derive(Clone, Copy)]
 pub enum Shown {
     /// A report.
@@ -46,7 +46,7 @@ pub enum Shown {
     Project,
 }
 
-/// What the body of a request gives, which becomes a command.
+/// The content of a request's body, from which a command is made.
 #[derive(Clone, Copy)]
 pub enum BodyKind {
     /// The dependency table of a project, which is loaded.
@@ -57,7 +57,7 @@ pub enum BodyKind {
     Document,
 }
 
-/// What is asked of the register.
+/// The action that a request asks for.
 #[derive(Clone, Copy)]
 pub enum RouteAction {
     /// To show something. It changes nothing.
@@ -66,7 +66,7 @@ pub enum RouteAction {
     Runs(BodyKind),
 }
 
-/// The routes, by which targets are found. They are made once for many requests.
+/// The routes, in which targets are looked up. They are made once for many requests.
 #[derive(Drop)]
 pub struct Routes {
     router: Router<Route>,
@@ -119,7 +119,7 @@ fn router(alloc: Global) -> Result<Router<Route>, InsertError>
     Ok(router)
 }
 
-// The route that the router finds of a target.
+// The route that the router finds for a target.
 fn routed(router: &Router<Route>, target: &str) -> Option<Route>
     requires { router.now ≡ table }
     ensures { result ≡ routed_at target.now }
@@ -131,7 +131,7 @@ fn routed(router: &Router<Route>, target: &str) -> Option<Route>
 }
 
 impl Route {
-    /// What is asked at the route by a method, if it has that method. Case matters in a method (RFC 9110, methods).
+    /// The action of a method at the route, if it has that method. Case matters in a method (RFC 9110, methods).
     pub fn asked(self, method: &[u8]) -> Option<RouteAction>
         ensures { result ≡ asked_by method.now (asked_at self) }
     {
@@ -146,7 +146,7 @@ impl Route {
         }
     }
 
-    /// The methods of the route, with a comma and a space between, as `Allow` tells them (RFC 9110, Allow).
+    /// The methods of the route, separated by a comma and a space, as `Allow` lists them (RFC 9110, Allow).
     pub fn methods(self) -> &'static str
         ensures methods { result.now ≡ told_methods (asked_at self) }
         ensures short { length result.now ≤ MOST_ALLOW_BYTES }
@@ -160,7 +160,7 @@ impl Route {
     }
 }
 
-// What a route that only shows something is asked.
+// The action of a method at a route that only shows something.
 fn shown_by_get(method: &[u8], shown: Shown) -> Option<RouteAction>
     ensures { result ≡ asked_by method.now (shown_alone shown) }
 {
@@ -171,7 +171,7 @@ fn shown_by_get(method: &[u8], shown: Shown) -> Option<RouteAction>
     }
 }
 
-// What a project is asked.
+// The action of a method at the route of a project.
 fn asked_of_project(method: &[u8]) -> Option<RouteAction>
     ensures { result ≡ asked_by method.now (asked_at Route.Project) }
 {
@@ -181,7 +181,7 @@ fn asked_of_project(method: &[u8]) -> Option<RouteAction>
     shown_by_get(method, Shown::Project)
 }
 
-// What a route is asked that has one method, and no other than to give something.
+// The action of a method at a route that has only the method `word`, by which something is given.
 fn given_by(method: &[u8], word: &[u8], given: BodyKind) -> Option<RouteAction>
     ensures { result ≡ (if bytes_eq method.now word.now then Some (RouteAction.Runs given) else None) }
 {

@@ -1,4 +1,4 @@
-//! Which targets have which routes: laws of the table, which do nothing.
+//! Laws about the routes of targets. They do nothing.
 ghost use Rattle.std.specs.Prelude.{◌≡◌, ◌<◌, ◌∷◌, ◌++◌, false, ℕ, All, List, None, Some, codes};
 ghost use Rattle.matchit.specs.Seek.{has_slash};
 ghost use Rattle.vet_reports.specs.declared.report.Report.TheVariants as report;
@@ -7,7 +7,7 @@ ghost use Rattle.vet_requests.specs.RouteTable.{routed_at};
 ghost use Rattle.vet_requests.specs.declared.route.Route.TheVariants.{Report, StandingOf, Class, File, Project, Peer};
 ghost use Rattle.vet_requests.specs.declared.route.Route.TheVariants.{Commands};
 
-/// The router finds the route of the definition for every target that is bytes, and none for any other.
+/// The router finds, for every target that is bytes, the route of the definition, and none if that gives none.
 pub fn router_finds_the_paths()
     ensures { (target : List ℕ) → All (λ b. b < 256) target → routed_at target ≡ route_at target }
 {}
@@ -23,7 +23,7 @@ pub fn plain_paths_have_routes()
     ensures commands { route_at (codes "/commands") ≡ Some Commands }
 {}
 
-/// Paths whose one parameter is any bytes, not none, without a slash.
+/// Paths with one parameter, which is at least one byte and has no slash.
 pub fn paths_with_a_parameter_have_routes()
     ensures standing { (b : ℕ) (rest : List ℕ) → b < 256 → has_slash (b ∷ rest) ≡ false
         → route_at (codes "/standing/" ++ b ∷ rest) ≡ Some StandingOf }

@@ -4,24 +4,24 @@ ghost use Rattle.vet_requests.specs.Status.{refusal_status, status_number, statu
 
 use vet_base::refusal::Refusal;
 
-/// A status of a reply (RFC 9110, status codes). A further one is a row in each table here, and one of the definition.
+/// A status of a reply (RFC 9110, status codes). A new one adds a row to each table here, and one to the definition.
 #[derive(Clone, Copy, PartialEq, Eq)]
 pub enum Status {
-    /// What was asked is answered or done.
+    /// The request was answered or carried out.
     Ok,
-    /// The request, or a text in it, is none.
+    /// The request, or a text in it, is malformed.
     BadRequest,
     /// Nothing is at the target.
     NotFound,
-    /// What is at the target is not asked so.
+    /// The target exists, but does not have this method.
     MethodNotAllowed,
-    /// The register holds something that stands against the command.
+    /// The command conflicts with what the register holds.
     Conflict,
-    /// The request is longer than a limit, or something in it goes past one.
+    /// The request is longer than a limit, or something in it exceeds one.
     ContentTooLarge,
     /// The request is of a kind that is not served.
     NotImplemented,
-    /// There was no memory, or the store refused.
+    /// Memory ran out, or the store refused.
     ServiceUnavailable,
 }
 
@@ -43,7 +43,7 @@ impl Status {
         }
     }
 
-    /// The phrase that stands behind the number.
+    /// The phrase after the number.
     pub fn phrase(self) -> &'static str
         ensures phrase { result.now ≡ status_phrase self }
         ensures short { length result.now ≤ 19 }
@@ -60,8 +60,8 @@ impl Status {
         }
     }
 
-    /// The status of a refusal: 400 where a text is at fault, 413 where something goes past a limit, 503 where memory
-    /// was wanting or the store refused, and 409 for all others.
+    /// The status of a refusal: 400 if a text is at fault, 413 if something exceeds a limit, 503 if memory ran out or
+    /// the store refused, and 409 for all others.
     pub fn of_refusal(refusal: &Refusal) -> Status
         ensures { result ≡ refusal_status refusal.now }
     {
