@@ -1,4 +1,4 @@
--- The reply to a request, and the state after it: what is asked, then what answers it (ours).
+-- The reply to a request, and the state after it: the action that is asked for, then its answer (ours).
 use Rattle.std.specs.Prelude.{◌≡◌, ◌⊎◌, Option, Some, None, Ok, Err}
 use Rattle.vet_base.specs.Day.{DayValue}
 use Rattle.vet_base.specs.Gives.{Told}
@@ -23,32 +23,32 @@ use Rattle.vet_requests.specs.declared.status.Status.TheVariants as status
 abbrev pub Stays : Reply → Reply → State → State → Type 0
 Stays wanted reply s end = (reply ≡ wanted) × (end ≡ s)
 
--- the machine tells the command its verdict; one that was not given leaves the state
+-- the reply is the machine's verdict on the command; if there is no command, it is the refusal, and the state stays
 unfoldable pub IsRun : Told Command → State → Reply → State → Type 0
 IsRun (Ok command) s reply end = (reply ≡ command_reply (told s command)) × (end ≡ after s command)
 IsRun (Err refusal) s reply end = Stays (refusal_reply refusal) reply s end
 
--- what is asked is answered
+-- the action that is asked for is answered
 abbrev pub IsAnswered : RouteAction → DayValue → RequestValue → State → Reply → State → Type 0
 IsAnswered (Shows what) day r s reply end = IsShown what r.target s reply × (end ≡ s)
 IsAnswered (Runs given) day r s reply end = IsRun (given_told given day r.target r) s reply end
 
--- a method that the route lacks: the reply tells those that it has
+-- the answer by a method; if the route lacks it, the reply lists the methods that it has
 unfoldable pub IsByMethod : Route → Option RouteAction → DayValue → RequestValue → State → Reply → State → Type 0
 IsByMethod route None day r s reply end = Stays (not_allowed (told_methods (asked_at route))) reply s end
 IsByMethod route (Some asked) day r s reply end = IsAnswered asked day r s reply end
 
--- a target without a route
+-- the answer at a route; a target without one is not found
 unfoldable pub IsByRoute : Option Route → DayValue → RequestValue → State → Reply → State → Type 0
 IsByRoute None day r s reply end = Stays (plain_reply status.NotFound) reply s end
 IsByRoute (Some route) day r s reply end =
     IsByMethod route (asked_by r.method (asked_at route)) day r s reply end
 
--- memory was wanting, or the store refused
+-- memory ran out, or the store refused
 abbrev pub IsUnavailable : Reply → Type 0
 IsUnavailable reply = (reply ≡ refusal_reply NoMemory) ⊎ (reply ≡ refusal_reply StoreRefused)
 
--- the reply to a request on a day in a state, and the state after it, by the route of its target; instead it may tell
+-- the reply to a request on a day in a state, and the state after it, by the route of its target; instead it may say
 -- that the register is unavailable, and then the state stays
 abbrev pub IsReplyTo : DayValue → RequestValue → State → Reply → State → Type 0
 IsReplyTo day r s reply end = IsByRoute (route_of r.target) day r s reply end ⊎ (IsUnavailable reply × (end ≡ s))

@@ -1,4 +1,4 @@
--- What a request is answered, before its reply is laid out (ours).
+-- The answer to a request, before its reply is laid out (ours).
 use Rattle.std.specs.Prelude.{◌≡◌, ◌⊎◌, Ok, Err}
 use Rattle.vet_base.specs.Gives.{Told}
 use Rattle.vet_base.specs.declared.refusal.Refusal.TheVariants.{NoMemory}
@@ -7,7 +7,7 @@ use Rattle.vet_http.specs.declared.answer.Answered.{Answered}
 use Rattle.vet_http.specs.declared.answer.Answered.TheVariants as answered
 use Rattle.vet_requests.specs.declared.reply.Reply.{Reply}
 
--- the reply
+-- the reply of an answer
 abbrev pub reply_of : Answered → Reply
 reply_of (answered.Reply reply) = reply
 reply_of (answered.Outcome outcome) = outcome_reply outcome

@@ -11,12 +11,12 @@ use Rattle.vet_requests.specs.declared.route.RouteAction.{RouteAction}
 use Rattle.vet_requests.specs.declared.route.RouteAction.TheVariants.{Runs, Shows}
 use Rattle.vet_requests.specs.declared.route.Route.{Route}
 
--- a command that is told
+-- the command that is given, if there is one
 unfoldable pub given_in : Told Command → Option Command
 given_in (Ok command) = Some command
 given_in (Err refusal) = None
 
--- the command of what is asked
+-- the command of the action that is asked for
 unfoldable pub given_by : DayValue → RequestValue → Option RouteAction → Option Command
 given_by day r None = None
 given_by day r (Some (Shows what)) = None

@@ -1,4 +1,4 @@
--- The commands that connections ask for, and which of them the machine has done (ours).
+-- The commands that connections ask for, and those that the machine has done (ours).
 use Rattle.std.specs.Prelude.{◌≡◌, ◌⊎◌, List, [], ◌∷◌, Option, Some, Ok, IsTrue}
 use Rattle.sqlite.specs.State as sqlite
 use Rattle.vet_base.specs.Day.{DayValue}
@@ -13,7 +13,7 @@ use Rattle.vet_register.specs.declared.command.Command.{Command}
 use Rattle.vet_store.specs.Crash.{LeavesEither}
 use Rattle.vet_store.specs.Runs.{is_done, machine}
 
--- what was read of a connection asks for this command
+-- the bytes that were read from a connection ask for this command
 pub record IsAskedBy (day : DayValue) (seen seen' : Heard) (command : Command) : Type 0 where
   pub bytes : Bytes
   pub hands : Hands seen seen' bytes
@@ -21,7 +21,7 @@ pub record IsAskedBy (day : DayValue) (seen seen' : Heard) (command : Command) :
   pub requests : Requests bytes (Ok request)
   pub asks : asked_for day request ≡ Some command
 
--- a command was done in a state, which it left for another
+-- a command was done in a state, and led to another
 abbrev pub IsDone : State → Command → State → Type 0
 IsDone s command end = IsTrue (is_done (told s command)) × (end ≡ after s command)
 
@@ -40,7 +40,7 @@ module _ {R W : Type 0} (remaining : R → Option Bytes) where
       × ((mid : State) × (IsDone s command mid × AreDone mid before behind commands last)))
   AreDone s _ _ _ last = ⊥
 
-  -- the last state is the machine's after the commands alone that were done
+  -- the last state is the machine's after only the commands that were done
   abbrev pub IsOfDone : State → List (Connection R W) → List (Connection R W) → State → Type 0
   IsOfDone s before behind last =
       (done : List Command) × (AreDone s before behind done last × (last ≡ machine s done))

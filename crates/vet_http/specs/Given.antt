@@ -14,14 +14,14 @@ use Rattle.vet_requests.specs.Request.{RequestValue}
 use Rattle.vet_requests.specs.declared.route.BodyKind.{BodyKind}
 use Rattle.vet_requests.specs.declared.route.BodyKind.TheVariants.{Document, Peer, Project}
 
--- the dependency table is that of the project which is the parameter; that one is looked at first
+-- the body is the dependency table of the project that the parameter names; the parameter is looked at first
 abbrev pub project_given : Text → RequestValue → Told Action
 project_given target r =
     package_told (first_parameter target) >>= λ name.
     project_of_bytes r.body >>= λ project.
     Ok (LoadProject (record { name = name; project = project }))
 
--- the audits file is that of the peer which is the parameter; that one is looked at first
+-- the body is the audits file of the peer that the parameter names; the parameter is looked at first
 abbrev pub peer_given : Text → RequestValue → Told Action
 peer_given target r =
     name_told (first_parameter target) >>= λ name.

@@ -1,7 +1,7 @@
--- Reply: what a connection is replied, and the state after it. And connections that are served one by one (ours).
+-- The reply to a connection, and the state after it; and connections that are served one by one (ours).
 --
--- Replies is said of the bytes that a connection handed over, by IsReplyToTold and IsReplyTo. What came of a
--- connection is IsServed. A target that is no UTF-8, which no head has, has no route.
+-- Replies speaks of the bytes that a connection handed over, by IsReplyToTold and IsReplyTo. IsServed is the result of
+-- a connection. A target that is not UTF-8, which no head has, has no route.
 use Rattle.std.specs.Prelude.{◌≡◌, List, [], ◌∷◌, Option, Result, Ok, Err, ⊤}
 use Rattle.std.specs.Io.KnownBytes.{Appends, Keeps}
 use Rattle.sqlite.specs.State as sqlite
@@ -25,7 +25,7 @@ use Rattle.vet_register.specs.State.{State}
 
 -- ---- the reply
 
--- the reply to what is told of a connection's bytes: the answer to the request, or the fault's status
+-- the reply to a connection's request, or to its fault: the answer to the request, or the fault's status
 abbrev pub IsReplyToTold : DayValue → ToldOf RequestValue → State → Reply → State → Type 0
 IsReplyToTold day (Ok request) s reply end = IsReplyTo day request s reply end
 IsReplyToTold day (Err fault) s reply end = Stays (plain_reply (fault_status fault)) reply s end
@@ -37,15 +37,15 @@ Replies day s end reply bytes =
 
 -- ---- a connection
 
--- what was read of a connection, and its reply, of which this holds; of the reply this was written
+-- the bytes that were read from a connection, and its reply; Holds is true of both, and Writes of the reply
 pub record Exchanges (seen seen' : Heard) (Holds : Reply → Bytes → Type 0) (Writes : Reply → Type 0)
     : Type 0 where
   pub reply : Reply
   pub read : IsReadFrom seen seen' (Holds reply)
   pub written : Writes reply
 
--- what came of a connection: it was replied to, whole or in part, and this holds of the reply and of what was read; or
--- it ended in a fault with which nothing was written, and that holds
+-- the result of a connection: it was replied to, wholly or in part, and Holds is true of the reply and of the bytes
+-- that were read; or it ended in a fault with which nothing was written, and Else is true
 abbrev pub IsServedBy : (Reply → Bytes → Type 0) → Type 0
     → Heard → Heard → Option Bytes → Option Bytes → Result Served IoFault → Type 0
 IsServedBy Holds Else seen seen' out out' (Ok served) =
@@ -56,26 +56,26 @@ IsServedBy Holds Else seen seen' out out' (Err Input) = Else × Keeps out out'
 IsServedBy Holds Else seen seen' out out' (Err Endless) = Else × Keeps out out'
 IsServedBy Holds Else seen seen' out out' (Err NoMemory) = Else × Keeps out out'
 
--- what came of a connection in a state, and the state after it; with a fault other than of the write it is the same
+-- the result of a connection in a state, and the state after it; a fault other than of the write leaves the state
 abbrev pub IsServed : DayValue → Heard → Heard → Option Bytes → Option Bytes
     → State → Result Served IoFault → State → Type 0
 IsServed day seen seen' out out' s answer end = IsServedBy (Replies day s end) (end ≡ s) seen seen' out out' answer
 
--- the same, of a connection as it was and as it was left
+-- the same, for a connection as it was and as it was left
 abbrev pub IsTurn : {R W : Type 0} → (R → Option Bytes) → (W → Option Bytes)
     → State → Connection R W → Connection R W → Result Served IoFault → State → Type 0
 IsTurn remaining contents s was left answer end =
     IsServed was.day (heard remaining was.reader) (heard remaining left.reader)
     (contents was.writer) (contents left.writer) s answer end
 
--- ---- what is held
+-- ---- requests that ask for what is held
 
--- a request that asks for what is held is told so, and the state stays
+-- the reply to a request for what is held says so, and the state stays
 abbrev pub RepeatsStayTold : DayValue → ToldOf RequestValue → State → Reply → State → Type 0
 RepeatsStayTold day (Ok request) s reply end = RepeatsStay (asked_for day request) s reply end
 RepeatsStayTold day (Err fault) s reply end = ⊤
 
--- a reply of which this holds, too
+-- a reply for which this is true, too
 abbrev pub RepliesWithRepeats : DayValue → State → State → Reply → Bytes → Type 0
 RepliesWithRepeats day s end reply bytes =
     (told : ToldOf RequestValue)
@@ -94,7 +94,7 @@ IsTurnWithRepeats remaining contents s was left answer end =
 
 -- ---- a store that is shut
 
--- a request that asks for a command is told that the register is unavailable
+-- the reply to a request for a command says that the register is unavailable
 abbrev pub IsRefusedTold : DayValue → ToldOf RequestValue → Reply → Type 0
 IsRefusedTold day (Ok request) reply = IsToldRefused (asked_for day request) reply
 IsRefusedTold day (Err fault) reply = ⊤
@@ -110,20 +110,20 @@ IsTurnOfShut remaining contents s was left answer end =
 
 -- ---- a commit that failed
 
--- it was of what a request asked for
+-- it was the commit of the command that a request asked for
 abbrev pub IsCutOffTold : DayValue → State → sqlite.State → ToldOf RequestValue → Reply → Type 0
 IsCutOffTold day s c (Ok request) reply = IsToldCutOff (asked_for day request) s c reply
 IsCutOffTold day s c (Err fault) reply = ⊥
 
--- a connection's bytes asked for it
+-- a connection's bytes asked for that command
 abbrev pub IsCutOffBy : DayValue → State → sqlite.State → Reply → Bytes → Type 0
 IsCutOffBy day s c reply bytes =
     (told : ToldOf RequestValue) × (Requests bytes told × IsCutOffTold day s c told reply)
 
 -- ---- connections
 
--- this holds of each connection as it was and as it was left, of the state of its turn, what came of it, and the state
--- that it left
+-- Holds is true for each connection: of the state of its turn, the connection as it was and as it was left, its result,
+-- and the state that it left
 abbrev pub Each : {C : Type 0} → (State → C → C → Result Served IoFault → State → Type 0)
     → State → List C → List C → List (Result Served IoFault) → State → Type 0
 Each Holds s [] [] [] last = last ≡ s

@@ -10,8 +10,8 @@ use Rattle.vet_requests.specs.declared.io_fault.IoFault.{IoFault}
 use Rattle.vet_requests.specs.declared.io_fault.IoFault.TheVariants.{Output}
 use Rattle.vet_requests.specs.declared.reply.Reply.{Reply}
 
--- the front of an input was read, and its rest is left. The reply is that to this front, and to all of the input. Of
--- the reply this was written
+-- A prefix of an input was read, and its rest is left. The reply is the one to this prefix, and also to all of the
+-- input. Writes is true of the reply.
 pub record RepliesToBytes (day : DayValue) (input rest : Bytes) (s end : State) (Writes : Reply → Type 0) : Type 0 where
   pub reply : Reply
   pub front : Bytes
@@ -20,7 +20,7 @@ pub record RepliesToBytes (day : DayValue) (input rest : Bytes) (s end : State) 
   pub to_input : Replies day s end reply input
   pub written : Writes reply
 
--- what came of it: the reply was written behind what was there before, or the front of it, or nothing was written and
+-- the result: the whole reply was written after the earlier output, or only a prefix of it, or nothing was written and
 -- the state stays
 abbrev pub IsServedOfBytes : DayValue → Bytes → Bytes → Bytes → Bytes → State → Result Served IoFault → State → Type 0
 IsServedOfBytes day input rest out out' s (Ok served) end =
@@ -30,7 +30,7 @@ IsServedOfBytes day input rest out out' s (Err Output) end =
     (λ reply. (n : ℕ) × ((n < length reply.bytes) × (out' ≡ out ++ take n reply.bytes)))
 IsServedOfBytes day input rest out out' s (Err fault) end = (end ≡ s) × (out' ≡ out)
 
--- the same, of a connection as it was and as it was left
+-- the same, for a connection as it was and as it was left
 abbrev pub IsTurnOfBytes : {R W : Type 0} → (R → Bytes) → (W → Bytes)
     → State → Connection R W → Connection R W → Result Served IoFault → State → Type 0
 IsTurnOfBytes unread written s was left answer end =

@@ -1,4 +1,4 @@
--- What is shown of a register (ours).
+-- The replies that show a register (ours).
 use Rattle.std.specs.Prelude.{◌≡◌, [], ◌++◌, Option, Some, None, Ok, codes}
 use Rattle.vet_base.specs.Gives.{Told, ◌>>=◌}
 use Rattle.vet_base.specs.Words.{Name, Text}
@@ -39,9 +39,9 @@ csv text = reply_with status.Ok content.Csv [] text
 abbrev pub toml : Text → Reply
 toml text = reply_with status.Ok content.Toml [] text
 
--- ---- what is shown
+-- ---- the parts that are shown
 
--- a report, laid out as it is
+-- a report, in its own layout
 abbrev pub laid_out : Layout → Text → Reply
 laid_out Lines text = lines text
 laid_out Csv text = csv text
@@ -53,17 +53,17 @@ report_reply report s = laid_out (layout_of report) (report_text report s)
 abbrev pub pairs_of : Name → Filter
 pairs_of name = record { «package» = Some name; class = None }
 
--- the pairs of the package that is the parameter
+-- the pairs of the package that the parameter names
 abbrev pub package_standing_told : Text → State → Told Reply
 package_standing_told target s =
     package_told (first_parameter target) >>= λ name. Ok (lines (standing_text (pairs_of name) s))
 
--- the word of a class; a pair that isn't demanded has none
+-- the word of a class; `none` for a pair that is not demanded
 abbrev pub class_line : Option Class → Text
 class_line (Some class) = class_word class ++ codes "\n"
 class_line None = codes "none\n"
 
--- the class of the pair that the parameters are
+-- the class of the pair that the parameters name
 abbrev pub class_told : Text → State → Told Reply
 class_told target s =
     package_told (first_parameter target) >>= λ name.
@@ -72,22 +72,22 @@ class_told target s =
     Ok (lines (class_line (class_in (standing s)
     (record { «package» = name; version = version; criterion = criterion }))))
 
--- the dependency table of a project; nothing where none is held
+-- the dependency table of a project, or 404 if none is held
 abbrev pub table_of : Option NamedProject → Reply
 table_of (Some it) = csv (written_text it.project)
 table_of None = plain_reply status.NotFound
 
--- that of the project that is the parameter
+-- the dependency table of the project that the parameter names
 abbrev pub table_told : Text → State → Told Reply
 table_told target s =
     package_told (first_parameter target) >>= λ name. Ok (table_of (project_at s.held.projects name))
 
--- a file in any layout; nothing where no file has the name
+-- a file in any layout, or 404 if no file has the name
 abbrev pub IsFile : Option RegisterFile → State → Reply → Type 0
 IsFile (Some file) s reply = (text : Text) × (IsFileOf file s text × (reply ≡ toml text))
 IsFile None s reply = reply ≡ plain_reply status.NotFound
 
--- the reply that shows it for a target
+-- the reply that shows something for a target
 abbrev pub IsShown : Shown → Text → State → Reply → Type 0
 IsShown (shown.Report report) target s reply = reply ≡ report_reply report s
 IsShown shown.StandingOf target s reply = reply ≡ reply_told (package_standing_told target s)

@@ -1,4 +1,4 @@
--- Requests to a store that is shut, and for commands whose commit failed, which shuts it (ours).
+-- Requests to a store that is shut, and those for commands whose commit failed, which shuts it (ours).
 use Rattle.std.specs.Prelude.{◌≡◌, Option, Some, IsErrAnd}
 use Rattle.sqlite.specs.State.{HasCleanDisk}
 use Rattle.sqlite.specs.State as sqlite
@@ -11,11 +11,11 @@ use Rattle.vet_register.specs.State.{State}
 use Rattle.vet_store.specs.Crash.{LeavesEither}
 use Rattle.vet_store.specs.Runs.{IsOfStore}
 
--- a command that is asked for is refused: memory was wanting, or the store refused
+-- a command that is asked for is refused: memory ran out, or the store refused
 unfoldable pub IsRefused : Option Command → Told Answered → Type 0
 IsRefused asked answered = (c : Command) → asked ≡ Some c → IsErrAnd answered IsOfStore
 
--- and the reply tells that the register is unavailable
+-- and the reply says that the register is unavailable
 unfoldable pub IsToldRefused : Option Command → Reply → Type 0
 IsToldRefused asked reply = (c : Command) → asked ≡ Some c → IsUnavailable reply
 
@@ -23,12 +23,12 @@ IsToldRefused asked reply = (c : Command) → asked ≡ Some c → IsUnavailable
 unfoldable pub LeavesAsked : Option Command → State → sqlite.State → Type 0
 LeavesAsked asked s c = (command : Command) × ((asked ≡ Some command) × LeavesEither c s command)
 
--- the commit of what is asked for failed: memory was wanting or the store refused, and the disk may have it
+-- the commit of the command that is asked for failed: memory ran out or the store refused; the disk may have it
 pub record IsCutOff (asked : Option Command) (s : State) (c : sqlite.State) (answered : Told Answered) : Type 0 where
   pub refused : IsErrAnd answered IsOfStore
   pub leaves : HasCleanDisk c → LeavesAsked asked s c
 
--- and the reply tells that the register is unavailable
+-- and the reply says that the register is unavailable
 pub record IsToldCutOff (asked : Option Command) (s : State) (c : sqlite.State) (reply : Reply) : Type 0 where
   pub unavailable : IsUnavailable reply
   pub leaves : HasCleanDisk c → LeavesAsked asked s c

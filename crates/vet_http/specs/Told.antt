@@ -1,4 +1,4 @@
--- The replies to what is told: a refusal, or what came of a command (ours).
+-- The replies to a refusal and to the outcome of a command (ours).
 use Rattle.std.specs.Prelude.{Ok, Err}
 use Rattle.vet_base.specs.Gives.{Told}
 use Rattle.vet_base.specs.declared.refusal.Refusal.{Refusal}
@@ -14,7 +14,7 @@ use Rattle.vet_requests.specs.declared.status.Status.TheVariants as status
 unfoldable pub refusal_reply : Refusal → Reply
 refusal_reply refusal = text_reply (refusal_status refusal) (refusal_line refusal)
 
--- the reply that is told, or the one to the refusal that is told in its place
+-- the reply, or the one to the refusal in its place
 abbrev pub reply_told : Told Reply → Reply
 reply_told (Ok reply) = reply
 reply_told (Err refusal) = refusal_reply refusal

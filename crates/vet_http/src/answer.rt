@@ -40,15 +40,15 @@ use vet_requests::route::{BodyKind, Route, RouteAction, Routes, Shown};
 use vet_requests::status::Status;
 use vet_store::store::Store;
 
-/// What a request is answered: a reply, or what came of its command, to which the reply is written into room that was
-/// taken before.
+/// The answer to a request: a reply, or the outcome of its command. The reply to an outcome is written into room that
+/// was reserved before.
 pub(crate) enum Answered {
     Reply(Reply),
     Outcome(Outcome),
 }
 
 /// The reply to a request on a day. A refusal of the command or of a parameter is a reply too. Refused, with nothing
-/// changed: `NoMemory`, where there is no room for the reply to a command.
+/// changed: `NoMemory` if memory runs out for the routes or for the room of the reply.
 pub fn answer<S: Alter, K: Keeper>(
     alloc: Global,
     store: &mut Store<S, K>,
@@ -74,7 +74,7 @@ pub fn answer<S: Alter, K: Keeper>(
     answer_by(alloc, &routes, store, day, request)
 }
 
-/// The reply to a request on a day, as `answer` gives it, by routes that are made once for many.
+/// The reply to a request on a day, as `answer` gives it, by routes that are made once for many requests.
 pub fn answer_by<S: Alter, K: Keeper>(
     alloc: Global,
     routes: &Routes,
@@ -103,7 +103,7 @@ pub fn answer_by<S: Alter, K: Keeper>(
     Ok(tell(alloc, room, answered))
 }
 
-// The reply to what is answered, in room for it.
+// The reply to an answer, in the room for it.
 fn tell(alloc: Global, room: ReplyRoom, answered: Result<Answered, Refusal>) -> Reply
     requires { HasRoom room }
     ensures { Tells answered result }
@@ -115,7 +115,7 @@ fn tell(alloc: Global, room: ReplyRoom, answered: Result<Answered, Refusal>) -> 
     }
 }
 
-// The answer at the route of the target. A target that is no text has none.
+// The answer at the route of the target. A target that is not UTF-8 has none.
 fn answer_by_route<S: Alter, K: Keeper>(
     alloc: Global,
     routes: &Routes,
@@ -177,7 +177,7 @@ fn answer_at<S: Alter, K: Keeper>(
     }
 }
 
-// The answer where a target has no route.
+// The answer if a target has no route.
 fn not_found(alloc: Global) -> Result<Answered, Refusal>
     ensures reply { IfOk result (λ a. reply_of a ≡ plain_reply Status.NotFound) }
     ensures memory { IfErr result (λ e. e ≡ Refusal.NoMemory) }
@@ -220,7 +220,7 @@ fn answer_by_method<S: Alter, K: Keeper>(
     }
 }
 
-// The answer where a route lacks the method.
+// The answer if a route lacks the method.
 fn not_allowed(alloc: Global, route: Route) -> Result<Answered, Refusal>
     ensures reply { IfOk result (λ a. reply_of a ≡ not_allowed (told_methods (asked_at route))) }
     ensures memory { IfErr result (λ e. e ≡ Refusal.NoMemory) }
@@ -244,7 +244,7 @@ fn shown<K: Keeper>(
     Ok(Answered::Reply(reply))
 }
 
-// What came of the command that a request gives.
+// The outcome of the command that a request gives.
 fn run_given<S: Alter, K: Keeper>(
     alloc: Global,
     store: &mut Store<S, K>,
@@ -275,7 +275,7 @@ fn run_given<S: Alter, K: Keeper>(
     Ok(Answered::Outcome(outcome))
 }
 
-// What came of a command.
+// The outcome of a command.
 fn run_command<S: Alter, K: Keeper>(
     alloc: Global,
     store: &mut Store<S, K>,

@@ -15,8 +15,8 @@ use vet_requests::parameter::first_parameter;
 use vet_requests::request::Request;
 use vet_requests::route::BodyKind;
 
-/// The command that the body of a request gives on a day. Refused: `BadName` of a parameter, before the body is looked
-/// at, and what the reader of the body refuses. `NoMemory` can come at any point.
+/// The command that the body of a request gives on a day. Refused: `BadName` for a parameter, before the body is looked
+/// at, and the refusals of the body's reader. `NoMemory` can come at any point.
 #[tactic(auto, unfolding(crate::specs::Given::given_told))]
 pub(crate) fn read_given(
     alloc: Global,
@@ -40,7 +40,7 @@ pub(crate) fn read_given(
     }
 }
 
-// Loads the project that is the parameter.
+// Reads the action that loads the project that the parameter names.
 fn read_given_project(alloc: Global, target: &str, request: &Request) -> Result<Action, Refusal>
     ensures { Gives (λ a. a) (project_given target.now request.now) result }
 {
@@ -49,7 +49,7 @@ fn read_given_project(alloc: Global, target: &str, request: &Request) -> Result<
     Ok(Action::LoadProject(NamedProject { name, project }))
 }
 
-// Imports the audits file of the peer that is the parameter.
+// Reads the action that imports the audits file of the peer that the parameter names.
 fn read_given_peer(alloc: Global, target: &str, request: &Request) -> Result<Action, Refusal>
     ensures { Gives (λ a. a) (peer_given target.now request.now) result }
 {

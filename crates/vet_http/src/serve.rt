@@ -1,9 +1,9 @@
-//! Requests are served: read, answered, and replied to.
+//! Serving requests: each is read, answered and replied to.
 //!
 //! **Each connection that is replied to is a step of the machine: the reply and the state after it are those of the
-//! definition for the bytes that were read. With any other fault than a failed write nothing is changed or written.**
+//! definition for the bytes that were read. Any fault other than a failed write changes and writes nothing.**
 //!
-//! So an answer is made whole before the first byte of it is written. A write that fails leaves the front of it.
+//! So an answer is complete before its first byte is written. A write that fails leaves only a prefix of it.
 ghost use Rattle.std.specs.Prelude.{◌≡◌, ◌≢◌, ◌+◌, false, IfErr, IfOk, IsTrue, OnErr, OnOk};
 ghost use Rattle.std.specs.Io.KnownBytes.{Appends};
 ghost use Rattle.sqlite.specs.Held.{state};
@@ -42,7 +42,7 @@ use vet_requests::status::Status;
 use vet_store::laws::classes_are_of_chains;
 use vet_store::store::Store;
 
-/// What a connection was replied.
+/// The status of the reply that was written to a connection.
 #[derive(Clone, Copy)]
 pub struct Served {
     pub status: Status,
@@ -56,8 +56,8 @@ pub struct Connection<R, W> {
     pub writer: W,
 }
 
-/// Reads one request and writes its reply. Refused, with nothing changed and nothing written: `Input`, `Endless` and
-/// `NoMemory`. Refused, with the front of the reply written: `Output`; then what the request asked for is done.
+/// Reads one request and writes its reply. Refused, with nothing changed or written: `Input`, `Endless` and `NoMemory`.
+/// Refused, with only a prefix of the reply written: `Output`; the state is then the one after the reply.
 pub fn serve_one<S: Alter, K: Keeper, R: Read, W: Write>(
     alloc: Global,
     store: &mut Store<S, K>,
@@ -89,7 +89,7 @@ pub fn serve_one<S: Alter, K: Keeper, R: Read, W: Write>(
     serve_in(alloc, &mut room, store, day, reader, writer)
 }
 
-/// Reads one request and writes its reply as `serve_one` does, in room that is made once for many.
+/// Reads one request and writes its reply as `serve_one` does, in room that is made once for many requests.
 pub fn serve_in<S: Alter, K: Keeper, R: Read, W: Write>(
     alloc: Global,
     room: &mut ServeRoom,
@@ -127,7 +127,7 @@ pub fn serve_in<S: Alter, K: Keeper, R: Read, W: Write>(
     }
 }
 
-/// Writes a reply. Refused: `Output`, with the front of it written.
+/// Writes a reply. Refused: `Output`, with only a prefix of it written.
 fn write_reply<W: Write>(writer: &mut W, reply: &Reply) -> Result<Served, IoFault>
     ensures status { IfOk result (λ served. served.status ≡ reply.now.status) }
     ensures whole { OnOk result (Appends (W.contents writer.old) (W.contents writer.new) reply.now.bytes) }
@@ -171,8 +171,8 @@ fn reply_to<S: Alter, K: Keeper>(
     }
 }
 
-/// Serves connections one after the other, whatever comes of each. Room for what came of them is taken first. Refused,
-/// with none served: `NoMemory`.
+/// Serves connections one after the other, even if some of them end in a fault. Room for their results is reserved
+/// first. Refused, with none served: `NoMemory`.
 pub fn serve_all<S: Alter, K: Keeper, R: Read, W: Write>(
     alloc: Global,
     store: &mut Store<S, K>,
@@ -204,9 +204,9 @@ pub fn serve_all<S: Alter, K: Keeper, R: Read, W: Write>(
     answers
 }
 
-/// Serves connections whose bytes are in memory. Nothing is assumed of reads and writes: a slice says what is left of
-/// it, and a vector what was written. A fault other than `Output` changes and writes nothing, and with that one, where
-/// a vector found no room, the front of the reply is written. Refused, with none served: `NoMemory`.
+/// Serves connections whose bytes are in memory. Nothing is assumed about reads and writes: a slice shows what is left
+/// of it, and a vector what was written. A fault other than `Output` changes and writes nothing. With `Output`, if
+/// memory ran out for a vector, only a prefix of the reply is written. Refused, with none served: `NoMemory`.
 pub fn serve_slices<S: Alter, K: Keeper>(
     alloc: Global,
     store: &mut Store<S, K>,
@@ -236,7 +236,7 @@ pub fn serve_slices<S: Alter, K: Keeper>(
     serve_all(alloc, store, connections)
 }
 
-/// The same, but for the classes.
+/// Serves the connections as `serve_all` does, with fewer clauses.
 fn serve_each<S: Alter, K: Keeper, R: Read, W: Write>(
     alloc: Global,
     store: &mut Store<S, K>,

@@ -1,4 +1,4 @@
-//! What serving needs beside the store.
+//! The room that serving needs beside the store.
 
 use std::alloc::{AllocError, Global};
 use vet_requests::field_room::FieldRoom;

@@ -33,8 +33,8 @@ use vet_requests::reply::Reply;
 use vet_requests::route::Shown;
 use vet_requests::status::Status;
 
-/// The reply that shows something of a register for a target. Refused: `BadName` and `BadVersion` of a parameter, the
-/// first that is at fault, and `NoMemory`.
+/// The reply that shows something of a register for a target. Refused: `BadName` or `BadVersion` for the first
+/// parameter at fault, and `NoMemory`.
 pub(crate) fn show<K: Keeper>(
     alloc: Global,
     register: &Register<K>,
@@ -54,7 +54,7 @@ pub(crate) fn show<K: Keeper>(
     }
 }
 
-// A report, laid out as it is.
+// The reply with a report, in the report's own layout.
 fn show_report<K: Keeper>(
     alloc: Global,
     register: &Register<K>,
@@ -70,7 +70,7 @@ fn show_report<K: Keeper>(
     }
 }
 
-// Lines for people.
+// The reply with lines for people.
 fn lines(alloc: Global, text: String) -> Result<Reply, Refusal>
     ensures reply { IfOk result (λ r. r ≡ lines (string_bytes text)) }
     ensures memory { IfErr result (λ e. e ≡ Refusal.NoMemory) }
@@ -101,7 +101,7 @@ fn show_standing<K: Keeper>(
     lines(alloc, standing_text(alloc, register, &filter)?)
 }
 
-// The standing of the package that is the parameter.
+// The standing of the package that the parameter names.
 fn show_package<K: Keeper>(
     alloc: Global,
     register: &Register<K>,
@@ -113,7 +113,7 @@ fn show_package<K: Keeper>(
     show_standing(alloc, register, name)
 }
 
-// The class of the pair that the parameters are.
+// The class of the pair that the parameters name.
 fn show_class<K: Keeper>(
     alloc: Global,
     register: &Register<K>,
@@ -186,7 +186,7 @@ fn show_named_file<K: Keeper>(
     Ok(Reply::with(alloc, Status::Ok, ContentType::Toml, text.as_str())?)
 }
 
-// The dependency table of the project that is the parameter.
+// The dependency table of the project that the parameter names.
 fn show_project<K: Keeper>(
     alloc: Global,
     register: &Register<K>,
@@ -198,7 +198,7 @@ fn show_project<K: Keeper>(
     show_table(alloc, project_at(register.projects(), &name))
 }
 
-// The dependency table of a project, if there is one.
+// The dependency table of a project, or 404 if there is none.
 fn show_table(alloc: Global, project: Option<&NamedProject>) -> Result<Reply, Refusal>
     ensures reply { IfOk result (λ r. r ≡ table_of (option_copied project.entry)) }
     ensures memory { IfErr result (λ e. e ≡ Refusal.NoMemory) }

@@ -1,7 +1,7 @@
 //! The replies to a command: its outcome, or a refusal.
 //!
 //! An outcome is sent after the command's change is kept, when it is too late to answer that memory ran out. So room is
-//! taken before the command runs, and the reply is written into that room, also the one that says that memory ran out.
+//! reserved before the command runs, and the reply is written into it, even the one that says that memory ran out.
 ghost use Rattle.std.specs.Prelude.{◌≡◌, ◌⊎◌, ◌≤◌, [], IfOk, OnErr, length};
 ghost use Rattle.vet_http.specs.ReplyRoom.{HasRoom};
 ghost use Rattle.vet_requests.specs.Reply.{text_reply};
@@ -43,7 +43,7 @@ impl Drop for ReplyRoom {
 }
 
 impl ReplyRoom {
-    /// Takes the room.
+    /// Reserves the room. Fails only if memory runs out.
     pub(crate) fn take(alloc: Global) -> Result<ReplyRoom, AllocError>
         ensures { IfOk result HasRoom }
     {
@@ -78,7 +78,7 @@ impl ReplyRoom {
         }
     }
 
-    // The reply that was made, or, where there was no memory for it, the one that says so.
+    // The reply that was made, or, if memory ran out for it, the one that says so.
     fn unless_no_memory(self, made: Result<Reply, AllocError>) -> Reply
         requires { HasRoom self }
         ensures made { IfOk made (λ reply. result ≡ reply) }
@@ -108,7 +108,7 @@ impl ReplyRoom {
         self.of_line("refused 30 StoreRefused\n")
     }
 
-    // The reply of the line of either.
+    // The reply with the line of either refusal.
     fn of_line(self, line: &str) -> Reply
         requires room { HasRoom self }
         requires short { length line.now ≤ MOST_OUTCOME_BYTES }
