@@ -21,7 +21,7 @@ is_of name held = bytes_eq held.entry.«package» name
 abbrev pub held_last_day : HeldEntry → Option DayValue
 held_last_day held = last_day_of held.entry.kind
 
--- entries, and for how many more there is room
+-- entries, and the number of further ones for which there is room
 pub record EntriesRoom : Type 0 where
   pub entries : List HeldEntry
   pub room : ℕ
@@ -30,13 +30,13 @@ pub record EntriesRoom : Type 0 where
 abbrev pub lesser : ℕ → ℕ → ℕ
 lesser a b = a - (a - b)
 
--- how the package of the entry at a place stands to a name; where there is no entry, as one behind all
+-- how the package of the entry at a place compares with a name: greater if there is no entry
 abbrev pub stand : List HeldEntry → Name → ℕ → Ordering
 stand [] name place = Greater
 stand (held ∷ entries) name zero = slice_cmp nat_cmp held.entry.«package» name
 stand (held ∷ entries) name (suc place) = stand entries name place
 
--- the package of the entry at a place; where there is no entry, no text
+-- the package of the entry at a place, or an empty text if there is no entry
 abbrev pub package_at : List HeldEntry → ℕ → Name
 package_at [] place = []
 package_at (held ∷ entries) zero = held.entry.«package»
@@ -61,7 +61,7 @@ pub record IsByPackage (entries : List HeldEntry) (order : List ℕ) : Type 0 wh
   pub within : All (λ place. place < length entries) order
   pub long : length order ≡ length entries
 
--- the places of a package stand from low up to high
+-- the places of a package are those of the order from low up to high
 pub record IsRange (entries : List HeldEntry) (name : Name) (order : List ℕ) (low high : ℕ) : Type 0 where
   pub ordered : low ≤ high
   pub inside : high ≤ length order
@@ -77,13 +77,13 @@ pub record IsSlot (entries : List HeldEntry) (name : Name) (place : ℕ) (order 
   pub below : All (λ other. other < place) (filter (is_at entries name) (take slot order))
   pub above : All (λ other. place ≤ other) (filter (is_at entries name) (drop slot order))
 
--- a place after an entry was put in
+-- a place after an entry was inserted at another
 abbrev pub up : ℕ → ℕ → ℕ
 up zero place = suc place
 up (suc at) zero = zero
 up (suc at) (suc place) = suc (up at place)
 
--- a place after the entry at another was taken out
+-- a place after the entry at another was removed
 abbrev pub down : ℕ → ℕ → ℕ
 down zero zero = zero
 down zero (suc place) = place

@@ -1,10 +1,9 @@
--- For which criteria a version is condemned (The Cargo Vet Book, audit entries; the exact form is ours).
+-- The criteria for which a version is condemned (The Cargo Vet Book, audit entries; the exact form is ours).
 --
--- A version is condemned where is_condemned says so, by violates and condemns. What an own violation names is as it
--- says, and what a peer's names is what the map gives, closed by neither table (violated_names, violated). The
--- violations of a package can be found once, each with the criteria that lead to those that it names (violations_of).
--- Then each version can be judged by them (condemned_by). A law says that this condemns just the same
--- (ViolationsCondemn).
+-- A version is condemned if is_condemned says so, by violates and condemns. The names in an own violation are taken as
+-- written, and those in a peer's are mapped. Neither table closes them (violated_names, violated). The violations of a
+-- package can be found once, each with the criteria that lead to those that it names (violations_of). Then each version
+-- can be judged by them (condemned_by). A law says that this condemns exactly the same (ViolationsCondemn).
 use Rattle.std.specs.Prelude.{ℕ, ◌≡◌, ◌&&◌, Bool, false, List, [], ◌∷◌}
 use Rattle.std.specs.List.{flat_map, list_any}
 use Rattle.vet_base.specs.Criteria.{Criteria, leading_to, leads_to, placed}
@@ -24,22 +23,22 @@ abbrev pub violates : VersionValue → Kind → Bool
 violates v (Violated requirement audit) = req_matches requirement v.parts
 violates v _ = false
 
--- what a kind says against versions, where these are the criteria that it would violate
+-- the violation that a kind is, if it is one, given the criteria that it would violate
 abbrev pub violation_of : Criteria → Places → Kind → List Violation
 violation_of table places (Violated requirement audit) =
     (record { requirement = requirement; criteria = leading_to table places }) ∷ []
 violation_of table places _ = []
 
--- the criteria that an entry would violate, as places in the table: those that it names, and a peer's as its map says
+-- the criteria that an entry would violate, as places in the table: those that it names, mapped for an entry of a peer
 abbrev pub violated : Criteria → SourcedEntry → Places
 violated table e = placed table (violated_names e.peer e.held.entry.criteria)
 
--- an entry condemns a version for the criterion at a place: it is a violation that matches, and what the criterion
--- implies in the end has one of the criteria that the violation names, unclosed
+-- an entry condemns a version for the criterion at a place: it is a violation that matches, and the closure of the
+-- criterion has one of the criteria that the violation names, which are not closed
 abbrev pub condemns : Criteria → VersionValue → ℕ → SourcedEntry → Bool
 condemns table v c e = violates v e.held.entry.kind && leads_to table (violated table e) c
 
--- the violation that an entry is, if it is one, with the criteria that it condemns for
+-- the violation that an entry is, if it is one, with the criteria for which it condemns
 abbrev pub violation_in : Criteria → SourcedEntry → List Violation
 violation_in table e = violation_of table (violated table e) e.held.entry.kind
 
@@ -55,7 +54,7 @@ condemned_by violations c v = list_any (λ w. req_matches w.requirement v.parts 
 abbrev pub is_condemned : Facts → Name → ℕ → VersionValue → Bool
 is_condemned facts name c v = list_any (condemns facts.criteria v c) (entries_of facts name)
 
--- a package's violations condemn just what its entries do
+-- a package's violations condemn exactly what its entries do
 abbrev pub ViolationsCondemn : Type 0
 ViolationsCondemn = (facts : Facts) (name : Name) (c : ℕ) (v : VersionValue)
     → condemned_by (violations_of facts name) c v ≡ is_condemned facts name c v

@@ -1,4 +1,4 @@
--- What the criteria of a peer are in one's own (The Cargo Vet Book, importing audits, `criteria-map`).
+-- Maps from a peer's criteria to one's own (The Cargo Vet Book, importing audits, `criteria-map`).
 use Rattle.std.specs.Prelude.{◌&&◌, Bool, List, map as mapped}
 use Rattle.std.specs.Ordering.{nat_cmp}
 use Rattle.std.specs.Cmp.Lexicographic.{pointwise, slice_cmp}
@@ -8,7 +8,7 @@ use Rattle.vet_base.specs.Names.{NameSet, same_names}
 use Rattle.vet_base.specs.Words.{Name}
 use Rattle.vet_entries.specs.declared.criteria_map.MappedCriterion.{MappedCriterion}
 
--- the name at which an item stands
+-- the peer's criterion of an item
 abbrev pub mapped_name : MappedCriterion → Name
 mapped_name m = m.name
 

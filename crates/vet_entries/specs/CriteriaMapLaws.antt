@@ -1,4 +1,4 @@
--- The words for sameness of maps decide it (ours).
+-- The functions that compare maps decide whether they are the same (ours).
 use Rattle.std.specs.Prelude.{◌≡◌}
 use Rattle.std.specs.Bool.{Decides}
 use Rattle.std.specs.Cmp.Lexicographic.{bytes_decides, pointwise_decides}

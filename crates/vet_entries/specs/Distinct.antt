@@ -1,4 +1,4 @@
--- Entries, each once (ours).
+-- Lists of entries in which each occurs once (ours).
 use Rattle.std.specs.Prelude.{Bool, not, List, [], ◌∷◌, if◌then◌else◌}
 use Rattle.std.specs.List.{list_any}
 use Rattle.vet_entries.specs.declared.entry.Entry.{Entry}
@@ -13,7 +13,7 @@ firsts seen (e ∷ es) = if list_any (entry_eq e) seen then firsts seen es else 
 abbrev pub distinct : List Entry → List Entry
 distinct es = firsts [] es
 
--- of each entry, whether it is not among those seen before or in front of it
+-- for each entry, whether it is neither among those seen before nor among those before it
 abbrev pub are_firsts : List Entry → List Entry → List Bool
 are_firsts seen [] = []
 are_firsts seen (e ∷ es) = not (list_any (entry_eq e) seen) ∷ are_firsts (e ∷ seen) es

@@ -1,4 +1,4 @@
--- What holds of each entry holds of distinct ones, and there are no more of them (ours).
+-- Whatever holds for each entry holds for each of the distinct ones, and there are no more of these (ours).
 use Rattle.std.specs.Prelude.{◌≤◌, true, false, List, [], ◌∷◌, length}
 use Rattle.std.specs.List.{All, list_any}
 use Rattle.std.proofs.Common.{cond, arith}
@@ -7,7 +7,7 @@ use Rattle.vet_entries.specs.declared.entry.Entry.{Entry}
 use Rattle.vet_entries.specs.Entry.{entry_eq}
 use Rattle.vet_entries.specs.Distinct.{firsts, distinct}
 
--- ---- what holds of each entry still does
+-- ---- whatever holds for each entry still holds
 
 firsts-All : (P : Entry → Type 0) (seen es : List Entry) → All P es → All P (firsts seen es)
 firsts-All P seen [] h = All-nil P

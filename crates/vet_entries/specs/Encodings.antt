@@ -1,4 +1,4 @@
--- How entries with their room, and what is held of peers, are stored (ours).
+-- The encodings of entries with their room, and of the content held of peers (ours).
 use Rattle.std.specs.Prelude.{ℕ, List}
 use Rattle.std.specs.Coded.{Coded, code_by, coded×, coded_list, coded_ℕ}
 use Rattle.std.proofs.Common.{refl}
@@ -19,7 +19,7 @@ entries_room_code held_code =
     (λ p. record { entries = p.0; room = p.1 })
     (λ _. refl)
 
--- what is held of a peer is stored as the pair of its table and its entries
+-- the content held of a peer is stored as the pair of its table and its entries
 abbrev pub holding_code : Coded Criteria → Coded HeldEntry → Coded HoldingValue
 holding_code of_table of_entry =
     code_by (Criteria × List HeldEntry)

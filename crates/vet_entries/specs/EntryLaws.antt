@@ -1,4 +1,4 @@
--- The words for sameness of entries decide it (ours).
+-- The functions that compare entries decide whether they are the same (ours).
 use Rattle.std.specs.Prelude.{◌≡◌}
 use Rattle.std.specs.Bool.{Decides}
 use Rattle.std.specs.Cmp.Lexicographic.{bytes_decides}
@@ -12,7 +12,7 @@ use Rattle.vet_entries.specs.declared.entry.Source.TheVariants.{Own, Peer}
 use Rattle.vet_entries.specs.KindLaws.{kind_eq-Decides}
 use Rattle.vet_entries.specs.Entry.{source_eq, says_same, entry_eq}
 
--- ---- each of these words decides whether two are the same
+-- ---- each of these functions decides whether two are the same
 
 pub source_eq-Decides : (a b : Source) → Decides (source_eq a b) (a ≡ b)
 source_eq-Decides Own Own = (λ _. refl, λ _. refl)
@@ -46,7 +46,7 @@ same_entry a b e = (
   (ap (λ x. x.«package») e, (ap (λ x. x.kind) e, (ap (λ x. x.criteria) e, ap (λ x. x.notes) e))),
 )
 
--- two entries are the same in every field just where they are the same
+-- two entries are the same in every field exactly if they are the same
 pub entry_eq-Decides : (a b : Entry) → Decides (entry_eq a b) (a ≡ b)
 entry_eq-Decides a b =
     Decides-like _ (entry_same a b) (same_entry a b)

@@ -1,11 +1,11 @@
--- How entries are ordered (ours): by source, package, kind, criteria and notes.
+-- The order of entries (ours): by source, package, kind, criteria and notes.
 --
--- One's own entries come before those of peers, and those by their peers' names. Kinds come in this order: full, delta,
--- violation, wildcard, trusted, exemption (kind_rank). Two of one kind go by what it holds, in the order in which Kind
--- has it. Names and texts go by their bytes, a set of them by its members in order, and versions, days and users by
--- their own orders. What is absent comes first.
+-- One's own entries come before those of peers, which are ordered by the peers' names. Kinds come in this order: full,
+-- delta, violation, wildcard, trusted, exemption (kind_rank). Two of one kind are ordered by what it holds, in the
+-- order in which Kind has it. Names and texts are ordered by their bytes, a set of them by its members in order, and
+-- versions, days and users by their own orders. An absent value comes first.
 --
--- The order is total, and only an entry itself ties with it (entry_cmp_total, entry_cmp-Decides).
+-- The order is total, and an entry ties only with itself (entry_cmp_total, entry_cmp-Decides).
 use Rattle.std.specs.Prelude.{ℕ, Bool, Option}
 use Rattle.std.specs.Option.{option_cmp}
 use Rattle.std.specs.Ordering.{bool_cmp, nat_cmp, on, ordering_then, then_cmp}
@@ -60,7 +60,7 @@ kind_rank (Wildcard w g) = 3
 kind_rank (Trusted w) = 4
 kind_rank (Exemption v s l) = 5
 
--- by the kind and, of two of one kind that is no audit, by what they hold
+-- by the kind and, if both are of one kind that is not an audit, by what they hold
 abbrev pub grants_cmp : Kind → Kind → Ordering
 grants_cmp (Wildcard v a) (Wildcard w b) = ordering_then (window_cmp v w) (grant_cmp a b)
 grants_cmp (Trusted v) (Trusted w) = window_cmp v w
@@ -68,25 +68,25 @@ grants_cmp (Exemption v a l) (Exemption w b m) =
     ordering_then (version_cmp v w) (ordering_then (flag_cmp a b) (last_day_cmp l m))
 grants_cmp a b = nat_cmp (kind_rank a) (kind_rank b)
 
--- by the kind and, of two of one kind, by what they hold
+-- by the kind and, if both are of one kind, by what they hold
 abbrev pub kind_cmp : Kind → Kind → Ordering
 kind_cmp (Full v a) (Full w b) = ordering_then (version_cmp v w) (audit_cmp a b)
 kind_cmp (Delta c a) (Delta d b) = ordering_then (delta_cmp c d) (audit_cmp a b)
 kind_cmp (Violation q a) (Violation r b) = ordering_then (slice_cmp nat_cmp q r) (audit_cmp a b)
 kind_cmp a b = grants_cmp a b
 
--- one's own before a peer's, and these by the peer's name
+-- one's own before a peer, and peers by name
 abbrev pub source_cmp : Source → Source → Ordering
 source_cmp Own Own = Equal
 source_cmp Own (Peer b) = Less
 source_cmp (Peer a) Own = Greater
 source_cmp (Peer a) (Peer b) = slice_cmp nat_cmp a b
 
--- by what two entries say, whosever they are
+-- by what two entries say, whatever their sources
 abbrev pub said_cmp : Entry → Entry → Ordering
 said_cmp = then_cmp (on (λ e. e.«package») (slice_cmp nat_cmp)) (then_cmp (on (λ e. e.kind) kind_cmp)
     (then_cmp (on (λ e. e.criteria) names_cmp) (on (λ e. e.notes) text_cmp)))
 
--- by whose two entries are, and then by what they say
+-- by the sources of two entries, and then by what they say
 abbrev pub entry_cmp : Entry → Entry → Ordering
 entry_cmp = then_cmp (on (λ e. e.source) source_cmp) said_cmp

@@ -1,4 +1,4 @@
--- The order of entries is total, and in it only equals tie (ours).
+-- The order of entries is total, and only equal ones tie in it (ours).
 use Rattle.std.specs.Prelude.{ℕ, ◌≡◌, Bool, true, false, List, Option, Some, None}
 use Rattle.std.specs.Bool.{Decides, one_answer}
 use Rattle.std.specs.Option.{option_cmp}
@@ -273,13 +273,13 @@ entry_tied a b e =
     let notes = options_tied texts_tied a.notes b.notes (then_second (names_cmp a.criteria b.criteria) _ sets) in
     λ i. record { source = source i; «package» = name i; kind = kind i; criteria = criteria i; notes = notes i }
 
--- only an entry itself ties with it
+-- an entry ties only with itself
 pub entry_cmp-Decides : (a b : Entry) → Decides (eq_by_cmp entry_cmp a b) (a ≡ b)
 entry_cmp-Decides a b = (
   λ tied. entry_tied a b ((Equal-is (entry_cmp a b)).0 tied),
   λ same. ap (λ e. is_eq (entry_cmp e b)) same ∙ ap is_eq (tied_itself entry_cmp_total b),
 )
 
--- two entries tie just where they are the same in every field
+-- two entries tie exactly if they are the same in every field
 pub entries_tie : (a b : Entry) → entry_eq a b ≡ eq_by_cmp entry_cmp a b
 entries_tie a b = one_answer (entry_eq a b) (eq_by_cmp entry_cmp a b) (entry_eq-Decides a b) (entry_cmp-Decides a b)

@@ -1,10 +1,10 @@
--- What is held of packages (ours): a table of criteria, one's own entries, peers with theirs, publisher records, and
+-- The facts about packages (ours): a table of criteria, one's own entries, peers with theirs, publisher records, and
 -- the register's day.
 --
--- The facts are a table of criteria, own entries of all six kinds, peers with what is held of each, publisher records,
--- and the register's day, if it has one (Facts). That is not the day of a command.
+-- The facts are a table of criteria, own entries of all six kinds, peers with the content held of each, publisher
+-- records, and the register's day, if it has one (Facts). The register's day is not the day of a command.
 --
--- entries_total is how many entries there are of all sources.
+-- entries_total is the number of entries of all sources.
 --
 -- No facts are the built-in criteria, no entries, no peers, no publisher records and no day (no_facts).
 use Rattle.std.specs.Prelude.{ℕ, ◌≡◌, ◌<◌, ◌≤◌, ◌+◌, ◌-◌, ◌||◌, Bool, false, true, List, [], Option, None, length}
@@ -37,7 +37,7 @@ pub record Facts : Type 0 where
   pub publishers : List PackagePublishers
   pub today : Option DayValue
 
--- for how many more own entries, peers, and packages with records there is room
+-- the numbers of further own entries, peers, and packages with records for which there is room
 pub record Room : Type 0 where
   pub entries : ℕ
   pub peers : ℕ
@@ -48,19 +48,19 @@ pub record FactsRoom : Type 0 where
   pub content : Facts
   pub room : Room
 
--- the publisher records, and for how many more packages there is room
+-- the publisher records, and the number of further packages for which there is room
 abbrev pub publishers_room : FactsRoom → KeyedRoom PackagePublishers
 publishers_room facts = record { items = facts.content.publishers; room = facts.room.packages }
 
--- the peers, and for how many more there is room
+-- the peers, and the number of further ones for which there is room
 abbrev pub peers_room : FactsRoom → KeyedRoom HeldPeer
 peers_room facts = record { items = facts.content.peers; room = facts.room.peers }
 
--- nothing but the built-in criteria
+-- only the built-in criteria
 abbrev pub no_facts : Facts
 no_facts = record { criteria = built_in_criteria; entries = []; peers = []; publishers = []; today = None }
 
--- how many entries there are of all sources
+-- the number of entries of all sources
 abbrev pub entries_of_peers : List HeldPeer → ℕ
 entries_of_peers peers = sum_by (λ peer. length peer.content.entries) peers
 
@@ -75,7 +75,7 @@ is_named_by name held = set.contains held.entry.criteria name
 abbrev pub is_target_of : Name → HeldPeer → Bool
 is_target_of name peer = set.contains (targets peer.settings.map) name
 
--- one's own entries or the map of a peer name a criterion; the words of peers don't count
+-- an own entry or the map of a peer names a criterion; a peer's own words do not count
 abbrev pub is_named : Facts → Name → Bool
 is_named facts name = list_any (is_named_by name) facts.entries || list_any (is_target_of name) facts.peers
 
@@ -103,7 +103,7 @@ keeps_criteria (edit.Content name content) = true
 keeps_criteria (edit.Publishers change) = true
 keeps_criteria (edit.Today day) = true
 
--- a peer of a name is held
+-- a peer with a name is held
 abbrev pub IsHeld : Name → Facts → Type 0
 IsHeld name facts = is_some (peer_of facts.peers name) ≡ true
 
@@ -131,19 +131,19 @@ room_after (edit.Content name content) room = room
 room_after (edit.Publishers change) room = record room { packages = keyed.room_after change room.packages }
 room_after (edit.Today day) room = room
 
--- where there is room for something in the old, there is in the new
+-- the new room includes the old: if the old has room for something, so has the new
 abbrev pub HoldsRoomOf : Room → Room → Type 0
 HoldsRoomOf old new = (old.entries ≤ new.entries) × ((old.peers ≤ new.peers) × (old.packages ≤ new.packages))
 
--- an edit that fits still does where the facts are the same, and no room is lost
+-- an edit that fits still fits if the facts are the same and no room is lost
 abbrev pub FitsWithMoreRoom : Type 0
 FitsWithMoreRoom = (e : Edit) (facts : Facts) (old new : Room) → HoldsRoomOf old new
     → Fits e (record { content = facts; room = old }) → Fits e (record { content = facts; room = new })
 
--- no room is lost where nothing happens
+-- no room is lost if nothing changes
 abbrev pub RoomHoldsItself : Type 0
 RoomHoldsItself = (room : Room) → HoldsRoomOf room room
 
--- nor by one thing after another, each of which loses none
+-- no room is lost by two changes, one after the other, of which neither loses any
 abbrev pub RoomHoldsOnward : Type 0
 RoomHoldsOnward = (a b c : Room) → HoldsRoomOf a b → HoldsRoomOf b c → HoldsRoomOf a c

@@ -1,4 +1,5 @@
--- How facts and comparisons are stored (ours): apart from `Encodings`, on which the types that they hold rest.
+-- The encodings of facts and comparisons (ours). They are apart from `Encodings`, on which the types that they hold
+-- depend.
 use Rattle.std.specs.Prelude.{ℕ, Bool, List, Option}
 use Rattle.std.specs.Coded.{Coded, code_by, coded×, coded_list, coded_option, coded_ℕ, coded_bool}
 use Rattle.std.specs.FinMap as map

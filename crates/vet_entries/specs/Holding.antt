@@ -1,9 +1,9 @@
--- What is held of a peer (ours), in its own words.
+-- The content held of a peer (ours), in its own words.
 use Rattle.std.specs.Prelude.{List, []}
 use Rattle.vet_base.specs.Criteria.{Criteria, built_in_criteria}
 use Rattle.vet_entries.specs.declared.facts.HeldEntry.{HeldEntry}
 
--- the criteria of a peer, the built-in ones among them, and its entries in the order of their numbers
+-- the criteria of a peer, including the built-in ones, and its entries in the order of their numbers
 pub record HoldingValue : Type 0 where
   pub table : Criteria
   pub entries : List HeldEntry

@@ -1,4 +1,4 @@
--- How the content of a peer compares with what is held of it, and the own entries of files with one's own (ours).
+-- Comparisons of a peer's content with the one held, and of the entries of files with one's own (ours).
 --
 -- A content is the one held of a peer (same_content) if each held entry is among its entries, each of its entries is
 -- held, and the definitions are equal. A law says that it then has the same criteria and the same entries, in any order
@@ -33,7 +33,7 @@ pub record ComparisonValue : Type 0 where
   pub new_count : ℕ
   pub is_same : Bool
 
--- how a content compares with what is held of a peer
+-- the comparison of a content with the one held of a peer
 abbrev pub compared : Name → HoldingValue → PeerContentValue → ComparisonValue
 compared name held content = record {
   again = map (comes_again (as_peers name content.entries)) held.entries;
@@ -42,7 +42,7 @@ compared name held content = record {
   is_same = same_content name held content;
 }
 
--- how the entries of files, as own ones, compare with those held
+-- the comparison of the entries of files, as own ones, with those held
 abbrev pub compared_own : List HeldEntry → List Entry → ComparisonValue
 compared_own held entries = record {
   again = map (remains is_dated (as_of Own entries)) held;

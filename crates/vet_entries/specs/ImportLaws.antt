@@ -1,4 +1,4 @@
--- What an import leaves, and when nothing changes (ours).
+-- The content held after an import, and the imports that change nothing (ours).
 use Rattle.std.specs.Prelude.{ℕ, ◌≡◌, ◌↔◌, ◌<◌, ◌≤◌, ◌+◌, ◌⊎◌, true, false, List, length}
 use Rattle.std.specs.List.{All}
 use Rattle.vet_base.specs.Words.{Name}
@@ -16,7 +16,7 @@ use Rattle.vet_entries.specs.Numbered.{AreByNumber}
 use Rattle.vet_entries.specs.PeerContent.{IsPeerContent, PeerContentValue}
 pub use Rattle.vet_entries.specs.ReplacedLaws.{AllDiffer, entries_of}
 
--- where the numbers rise below the next one, they still do after an import, below the next one after it
+-- if the numbers increase and are below the next one, so are those after an import, below the next one after it
 abbrev pub ImportKeepsOrder : Type 0
 ImportKeepsOrder =
     (name : Name) (next : ℕ) (held : List HeldEntry) (entries : List Entry)
@@ -38,7 +38,7 @@ ImportTakesEntries =
     → All (λ h. IsIn h.entry (as_peers name entries) × (h.entry.source ≡ Peer name))
     (entries_after_import name next held entries)
 
--- after an import each entry of the content is held, nothing else, and each once: so there are as many
+-- after an import each entry of the content is held once, and nothing else, so there are as many as in the content
 abbrev pub ImportHoldsEachOnce : Type 0
 ImportHoldsEachOnce =
     (name : Name) (next : ℕ) (held : List HeldEntry) (content : PeerContentValue)
@@ -47,14 +47,14 @@ ImportHoldsEachOnce =
     → AllDiffer (entries_after_import name next held content.entries)
     × (length (entries_after_import name next held content.entries) ≡ length content.entries)
 
--- what is held after an import is the content: the same entries, as the peer's, and its criteria
+-- after an import the content is held: the same entries, as the peer's, and its criteria
 abbrev pub ImportHoldsItsContent : Type 0
 ImportHoldsItsContent =
     (name : Name) (next : ℕ) (held : HoldingValue) (content : PeerContentValue)
     → SameItems (as_peers name content.entries) (entries_of (imported name next content held).entries)
     × ((imported name next content held).table ≡ defined content.criteria)
 
--- a content is the one held just where it has the same criteria and the same entries, in whatever order
+-- a content is the one held exactly if it has the same criteria and the same entries, in any order
 abbrev pub SameItemsAreSame : Type 0
 SameItemsAreSame =
     (name : Name) (held : HoldingValue) (content : PeerContentValue) (criteria : List Criterion)

@@ -1,4 +1,4 @@
--- When two kinds of entries are the same (ours), for the kinds of The Cargo Vet Book: audit entries and exemptions. An
+-- The equality of kinds of entries (ours), for the kinds of The Cargo Vet Book: audit entries and exemptions. An
 -- exemption may have a last day (ours), which is part of its kind: with another last day, or with none, it is another
 -- entry.
 use Rattle.std.specs.Prelude.{◌&&◌, ◌==◌, Bool, true, false, Option, Some, None, is_some}
@@ -21,7 +21,7 @@ use Rattle.vet_entries.specs.declared.kind.Window.{Window}
 abbrev pub audit_eq : Audit → Audit → Bool
 audit_eq a b = same_names a.who b.who && option_eq beq a.importable b.importable
 
--- nobody is named, and nothing said of imports
+-- nobody is named, and nothing is said of imports
 abbrev pub no_audit : Audit
 no_audit = record { who = set.empty; importable = None }
 
@@ -37,7 +37,7 @@ window_eq a b = (a.user == b.user) && (same_day a.first b.first && same_day a.la
 abbrev pub same_last_day : Option DayValue → Option DayValue → Bool
 same_last_day = option_eq same_day
 
--- whether two are of one kind that is no audit, and the same
+-- whether two are the same, and of one kind that is not an audit
 abbrev pub grants_same : Kind → Kind → Bool
 grants_same (Wildcard v a) (Wildcard w b) = window_eq v w && grant_eq a b
 grants_same (Trusted v) (Trusted w) = window_eq v w
@@ -67,7 +67,7 @@ last_day_of _ = None
 abbrev pub has_last_day : Kind → Bool
 has_last_day kind = is_some (last_day_of kind)
 
--- a last day is over on a day: the day comes after it. It is never over if there is no last day or no day.
+-- a last day is over on a day: the day comes after it. It is not over if either is absent.
 abbrev pub is_over : Option DayValue → Option DayValue → Bool
 is_over None day = false
 is_over (Some last) None = false

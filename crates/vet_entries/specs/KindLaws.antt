@@ -1,4 +1,4 @@
--- The words for sameness of kinds decide it (ours).
+-- The functions that compare kinds decide whether they are the same (ours).
 use Rattle.std.specs.Prelude.{◌≡◌, Option}
 use Rattle.std.specs.Bool.{Decides}
 use Rattle.std.specs.Cmp.{booleans_Decides}
@@ -18,7 +18,7 @@ use Rattle.vet_entries.specs.declared.kind.Kind.TheVariants.{Full, Delta, Violat
 use Rattle.vet_entries.specs.declared.kind.Window.{Window}
 use Rattle.vet_entries.specs.Kind.{audit_eq, grant_eq, window_eq, kind_eq, same_last_day}
 
--- ---- each of these words decides whether two are the same
+-- ---- each of these functions decides whether two are the same
 
 pub audit_eq-Decides : (a b : Audit) → Decides (audit_eq a b) (a ≡ b)
 audit_eq-Decides a b =

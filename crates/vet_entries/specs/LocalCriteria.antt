@@ -1,4 +1,4 @@
--- What the words of each source are in one's own table, as it is found once for many entries (ours).
+-- The criteria of one's own table that the words of each source stand for, found once for many entries (ours).
 --
 -- Local criteria are found once for many entries (LocalCriteria, AreLocal): those of one's own words at once, and
 -- those of a peer's when they are first asked for, so that a slot is empty until then (HoldsWords).
@@ -17,7 +17,7 @@ use Rattle.vet_entries.specs.Facts.{Facts}
 use Rattle.vet_entries.specs.CriteriaMap.{NamesByName}
 use Rattle.vet_entries.specs.Mapped.{mapped, mapped_name}
 
--- what a name stands for, if a table lacks it
+-- the criteria that a name stands for, or none if a table has it
 abbrev pub mapped_beyond : Criteria → NamesByName → Name → NameSet
 mapped_beyond defined m name = if map.contains_key defined name then set.empty else mapped_name m name
 
@@ -25,16 +25,16 @@ abbrev pub all_beyond : Criteria → NamesByName → List Name → NameSet
 all_beyond defined m [] = set.empty
 all_beyond defined m (name ∷ rest) = set.union (mapped_beyond defined m name) (all_beyond defined m rest)
 
--- what a criterion of a peer stands for, and the names that it implies and the peer doesn't define
+-- the criteria that a criterion of a peer stands for, with the names that it implies and the peer does not define
 abbrev pub direct : Criteria → NamesByName → Name → NameSet
 direct defined m name = set.union (mapped_name m name) (all_beyond defined m (members (implied_by defined name)))
 
--- what a name of a peer stands for with all that it implies there, not yet closed in one's own table
+-- the criteria that a name of a peer stands for with all that it implies there, not yet closed in one's own table
 abbrev pub stands_for : Criteria → HeldPeer → Name → Places
 stands_for table peer name =
     placed table (mapped peer.settings.map (closure_of peer.content.table (set.insert set.empty name)))
 
--- at the place of each criterion of a peer is what it stands for
+-- at the place of each criterion of a peer are the criteria that it stands for
 abbrev pub AreWords : Criteria → HeldPeer → PeerWords → Type 0
 AreWords table peer words =
     (name : Name) (p : ℕ) → place_of peer.content.table name ≡ Some p

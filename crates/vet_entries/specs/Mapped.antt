@@ -1,5 +1,5 @@
--- What the names of a peer are in one's own (The Cargo Vet Book, importing audits, `criteria-map`; the exact form is
--- ours).
+-- The own criteria that the names of a peer stand for (The Cargo Vet Book, importing audits, `criteria-map`; the exact
+-- form is ours).
 use Rattle.std.specs.Prelude.{List, [], ◌∷◌, if◌then◌else◌}
 use Rattle.std.specs.Option.{option_map_or}
 use Rattle.std.specs.FinMap as map
@@ -9,15 +9,15 @@ use Rattle.vet_base.specs.Names.{NameSet, members}
 use Rattle.vet_base.specs.Words.{Name}
 use Rattle.vet_entries.specs.CriteriaMap.{NamesByName}
 
--- what a name that the map doesn't list stands for: a built-in one for itself, any other for nothing
+-- the criteria that a name stands for if the map does not have it: a built-in one for itself, any other for nothing
 abbrev pub unlisted : Name → NameSet
 unlisted name = if is_built_in name then set.insert set.empty name else set.empty
 
--- what a name of a peer stands for: what the map lists at it, if it does
+-- the criteria that a name of a peer stands for: those that the map lists for it, if it has it
 abbrev pub mapped_name : NamesByName → Name → NameSet
 mapped_name m name = option_map_or (λ criteria. criteria) (map.get m name) (unlisted name)
 
--- what some names stand for: all that one of them stands for
+-- the criteria that some names stand for: all that any of them stands for
 abbrev pub all_mapped : NamesByName → List Name → NameSet
 all_mapped m [] = set.empty
 all_mapped m (name ∷ rest) = set.union (mapped_name m name) (all_mapped m rest)

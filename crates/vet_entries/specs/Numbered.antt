@@ -1,7 +1,7 @@
 -- Entries by their numbers (ours).
 --
 -- Own entries are a list in the order of their numbers, and so are those of each peer (AreByNumber). Entries that are
--- given without numbers get those from 1 on (numbered). An own entry is found by its number at its place in the list
+-- given without numbers are numbered from 1 (numbered). An own entry is found by its number at its place in the list
 -- (place_of).
 use Rattle.std.specs.Prelude.{ℕ, ◌<◌, ◌+◌, ◌==◌, Bool, List, [], ◌∷◌, Option, find, option_map}
 use Rattle.std.specs.List.{AllPairs, position}
@@ -26,7 +26,7 @@ has_number n held = held.number == n
 abbrev pub place_of : List HeldEntry → ℕ → Option ℕ
 place_of entries n = position (has_number n) entries
 
--- the number of the held entry that is the same as this one, as one of one's own
+-- the number of the held entry that equals this one taken as an own one
 abbrev pub number_of : List HeldEntry → Entry → Option ℕ
 number_of entries entry = option_map (λ h. h.number) (find (λ h. entry_eq h.entry (own entry)) entries)
 

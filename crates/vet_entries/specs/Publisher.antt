@@ -1,8 +1,8 @@
 -- The order of publisher records (ours).
 --
--- A publisher record (Publisher) has a version, user, day, and perhaps login and name; its package is told by what
--- holds it. Records are ordered by version, day, user, login and name, where an absent text comes before any other.
--- Only a record itself ties with it (publisher_cmp, publisher_cmp-IsAntisymmetric).
+-- A publisher record (Publisher) has a version, user, day, and perhaps login and name; its package is known from the
+-- list that holds it. Records are ordered by version, day, user, login and name, and an absent text comes before any
+-- other. A record ties only with itself (publisher_cmp, publisher_cmp-IsAntisymmetric).
 use Rattle.std.specs.Prelude.{Bool, Option}
 use Rattle.std.specs.Option.{option_cmp}
 use Rattle.std.specs.Ordering.{nat_cmp, on, then_cmp, eq_by_cmp}
@@ -17,11 +17,11 @@ use Rattle.vet_entries.specs.declared.publisher.Publisher.{Publisher}
 abbrev pub parts_cmp : DayValue → DayValue → Ordering
 parts_cmp = then_cmp (on (λ d. d.year) nat_cmp) (then_cmp (on (λ d. d.month) nat_cmp) (on (λ d. d.day) nat_cmp))
 
--- by number; the parts tell apart only what the calendar has not, as each number names one of its days
+-- by number; the parts distinguish only days that the calendar does not have, since each number names one of its days
 abbrev pub calendar_cmp : DayValue → DayValue → Ordering
 calendar_cmp = then_cmp day_cmp parts_cmp
 
--- by bytes, where no text stands before one
+-- by bytes, with an absent text first
 abbrev pub text_cmp : Option Text → Option Text → Ordering
 text_cmp = option_cmp (slice_cmp nat_cmp)
 

@@ -1,4 +1,4 @@
--- The order of publisher records is total, and only equals tie in it (ours).
+-- The order of publisher records is total, and only equal ones tie in it (ours).
 use Rattle.std.specs.Prelude.{◌≡◌, Option, Some, None}
 use Rattle.std.specs.Bool.{Decides}
 use Rattle.std.specs.Ordering.{nat_cmp, is_eq}
@@ -33,7 +33,7 @@ publisher_total = then_total (on_total (λ (p : Publisher). p.version) version_t
 same_day : (a b : DayValue) → a.year ≡ b.year → a.month ≡ b.month → a.day ≡ b.day → a ≡ b
 same_day a b y m d = λ i. record { year = y i; month = m i; day = d i }
 
--- only a day itself ties with it
+-- a day ties only with itself
 pub calendar_cmp-IsAntisymmetric : (a b : DayValue) → calendar_cmp a b ≡ Equal → a ≡ b
 calendar_cmp-IsAntisymmetric a b e =
     let parts : parts_cmp a b ≡ Equal = then_second (day_cmp a b) _ e in
@@ -52,7 +52,7 @@ same_publisher : (p q : Publisher) → p.version ≡ q.version → p.user ≡ q.
     → p.name ≡ q.name → p ≡ q
 same_publisher p q v u d l n = λ i. record { version = v i; user = u i; day = d i; login = l i; name = n i }
 
--- only a record itself ties with it
+-- a record ties only with itself
 pub publisher_cmp-IsAntisymmetric : (p q : Publisher) → publisher_cmp p q ≡ Equal → p ≡ q
 publisher_cmp-IsAntisymmetric p q e =
     let days = then_second (version_cmp p.version q.version) _ e in
@@ -63,7 +63,7 @@ publisher_cmp-IsAntisymmetric p q e =
     (calendar_cmp-IsAntisymmetric _ _ (then_first _ _ days)) (text_tied _ _ (then_first _ _ logins))
     (text_tied _ _ (then_second (text_cmp p.login q.login) _ logins))
 
--- two records tie just where they are the same
+-- two records tie exactly if they are the same
 pub publisher_eq-Decides : (p q : Publisher) → Decides (publisher_eq p q) (p ≡ q)
 publisher_eq-Decides p q = (
   λ tied. publisher_cmp-IsAntisymmetric p q ((Equal-is (publisher_cmp p q)).0 tied),

@@ -1,9 +1,9 @@
 -- The publisher records of all packages (ours): those with records, in the order of their names.
 --
--- The records of a package that has any are held in this order, each once, and the packages in the order of their
--- names (IsInOrder, IsByName). records_of are those of a package, none where it is not held; records_total is the
--- number of all. To set the records of a package leaves those of all others; with none, the package is held no more
--- (with_records).
+-- The records of a package that has any are held in their order, each once, and the packages in the order of their
+-- names (IsInOrder, IsByName). records_of are those of a package, none if it is not held; records_total is the number
+-- of all. Setting the records of a package leaves those of all others. A package for which none are set is no longer
+-- held (with_records).
 use Rattle.std.specs.Prelude.{ℕ, ◌<◌, ◌^◌, ◌&&◌, Bool, List, [], ◌∷◌, Option, Some, None, IsTrue, is_some, length}
 use Rattle.std.specs.List.{All, sum_by}
 use Rattle.std.specs.Ordering.{nat_cmp}
@@ -16,7 +16,7 @@ use Rattle.vet_entries.specs.declared.publisher.Publisher.{Publisher}
 use Rattle.vet_entries.specs.declared.publisher_records.PackagePublishers.{PackagePublishers}
 use Rattle.vet_entries.specs.Publishers.{publishers_eq}
 
--- the name at which a package's records stand
+-- the name of the package
 abbrev pub package_of : PackagePublishers → Name
 package_of held = held.«package»
 
@@ -42,12 +42,12 @@ records_held (Some held) = held.publishers
 abbrev pub records_of : List PackagePublishers → Name → List Publisher
 records_of packages name = records_held (item_of (slice_cmp nat_cmp) package_of packages name)
 
--- a package with records, and nothing where there are none
+-- a package with records, or nothing if there are none
 abbrev pub with_any : Name → List Publisher → List PackagePublishers
 with_any name [] = []
 with_any name (first ∷ rest) = (record { «package» = name; publishers = first ∷ rest }) ∷ []
 
--- the packages with these records of this one, which is not among them where there are none
+-- the packages with these records of one, or without it if there are none
 abbrev pub with_records : Name → List Publisher → List PackagePublishers → List PackagePublishers
 with_records name [] packages = without_item (slice_cmp nat_cmp) package_of packages name
 with_records name (first ∷ rest) packages = with_item (slice_cmp nat_cmp) package_of packages
@@ -57,11 +57,11 @@ with_records name (first ∷ rest) packages = with_item (slice_cmp nat_cmp) pack
 abbrev pub package_eq : PackagePublishers → PackagePublishers → Bool
 package_eq a b = bytes_eq a.«package» b.«package» && publishers_eq a.publishers b.publishers
 
--- how many records there are in all
+-- the number of records in all
 abbrev pub records_total : List PackagePublishers → ℕ
 records_total packages = sum_by (λ held. length held.publishers) packages
 
--- an edit fits the list, and leaves each package with records, which can be counted
+-- an edit fits the list, and leaves each package with records, fewer than 2^64 in all
 pub record FitsPublishers (e : KeyedEdit PackagePublishers) (records : KeyedRoom PackagePublishers) : Type 0 where
   pub place : Fits (slice_cmp nat_cmp) package_of e records
   pub filled : All HasAny (edited e records.items)

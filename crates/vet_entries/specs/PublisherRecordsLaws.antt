@@ -1,4 +1,4 @@
--- The word for sameness of packages with their records decides it (ours).
+-- The function that compares packages with their records decides whether they are the same (ours).
 use Rattle.std.specs.Prelude.{◌≡◌}
 use Rattle.std.specs.Bool.{Decides}
 use Rattle.std.specs.Cmp.Lexicographic.{bytes_decides}

@@ -1,4 +1,4 @@
--- Two lists of publisher records tie just where they are the same (ours).
+-- Two lists of publisher records tie exactly if they are the same (ours).
 use Rattle.std.specs.Prelude.{◌≡◌, List}
 use Rattle.std.specs.Bool.{Decides}
 use Rattle.std.specs.Cmp.{IsEquivalence, eq_by_cmp_equiv}
@@ -10,6 +10,6 @@ use Rattle.vet_entries.specs.Publishers.{publishers_eq}
 pub publishers_eq_equiv : IsEquivalence publishers_eq
 publishers_eq_equiv = lists_equiv (eq_by_cmp_equiv publisher_total)
 
--- two lists tie just where they are the same
+-- two lists tie exactly if they are the same
 pub publishers_eq-Decides : (a b : List Publisher) → Decides (publishers_eq a b) (a ≡ b)
 publishers_eq-Decides = pointwise_decides publisher_eq-Decides

@@ -1,4 +1,4 @@
--- What is held of a source after entries replace those held (ours), some of which may be kept in any case.
+-- The entries of a source after others replace those held (ours), some of which may be kept in any case.
 use Rattle.std.specs.Prelude.{ℕ, ◌≡◌, ◌≢◌, ◌<◌, ◌≤◌, ◌+◌, ◌⊎◌, Bool, true, List, [], ◌++◌, filter, length, map}
 use Rattle.std.specs.List.{All, AllPairs}
 use Rattle.vet_base.specs.Items.{IsIn, SameItems}

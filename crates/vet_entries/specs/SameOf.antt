@@ -1,5 +1,5 @@
--- When a package has the same entries and records in two facts, as far as they tell its steps and what is condemned
--- (ours).
+-- Packages that have the same entries and records in two facts, as far as their steps and condemned versions depend on
+-- them (ours).
 --
 -- An entry of a peer counts with the peer's wording: the peer's criteria, and how they are mapped (Wording, worded).
 -- A peer that has no entry of a package adds nothing to the package's entries, whatever its wording is. So a package is
@@ -24,7 +24,7 @@ pub record Wording : Type 0 where
 abbrev pub wording_of : HeldPeer → Wording
 wording_of peer = record { table = peer.content.table; mapping = peer.settings.map }
 
--- a held entry, and the wording of the peer whose it is, or none for one of one's own
+-- a held entry, and the wording of its peer, or none for an own one
 pub record WordedEntry : Type 0 where
   pub wording : Option Wording
   pub held : HeldEntry
@@ -36,7 +36,7 @@ worded e = record { wording = option_map wording_of e.peer; held = e.held }
 abbrev pub worded_entries : Facts → Name → List WordedEntry
 worded_entries facts name = map worded (entries_of facts name)
 
--- those of them that are taken from a peer, if it is held
+-- the entries of a package that are taken from a peer, each in its wording, or none if the peer is not held
 abbrev pub worded_from : Name → Option HeldPeer → List WordedEntry
 worded_from name None = []
 worded_from name (Some peer) = map worded (taken_from name peer)

@@ -1,4 +1,5 @@
--- What follows for a package that is the same in two facts, and which changes leave a package the same (ours).
+-- The steps and condemned versions of a package that is the same in two facts, and the changes that leave it the same
+-- (ours).
 use Rattle.std.specs.Prelude.{ℕ, ◌≡◌, ◌≢◌, ◌++◌, ◌∷◌, [], List, Option, Some, Contains, false, filter, not}
 use Rattle.std.specs.FinSet as set
 use Rattle.std.specs.List.{All, list_any}
@@ -33,7 +34,7 @@ abbrev pub SameIsCondemnedTheSame : Type 0
 SameIsCondemnedTheSame = (name : Name) (old new : Facts) → IsSameOf name old new
     → (c : ℕ) (v : VersionValue) → is_condemned old name c v ≡ is_condemned new name c v
 
--- each package is the same where nothing changes
+-- each package is the same if nothing changes
 abbrev pub SameByItself : Type 0
 SameByItself = (name : Name) (facts : Facts) → IsSameOf name facts facts
 
@@ -60,25 +61,25 @@ DayCondemnsTheSame = (facts : Facts) (day : Option DayValue) (name : Name) (c : 
 
 -- ---- own entries and records
 
--- an own entry more leaves all other packages the same
+-- adding an own entry leaves all other packages the same
 abbrev pub EntryAddedKeepsOthers : Type 0
 EntryAddedKeepsOthers = (facts : Facts) (held : HeldEntry) (name : Name) → name ≢ held.entry.«package»
     → IsSameOf name facts (record facts { entries = facts.entries ++ held ∷ [] })
 
--- and so does the one of a number less
+-- and so does removing the one with a number
 abbrev pub EntryDroppedKeepsOthers : Type 0
 EntryDroppedKeepsOthers = (facts : Facts) (n : ℕ) (held : HeldEntry) (name : Name) → AreByNumber facts.entries
     → Contains facts.entries held → held.number ≡ n → name ≢ held.entry.«package»
     → IsSameOf name facts (record facts { entries = filter (λ h. not (has_number n h)) facts.entries })
 
--- publisher records of one package leave all others the same
+-- setting the publisher records of one package leaves all others the same
 abbrev pub RecordsKeepOthers : Type 0
 RecordsKeepOthers = (facts : Facts) (other : Name) (records : List Publisher) (name : Name) → name ≢ other
     → IsSameOf name facts (record facts { publishers = with_records other records facts.publishers })
 
 -- ---- peers
 
--- the peers stand in the order of their names
+-- the peers are in the order of their names
 abbrev pub HasPeersByName : Facts → Type 0
 HasPeersByName facts = IsByKey (slice_cmp nat_cmp) peer_name facts.peers
 
@@ -86,43 +87,43 @@ HasPeersByName facts = IsByKey (slice_cmp nat_cmp) peer_name facts.peers
 abbrev pub HasNoneOf : Name → HoldingValue → Type 0
 HasNoneOf name content = list_any (is_of name) content.entries ≡ false
 
--- what is held of the peer of a name, if it is held
+-- the content held of the peer with a name, or nothing if it is not held
 abbrev pub content_of : Facts → Name → HoldingValue
 content_of facts peer = holding_or_none (peer_of facts.peers peer)
 
--- a peer set in place of the one of its name leaves a package the same of which both give the same
+-- a peer set in place of the one with its name leaves a package the same if both give the same entries of it
 abbrev pub PeerKeepsWhatIsWordedTheSame : Type 0
 PeerKeepsWhatIsWordedTheSame = (facts : Facts) (peer : HeldPeer) (name : Name) → HasPeersByName facts
     → worded_from name (peer_of facts.peers (peer_name peer)) ≡ worded_from name (Some peer)
     → IsSameOf name facts (record facts { peers = with_peer peer facts.peers })
 
--- settings of a peer leave a package the same of which the peer has no entry
+-- setting the settings of a peer leaves a package the same if the peer has no entry of it
 abbrev pub SettingsKeepOthers : Type 0
 SettingsKeepOthers = (facts : Facts) (settings : PeerSettings) (name : Name) → HasPeersByName facts
     → HasNoneOf name (content_of facts settings.name)
     → IsSameOf name facts (record facts { peers = with_settings settings facts.peers })
 
--- settings with the map as it was leave a package the same that is excluded before and after, or neither
+-- settings with the map as it was leave a package the same if it is excluded both before and after, or neither
 abbrev pub ExclusionsKeepOthers : Type 0
 ExclusionsKeepOthers = (facts : Facts) (held : HeldPeer) (settings : PeerSettings) (name : Name) → HasPeersByName facts
     → peer_of facts.peers settings.name ≡ Some held → settings.map ≡ held.settings.map
     → set.contains settings.exclude name ≡ set.contains held.settings.exclude name
     → IsSameOf name facts (record facts { peers = with_settings settings facts.peers })
 
--- another content of a peer leaves a package the same of which the peer has no entry before and after
+-- another content of a peer leaves a package the same if the peer has no entry of it before or after
 abbrev pub ContentKeepsOthers : Type 0
 ContentKeepsOthers = (facts : Facts) (peer : Name) (content : HoldingValue) (name : Name) → HasPeersByName facts
     → HasNoneOf name (content_of facts peer) → HasNoneOf name content
     → IsSameOf name facts (record facts { peers = with_content peer content facts.peers })
 
--- another content with the same criteria leaves a package the same of which it has the same entries
+-- another content with the same criteria leaves a package the same if it has the same entries of it
 abbrev pub ContentKeepsSameEntries : Type 0
 ContentKeepsSameEntries = (facts : Facts) (peer : Name) (content : HoldingValue) (name : Name) → HasPeersByName facts
     → content.table ≡ (content_of facts peer).table
     → filter (is_of name) content.entries ≡ filter (is_of name) (content_of facts peer).entries
     → IsSameOf name facts (record facts { peers = with_content peer content facts.peers })
 
--- a peer less leaves a package the same of which the peer had no entry
+-- removing a peer leaves a package the same if the peer had no entry of it
 abbrev pub PeerDroppedKeepsOthers : Type 0
 PeerDroppedKeepsOthers = (facts : Facts) (peer : Name) (name : Name) → HasPeersByName facts
     → HasNoneOf name (content_of facts peer)

@@ -16,6 +16,6 @@ sourced_at peer entries places = map (λ h. record { peer = peer; held = h }) (g
 abbrev pub entries_from : Source → List SourcedEntry
 entries_from s = sourced_at (option_copied s.peer) s.entries.now s.places.now
 
--- there is an entry at each of its places
+-- each of its places is that of an entry
 abbrev pub IsWithin : Source → Type 0
 IsWithin s = All (λ place. place < length s.entries.now) s.places.now

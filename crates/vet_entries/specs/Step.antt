@@ -1,10 +1,11 @@
 -- The steps of a package (The Cargo Vet Book, audit entries, wildcard audits, trusted publishers and exemptions).
 --
--- The rows are first_step, delta_step, window_steps, kind_steps, entry_steps and steps_of. The entries of a package
--- are one's own, and those of each peer that does not exclude it (SourcedEntry, entries_of). Those of all sources
--- stand by their numbers (by_number). A window covers a record of its user and of a day from its first to its last
--- (is_covered). An exemption gives no step once its last day is over on the register's day (is_over); no other kind
--- depends on that day. Nothing is asked of the facts: what a table lacks has no place in it.
+-- The rows of the table of steps are first_step, delta_step, window_steps, kind_steps, entry_steps and steps_of. The
+-- entries of a package are one's own, and those of each peer that does not exclude it (SourcedEntry, entries_of). Those
+-- of all sources are in the order of their numbers (by_number). A window covers a record of its user and of a day from
+-- its first to its last (is_covered). An exemption gives no step once its last day is over on the register's day
+-- (is_over); no other kind depends on that day. The definition requires nothing of the facts: a criterion that a table
+-- lacks has no place in it.
 use Rattle.std.specs.Prelude.{ℕ, ◌≡◌, ◌&&◌, ◌==◌, Bool, true, false, List, Option, Some, None, filter, if◌then◌else◌}
 use Rattle.std.specs.Prelude.{map, nat_lt, [], ◌∷◌, ◌++◌}
 use Rattle.std.specs.FinSet as set
@@ -58,16 +59,16 @@ kind_steps today criteria records (Trusted window) = window_steps criteria recor
 kind_steps today criteria records (Exemption version suggest last) =
     if is_over last today then [] else first_step criteria true version ∷ []
 
--- a held entry, and the peer whose it is, or none for one of one's own
+-- a held entry and its peer, or none for an own one
 pub record SourcedEntry : Type 0 where
   pub peer : Option HeldPeer
   pub held : HeldEntry
 
--- the entries of a package from some that are held, as those of a peer or as one's own
+-- the entries of a package among some that are held, as those of a peer or as own ones
 abbrev pub sourced : Option HeldPeer → Name → List HeldEntry → List SourcedEntry
 sourced peer name entries = map (λ h. record { peer = peer; held = h }) (filter (is_of name) entries)
 
--- the entries of a package that are taken from a peer: of an excluded package none
+-- the entries of a package that are taken from a peer: none if the package is excluded
 abbrev pub taken_from : Name → HeldPeer → List SourcedEntry
 taken_from name peer = if set.contains peer.settings.exclude name then [] else sourced (Some peer) name
     peer.content.entries
@@ -76,7 +77,7 @@ taken_from name peer = if set.contains peer.settings.exclude name then [] else s
 abbrev pub entries_of : Facts → Name → List SourcedEntry
 entries_of facts name = sourced None name facts.entries ++ flat_map (taken_from name) facts.peers
 
--- an item among some in the order of their numbers, before others of its number
+-- an item inserted among some that are in the order of their numbers, before others with its number
 abbrev pub put_by_number : {X : Type 0} → (X → ℕ) → X → List X → List X
 put_by_number number x [] = x ∷ []
 put_by_number number x (y ∷ ys) = if nat_lt (number y) (number x) then y ∷ put_by_number number x ys else x ∷ y ∷ ys
@@ -91,7 +92,7 @@ abbrev pub entry_steps : Option DayValue → Criteria → List Publisher → Sou
 entry_steps today table records e =
     kind_steps today (local_criteria table e.peer e.held.entry.criteria) records e.held.entry.kind
 
--- the steps of a package, by the numbers of the entries
+-- the steps of a package, in the order of the entries' numbers
 abbrev pub steps_of : Facts → Name → List Step
 steps_of facts name =
     flat_map (entry_steps facts.today facts.criteria (records_of facts.publishers name))

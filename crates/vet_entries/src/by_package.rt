@@ -1,29 +1,31 @@
-//! Entries that are found by their packages, and by their numbers.
+//! Entries that can be found by package and by number.
 //!
-//! **Each entry stands once, at the place of its number, and the places of a package's entries stand side by side.**
+//! **Each entry is listed once, in the order of the numbers, and the places of a package's entries are side by side.**
 //!
-//! Entries stand by source: one's own in one list, those of each peer with the peer. Each list is in the order of
-//! numbers. Beside it stand the places of its entries in the order of their packages. So the entries of a package are
-//! found by two binary searches, and none of a peer has to be sought among all. What is wanted of all sources is
-//! gathered source by source and put in the order of numbers (`source`, `step`).
+//! Entries are kept by source: one's own in one list, those of each peer with the peer. Each list is in the order of
+//! numbers. Beside it are the places of its entries in the order of their packages. So the entries of a package are
+//! found by two binary searches, and no entry of a peer has to be sought among all. If the entries of all sources are
+//! needed, they are gathered source by source and put in the order of numbers (`source`, `package_entries`).
 //!
-//! Why by source. A peer goes with all that is held of it. An import exchanges one value for another, and looks at no
-//! entry of another source. And own entries are found as if there were no peers.
+//! There are three reasons to keep them by source. A peer is removed together with all that is held of it. An import
+//! exchanges one value for another, and looks at no entry of another source. Own entries are found as if there were no
+//! peers.
 //!
-//! A number tells an entry for ever, and rises along the list. A new entry has the greatest number, so it comes last
-//! and moves none. Its place goes among those of its package, behind the others. To take an entry out moves those
-//! behind it, and lowers the places that point to them; the last one goes as cheaply as it came. Both undo each other,
-//! so an edit can be made, and taken back, with no memory at all.
+//! A number identifies an entry for ever, and numbers increase along the list. A new entry has the greatest number, so
+//! it comes last and moves none. Its place is put among those of its package, after the others. Removing an entry moves
+//! those after it, and lowers the places that point to them; removing the last one is as cheap as adding it. Each of
+//! the two undoes the other, so an edit can be made and undone without any memory.
 //!
-//! How a peer is held. It has its settings with its map (`peer_settings`, `criteria_map`) and what was imported from
-//! it (`holding`). That is its criteria as it defines them, and such a list of entries, in its own words. A peer's
-//! words become one's own criteria once a plan (`local_criteria`), so no command has to keep them in step.
+//! A held peer has its settings with its map (`peer_settings`, `criteria_map`), and the content imported from it
+//! (`holding`). The content is the criteria as the peer defines them and such a list of entries, in the peer's own
+//! words. A plan translates a peer's words to one's own criteria once (`local_criteria`), so no command has to keep the
+//! two in step.
 //!
-//! How an import goes (`import`). Held entries are put in order by what they say, and those that come are sought among
-//! them. A mark for each says what comes again and what is new. If all comes again, nothing is new and the criteria are
-//! the same, the content is held already. Else what is held after it is made whole. It is copies of the held entries
-//! that come again, with their old numbers, and then the new ones with the next numbers. So the list is in order by
-//! number without a sort.
+//! An import (`import`) puts the held entries in order by what they say, and looks for the given ones among them. Marks
+//! show which held entries come again and which given ones are new. If all held ones come again, none is new and the
+//! criteria are the same, the content is held already. Otherwise the list held afterwards is made as a whole: copies of
+//! the held entries that come again, with their old numbers, and then the new ones with the next numbers. So the list
+//! is in the order of numbers without a sort.
 ghost use Rattle.std.specs.Prelude.{◌≡◌, ◌<◌, ◌≤◌, ◌+◌, ◌-◌, [], IfOk, IsOk, OnOk, OnErr, filter, insert, length, map};
 ghost use Rattle.std.specs.Prelude.{remove, slice_index_or, true, false, vec_capacity, vec_len};
 ghost use Rattle.std.specs.List.{All, range_with_len};
@@ -40,8 +42,8 @@ use std::marker::Model;
 use vet_base::day::Day;
 use vet_base::name::PackageName;
 
-/// Entries in the order of their numbers. Beside them are their places in the order of packages, where those of a
-/// package stand together, and their last days. An entry takes 432 bytes and a last day 8, so a pass over all last days
+/// Entries in the order of their numbers. Beside them are their places in the order of packages, so that those of a
+/// package are together, and their last days. An entry takes 432 bytes and a last day 8, so a pass over all last days
 /// reads much less memory here than in the entries.
 pub(crate) struct ByPackage {
     entries: Vec<HeldEntry>,
@@ -144,7 +146,7 @@ impl ByPackage {
         }
     }
 
-    /// Makes room for one more entry. Where there is no memory, the room stays.
+    /// Makes room for one more entry. If memory runs out, the room is as it was.
     pub(crate) fn reserve(&mut self) -> Result<(), AllocError>
         ensures entries { self.new.entries ≡ self.old.entries }
         ensures ok { OnOk result (0 < self.new.room) }
@@ -158,8 +160,8 @@ impl ByPackage {
         Ok(())
     }
 
-    /// Puts an entry at a place. Costs three binary searches and a move of the places behind its own in the
-    /// order of packages; in front of other entries, also a pass over all places, and a move of those entries.
+    /// Inserts an entry at a place. Costs three binary searches and a move of the places after its own in the order of
+    /// packages. If other entries come after it, also costs a pass over all places and a move of those entries.
     pub(crate) fn insert(&mut self, place: usize, held: HeldEntry)
         requires place { place ≤ length self.old.entries }
         requires by_number { AreByNumber (insert self.old.entries place held) }
@@ -179,9 +181,8 @@ impl ByPackage {
         put(&mut self.entries, place, held);
     }
 
-    /// Takes out the entry at a place. Where it is the last one, costs two binary searches and a move of the places
-    /// behind its own in the order of packages; in front of other entries, two passes over all places, and a move of
-    /// those entries.
+    /// Removes the entry at a place. If it is the last one, costs two binary searches and a move of the places after
+    /// its own in the order of packages. Otherwise costs two passes over all places and a move of the entries after it.
     pub(crate) fn remove(&mut self, place: usize) -> HeldEntry
         requires { place < length self.old.entries }
         ensures value { result ≡ slice_index_or self.old.entries place result }
@@ -226,7 +227,7 @@ fn last_days_of(alloc: Global, entries: &[HeldEntry]) -> Result<Vec<Option<Day>>
     Ok(days)
 }
 
-// The package of the entry at a place; where there is no entry, no text.
+// The package of the entry at a place, or an empty text if there is no entry.
 fn package_at(entries: &[HeldEntry], place: usize) -> &str
     ensures { result.now ≡ package_at entries.now place }
 {
@@ -236,7 +237,7 @@ fn package_at(entries: &[HeldEntry], place: usize) -> &str
     }
 }
 
-// How the package of the entry at a place stands to a name.
+// Compares the package of the entry at a place with a name. It is greater if there is no entry.
 fn stand(entries: &[HeldEntry], name: &PackageName, place: usize) -> Ordering
     ensures { result ≡ stand entries.now name.now place }
 {
@@ -246,7 +247,7 @@ fn stand(entries: &[HeldEntry], name: &PackageName, place: usize) -> Ordering
     }
 }
 
-// How many places stand in front of a package's.
+// The number of places before those of a package.
 fn lower(entries: &[HeldEntry], order: &[usize], name: &PackageName) -> usize
     requires { IsNonDecreasingBy (λ place. ordering_index (stand entries.now name.now place)) order.now }
     ensures bound { result ≤ length order.now }
@@ -256,7 +257,7 @@ fn lower(entries: &[HeldEntry], order: &[usize], name: &PackageName) -> usize
     order.partition_point(|place| stand(entries, name, *place).is_lt())
 }
 
-// How many places stand in front of those behind a package's.
+// The number of places before those that follow a package's.
 fn upper(entries: &[HeldEntry], order: &[usize], name: &PackageName) -> usize
     requires { IsNonDecreasingBy (λ place. ordering_index (stand entries.now name.now place)) order.now }
     ensures bound { result ≤ length order.now }
@@ -266,7 +267,7 @@ fn upper(entries: &[HeldEntry], order: &[usize], name: &PackageName) -> usize
     order.partition_point(|place| stand(entries, name, *place).is_le())
 }
 
-// From where to where the places of a package stand.
+// The start and the end of a package's places in the order.
 fn range_of(entries: &[HeldEntry], order: &[usize], name: &PackageName) -> (usize, usize)
     requires by_package { IsByPackage entries.now order.now }
     ensures { IsRange entries.now name.now order.now result.0 result.1 }
@@ -274,7 +275,7 @@ fn range_of(entries: &[HeldEntry], order: &[usize], name: &PackageName) -> (usiz
     (lower(entries, order, name), upper(entries, order, name))
 }
 
-// Where in the order the place of a package's entry belongs.
+// The slot of the order at which the place of a package's entry belongs.
 fn slot_of(entries: &[HeldEntry], order: &[usize], name: &PackageName, place: usize) -> usize
     requires by_package { IsByPackage entries.now order.now }
     ensures { IsSlot entries.now name.now place order.now result }
@@ -283,7 +284,7 @@ fn slot_of(entries: &[HeldEntry], order: &[usize], name: &PackageName, place: us
     low + order[low..high].partition_point(|other| *other < place)
 }
 
-// Moves the places from one on up by one, of some below a length.
+// Raises by one the places from the given one on. Asks that all are below a length.
 fn make_gap(order: &mut Vec<usize>, len: usize, place: usize)
     requires { All (λ other. other < len) order.old.items }
     ensures items { order.new.items ≡ map (up place) order.old.items }
@@ -306,7 +307,7 @@ fn move_up(order: &mut Vec<usize>, len: usize, place: usize)
     }
 }
 
-// Takes the place of an entry out of the order.
+// Removes the place of an entry from the order, and lowers the places after it.
 fn take_out(order: &mut Vec<usize>, entries: &[HeldEntry], place: usize)
     requires by_package { IsByPackage entries.now order.old.items }
     requires place { place < length entries.now }
@@ -322,8 +323,8 @@ fn take_out(order: &mut Vec<usize>, entries: &[HeldEntry], place: usize)
     }
 }
 
-// Takes the last entry's place out of the order. It is the greatest, so it is the last of its package's, and no other
-// is lowered.
+// Removes the last entry's place from the order. It is the greatest, so it is the last of its package's, and no other
+// place is lowered.
 fn take_out_last(order: &mut Vec<usize>, entries: &[HeldEntry], last: usize)
     requires by_package { IsByPackage entries.now order.old.items }
     requires last { last + 1 ≡ length entries.now }
@@ -335,7 +336,7 @@ fn take_out_last(order: &mut Vec<usize>, entries: &[HeldEntry], last: usize)
     let _ = order.remove(behind - 1);
 }
 
-// Moves the places behind one down by one.
+// Lowers by one the places after the given one.
 fn close_gap(order: &mut Vec<usize>, place: usize)
     ensures items { order.new.items ≡ map (down place) order.old.items }
     ensures len { vec_len order.new ≡ vec_len order.old }
@@ -346,7 +347,7 @@ fn close_gap(order: &mut Vec<usize>, place: usize)
     }
 }
 
-// Where a place below a length moves when an entry is put in.
+// The place to which a place below a length moves if an entry is inserted at another.
 fn up(at: usize, place: usize, len: usize) -> usize
     requires { place < len }
     ensures { result ≡ up at place }
@@ -354,14 +355,14 @@ fn up(at: usize, place: usize, len: usize) -> usize
     if at <= place { place + 1 } else { place }
 }
 
-// Where a place moves when the entry at another is taken out.
+// The place to which a place moves if the entry at another is removed.
 fn down(at: usize, place: usize) -> usize
     ensures { result ≡ down at place }
 {
     if at < place { place - 1 } else { place }
 }
 
-// Puts an item at a place where there is room, which takes no memory.
+// Inserts an item at a place. Asks that there is room, and so takes no memory.
 fn put<T: Drop>(items: &mut Vec<T>, place: usize, item: T)
     requires place { place ≤ vec_len items.old }
     requires room { vec_len items.old < vec_capacity items.old }

@@ -1,4 +1,4 @@
-//! What violations condemn.
+//! The criteria for which violations condemn versions.
 ghost use Rattle.std.specs.Prelude.{◌≡◌, ◌||◌, ◌&&◌, ◌++◌, ℕ, IfOk, IfErr, OnOk};
 ghost use Rattle.std.specs.List.{list_any};
 ghost use Rattle.std.specs.Option.{option_copied};
@@ -27,12 +27,13 @@ use vet_base::refusal::Refusal;
 use vet_base::req::Req;
 use vet_base::version::VetVersion;
 
-/// The criteria for which a version of a package is condemned: those that imply in the end one that a
-/// violation of the package names, one's own or a peer's that does not exclude the package, where its
-/// requirement matches the version. What a peer's violation names is mapped, and neither is closed. Takes no
-/// memory. Costs two binary searches among the own entries and two among those of each peer, a look at each of
-/// the package's, and the closures of the table once. Each violation that matches costs a search for each of
-/// its names, a peer's one in its map and one for each name that the map lists there.
+/// The criteria for which a version of a package is condemned: those whose closure has a criterion that a violation of
+/// the package names, if the requirement of the violation matches the version. The violation is one's own, or that of a
+/// peer that does not exclude the package. The names in a peer's violation are mapped, and neither they nor one's own
+/// are closed. Takes no memory. Costs two binary searches among the own entries and two among those of each peer, a
+/// look at each of the package's entries, and the closures of the table once. Each violation that matches costs a
+/// search for each of its names. For a peer's violation this is a search in the peer's map, and one for each name that
+/// the map lists there.
 pub fn condemned(package: &PackageName, version: &VetVersion, facts: &EntryFacts) -> CriteriaSet
     ensures { (c : ℕ) → has c result ≡ is_condemned facts.now.content «package».now c version.now }
 {
@@ -48,7 +49,7 @@ pub fn condemned(package: &PackageName, version: &VetVersion, facts: &EntryFacts
     criteria.leading_to(&violated)
 }
 
-// The violated criteria with those of the entries of a source.
+// The violated criteria together with those that violations of a source name.
 fn with_all_violated(
     mut violated: CriteriaSet,
     source: &Source<'_>,
@@ -66,8 +67,8 @@ fn with_all_violated(
     violated
 }
 
-// The violated criteria with those that an entry of a peer or one's own names, where it is a violation that
-// the version matches.
+// The violated criteria together with those that an entry of a peer or an own one names, if it is a violation that
+// matches the version.
 fn with_violated(
     violated: CriteriaSet,
     peer: Option<&HeldPeer>,
@@ -85,10 +86,10 @@ fn with_violated(
     violated.union(&violated_set(peer, &held.entry.criteria, criteria))
 }
 
-/// A violation of a package: the versions that it is of, and the criteria for which these are condemned.
+/// A violation of a package: the requirement that its versions match, and the criteria for which they are condemned.
 pub struct Violation {
     pub requirement: Req,
-    /// Those that imply in the end one that the violation names, by their places in the table.
+    /// The criteria whose closure has one that the violation names, by their places in the table.
     pub criteria: CriteriaSet,
 }
 
@@ -101,9 +102,9 @@ impl Drop for Violation {
     }
 }
 
-/// The violations of a package: one's own, then those of each peer that does not exclude it, each by the
-/// numbers of the entries. Costs the closures of the table, and then what `PackageEntries::of` and `violations`
-/// do. Refused: `NoMemory`.
+/// The violations of a package: one's own, then those of each peer that does not exclude it, each in the order of the
+/// entries' numbers. Costs the closures of the table, and then as much as `PackageEntries::of` and `violations`.
+/// Refused: `NoMemory`.
 pub fn violations_of(
     alloc: Global,
     package: &PackageName,
@@ -116,8 +117,7 @@ pub fn violations_of(
     entries.violations(alloc, facts, &facts.criteria().closures())
 }
 
-/// The criteria for which a version is condemned by some violations. Takes no memory, and looks at each of
-/// them once.
+/// The criteria for which some violations condemn a version. Takes no memory. Costs a look at each violation.
 pub fn condemned_by(violations: &[Violation], version: &VetVersion) -> CriteriaSet
     ensures { (c : ℕ) → has c result ≡ condemned_by violations.now c version.now }
 {
@@ -128,14 +128,14 @@ pub fn condemned_by(violations: &[Violation], version: &VetVersion) -> CriteriaS
     condemned
 }
 
-/// The violations of a package condemn a version for just the criteria for which its entries do.
+/// The violations of a package condemn a version for exactly the criteria for which its entries do.
 pub fn violations_condemn()
     ensures { ViolationsCondemn }
 {
     led_to();
 }
 
-/// Adds the violation that an entry of a peer or one's own is, if it is one.
+/// Adds the violation that an own entry or a peer's is, if it is one.
 pub(crate) fn add_violation(
     violations: &mut Vec<Violation>,
     peer: Option<&HeldPeer>,
@@ -157,7 +157,7 @@ pub(crate) fn add_violation(
     Ok(())
 }
 
-// What a violation names, as places in the table: a peer's as its map says.
+// The criteria that a violation names, as places in the table. Those of a peer's violation are mapped.
 fn violated_set(peer: Option<&HeldPeer>, names: &Names, criteria: &CriteriaTable) -> CriteriaSet
     ensures { result ≡ placed criteria.now (violated_names (option_copied peer.entry) names.now) }
 {
@@ -167,7 +167,7 @@ fn violated_set(peer: Option<&HeldPeer>, names: &Names, criteria: &CriteriaTable
     }
 }
 
-// The condemned criteria with those of a violation, where the version matches.
+// The condemned criteria together with those of a violation, if it matches the version.
 fn with_matching(condemned: CriteriaSet, violation: &Violation, version: &VetVersion) -> CriteriaSet
     ensures { (c : ℕ) → has c result ≡ (has c condemned
         || (req_matches violation.now.requirement version.now.parts && has c violation.now.criteria)) }
@@ -179,7 +179,7 @@ fn with_matching(condemned: CriteriaSet, violation: &Violation, version: &VetVer
 }
 
 impl Kind {
-    // Whether this is a violation that a version matches.
+    // Whether this is a violation that matches a version.
     fn violates(&self, version: &VetVersion) -> bool
         ensures { result ≡ violates version.now self.now }
     {

@@ -1,4 +1,4 @@
-//! What the criteria of a peer are in one's own.
+//! Maps from a peer's criteria to one's own.
 ghost use Rattle.std.specs.Prelude.{◌≡◌, ◌↔◌, [], IfOk, IsTrue, Ok, OnOk, OnErr};
 ghost use Rattle.std.specs.Cmp.Lexicographic.{slice_cmp};
 ghost use Rattle.std.specs.FinMap as map;
@@ -20,11 +20,11 @@ use vet_base::keyed::{ExactItem, HasKey, Keyed};
 use vet_base::name::Name;
 use vet_base::names::Names;
 
-/// Which criteria of one's own a criterion of a peer stands for.
+/// A criterion of a peer, and the own criteria that it stands for.
 pub struct MappedCriterion {
     /// The peer's criterion.
     pub name: Name,
-    /// What it stands for.
+    /// The own criteria that it stands for.
     pub criteria: Names,
 }
 
@@ -92,8 +92,8 @@ impl ExactItem for MappedCriterion {
     ghost only_itself = { mapped_eq-Decides };
 }
 
-/// From criteria of a peer to criteria of one's own, in the order of the names' bytes, each name once (The
-/// Cargo Vet Book, config: `criteria-map`).
+/// A map from a peer's criteria to one's own, in the order of the names' bytes, each name once (The Cargo Vet Book,
+/// config: `criteria-map`).
 #[derive(Drop)]
 pub struct CriteriaMap {
     items: Keyed<MappedCriterion>,
@@ -118,7 +118,7 @@ impl Model for CriteriaMap {
 }
 
 impl CriteriaMap {
-    /// No criteria. Takes no memory.
+    /// The map without criteria. Takes no memory.
     pub fn new(alloc: Global) -> CriteriaMap
         ensures { result ≡ map.empty }
     {
@@ -127,7 +127,8 @@ impl CriteriaMap {
         }
     }
 
-    /// These criteria, in whatever order; of those of one name the last stays. Takes a time of n log n.
+    /// The map of these criteria, which may be in any order. If several have the same name, the last of them is kept.
+    /// Takes a time of n log n.
     pub fn of(alloc: Global, items: Vec<MappedCriterion>) -> Result<CriteriaMap, AllocError>
         ensures { IfOk result (λ m.
             m ≡ map.from_sorted (by_name (all_set (slice_cmp nat_cmp) mapped_name [] items.items))) }
@@ -137,8 +138,8 @@ impl CriteriaMap {
         })
     }
 
-    /// Puts what a criterion of the peer stands for, in place of what it stood for, which takes
-    /// no memory. Where there is no memory, the map stays.
+    /// Sets the criteria that a criterion of the peer stands for, in place of any that it stood for. Takes no memory if
+    /// the map has the criterion. If memory runs out, the map is as it was.
     pub fn insert(&mut self, name: Name, criteria: Names) -> Result<(), AllocError>
         ensures ok { OnOk result (self.new ≡ map.insert self.old name criteria) }
         ensures held { IsTrue (map.contains_key self.old name) → result ≡ Ok tt }
@@ -148,7 +149,7 @@ impl CriteriaMap {
         Ok(())
     }
 
-    /// What a criterion of the peer stands for, where the map says so.
+    /// The criteria that a criterion of the peer stands for, if the map has it.
     pub fn get(&self, name: &Name) -> Option<&Names>
         ensures { option_copied result ≡ map.get self.now name.now }
     {
@@ -158,7 +159,7 @@ impl CriteriaMap {
         }
     }
 
-    /// The peer's criteria with what they stand for, in the order of the names' bytes.
+    /// The peer's criteria with the criteria that they stand for, in the order of the names' bytes.
     pub fn items(&self) -> &[MappedCriterion]
         ensures entries { by_name result.now ≡ map.entries self.now }
         ensures rising { IsRising (names_of result.now) }
@@ -167,7 +168,7 @@ impl CriteriaMap {
         self.items.items()
     }
 
-    /// Whether one of the peer's criteria stands for a name, beside others or alone. Costs a look at each item, up to
+    /// Whether one of the peer's criteria stands for a name, by itself or with others. Costs a look at each item, up to
     /// the first that does.
     pub fn leads_to(&self, name: &Name) -> bool
         ensures { result ≡ set.contains (targets self.now) name.now }
@@ -175,7 +176,8 @@ impl CriteriaMap {
         lists(self.items(), name)
     }
 
-    /// The least name for which one of the peer's criteria stands and that a table lacks. Costs a look at each item.
+    /// The least name that a table lacks and that one of the peer's criteria stands for, if there is one. Costs a look
+    /// at each item.
     pub fn least_target_outside<'a>(&'a self, table: &CriteriaTable) -> Option<&'a Name>
         ensures { option_copied result ≡ least_unknown table.now (targets self.now) }
     {
@@ -186,14 +188,14 @@ impl CriteriaMap {
         least
     }
 
-    /// How many of the peer's criteria stand for others.
+    /// The number of the peer's criteria in the map.
     pub fn len(&self) -> usize
         ensures { result ≡ map.len self.now }
     {
         self.items.len()
     }
 
-    /// Whether none does.
+    /// Whether the map has no criteria.
     pub fn is_empty(&self) -> bool
         ensures { IsTrue result ↔ (self.now ≡ map.empty) }
     {

@@ -1,4 +1,4 @@
-//! Entries, each once.
+//! Lists of entries in which each occurs once.
 ghost use Rattle.std.specs.BTreeSet.{IsFromIterResult};
 ghost use Rattle.std.specs.List.{AllPairs};
 ghost use Rattle.std.specs.Prelude.{◌≡◌, ◌≢◌, ◌↔◌, [], IfOk, IsTrue, map};
@@ -12,8 +12,8 @@ use crate::said::Said;
 use std::alloc::{AllocError, Global};
 use std::collections::BTreeSet;
 
-/// Each of some entries once, at its first place, in order. Costs a search among those before it for each entry, and
-/// copies none.
+/// Each of some entries once, in the order of their first places. Costs a search for each entry among those before it,
+/// and copies none.
 pub fn distinct(alloc: Global, entries: Vec<Entry>) -> Result<Vec<Entry>, AllocError>
     ensures { IfOk result (λ v. v.items ≡ distinct entries.items) }
 {
@@ -30,8 +30,8 @@ pub fn distinct(alloc: Global, entries: Vec<Entry>) -> Result<Vec<Entry>, AllocE
     Ok(kept)
 }
 
-/// Whether no two of some held entries say the same, whosever they are. Costs a search among those before it for each,
-/// and copies none.
+/// Whether no two of some held entries say the same, whatever their sources. Costs a search for each entry among those
+/// before it, and copies none.
 pub fn are_distinct(alloc: Global, held: &[HeldEntry]) -> Result<bool, AllocError>
     ensures { IfOk result (λ distinct.
         IsTrue distinct ↔ AllPairs (λ a b. a ≢ b) (map (λ h. own h.entry) held.now)) }
@@ -40,7 +40,7 @@ pub fn are_distinct(alloc: Global, held: &[HeldEntry]) -> Result<bool, AllocErro
     Ok(said.len() == held.len())
 }
 
-// Of each of some entries, whether none in front of it is the same.
+// For each of some entries, whether none before it is the same.
 fn are_firsts(alloc: Global, entries: &[Entry]) -> Result<Vec<bool>, AllocError>
     ensures { IfOk result (λ marks. marks.items ≡ are_firsts [] entries.now) }
 {
@@ -52,7 +52,7 @@ fn are_firsts(alloc: Global, entries: &[Entry]) -> Result<Vec<bool>, AllocError>
     Ok(marks)
 }
 
-// What some held entries say, each thing once.
+// The set of what some held entries say.
 fn said_by<'a>(alloc: Global, held: &'a [HeldEntry]) -> Result<BTreeSet<Said<'a>>, AllocError>
     ensures { IfOk result (λ said. IsFromIterResult entry_cmp (map (λ h. own h.entry) held.now) said) }
 {

@@ -1,14 +1,14 @@
-//! Edits of what is held of packages.
+//! Edits of the facts about packages.
 //!
-//! **An edit changes the facts in place, and returns the edit that takes it back.**
+//! **Making an edit changes the facts in place, and returns the edit that undoes it.**
 //!
 //! `EntryFacts` holds the table of criteria, the own entries, the peers by name, the publisher records by package, and
 //! the register's day. Only an `Edit` changes it. Each `edit_..` call returns the edit that it names, and reserves the
-//! room for it. `apply` takes no memory and cannot fail. What belongs together is exchanged as a whole: the records of
-//! a package, a peer's settings, a peer's content.
+//! room for it. `apply` takes no memory and cannot fail. Values that belong together are exchanged as a whole: the
+//! records of a package, a peer's settings, a peer's content.
 //!
 //! To plan a change, a caller makes the edit, looks at the result, and makes the edit that undoes it, whether or not
-//! there was memory. So the facts are never copied, and the edit that comes back is the one that will be made for good.
+//! memory ran out. So the facts are never copied, and the edit that comes back is the one that will be made for good.
 //!
 //! Room is the number of own entries, peers, and packages with records that can still be added without memory: the
 //! capacity of a list less its length. The model has it beside what is held. Only this file knows how much of it an
@@ -93,8 +93,8 @@ impl EntryFacts {
     }
 
     /// The edit that puts these settings in place of those of the peer with their name, or adds the peer with nothing
-    /// imported, and room for it. Costs a binary search among the peers; for a new one also a move of those after it.
-    /// Refused: `NoMemory`, and never if the peer is held.
+    /// imported, and room for it. Costs a binary search among the peers; for a new peer another one, and sometimes a
+    /// move of all peers to twice the room. Refused: `NoMemory`, and never if the peer is held.
     pub fn edit_of_settings(
         &mut self,
         alloc: Global,
@@ -146,9 +146,9 @@ impl EntryFacts {
     }
 
     /// The edit that puts these publisher records in place of those of a package, and room for it. Asks that at least
-    /// one of the two has records, and that all records together are fewer than 2^64. Costs a binary search among the
-    /// packages that have records, and a copy of the new ones; for a new package sometimes a move of all packages to
-    /// twice the room. Refused: `NoMemory`.
+    /// one of the two has records, and that all records together are fewer than 2^64. Costs two binary searches among
+    /// the packages that have records, and a copy of the new records; for a new package sometimes a move of all
+    /// packages to twice the room. Refused: `NoMemory`.
     pub fn publishers_edit(
         &mut self,
         package: &PackageName,

@@ -10,12 +10,12 @@ use vet_base::name::{Name, PackageName};
 use vet_base::names::Names;
 use vet_base::text::Text;
 
-/// Whose an entry is.
+/// The source of an entry.
 #[derive(Clone)]
 pub enum Source {
-    /// The organisation's own.
+    /// The organisation itself: the entry is an own one.
     Own,
-    /// That of a peer, from whom it was imported.
+    /// A peer, from which the entry was imported.
     Peer(Name),
 }
 
@@ -77,14 +77,14 @@ impl Drop for Entry {
 }
 
 impl Entry {
-    /// A copy as one of one's own.
+    /// A copy of the entry as an own one.
     pub fn to_own(&self) -> Result<Entry, AllocError>
         ensures { IfOk result (λ e. e ≡ own self.now) }
     {
         self.copied_for(Source::Own)
     }
 
-    // A copy whose source is this one.
+    // A copy of the entry as one of a source.
     pub(crate) fn copied_for(&self, source: Source) -> Result<Entry, AllocError>
         ensures { IfOk result (λ e. e ≡ of_source source self.now) }
     {
@@ -97,14 +97,14 @@ impl Entry {
         })
     }
 
-    /// Whether this is the same entry as another would be as one of one's own.
+    /// Whether this entry equals another taken as an own one.
     pub(crate) fn is_as_own(&self, other: &Entry) -> bool
         ensures { result ≡ entry_eq self.now (own other.now) }
     {
         self.source == Source::Own && self.says_same(other)
     }
 
-    // Whether another entry says the same, whosever the two are.
+    // Whether another entry says the same, whatever the sources of the two.
     pub(crate) fn says_same(&self, other: &Entry) -> bool
         ensures { result ≡ says_same self.now other.now }
     {

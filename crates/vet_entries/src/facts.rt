@@ -1,4 +1,4 @@
-//! What is held of packages.
+//! The facts about packages: criteria, entries, peers, publisher records and the register's day.
 ghost use Rattle.std.specs.Prelude.{◌≡◌, ◌<◌, ◌+◌, ◌^◌, [], IfOk, IfErr, None, filter, length, map, nat_lt};
 ghost use Rattle.std.specs.List.{All, list_any};
 ghost use Rattle.std.specs.Option.{option_copied};
@@ -69,7 +69,7 @@ impl Drop for EntryFacts {
     }
 }
 
-/// A change of what is held, which takes no memory.
+/// A change of the facts. Making it takes no memory.
 #[derive(Drop)]
 pub enum Edit {
     /// This table of criteria in place of the one held.
@@ -133,8 +133,8 @@ impl EntryFacts {
         })
     }
 
-    /// A table of criteria and own entries, which get the numbers from 1 on, without peers, publisher records and a
-    /// register's day. Refused: `NoMemory`.
+    /// The facts with this table of criteria and these own entries, numbered from 1, and without peers, publisher
+    /// records or a register's day. Refused: `NoMemory`.
     pub fn of(
         alloc: Global,
         criteria: CriteriaTable,
@@ -158,9 +158,9 @@ impl EntryFacts {
         })
     }
 
-    /// This table of criteria, own entries in the order of their numbers, peers in the order of their names, publisher
-    /// records of packages in the order of their names, and this register's day, if any. Takes a time of n log n.
-    /// Refused: `NoMemory`.
+    /// The facts with this table of criteria, these own entries in the order of their numbers, these peers in the order
+    /// of their names, these publisher records of packages in the order of their names, and this register's day, if
+    /// any. Takes a time of n log n. Refused: `NoMemory`.
     pub fn of_parts(
         alloc: Global,
         criteria: CriteriaTable,
@@ -235,14 +235,14 @@ impl EntryFacts {
         self.peers.items()
     }
 
-    /// The peer of a name, if it is held. Costs a binary search among the peers.
+    /// The peer with a name, if it is held. Costs a binary search among the peers.
     pub fn peer(&self, name: &Name) -> Option<&HeldPeer>
         ensures { option_copied result ≡ peer_of self.now.content.peers name.now }
     {
         self.peers.get(name)
     }
 
-    /// How many entries there are of all sources. Asks that they can be counted. Costs a look at each peer.
+    /// The number of entries of all sources. Asks that it is below 2^64. Costs a look at each peer.
     pub fn entries_total(&self) -> usize
         requires { entries_total self.now.content < 2 ^ 64 }
         ensures { result ≡ entries_total self.now.content }
@@ -254,8 +254,8 @@ impl EntryFacts {
         total
     }
 
-    /// How many entries there are of all sources but the peer of a name. Asks that all entries can be counted. Costs a
-    /// look at each peer.
+    /// The number of entries of all sources except the peer with a name. Asks that the number for all sources is below
+    /// 2^64. Costs a look at each peer.
     pub fn entries_beside(&self, name: &Name) -> usize
         requires { entries_total self.now.content < 2 ^ 64 }
         ensures { result
@@ -265,7 +265,7 @@ impl EntryFacts {
         self.entries_total() - self.entries_of(name)
     }
 
-    // How many entries there are of the peer of a name.
+    // The number of entries of the peer with a name, or 0 if it is not held.
     fn entries_of(&self, name: &Name) -> usize
         ensures { result ≡ length (holding_or_none (peer_of self.now.content.peers name.now)).entries }
     {
@@ -292,7 +292,7 @@ impl EntryFacts {
         self.publishers.records_of(package)
     }
 
-    /// How many publisher records there are of all packages.
+    /// The number of publisher records of all packages.
     pub fn records_total(&self) -> usize
         ensures { result ≡ records_total self.now.content.publishers }
     {
@@ -308,8 +308,8 @@ impl EntryFacts {
         self.entries.places_of(package)
     }
 
-    /// The number of the own entry that is the same as this one would be as one of one's own. Costs two
-    /// binary searches among the own entries, and a look at each of the package's, up to the one that it is.
+    /// The number of the own entry that equals this one taken as an own one, if there is one. Costs two binary searches
+    /// among the own entries, and a look at each of the package's, up to the equal one.
     pub fn number_of(&self, entry: &Entry) -> Option<u64>
         ensures { result ≡ number_of self.now.content.entries entry.now }
     {
@@ -323,15 +323,15 @@ impl EntryFacts {
         None
     }
 
-    /// The place among one's own entries of the one with a number. Costs a binary search.
+    /// The place among one's own entries of the one with a number, if there is one. Costs a binary search.
     pub fn place_of(&self, number: u64) -> Option<usize>
         ensures { result ≡ place_of self.now.content.entries number }
     {
         self.entries.place_of(number)
     }
 
-    /// Whether an own entry or a target of a peer's map names a criterion; words of peers don't count. Costs a look
-    /// at each own entry and each item of a map, up to the first that does.
+    /// Whether an own entry names a criterion, or the map of a peer leads to it. A peer's own words do not count. Costs
+    /// a look at each own entry and each item of a map, up to the first that names it.
     pub fn names_criterion(&self, name: &Name) -> bool
         ensures { result ≡ is_named self.now.content name.now }
     {
@@ -341,7 +341,7 @@ impl EntryFacts {
         leads_to(self.peers(), name)
     }
 
-    /// How many own entries are exemptions with a last day. Costs a look at each own entry. Takes no memory.
+    /// The number of own exemptions with a last day. Costs a look at each own entry. Takes no memory.
     pub fn dated_count(&self) -> usize
         ensures { result ≡ length (filter is_dated self.now.content.entries) }
     {
@@ -356,7 +356,7 @@ impl EntryFacts {
         has_dated_beyond(self.entries(), table)
     }
 
-    /// Whether there would be more publisher records than this, if these were set for a package. Costs a binary
+    /// Whether there would be more than `most` publisher records in all if these were set for a package. Costs a binary
     /// search among the packages that have some.
     pub fn records_would_pass(
         &self,
@@ -375,7 +375,8 @@ impl EntryFacts {
         others > most - publishers.len()
     }
 
-    /// The packages stay in order when publisher records are set, which are in order themselves.
+    /// If publisher records are set, the packages stay in the order of their names. The records are in order too. Does
+    /// nothing.
     pub fn records_stay_in_order(&self, package: &PackageName, publishers: &Publishers)
         ensures by_name { IsByName
             (with_records «package».now publishers.now self.now.content.publishers) }

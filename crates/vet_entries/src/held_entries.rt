@@ -22,7 +22,7 @@ impl HasKey for HeldEntry {
     }
 }
 
-/// Entries with the numbers from 1 on. Fails only if memory runs out.
+/// Some entries, numbered from 1. Fails only if memory runs out.
 pub(crate) fn numbered(alloc: Global, entries: Vec<Entry>) -> Result<Vec<HeldEntry>, AllocError>
     ensures { IfOk result (λ held. held.items ≡ numbered 1 entries.items) }
 {
@@ -35,7 +35,7 @@ pub(crate) fn numbered(alloc: Global, entries: Vec<Entry>) -> Result<Vec<HeldEnt
     Ok(held)
 }
 
-/// Whether one of some entries names a criterion.
+/// Whether any of some entries names a criterion.
 pub(crate) fn names(entries: &[HeldEntry], name: &Name) -> bool
     ensures { result ≡ list_any (is_named_by name.now) entries.now }
 {
@@ -44,7 +44,7 @@ pub(crate) fn names(entries: &[HeldEntry], name: &Name) -> bool
         .any(|held| held.entry.criteria.contains(name))
 }
 
-/// How many of some entries are exemptions with a last day.
+/// The number of exemptions with a last day among some entries.
 pub(crate) fn dated_count(entries: &[HeldEntry]) -> usize
     ensures { result ≡ length (filter is_dated entries.now) }
 {
@@ -58,14 +58,14 @@ fn is_dated(held: &HeldEntry) -> bool
     held.entry.kind.has_last_day()
 }
 
-/// Whether an exemption with a last day, among some entries, names a criterion that a table lacks.
+/// Whether any of some entries is an exemption with a last day that names a criterion that a table lacks.
 pub(crate) fn has_dated_beyond(entries: &[HeldEntry], table: &CriteriaTable) -> bool
     ensures { result ≡ list_any (is_dated_beyond table.now) entries.now }
 {
     entries.iter().any(|held| is_dated_beyond(held, table))
 }
 
-// Whether an entry is an exemption with a last day, and names a criterion that a table lacks.
+// Whether an entry is an exemption with a last day that names a criterion that a table lacks.
 fn is_dated_beyond(held: &HeldEntry, table: &CriteriaTable) -> bool
     ensures { result ≡ is_dated_beyond table.now held.now }
 {

@@ -1,4 +1,4 @@
-//! Peers as they are held.
+//! Held peers.
 ghost use Rattle.std.specs.Prelude.{◌≡◌};
 ghost use Rattle.vet_entries.specs.HeldPeer.{peer_name};
 
@@ -7,7 +7,7 @@ use crate::peer_settings::PeerSettings;
 use vet_base::keyed::HasKey;
 use vet_base::name::Name;
 
-/// A peer: how it is imported, and what was imported from it.
+/// A peer: the settings with which it is imported, and the content imported from it.
 pub struct HeldPeer {
     pub settings: PeerSettings,
     pub content: Holding,

@@ -1,4 +1,4 @@
-//! What is held of a peer.
+//! The content held of a peer.
 ghost use Rattle.std.specs.Prelude.{◌≡◌, ◌<◌, IfOk, IfErr, filter, length};
 ghost use Rattle.std.specs.List.{All};
 ghost use Rattle.vet_entries.specs.ByPackage.{gathered, is_of};
@@ -13,8 +13,8 @@ use vet_base::definitions::Definitions;
 use vet_base::name::PackageName;
 use vet_base::refusal::Refusal;
 
-/// What was imported from a peer, in the peer's own words: its criteria, the built-in ones among them, and its
-/// entries by their numbers.
+/// The content imported from a peer, in the peer's own words: its criteria, including the built-in ones, and its
+/// entries in the order of their numbers.
 pub struct Holding {
     definitions: Definitions,
     entries: ByPackage,
@@ -45,7 +45,7 @@ impl Drop for Holding {
 }
 
 impl Holding {
-    /// The built-in criteria and no entries, as of a peer from which nothing was imported. Refused: `NoMemory`.
+    /// The built-in criteria and no entries, as for a peer from which nothing was imported. Refused: `NoMemory`.
     pub fn new(alloc: Global) -> Result<Holding, Refusal>
         ensures ok { IfOk result (λ h. h ≡ no_holding) }
         ensures memory { IfErr result (λ e. e ≡ Refusal.NoMemory) }
@@ -73,7 +73,7 @@ impl Holding {
         })
     }
 
-    /// The peer's criteria, the built-in ones among them. Takes no memory.
+    /// The peer's criteria, including the built-in ones. Takes no memory.
     pub fn definitions(&self) -> &Definitions
         ensures { result.now ≡ self.now.table }
     {

@@ -1,4 +1,4 @@
-//! What an import changes of what is held of a peer, and which own entries remain when files replace them.
+//! Imports of a peer's content, and the replacement of one's own entries by those of files.
 //!
 //! **After an import the content's entries are held, each once: those that were held keep their numbers, and the new
 //! ones get the next numbers in the order of reading. The same holds for one's own entries when files replace them,
@@ -112,8 +112,8 @@ pub fn compare(
     })
 }
 
-/// What is held of the peer after an import, given the next number. Costs a copy of each entry that remains or is new,
-/// and a time of n log n. Refused: `NoMemory`.
+/// Returns what is held of the peer after an import, given the next number. Costs a copy of each entry that remains or
+/// is new, and a time of n log n. Refused: `NoMemory`.
 pub fn holding_after(
     alloc: Global,
     name: &Name,
@@ -188,7 +188,7 @@ pub fn same_items_are_same()
     ensures { SameItemsAreSame }
 {}
 
-/// What is held after an import is the content: the same entries, as the peer's, and its criteria.
+/// After an import the content is held: the same entries, as the peer's, and its criteria.
 pub fn import_holds_its_content()
     ensures { ImportHoldsItsContent }
 {}
@@ -213,7 +213,7 @@ pub fn import_takes_entries()
     ensures { ImportTakesEntries }
 {}
 
-// The held entries by what they say, of which none was seen yet.
+// The held entries by what they say, none of them seen yet.
 fn unseen<'a>(alloc: Global, held: &'a [HeldEntry]) -> Result<BTreeMap<Said<'a>, bool>, AllocError>
     ensures { IfOk result (λ seen. (q : Entry)
         → get entry_cmp seen q ≡ (if list_any (λ h. entry_eq (own h.entry) q) held.now then Some false else None)) }
@@ -225,7 +225,7 @@ fn unseen<'a>(alloc: Global, held: &'a [HeldEntry]) -> Result<BTreeMap<Said<'a>,
     Ok(seen)
 }
 
-// Marks some entries as seen, and returns of each whether it is not held.
+// Marks some entries as seen, and returns for each whether it is not held.
 fn see<'a>(
     alloc: Global,
     seen: &mut BTreeMap<Said<'a>, bool>,
@@ -259,7 +259,7 @@ fn see_one<'a>(seen: &mut BTreeMap<Said<'a>, bool>, entry: &'a Entry) -> bool
     }
 }
 
-// Of each held entry, whether it was seen.
+// For each held entry, whether it was seen.
 fn seen_again<'a>(
     alloc: Global,
     seen: &BTreeMap<Said<'a>, bool>,
@@ -285,7 +285,7 @@ fn was_seen<'a>(seen: &BTreeMap<Said<'a>, bool>, held: &'a HeldEntry) -> bool
     }
 }
 
-// Of each held entry, whether it is an exemption with a last day, or was seen.
+// For each held entry, whether it is an exemption with a last day, or was seen.
 fn remaining<'a>(
     alloc: Global,
     seen: &BTreeMap<Said<'a>, bool>,
@@ -312,7 +312,7 @@ fn remains<'a>(seen: &BTreeMap<Said<'a>, bool>, held: &'a HeldEntry) -> bool
     was_seen(seen, held)
 }
 
-// How many of some answers are yes.
+// The number of answers that are yes.
 fn count(answers: &[bool]) -> usize
     ensures { result ≡ length (filter (λ b. b) answers.now) }
 {
@@ -326,7 +326,7 @@ fn are_all(answers: &[bool]) -> bool
     answers.iter().all(|answer| *answer)
 }
 
-// Whether all that is held comes again, nothing is new, and the criteria are the same.
+// Whether all held entries come again, none is new, and the criteria are the same.
 fn is_same(
     alloc: Global,
     held: &Holding,
@@ -347,7 +347,7 @@ fn is_same(
     has_criteria_of(alloc, held, content)
 }
 
-// Whether what is held has the criteria of a content.
+// Whether the criteria held are those of a content.
 fn has_criteria_of(alloc: Global, held: &Holding, content: &PeerContent) -> Result<bool, Refusal>
     ensures ok { IfOk result (λ is_same. is_same ≡ criteria_eq (defined content.now.criteria) held.now.table) }
     ensures memory { IfErr result (λ e. e ≡ Refusal.NoMemory) }
@@ -388,7 +388,7 @@ fn copied(held: &HeldEntry) -> Result<HeldEntry, AllocError>
     })
 }
 
-// The peer of a name as a source.
+// The peer with a name, as a source.
 fn source_of(name: &Name) -> Result<Source, AllocError>
     ensures { IfOk result (λ s. s ≡ Peer name.now) }
 {

@@ -1,7 +1,7 @@
-//! Violations of a package that judge many versions.
+//! The violations of a package, by which many versions are judged.
 //!
-//! **Each different requirement is looked at once for each different version, and what is found is what all
-//! the violations condemn.**
+//! **Each distinct requirement is matched once against each distinct version, and the criteria found are those for
+//! which the violations together condemn the version.**
 ghost use Rattle.std.specs.Prelude.{◌≡◌, ◌||◌, ◌&&◌, ℕ, IfOk, IfErr, OnOk};
 ghost use Rattle.std.specs.BTreeMap.{get};
 ghost use Rattle.std.specs.Cmp.Lexicographic.{slice_cmp};
@@ -21,8 +21,8 @@ use vet_base::refusal::Refusal;
 use vet_base::req::Req;
 use vet_base::version::VetVersion;
 
-/// Some violations, with those of one requirement as one. Costs a look for each requirement among those that
-/// came before, and a copy of each different one. Refused: `NoMemory`.
+/// Some violations, with those of the same requirement merged into one. Costs a lookup of each requirement among those
+/// before it, and two copies of each distinct one. Refused: `NoMemory`.
 pub fn merged(alloc: Global, violations: &[Violation]) -> Result<Vec<Violation>, Refusal>
     ensures ok { IfOk result (λ merged. (c : ℕ) (v : VersionValue)
         → condemned_by merged.items c v ≡ condemned_by violations.now c v) }
@@ -36,8 +36,9 @@ pub fn merged(alloc: Global, violations: &[Violation]) -> Result<Vec<Violation>,
     Ok(merged)
 }
 
-/// The criteria for which a version is condemned by some violations, which may have been found before. Costs
-/// a look among the versions judged so far, and for a new one a look at each violation. Refused: `NoMemory`.
+/// The criteria for which some violations condemn a version, which may have been found before. Costs a lookup among the
+/// versions judged so far. For a new version it also costs a look at each violation, and a copy of the version.
+/// Refused: `NoMemory`.
 pub fn judge(
     judged: &mut BTreeMap<VetVersion, CriteriaSet>,
     violations: &[Violation],
@@ -56,7 +57,7 @@ pub fn judge(
     Ok(condemned)
 }
 
-// Puts a violation to the one of its requirement, or behind all.
+// Merges a violation into the one with its requirement, or adds it after all.
 fn merge(
     merged: &mut Vec<Violation>,
     places: &mut BTreeMap<Req, usize>,

@@ -1,4 +1,4 @@
-//! What an entry says of its package.
+//! The kinds of entries: what each says of its package.
 ghost use Rattle.std.specs.Prelude.{◌≡◌};
 ghost use Rattle.vet_entries.specs.Kind.{grants_same, has_lapsed, has_last_day, is_exemption, is_over, last_day_of};
 ghost use Rattle.vet_entries.specs.Kind.{no_audit, same_last_day};
@@ -14,9 +14,9 @@ use vet_base::version::VetVersion;
 /// Who made an audit, and whether others may import it (The Cargo Vet Book, audit entries).
 #[derive(Clone, PartialEq, Eq)]
 pub struct Audit {
-    /// Who reviewed, in the order of their bytes, each once.
+    /// The reviewers, in the order of their bytes, each once.
     pub who: Texts,
-    /// Whether others may import the entry, where it says so.
+    /// Whether others may import the entry, if it says so.
     pub importable: Option<bool>,
 }
 
@@ -30,7 +30,7 @@ impl Drop for Audit {
 }
 
 impl Audit {
-    /// Nobody is named, and nothing is said of imports.
+    /// The audit that names nobody and says nothing of imports.
     pub fn anonymous(alloc: Global) -> Audit
         ensures { result ≡ no_audit }
     {
@@ -45,9 +45,9 @@ impl Audit {
 /// audits).
 #[derive(Clone, PartialEq, Eq)]
 pub struct Grant {
-    /// Who vouches, in the order of their bytes, each once.
+    /// The people who vouch, in the order of their bytes, each once.
     pub who: Texts,
-    /// Whether the window is to be renewed, where the entry says so.
+    /// Whether the window is to be renewed, if the entry says so.
     pub renew: Option<bool>,
 }
 
@@ -57,8 +57,8 @@ impl Drop for Grant {
     }
 }
 
-/// What a user of crates.io published from a first day to a last, both included (The Cargo Vet Book, wildcard
-/// audits and trusted publishers). A window that ends before it begins has no day.
+/// The versions that a user of crates.io published from a first day to a last, both included (The Cargo Vet Book,
+/// wildcard audits and trusted publishers). A window that ends before it begins has no day.
 #[derive(Clone, Copy)]
 pub struct Window {
     pub user: User,
@@ -88,24 +88,24 @@ impl Eq for Window {
     ghost laws = { decided window_eq window_eq-Decides };
 }
 
-/// What an entry says of its package. Each kind holds what goes with it and nothing else: who vouches, and
-/// what it tells tools.
+/// The kind of an entry: what it says of its package. Each kind holds what goes with it and nothing else, such as who
+/// vouches and flags for tools.
 pub enum Kind {
     /// This version was reviewed in full (The Cargo Vet Book, audit entries: `version`).
     Full(VetVersion, Audit),
-    /// What changed from a version to another was reviewed, so that trust in the first is carried to the second;
-    /// either may be the greater (there: `delta`).
+    /// The changes from one version to another were reviewed, so trust in the first carries over to the second. Either
+    /// may be the greater (there: `delta`).
     Delta(Delta, Audit),
     /// The versions that match do not meet the criteria (there: `violation`).
     Violation(Req, Audit),
-    /// What a user publishes within a window is vouched for (there: wildcard audits).
+    /// The versions that a user publishes within a window are vouched for (there: wildcard audits).
     Wildcard(Window, Grant),
-    /// What a user publishes within a window is trusted (there: trusted publishers).
+    /// The versions that a user publishes within a window are trusted (there: trusted publishers).
     Trusted(Window),
     /// This version is vouched for without a review (there: exemptions).
     Exemption {
         version: VetVersion,
-        /// Whether to suggest a review in its place, where the entry says so.
+        /// Whether to suggest a review in its place, if the entry says so.
         suggest: Option<bool>,
         /// The last day on which it counts, if it has one. No file has a key for it.
         last_day: Option<Day>,
@@ -158,14 +158,14 @@ impl Kind {
         self.last_day().is_some()
     }
 
-    /// Whether it is an exemption whose last day is before this day. Without a day it is not.
+    /// Whether it is an exemption whose last day is before this day. Without a day it has not lapsed.
     pub fn has_lapsed(&self, day: Option<Day>) -> bool
         ensures { result ≡ has_lapsed self.now day }
     {
         is_over(self.last_day(), day)
     }
 
-    // Whether both are of one kind that is no audit, and the same.
+    // Whether both are the same, and of one kind that is not an audit.
     fn grants_the_same(&self, other: &Kind) -> bool
         ensures { result ≡ grants_same self.now other.now }
     {
@@ -189,7 +189,7 @@ impl Kind {
     }
 }
 
-/// Whether a last day is over on a day: the day comes after it. It is never over if there is no last day or no day.
+/// Whether a last day is over on a day, that is, whether the day comes after it. It is not over if either is absent.
 pub fn is_over(last: Option<Day>, day: Option<Day>) -> bool
     ensures { result ≡ is_over last day }
 {

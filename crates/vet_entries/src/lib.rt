@@ -1,10 +1,10 @@
-//! Entries, what is held of them, and the steps of trust that they give a package.
+//! Entries, the facts that hold them, and the steps of trust that they give a package.
 //!
-//! **`steps_of` gives the steps of the definition, list for list, `condemned` just the criteria of the
-//! definition, and what `EntryFacts::apply` changes, the edit that it answers changes back.**
+//! **`steps_of` returns exactly the list of steps of the definition, and `condemned` exactly the criteria of the
+//! definition. `EntryFacts::apply` returns the edit that undoes the one that it makes.**
 //!
-//! Scope of this crate: what is vouched for, and for which criteria. Where chains of steps lead stands in
-//! `vet_graph`; what projects ask for, in `vet_demand`.
+//! Scope of this crate: which versions are vouched for, and for which criteria. `vet_graph` finds where chains of steps
+//! lead, and `vet_demand` what projects ask for.
 //!
 //! For example, a wildcard entry of user 5 from 2023-01-01 to 2023-12-31 gives a step to each version that this user
 //! published from the first of these days to the last, both included.

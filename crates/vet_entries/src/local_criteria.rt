@@ -1,11 +1,12 @@
-//! What the words of one's own and of each peer are in one's own table.
+//! The criteria of one's own table that one's own words and those of each peer stand for.
 //!
-//! **The local criteria of an entry are those of the definition: a peer's are closed by the peer's own criteria,
-//! then mapped, and what they stand for is closed here.**
+//! **The local criteria of an entry are those of the definition: those of a peer's entry are closed by the peer's own
+//! criteria, then mapped, and the result is closed here.**
 //!
-//! All that one criterion of a peer implies there is found once, and so is what that stands for here. A name that
-//! the peer doesn't define implies nothing there, so the map alone says what it is. An entry then costs a look for
-//! each name, and one closure. Nothing is found of a peer until an entry of that peer is looked at.
+//! For each criterion of a peer, all that it implies there is found once, and so is all that these criteria stand for
+//! here. A name that the peer does not define implies nothing there, so only the map says what it stands for. An entry
+//! then costs a lookup for each name, and one closure. Nothing is computed for a peer until an entry of that peer is
+//! looked at.
 ghost use Rattle.std.specs.Prelude.{◌≡◌, ◌<◌, ℕ, None, Some, [], length, replicate, slice_index_or, IfOk, IfErr};
 ghost use Rattle.std.specs.FinMap as table;
 ghost use Rattle.std.specs.FinSet as set;
@@ -31,8 +32,9 @@ use vet_base::name::Name;
 use vet_base::names::Names;
 use vet_base::refusal::Refusal;
 
-/// What the words of one's own and of each peer are in one's own table, for many packages: one's own are found at
-/// once, and those of a peer when they are first asked for. A change of the table or of a peer makes it void.
+/// The criteria of one's own table that one's own words and those of each peer stand for, found once for many packages.
+/// One's own are found at once, and those of a peer when they are first asked for. A change of the table or of a peer
+/// makes them void.
 pub struct LocalCriteria {
     own: Closures,
     peers: Vec<Option<PeerWords>>,
@@ -44,16 +46,16 @@ impl Drop for LocalCriteria {
     }
 }
 
-// What each criterion of a peer stands for with all that it implies there, by its place among the peer's names, not
-// yet closed in one's own table.
+// The criteria that each criterion of a peer stands for with all that it implies there, by its place among the peer's
+// names. They are not yet closed in one's own table.
 #[derive(Drop)]
 struct PeerWords {
     stands: [CriteriaSet; MOST_CRITERIA],
 }
 
 impl LocalCriteria {
-    /// What one's own words are, and room for those of each peer, of which nothing is found yet. Costs the closures
-    /// of one's own table. Refused: `NoMemory`.
+    /// The closures of one's own table, and an empty slot for the words of each peer. Costs the closures of one's own
+    /// table. Refused: `NoMemory`.
     pub fn of(alloc: Global, facts: &EntryFacts) -> Result<LocalCriteria, Refusal>
         ensures ok { IfOk result (AreLocal facts.now.content) }
         ensures memory { IfErr result (λ e. e ≡ Refusal.NoMemory) }
@@ -79,8 +81,9 @@ impl LocalCriteria {
         self.own.close(&facts.criteria().set_of(names))
     }
 
-    /// The local criteria of some names of the peer at a place. Costs a look for each, and the first time also the
-    /// closures of the peer's criteria, and a look in the peer's map for each name that they imply. Takes no memory.
+    /// The local criteria of some names of the peer at a place. Costs a lookup for each name. The first time it also
+    /// costs the closures of the peer's criteria, and a lookup in the peer's map for each name that they imply. Takes
+    /// no memory.
     pub(crate) fn of_peer(&mut self, facts: &EntryFacts, place: usize, names: &Names) -> CriteriaSet
         requires local { AreLocal facts.now.content self.old }
         requires place { place < length facts.now.content.peers }
@@ -95,7 +98,7 @@ impl LocalCriteria {
     }
 }
 
-// So many slots, with nothing in them.
+// As many empty slots as asked for.
 fn empty_slots<T: Drop>(alloc: Global, count: usize) -> Result<Vec<Option<T>>, AllocError>
     ensures { IfOk result (λ slots. slots.items ≡ replicate count None) }
 {
@@ -106,8 +109,8 @@ fn empty_slots<T: Drop>(alloc: Global, count: usize) -> Result<Vec<Option<T>>, A
     Ok(slots)
 }
 
-// What some names of a peer stand for with all that they imply there, by the words in the peer's slot. If there are
-// none yet, they are found and put there.
+// The criteria that some names of a peer stand for with all that they imply there, by the words in the peer's slot. If
+// the slot is empty, the words are found and put there.
 fn stand_by(
     slot: &mut Option<PeerWords>,
     criteria: &CriteriaTable,
@@ -128,7 +131,7 @@ fn stand_by(
     stands
 }
 
-/// What a peer's violation names in one's own words, unclosed: no closure on either side. Takes no memory.
+/// The own criteria that a peer's violation names, closed neither by the peer nor here. Takes no memory.
 pub(crate) fn mapped_set(criteria: &CriteriaTable, map: &CriteriaMap, names: &Names) -> CriteriaSet
     ensures { result ≡ placed criteria.now (mapped map.now names.now) }
 {
@@ -140,7 +143,7 @@ pub(crate) fn mapped_set(criteria: &CriteriaTable, map: &CriteriaMap, names: &Na
 }
 
 impl PeerWords {
-    // What each criterion of a peer stands for.
+    // The criteria that each criterion of a peer stands for.
     fn of(criteria: &CriteriaTable, peer: &HeldPeer) -> PeerWords
         ensures { AreWords criteria.now peer.now result }
     {
@@ -156,7 +159,7 @@ impl PeerWords {
         PeerWords { stands }
     }
 
-    // What some names of the peer stand for with all that they imply there.
+    // The criteria that some names of the peer stand for with all that they imply there.
     fn of_names(&self, criteria: &CriteriaTable, peer: &HeldPeer, names: &Names) -> CriteriaSet
         requires { AreWords criteria.now peer.now self.now }
         ensures { result ≡ placed criteria.now
@@ -169,7 +172,7 @@ impl PeerWords {
         set
     }
 
-    // What a name of the peer stands for with all that it implies there.
+    // The criteria that a name of the peer stands for with all that it implies there.
     fn of_name(&self, criteria: &CriteriaTable, peer: &HeldPeer, name: &Name) -> CriteriaSet
         requires { AreWords criteria.now peer.now self.now }
         ensures { result ≡ stands_for criteria.now peer.now name.now }
@@ -181,7 +184,8 @@ impl PeerWords {
     }
 }
 
-// What each criterion of a peer stands for with the names that it implies and the peer doesn't define, by its place.
+// The criteria that each criterion of a peer stands for with the names that it implies and the peer does not define, by
+// its place.
 fn direct_words(
     criteria: &CriteriaTable,
     map: &CriteriaMap,
@@ -201,7 +205,7 @@ fn direct_words(
     words
 }
 
-// What those of some names stand for that a peer doesn't define.
+// The criteria that those of some names stand for that a peer does not define.
 fn words_beyond(
     criteria: &CriteriaTable,
     map: &CriteriaMap,
@@ -217,7 +221,7 @@ fn words_beyond(
     set
 }
 
-// What a name stands for, if a peer doesn't define it.
+// The criteria that a name stands for, or none if a peer defines it.
 fn word_beyond(
     criteria: &CriteriaTable,
     map: &CriteriaMap,
@@ -232,7 +236,7 @@ fn word_beyond(
     word(criteria, map, name)
 }
 
-// What a name of a peer stands for, without what it implies there or here.
+// The criteria that a name of a peer stands for, without those that it implies there or here.
 fn word(criteria: &CriteriaTable, map: &CriteriaMap, name: &Name) -> CriteriaSet
     ensures { result ≡ placed criteria.now (mapped_name map.now name.now) }
 {
@@ -245,7 +249,7 @@ fn word(criteria: &CriteriaTable, map: &CriteriaMap, name: &Name) -> CriteriaSet
     itself(criteria, name)
 }
 
-// A name of one's own, if the table has it.
+// The criterion of a name, or none if the table lacks it.
 fn itself(criteria: &CriteriaTable, name: &Name) -> CriteriaSet
     ensures { result ≡ placed criteria.now (set.insert set.empty name.now) }
 {

@@ -1,7 +1,7 @@
-//! How entries are ordered by what they say, so that each is found among many by a search.
+//! The order of entries by what they say, by which an entry is found among many with a search.
 //!
-//! By an order and not by a hash: the kit's hash tables have a seed that everybody knows, so whoever writes a file
-//! could make entries that all have the same hash.
+//! The search uses an order, not a hash. The kit's hash tables have a seed that everybody knows, so the author of a
+//! file could make entries that all have the same hash.
 ghost use Rattle.std.specs.Prelude.{◌≡◌};
 ghost use Rattle.vet_entries.specs.EntryOrder.{audit_cmp, delta_cmp, flag_cmp, grant_cmp, grants_cmp, kind_cmp};
 ghost use Rattle.vet_entries.specs.EntryOrder.{kind_rank, last_day_cmp, names_cmp, said_cmp, source_cmp, window_cmp};
@@ -15,7 +15,7 @@ use vet_base::delta::Delta;
 use vet_base::names::Names;
 use vet_base::texts::Texts;
 
-// How two sources compare: one's own before a peer's, and these by the peer's name.
+// Compares two sources: one's own comes before a peer, and peers are ordered by name.
 pub(crate) fn source_cmp(a: &Source, b: &Source) -> Ordering
     ensures { result ≡ source_cmp a.now b.now }
 {
@@ -27,7 +27,7 @@ pub(crate) fn source_cmp(a: &Source, b: &Source) -> Ordering
     }
 }
 
-// How two entries compare by what they say, whosever they are.
+// Compares two entries by what they say, whatever their sources.
 pub(crate) fn said_cmp(a: &Entry, b: &Entry) -> Ordering
     ensures { result ≡ said_cmp a.now b.now }
 {
@@ -49,7 +49,7 @@ fn kind_cmp(a: &Kind, b: &Kind) -> Ordering
     }
 }
 
-// How two kinds compare that are not audits of one kind.
+// Compares two kinds that are not audits of the same kind.
 fn grants_cmp(a: &Kind, b: &Kind) -> Ordering
     ensures { result ≡ grants_cmp a.now b.now }
 {
@@ -117,7 +117,7 @@ fn delta_cmp(a: &Delta, b: &Delta) -> Ordering
     a.from.cmp(&b.from).then_with(|| a.to.cmp(&b.to))
 }
 
-// How two sets of names compare: by their members in order.
+// Compares two sets of names by their members in order.
 fn names_cmp(a: &Names, b: &Names) -> Ordering
     ensures { result ≡ names_cmp a.now b.now }
 {
@@ -130,7 +130,7 @@ fn texts_cmp(a: &Texts, b: &Texts) -> Ordering
     a.as_slice().cmp(b.as_slice())
 }
 
-// How two last days compare: none comes first, and days in their order.
+// Compares two last days: an absent one comes first, and days are in their order.
 fn last_day_cmp(a: Option<Day>, b: Option<Day>) -> Ordering
     ensures { result ≡ last_day_cmp a b }
 {
@@ -142,7 +142,7 @@ fn last_day_cmp(a: Option<Day>, b: Option<Day>) -> Ordering
     }
 }
 
-// How two answers compare: none, then no, then yes.
+// Compares two flags: an absent one comes first, then no, then yes.
 fn flag_cmp(a: Option<bool>, b: Option<bool>) -> Ordering
     ensures { result ≡ flag_cmp a b }
 {

@@ -1,6 +1,6 @@
 //! The entries of one package, gathered once for its steps and its violations.
 //!
-//! **The steps and the violations that these entries give are those of the definition, list for list.**
+//! **The steps and the violations that these entries give are exactly the lists of the definition.**
 ghost use Rattle.std.specs.Prelude.{◌≡◌, ◌<◌, ◌++◌, IfOk, IfErr, OnOk, None, length, slice_index_or};
 ghost use Rattle.std.specs.List.{All, flat_map};
 ghost use Rattle.std.specs.Option.{option_copied};
@@ -24,7 +24,7 @@ use vet_base::criteria_set::CriteriaSet;
 use vet_base::name::PackageName;
 use vet_base::refusal::Refusal;
 
-/// The entries of a package: its own, then those of each peer that does not exclude it.
+/// The entries of a package: one's own, then those of each peer that does not exclude it.
 pub struct PackageEntries<'a> {
     package: &'a PackageName,
     taken: Vec<Taken<'a>>,
@@ -64,10 +64,10 @@ impl<'a> PackageEntries<'a> {
         })
     }
 
-    /// The violations of the package: its own, then those of each peer, each by the numbers of the entries. With them
-    /// each version of the package is judged without a further look at its entries (`violations_condemn`). Costs a
-    /// look at each entry. Each violation costs a look at each closure and a search for each of its names, as in
-    /// `condemned`. Refused: `NoMemory`.
+    /// The violations of the package: one's own, then those of each peer, each in the order of the entries' numbers.
+    /// They suffice to judge each version of the package, without another look at its entries (`violations_condemn`).
+    /// Costs a look at each entry. Each violation costs a look at each closure and a search for each of its names, as
+    /// in `condemned`. Refused: `NoMemory`.
     pub fn violations(
         &self,
         alloc: Global,
@@ -88,10 +88,10 @@ impl<'a> PackageEntries<'a> {
         Ok(violations)
     }
 
-    /// The steps of the package, by the numbers of the entries that give them and, of one entry, in the order of the
-    /// publisher records. Costs a search for each name of each entry, and a sort of the entries by their numbers. Each
-    /// peer that has an entry among them and whose words were not asked for before costs the closures of its criteria.
-    /// Each window costs a look at each of the package's publisher records. Refused: `NoMemory`.
+    /// The steps of the package, in the order of the numbers of the entries that give them and, within one entry, in
+    /// that of the publisher records. Costs a search for each name of each entry, and a sort of the entries by their
+    /// numbers. Costs the closures of a peer's criteria if the peer has an entry among them and its words were not
+    /// asked for before. Each window costs a look at each of the package's publisher records. Refused: `NoMemory`.
     pub fn into_steps(
         mut self,
         alloc: Global,
@@ -174,7 +174,7 @@ fn add_of_peer<'a>(
     Ok(())
 }
 
-// The peer whose entry it is, or none for one of one's own.
+// The peer of an entry, or `None` for an own one.
 fn peer_of<'a>(entry: &Taken<'_>, facts: &'a EntryFacts) -> Option<&'a HeldPeer>
     ensures { option_copied result ≡ peer_at facts.now.content.peers entry.now.peer }
 {

@@ -1,4 +1,4 @@
-//! What the audits file of a peer gives.
+//! The content of a peer's audits file.
 ghost use Rattle.std.specs.Prelude.{◌≡◌};
 ghost use Rattle.vet_entries.specs.PeerContent.{IsPeerContent};
 
@@ -6,9 +6,10 @@ use crate::entry::Entry;
 use std::marker::Model;
 use vet_base::criterion::Criterion;
 
-/// What the audits file of a peer has, in the peer's own words: at most `MOST_PEER_CRITERIA` criteria, and its entries.
-/// No criterion has the name of a built-in one or of another. Each entry is the peer's own, and occurs once. None is an
-/// exemption or a trusted publisher, which concern only the peer, and none is one that others may not import.
+/// The content of a peer's audits file, in the peer's own words: at most `MOST_PEER_CRITERIA` criteria, and its
+/// entries. No criterion has the name of a built-in one or of another. Each entry is the peer's own, and occurs once.
+/// None is an exemption or a trusted publisher, which concern only the peer, and none is one that others may not
+/// import.
 pub struct PeerContent {
     criteria: Vec<Criterion>,
     entries: Vec<Entry>,
@@ -39,7 +40,7 @@ impl Drop for PeerContent {
 }
 
 impl PeerContent {
-    /// What these criteria and entries are. Asks that they are what a peer's file can give. Takes no memory.
+    /// The content with these criteria and entries. Asks that a peer's file can give them. Takes no memory.
     pub fn of(criteria: Vec<Criterion>, entries: Vec<Entry>) -> PeerContent
         requires { IsPeerContent criteria.items entries.items }
         ensures { result ≡ record { criteria = criteria.items; entries = entries.items } }

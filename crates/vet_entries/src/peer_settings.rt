@@ -1,4 +1,4 @@
-//! How a peer is imported.
+//! The settings with which a peer is imported.
 ghost use Rattle.std.specs.Prelude.{◌≡◌};
 ghost use Rattle.vet_entries.specs.PeerSettings.{settings_eq};
 
@@ -9,16 +9,16 @@ use vet_base::name::Name;
 use vet_base::package_names::PackageNames;
 use vet_base::texts::Texts;
 
-/// What a peer is imported with (The Cargo Vet Book, config: `imports`).
+/// The settings with which a peer is imported (The Cargo Vet Book, config: `imports`).
 pub struct PeerSettings {
-    /// The peer.
+    /// The name of the peer.
     pub name: Name,
-    /// Where its audits are published, in the order of their bytes, each once. These are texts, which
-    /// nothing fetches.
+    /// The urls at which its audits are published, in the order of their bytes, each once. They are texts that nothing
+    /// fetches.
     pub url: Texts,
-    /// The packages of which nothing is taken from the peer.
+    /// The packages for which nothing is taken from the peer.
     pub exclude: PackageNames,
-    /// Which criteria of one's own the peer's criteria stand for.
+    /// The own criteria that each of the peer's criteria stands for.
     pub map: CriteriaMap,
 }
 

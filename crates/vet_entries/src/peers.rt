@@ -1,4 +1,4 @@
-//! Lists of held peers: what is exchanged in them, and what their maps lead to.
+//! Lists of held peers: exchanges of settings and content, and the criteria to which their maps lead.
 ghost use Rattle.std.specs.List.{list_any};
 ghost use Rattle.std.specs.Prelude.{◌≡◌, true, is_some};
 ghost use Rattle.vet_entries.specs.Facts.{is_target_of};
@@ -11,7 +11,8 @@ use crate::peer_settings::PeerSettings;
 use vet_base::keyed::Keyed;
 use vet_base::name::Name;
 
-/// Puts settings in place of those of the held peer of their name, and answers those.
+/// Puts settings in place of those of the held peer with their name, and returns the earlier ones. Asks that there is
+/// one.
 pub(crate) fn exchange_settings(peers: &mut Keyed<HeldPeer>, settings: PeerSettings) -> PeerSettings
     requires { is_some (peer_of peers.old.items settings.name) ≡ true }
     ensures items { peers.new.items ≡ with_settings settings peers.old.items }
@@ -30,7 +31,7 @@ pub(crate) fn exchange_settings(peers: &mut Keyed<HeldPeer>, settings: PeerSetti
     }
 }
 
-/// Puts a content in place of that of the held peer of a name, and answers that.
+/// Puts a content in place of that of the held peer with a name, and returns the earlier one. Asks that there is one.
 pub(crate) fn exchange_content(
     peers: &mut Keyed<HeldPeer>,
     name: &Name,
@@ -54,7 +55,7 @@ pub(crate) fn exchange_content(
     }
 }
 
-/// Whether the map of one of some peers leads to a criterion.
+/// Whether the map of any of some peers leads to a criterion.
 pub(crate) fn leads_to(peers: &[HeldPeer], name: &Name) -> bool
     ensures { result ≡ list_any (is_target_of name.now) peers.now }
 {

@@ -14,9 +14,9 @@ use vet_base::day::Day;
 use vet_base::text::Text;
 use vet_base::version::VetVersion;
 
-/// Says that a user of crates.io published a version of a package on a day (The Cargo Vet Book, wildcard
-/// audits). The package is told by what holds the record. Records are ordered by version, day, user, login
-/// and name, where no login or name stands before one, and texts by their bytes.
+/// A record that a user of crates.io published a version of a package on a day (The Cargo Vet Book, wildcard audits).
+/// The package is known from the list that holds the record. Records are ordered by version, day, user, login and name.
+/// An absent login or name comes before any other, and texts are ordered by their bytes.
 pub struct Publisher {
     pub version: VetVersion,
     pub user: User,
@@ -60,7 +60,7 @@ impl PartialEq for Publisher {
 
     ghost laws = { partial_equiv_from_equiv (eq_by_cmp_equiv publisher_total) };
 
-    // Only a record itself ties with it.
+    // A record ties only with itself.
     fn eq(&self, other: &Publisher) -> bool
         ensures value { result ≡ publisher_eq self.now other.now }
         ensures same { IsTrue result ↔ (self.now ≡ other.now) }
@@ -102,7 +102,7 @@ impl Ord for Publisher {
     }
 }
 
-// How two days compare: by their numbers, and each number names one day.
+// Compares two days by their numbers. Each number names one day.
 pub(crate) fn day_cmp(a: Day, b: Day) -> Ordering
     ensures { result ≡ calendar_cmp a b }
 {
@@ -112,7 +112,7 @@ pub(crate) fn day_cmp(a: Day, b: Day) -> Ordering
     a.cmp(&b)
 }
 
-// How two texts compare by their bytes, where none stands before one.
+// Compares two texts by their bytes. An absent one comes first.
 pub(crate) fn text_cmp(a: &Option<Text>, b: &Option<Text>) -> Ordering
     ensures { result ≡ option_cmp (slice_cmp nat_cmp) a.now b.now }
 {

@@ -133,8 +133,8 @@ impl PublisherRecords {
         }
     }
 
-    /// The records of these packages, which are in the order of their names. Asks that each has some, and that all
-    /// can be counted. Takes a time of n log n.
+    /// The records of these packages, which are in the order of their names. Asks that each package has records, and
+    /// that all records together are fewer than 2^64. Takes a time of n log n.
     pub fn of(
         alloc: Global,
         packages: Vec<PackagePublishers>,
@@ -167,24 +167,24 @@ impl PublisherRecords {
         }
     }
 
-    /// How many records there are in all. Costs nothing.
+    /// The number of records in all. Costs nothing.
     pub fn total(&self) -> usize
         ensures { result ≡ records_total self.now.items }
     {
         self.total
     }
 
-    /// Whether the same packages have the same records in another. Costs a look at each record, up to the
-    /// first that differs.
+    /// Whether another list has the same packages with the same records. Costs a look at each record, up to the first
+    /// that differs.
     pub fn has_same(&self, other: &PublisherRecords) -> bool
         ensures { IsTrue result ↔ (self.now.items ≡ other.now.items) }
     {
         self.packages == other.packages
     }
 
-    /// The edit that leads to these records of a package, with room for it. Asks that there are records, held
-    /// ones or these, and that all can be counted after. Costs two binary searches among the packages, a copy
-    /// of these records, and at times a move of all packages to twice the room. Refused: `NoMemory`.
+    /// The edit that puts these records in place of those of a package, and room for it. Asks that at least one of the
+    /// two has records, and that all records together are then fewer than 2^64. Costs two binary searches among the
+    /// packages, a copy of these records, and sometimes a move of all packages to twice the room. Refused: `NoMemory`.
     pub fn edit_for(
         &mut self,
         package: &PackageName,
@@ -207,8 +207,8 @@ impl PublisherRecords {
         Ok(self.packages.edit_setting(held))
     }
 
-    /// Makes an edit, and answers the one that undoes it. Takes no memory. A put or a take moves the packages
-    /// behind its place.
+    /// Makes an edit, and returns the one that undoes it. Asks that the edit fits. Takes no memory. Adding or removing
+    /// a package moves those after it.
     pub fn apply(&mut self, edit: KeyedEdit<PackagePublishers>) -> KeyedEdit<PackagePublishers>
         requires { FitsPublishers edit self.old }
         ensures content { self.new.items ≡ edited edit self.old.items }
@@ -221,7 +221,7 @@ impl PublisherRecords {
         self.packages.apply(edit)
     }
 
-    // The edit by which a package goes that has records.
+    // The edit that removes a package. Asks that it has records.
     fn edit_dropping(&self, package: &PackageName) -> KeyedEdit<PackagePublishers>
         requires some { records_of self.now.items «package».now ≡ [] → ⊥ }
         requires counted { records_total (with_records «package».now [] self.now.items) < 2 ^ 64 }
@@ -246,7 +246,7 @@ impl PublisherRecords {
         self.packages.reserve()
     }
 
-    // How many records there are in all after an edit.
+    // The number of records in all after an edit.
     fn total_after(&self, edit: &KeyedEdit<PackagePublishers>) -> usize
         requires { FitsPublishers edit.now self.now }
         ensures { result ≡ records_total (edited edit.now self.now.items) }
@@ -260,7 +260,7 @@ impl PublisherRecords {
         }
     }
 
-    // How many records the package at a place has.
+    // The number of records of the package at a place.
     fn count_at(&self, place: usize) -> usize
         requires { place < length self.now.items }
         ensures value { (d : PackagePublishers) → result ≡ length (slice_index_or self.now.items place d).publishers }
@@ -270,9 +270,9 @@ impl PublisherRecords {
     }
 }
 
-/// What the packages are after the records of one were set: it has these records, those of each other stay,
-/// the packages stay in order, and the total is as before, without the records held and with these; to set
-/// the records that are held changes nothing. Does nothing.
+/// After the records of a package are set, it has these records, each other package has the records that it had, and
+/// the packages are in order. The total is as before, less the records held before and plus these. Setting the records
+/// that are held changes nothing. Does nothing.
 pub fn records_after_setting(
     records: &PublisherRecords,
     package: &PackageName,
@@ -307,7 +307,7 @@ fn with_publishers(
     })
 }
 
-// How many records some packages have.
+// The number of records of some packages.
 fn count(packages: &[PackagePublishers]) -> usize
     requires { records_total packages.now < 2 ^ 64 }
     ensures { result ≡ records_total packages.now }

@@ -11,7 +11,7 @@ use std::alloc::{AllocError, Global};
 use std::marker::Model;
 use vet_base::refusal::Refusal;
 
-/// The publisher records of one package, each once, by version, day, user, login and name.
+/// The publisher records of one package, each once, in the order of version, day, user, login and name.
 #[derive(Drop)]
 pub struct Publishers {
     records: Vec<Publisher>,
@@ -39,8 +39,8 @@ impl Publishers {
         }
     }
 
-    /// Some records, which may repeat and stand in any order; doubles count once. Takes a time of n log n.
-    /// Refused: `NoMemory`.
+    /// The publisher records of a list, in which they may repeat and be in any order. A record that repeats counts
+    /// once. Takes a time of n log n. Refused: `NoMemory`.
     pub fn of(alloc: Global, records: Vec<Publisher>) -> Result<Publishers, Refusal>
         ensures records { IfOk result (λ p. AreTheRecords records.items p) }
         ensures memory { IfErr result (λ e. e ≡ Refusal.NoMemory) }
@@ -59,7 +59,7 @@ impl Publishers {
         self.records.as_slice()
     }
 
-    /// How many records there are.
+    /// The number of records.
     pub fn len(&self) -> usize
         ensures { result ≡ length self.now }
     {
@@ -103,7 +103,7 @@ impl Eq for Publishers {
     ghost laws = { publishers_eq_equiv };
 }
 
-/// Where two have the same records, they are equal. Does nothing.
+/// Two lists that have the same records are equal. Does nothing.
 pub fn same_records_are_equal(a: &Publishers, b: &Publishers)
     ensures { ((p : Publisher) → Contains a.now p ↔ Contains b.now p) → a.now ≡ b.now }
 {

@@ -1,5 +1,5 @@
-//! Laws of what is held of a source, one's own entries or a peer's, after others replace them. Some of those held may
-//! be kept in any case. Each law does nothing.
+//! Laws of the entries held of a source, one's own or a peer, after others replace them. Some of those held may be kept
+//! in any case. Each law does nothing.
 ghost use Rattle.vet_entries.specs.ReplacedLaws.{EntriesAreHeld, EntriesAreTaken, EntriesKeepNumbers, EntriesKeepOrder};
 ghost use Rattle.vet_entries.specs.ReplacedLaws.{EntriesStandOnce, NothingNew};
 

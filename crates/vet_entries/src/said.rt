@@ -1,4 +1,4 @@
-//! Entries by what they say, whosever they are.
+//! Entries by what they say, whatever their sources.
 ghost use Rattle.std.specs.Prelude.{◌≡◌};
 ghost use Rattle.vet_entries.specs.Entry.{entry_eq, own};
 
@@ -7,8 +7,8 @@ use crate::order::said_cmp;
 use std::cmp::Ordering;
 use std::marker::Model;
 
-/// A lent entry, seen as one of one's own. Two are equal where their entries say the same, and ordered by what these
-/// say.
+/// A borrowed entry, seen as an own one. Two are equal if their entries say the same, and they are ordered by what the
+/// entries say.
 #[derive(Drop)]
 pub(crate) struct Said<'a> {
     entry: &'a Entry,
@@ -27,7 +27,7 @@ impl<'a> Model for Said<'a> {
 }
 
 impl<'a> Said<'a> {
-    /// What an entry says. Costs nothing.
+    /// An entry, by what it says. Costs nothing.
     pub(crate) fn of(entry: &'a Entry) -> Said<'a>
         ensures { result ≡ own entry.now }
     {

@@ -8,7 +8,8 @@ use crate::facts::{EntryFacts, HeldEntry};
 use crate::held_peer::HeldPeer;
 use vet_base::name::PackageName;
 
-/// Entries, the places of a package's among them, and the peer whose they are.
+/// The entries of one source, the places of a package's entries among them, and the peer, unless the source is one's
+/// own.
 #[derive(Clone, Copy)]
 pub(crate) struct Source<'a> {
     pub(crate) peer: Option<&'a HeldPeer>,
@@ -28,7 +29,7 @@ pub(crate) fn own_entries<'a>(package: &PackageName, facts: &'a EntryFacts) -> S
     }
 }
 
-/// The entries of a package that are taken from a peer. Costs two binary searches among the peer's.
+/// The entries of a package that are taken from a peer. Costs two binary searches among the peer's entries.
 pub(crate) fn entries_taken<'a>(package: &PackageName, peer: &'a HeldPeer) -> Source<'a>
     ensures entries { entries_from result ≡ taken_from «package».now peer.now }
     ensures within { IsWithin result }
@@ -41,7 +42,7 @@ pub(crate) fn entries_taken<'a>(package: &PackageName, peer: &'a HeldPeer) -> So
 }
 
 impl HeldPeer {
-    /// The places of a package's entries, in rising order; where the package is excluded, none.
+    /// The places of a package's entries, in rising order, or none if the package is excluded.
     pub(crate) fn places_taken(&self, package: &PackageName) -> &[usize]
         ensures within { All (λ place. place < length self.now.content.entries) result.now }
         ensures entries { sourced_at (Some self.now) self.now.content.entries result.now

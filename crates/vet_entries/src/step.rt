@@ -1,4 +1,4 @@
-//! Steps of trust, and those that entries give.
+//! Steps of trust, and the steps that entries give.
 ghost use Rattle.std.specs.Prelude.{◌≡◌, ◌++◌, ◌∷◌, [], IfOk, IfErr, OnOk, if◌then◌else◌, true};
 ghost use Rattle.vet_entries.specs.Step.{delta_step, first_step, is_covered, kind_steps, steps_of, window_steps};
 
@@ -17,13 +17,13 @@ use vet_base::version::VetVersion;
 
 /// A step of trust to a version of a package, from nothing or from another version.
 pub struct Step {
-    /// Where it starts, or nothing.
+    /// The version from which it leads, or `None` if it leads from nothing.
     pub origin: Option<VetVersion>,
     /// The version to which it leads.
     pub target: VetVersion,
     /// The criteria for which it vouches: those of its entry, and all that these imply.
     pub criteria: CriteriaSet,
-    /// Whether it comes of an exemption.
+    /// Whether it comes from an exemption.
     pub exempt: bool,
 }
 
@@ -38,9 +38,9 @@ impl Drop for Step {
     }
 }
 
-/// The steps of a package, by the numbers of the entries that give them and, of one entry, in the order of the
-/// publisher records: its own entries and those of each peer that does not exclude it. Costs the closures of one's
-/// own table, and then what `PackageEntries::of` and `into_steps` do. Refused: `NoMemory`.
+/// The steps of a package, given by one's own entries and by those of each peer that does not exclude it. They are in
+/// the order of the entries' numbers and, within one entry, in that of the publisher records. Costs the closures of
+/// one's own table, and then as much as `PackageEntries::of` and `into_steps`. Refused: `NoMemory`.
 pub fn steps_of(
     alloc: Global,
     package: &PackageName,
@@ -120,7 +120,7 @@ fn add_window(
 }
 
 impl Window {
-    // Whether a record is of the window's user, and of one of its days.
+    // Whether a record is of the window's user and of one of its days.
     fn covers(&self, published: &Publisher) -> bool
         ensures { result ≡ is_covered self.now published.now }
     {

@@ -6,7 +6,7 @@ ghost use Rattle.std.specs.Ordering.{as_partial_cmp, nat_cmp};
 use std::cmp::Ordering;
 use std::marker::Model;
 
-/// The last number of a user.
+/// The greatest number of a user, 2^63 - 1.
 pub const LAST_USER: u64 = 9_223_372_036_854_775_807;
 
 /// A user of crates.io (The Cargo Vet Book, wildcard audits): a number from 0 to 2^63 - 1. Users are equal,
@@ -30,7 +30,7 @@ impl Model for User {
 }
 
 impl User {
-    /// The user with a number, and `None` exactly where that is past 2^63 - 1.
+    /// The user with a number, or `None` if the number is greater than 2^63 - 1.
     pub fn new(number: u64) -> Option<User>
         ensures past { IsNone result ↔ (LAST_USER < number) }
         ensures number { IfSome result (λ user. user ≡ number) }
