@@ -1,6 +1,6 @@
 -- The criteria of one's own table that the words of each source stand for, found once for many entries (ours).
 --
--- Local criteria are found once for many entries (LocalCriteria, AreLocal): those of one's own words at once, and
+-- Local criteria are found once for many entries (LocalCriteria, AreLocal): those of one's own words immediately, and
 -- those of a peer's when they are first asked for, so that a slot is empty until then (HoldsWords).
 use Rattle.std.specs.Prelude.{ℕ, ◌≡◌, ◌<◌, List, [], ◌∷◌, Option, Some, IfSome, if◌then◌else◌, length, slice_index_or}
 use Rattle.std.specs.FinMap as map

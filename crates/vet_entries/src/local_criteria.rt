@@ -33,8 +33,8 @@ use vet_base::names::Names;
 use vet_base::refusal::Refusal;
 
 /// The criteria of one's own table that one's own words and those of each peer stand for, found once for many packages.
-/// One's own are found at once, and those of a peer when they are first asked for. A change of the table or of a peer
-/// makes them void.
+/// One's own are found immediately, and those of a peer when they are first asked for. A change of the table or of a
+/// peer makes them void.
 pub struct LocalCriteria {
     own: Closures,
     peers: Vec<Option<PeerWords>>,

@@ -43,7 +43,7 @@ use Rattle.vet_files.specs.Lists.{table_at, tables_of_package}
 use Rattle.vet_files.specs.Notices.{one_key, only_keys, sum_of_notices}
 use Rattle.vet_files.specs.Walk.{each_member}
 
--- names and texts that need not be there are none
+-- the names or texts at an optional key, or none if the key is missing
 abbrev pub or_none : Option NameSet → NameSet
 or_none o = option_map_or (λ s. s) o set.empty
 
@@ -58,12 +58,12 @@ criterion_told name path ms =
     Ok (found_one (record { name = name; description = description; url = url; implies = or_none implies })
     (unknown_keys kind.Criterion ms))
 
--- a peer's file may define so many criteria
+-- whether a file may define one more criterion; a peer's file has a limit
 abbrev pub room_for_criterion : Whose → ℕ → Told (Unit {0})
 room_for_criterion Ours defined = Ok tt
 room_for_criterion Peers defined = if nat_lt defined MOST_PEER_CRITERIA then Ok tt else Err (TooLarge PeerCriteria)
 
--- the criterion whose table stands at a name
+-- the criterion whose table is at a name
 abbrev pub criterion_at : Path → Name → Option Members → Told (Found (Option Criterion))
 criterion_at path name table = found_or (fault path name) table >>= criterion_told name (path_below path name)
 
@@ -74,7 +74,7 @@ further_criterion whose path name found table =
     criterion_at path name table >>= λ more.
     Ok (found_with found (listed more))
 
--- a table named after a built-in criterion is passed over as a whole
+-- a table with the name of a built-in criterion is counted as one unknown key, and not read
 abbrev pub built_in_criterion : Path → Name → Found (List Criterion) → Option Members
     → Told (Found (List Criterion))
 built_in_criterion path name found table =
@@ -90,11 +90,11 @@ next_criterion whose path found name d =
 
 -- ---- audits
 
--- whether something stands at a key
+-- whether a table has a key
 abbrev pub has : Members → Key → Bool
 has ms key = is_some (get_member key ms)
 
--- the first of the three keys that say what was audited
+-- the first of the three keys that give the subject of an audit
 abbrev pub first_key : Members → Option SubjectKey
 first_key ms =
     if has ms VERSION then Some key.Version
@@ -125,12 +125,12 @@ audit_kind (subject.Full version) audit = entry.Full version audit
 audit_kind (subject.Delta delta) audit = entry.Delta delta audit
 audit_kind (subject.Violation req) audit = entry.Violation req audit
 
--- one's own entry
+-- an own entry
 abbrev pub own_entry : Name → Kind → NameSet → Option Text → Entry
 own_entry name what criteria notes =
     record { source = Own; «package» = name; kind = what; criteria = criteria; notes = notes }
 
--- a peer's entry that it keeps to itself
+-- an entry that a peer withholds: it is marked as not importable
 abbrev pub is_no : Option Data → Bool
 is_no (Some (boolean false)) = true
 is_no _ = false
@@ -155,7 +155,7 @@ audit_of name path ms (Some key) =
     required names path CRITERIA ms >>= λ criteria.
     subject_told path ms key >>= audit_of_subject name path ms criteria
 
--- an audit of one of the three kinds that isn't withheld
+-- the audit of a table; it is skipped if it is withheld, or is of none of the three kinds
 abbrev pub audit_told : Whose → Reading Entry
 audit_told whose name path ms = if is_withheld whose ms then Ok skipped else audit_of name path ms (first_key ms)
 
@@ -183,7 +183,7 @@ wildcard_of name path ms =
     required names path CRITERIA ms >>= λ criteria.
     window_told path ms >>= wildcard_of_window name path ms criteria
 
--- a wildcard audit with a user
+-- the wildcard audit of a table; it is skipped if it names no user
 abbrev pub wildcard_told : Reading Entry
 wildcard_told name path ms = if has ms USER_ID then wildcard_of name path ms else Ok skipped
 
@@ -194,7 +194,7 @@ trusted_of name path ms =
     optional a_text path NOTES ms >>= λ notes.
     Ok (found_one (own_entry name (entry.Trusted window) criteria notes) (unknown_keys kind.Trusted ms))
 
--- one's own trusted publisher with a user
+-- whether a trusted publisher is read: it is an own one and names a user
 abbrev pub is_trusted : Whose → Members → Bool
 is_trusted Ours ms = has ms USER_ID
 is_trusted Peers ms = false
@@ -210,7 +210,7 @@ next_package read path found name d =
     tables_of_package read path name d >>= λ more.
     Ok (found_with found (each_once distinct more))
 
--- criteria and entries, and all that was passed over
+-- criteria and entries, and the counts of all that was ignored
 abbrev pub audits_content : Found (List Criterion) → Found (List Entry) → Notices → Found AuditsContent
 audits_content criteria entries keys = record {
   content = record { criteria = criteria.content; entries = entries.content };
@@ -225,21 +225,21 @@ abbrev pub criteria_of : Whose → Path → Path → Members → Told (Found (Li
 criteria_of whose path prefix ms = table_at path CRITERIA ms >>= each_member
     (next_criterion whose (prefix ++ CRITERIA)) nothing
 
--- what an audits file holds that has these criteria, and these entries but for its trusted ones
+-- the content of an audits file that has these criteria, and these entries besides its trusted publishers
 abbrev pub trusted_entries_told : Whose → Path → Path → Members → Found (List Criterion) → Found (List Entry)
     → Told (Found AuditsContent)
 trusted_entries_told whose path prefix ms criteria entries =
     entries_of (trusted_told whose) path prefix TRUSTED ms >>= λ trusted.
     Ok (audits_content criteria (found_with entries trusted) (only_keys (unknown_keys kind.AuditsFile ms)))
 
--- what an audits file holds that has these criteria and audits
+-- the content of an audits file that has these criteria and audits
 abbrev pub further_entries_told : Whose → Path → Path → Members → Found (List Criterion) → Found (List Entry)
     → Told (Found AuditsContent)
 further_entries_told whose path prefix ms criteria audits =
     entries_of wildcard_told path prefix WILDCARD_AUDITS ms >>= λ wildcards.
     trusted_entries_told whose path prefix ms criteria (found_with audits wildcards)
 
--- what an audits file holds. Its tables stand in one of a path, and their paths begin with a prefix.
+-- the content of an audits file whose table has this path. The paths of the tables in it begin with this prefix.
 abbrev pub audits_file_told : Whose → Path → Path → Members → Told (Found AuditsContent)
 audits_file_told whose path prefix ms =
     criteria_of whose path prefix ms >>= λ criteria.

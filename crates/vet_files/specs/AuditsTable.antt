@@ -1,4 +1,4 @@
--- The table of an audits file, as a function of what the file holds (The Cargo Vet Book, audits file).
+-- The table of an audits file, as a function of its content (The Cargo Vet Book, audits file).
 use Rattle.std.specs.Prelude.{List, [], ◌∷◌, Option, Some, map}
 use Rattle.std.specs.FinSet as set
 use Rattle.toml.specs.Data.{Data, table, Members}
@@ -24,7 +24,7 @@ criterion_table c = fields (criterion_fields c)
 abbrev pub criteria_table : List Criterion → Members
 criteria_table criteria = by_name (map (λ c. (c.name, table (criterion_table c))) criteria)
 
--- criteria and entries, less the entries of excluded packages. The table `audits` is there even where it is empty.
+-- criteria and entries, less the entries of excluded packages. The table `audits` is there even if it is empty.
 abbrev pub audits_file_fields : NameSet → List Criterion → List Entry → List (Key × Option Data)
 audits_file_fields exclude criteria entries =
     (AUDITS, Some (table (package_lists (listed_entries Audits exclude entries))))

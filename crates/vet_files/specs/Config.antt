@@ -38,7 +38,7 @@ vet_version_told ms =
 
 -- ---- `imports`
 
--- the settings of a peer: its urls, the packages that aren't taken from it, and its map
+-- the settings of a peer: its urls, the packages for which nothing is taken from it, and its map
 abbrev pub peer_told : Name → Path → Members → Told (Found (Option PeerSettings))
 peer_told name path ms =
     required texts path URL ms >>= λ url. optional package_names path EXCLUDE ms >>= λ exclude.
@@ -52,7 +52,7 @@ peers_told = named_tables peer_told IMPORTS
 
 -- ---- `policy`
 
--- the policy of a table that says this of its own package: what it says of dependencies, and its notes
+-- the policy of a table with these values about its own package: its criteria of dependencies, and its notes
 abbrev pub dependency_policy_told : Path → Members → Option Bool → Option NameSet → Option NameSet
     → Told (Found Policy)
 dependency_policy_told path ms published criteria dev =
@@ -77,14 +77,14 @@ policy_told path ms =
     optional names path CRITERIA ms >>= λ criteria.
     optional names path DEV_CRITERIA ms >>= λ dev. dependency_policy_told path ms published criteria dev
 
--- one more policy, whose key isn't that of an earlier one
+-- the key of one more policy, which must not be that of an earlier one
 abbrev pub new_key : Text → List KeyedPolicy → PolicyKey → Told PolicyKey
 new_key text held key = if has_policy held key then Err (fault POLICY text) else Ok key
 
 abbrev pub new_key_told : Text → List KeyedPolicy → Told PolicyKey
 new_key_told text held = found_or (fault POLICY text) (read_key text) >>= new_key text held
 
--- the policy whose table stands at a key
+-- the policy whose table is at a key
 abbrev pub policy_at : Text → Data → Told (Found Policy)
 policy_at text d = found_or (fault POLICY text) (as_table d) >>= policy_told
     (path_below POLICY text)
@@ -116,7 +116,7 @@ exemption_told name path ms =
 
 -- ---- the file
 
--- the lists of a config file, with the rest of its content, and what was passed over in that and among its keys
+-- the lists of a config file, with the rest of its content and the counts of what was ignored there and among its keys
 abbrev pub config_lists_told : Option Text → Option NameSet → Notices → Notices → Members
     → Told (Found ConfigContent)
 config_lists_told version default settings keys ms =
@@ -136,7 +136,7 @@ config_lists_told version default settings keys ms =
           keys;
     })
 
--- what a config file holds
+-- the content of a config file's table
 abbrev pub config_file_told : Members → Told (Found ConfigContent)
 config_file_told ms =
     vet_version_told ms >>= λ version. optional names TOP DEFAULT_CRITERIA ms >>= λ default.

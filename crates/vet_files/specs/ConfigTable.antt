@@ -1,4 +1,4 @@
--- The table of a config file, as a function of what the file holds (The Cargo Vet Book, config file).
+-- The table of a config file, as a function of its content (The Cargo Vet Book, config file).
 use Rattle.std.specs.Prelude.{List, [], ◌∷◌, Option, Some, map, option_map}
 use Rattle.std.specs.FinMap as finite
 use Rattle.std.specs.FinSet as set
@@ -20,7 +20,7 @@ use Rattle.vet_files.specs.declared.write.sections.Listing.TheVariants.{Exemptio
 use Rattle.vet_files.specs.EntryTables.{listed_entries, package_lists, some_flag, some_text}
 use Rattle.vet_files.specs.Tables.{by_name, fields, members_from, set_data, some_list, unless_empty}
 
--- an optional set: none is left out, an empty one is an empty list
+-- an optional set: an absent one is left out, and an empty one is an empty list
 abbrev pub optional_set : Option NameSet → Option Data
 optional_set = option_map set_data
 

@@ -22,7 +22,7 @@ use Rattle.vet_files.specs.Tables.{by_name, fields, set_data, some_set, with_key
 
 -- ---- one entry
 
--- a text and a truth value, where there is one
+-- a text or a truth value, if there is one
 abbrev pub some_text : Option Text → Option Data
 some_text = option_map string
 
@@ -52,13 +52,13 @@ entry_fields criteria notes (Exemption version suggest last) =
     (CRITERIA, Some criteria) ∷ (NOTES, notes) ∷ (SUGGEST, some_flag suggest)
     ∷ (VERSION, Some (string (version_text version))) ∷ []
 
--- what the tables of all audits have, by key
+-- the values that the tables of all audits have, by key
 abbrev pub audit_fields : Entry → Audit → List (Key × Option Data)
 audit_fields e audit =
     (CRITERIA, Some (set_data e.criteria)) ∷ (IMPORTABLE, some_flag audit.importable) ∷ (NOTES, some_text e.notes)
     ∷ (WHO, some_set audit.who) ∷ []
 
--- the table of an audit, which has what it is of at a key
+-- the table of an audit, which has its subject at a key
 abbrev pub audit_table : Entry → Audit → Key → Data → Members
 audit_table e audit key subject = with_key (fields (audit_fields e audit)) key (Some subject)
 
@@ -78,7 +78,7 @@ is_listed listing.Trusted (Trusted w) = true
 is_listed listing.Exemptions (Exemption v s None) = true
 is_listed _ _ = false
 
--- the entries that stand there, less those of excluded packages, in order
+-- the entries in such a table, less those of excluded packages, in order
 abbrev pub listed_entries : Listing → NameSet → List Entry → List Entry
 listed_entries which exclude entries = filter (λ e. is_listed which e.kind && not (set.contains exclude e.«package»))
     entries
@@ -91,6 +91,6 @@ of_package name entries = filter (λ e. bytes_eq name e.«package») entries
 abbrev pub entry_items : List Entry → Items
 entry_items entries = items_of (map (λ e. table (entry_table e)) entries)
 
--- at each package's name the list of its entries
+-- the table with the list of each package's entries at its name
 abbrev pub package_lists : List Entry → Members
 package_lists entries = by_name (map (λ e. (e.«package», array (entry_items (of_package e.«package» entries)))) entries)

@@ -1,4 +1,4 @@
--- What stands at a key of a table, by its type (The Cargo Vet Book, the three files; the faults are ours).
+-- The value at a key of a table, by its type (The Cargo Vet Book, the three files; the faults are ours).
 use Rattle.std.specs.Prelude.{ℕ, Bool, List, [], ◌∷◌, ◌++◌, ℤ, pos, negsuc, Option, Some, None, Ok, Err, if◌then◌else◌}
 use Rattle.std.specs.Prelude.{length, nat_le, nat_lt, option_and_then}
 use Rattle.std.specs.FinSet as set
@@ -25,13 +25,13 @@ use Rattle.vet_base.specs.declared.refusal.Refusal.TheVariants.{FieldRefused, To
 use Rattle.vet_files.specs.Walk.{each_item}
 use Rattle.vet_entries.specs.declared.user.TheConstants.{LAST_USER}
 
--- what stands in a table at a key is at fault, or is missing
+-- the refusal of a value at a key of a table that is at fault or missing
 abbrev pub fault : Path → Key → Refusal
 fault path key = FieldRefused (told_key path) (told_key key)
 
 -- ---- a key that need not be there, and one that must
 
--- what is told of a value, where there is one
+-- the result of reading a value, if there is one
 abbrev pub told_if_some : {A : Type 0} → (Data → Told A) → Option Data → Told (Option A)
 told_if_some read None = Ok None
 told_if_some read (Some d) = read d >>= λ x. Ok (Some x)
@@ -42,13 +42,13 @@ optional read path key ms = told_if_some (read path key) (get_member key ms)
 abbrev pub required : {A : Type 0} → (Path → Key → Data → Told A) → Path → Key → Members → Told A
 required read path key ms = found_or (fault path key) (get_member key ms) >>= read path key
 
--- ---- one word for each type
+-- ---- one definition for each type
 
 -- a truth value
 abbrev pub a_flag : Path → Key → Data → Told Bool
 a_flag path key d = found_or (fault path key) (as_bool d)
 
--- a free text, which has its limit
+-- a free text, whose length is limited
 abbrev pub short_text : Text → Told Text
 short_text text = if nat_lt MOST_TEXT_BYTES (length text) then Err (TooLarge limit.Text) else Ok text
 
@@ -100,18 +100,18 @@ items_of (string t) = Some (item (string t) no_items)
 items_of (array ds) = Some ds
 items_of _ = None
 
--- what these items read as, in their order; the first item at fault tells it
+-- the values read from these items, in their order, or the fault of the first item at fault
 abbrev pub next_item : {A : Type 0} → (Data → Told A) → List A → ℕ → Data → Told (List A)
 next_item read found place d = read d >>= λ x. Ok (found ++ x ∷ [])
 
 abbrev pub items_told : {A : Type 0} → (Data → Told A) → Items → Told (List A)
 items_told read = each_item (next_item read) [] 0
 
--- the same of a value: a text, or a list
+-- the same for a value, which is a text or a list
 abbrev pub one_or_list_told : {A : Type 0} → (Path → Key → Data → Told A) → Path → Key → Data → Told (List A)
 one_or_list_told read path key d = found_or (fault path key) (items_of d) >>= items_told (read path key)
 
--- the set of what these items read as
+-- the set of the values read from these items
 abbrev pub with_item : (Data → Told Name) → NameSet → ℕ → Data → Told NameSet
 with_item read found place d = read d >>= λ text. Ok (set.insert found text)
 

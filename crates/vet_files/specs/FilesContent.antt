@@ -1,4 +1,4 @@
--- What the three files hold together (ours).
+-- The content of the three files together (ours).
 use Rattle.std.specs.Prelude.{◌≡◌, Bool, true, false, List, [], ◌++◌, Option, Some, None, is_some}
 use Rattle.std.specs.Cmp.Lexicographic.{slice_cmp}
 use Rattle.std.specs.Coded.{Coded, code_by, coded×, coded_list, coded_option, coded_ℕ}
@@ -74,7 +74,7 @@ files_code of_entry of_settings of_content of_publishers of_policy =
     })
     (λ _. refl)
 
--- what three files hold
+-- the content of three files
 abbrev pub files_of : AuditsContent → ConfigContent → ImportsContent → FilesValue
 files_of audits config imports = record {
   criteria = audits.criteria;
@@ -87,7 +87,7 @@ files_of audits config imports = record {
   default_criteria = config.default_criteria;
 }
 
--- what three files can hold
+-- the contents that three files can give
 pub record IsFiles (f : FilesValue) : Type 0 where
   pub further : All (λ c. is_built_in c.name ≡ false) f.criteria
   pub named_once : NamedOnce (λ (c : Criterion). c.name) f.criteria
@@ -101,7 +101,7 @@ pub record IsFiles (f : FilesValue) : Type 0 where
   pub in_order : All (λ (held : PackagePublishers). IsInOrder held.publishers) f.publishers
   pub policies_by_key : IsInKeyOrder f.policies
 
--- the content of a peer that isn't in the imports file
+-- the content of a peer that is not in the imports file
 abbrev pub no_content : PeerContentValue
 no_content = record { criteria = []; entries = [] }
 
@@ -109,7 +109,7 @@ abbrev pub content_held : Option ImportedPeer → PeerContentValue
 content_held None = no_content
 content_held (Some peer) = peer.content
 
--- what an imports file says of the peer of a name: nothing, where it isn't there
+-- the content of the peer with a name in an imports file, which is empty if the peer is not there
 abbrev pub content_for : List ImportedPeer → Name → PeerContentValue
 content_for contents name = content_held (item_of (slice_cmp nat_cmp) imported_name contents name)
 
@@ -117,6 +117,6 @@ content_for contents name = content_held (item_of (slice_cmp nat_cmp) imported_n
 abbrev pub is_set : List PeerSettings → ImportedPeer → Bool
 is_set settings peer = is_some (item_of (slice_cmp nat_cmp) settings_name settings peer.name)
 
--- each peer of the imports file stands in the config file
+-- the config file has settings of each peer of the imports file
 abbrev pub each_is_set : FilesValue → Bool
 each_is_set f = list_all (is_set f.settings) f.contents

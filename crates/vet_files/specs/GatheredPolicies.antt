@@ -17,7 +17,7 @@ use Rattle.vet_files.specs.declared.found.Found.{Found}
 abbrev pub AreTheKeys : BTreeSet PolicyKey → List KeyedPolicy → Type 0
 AreTheKeys keys policies = (k : PolicyKey) → contains policy_key_cmp keys k ≡ has_policy (in_key_order policies) k
 
--- one more policy behind those that were read, whose key isn't that of one of them
+-- one more policy after those that were read, whose key is that of none of them
 abbrev pub policy_behind : Found (List KeyedPolicy) → PolicyKey → Found Policy → Found (List KeyedPolicy)
 policy_behind found key more = record {
   content = found.content ++ record { key = key; policy = more.content } ∷ [];

@@ -34,11 +34,11 @@ publisher_of path ms =
     Ok (found_one (record { version = version; user = user; day = day; login = login; name = name })
     (unknown_keys kind.Publisher ms))
 
--- a record with a user
+-- the record of a table; it is skipped if it names no user
 abbrev pub publisher_told : Reading Publisher
 publisher_told name path ms = if has ms USER_ID then publisher_of path ms else Ok skipped
 
--- the records of a package, each once and in order; a package without any is none
+-- a package with its records, each once and in order, or nothing if it has none
 abbrev pub published : Name → Found (List Publisher) → Found (List PackagePublishers)
 published name found = record { content = with_any name found.content; notices = found.notices }
 
@@ -70,7 +70,7 @@ abbrev pub imported : Name → Found PeerContentValue → Found (Option Imported
 imported name found =
     record { content = Some (record { name = name; content = found.content }); notices = found.notices }
 
--- a peer's tables stand in one of a path, and their paths begin with a prefix
+-- a peer whose table has this path; the paths of the tables in it begin with this prefix
 abbrev pub imported_from : Name → Path → Path → Members → Told (Found (Option ImportedPeer))
 imported_from name path prefix ms = peer_file_told path prefix ms >>= λ more. Ok (imported name more)
 
@@ -83,7 +83,7 @@ imported_told = named_tables imported_table AUDITS
 
 -- ---- the files
 
--- what an imports file holds
+-- the content of an imports file's table
 abbrev pub imports_file_told : Members → Told (Found ImportsContent)
 imports_file_told ms =
     publishers_told ms >>= λ publishers. imported_told ms >>= λ peers.

@@ -1,5 +1,5 @@
--- The table of an imports file, as a function of what the file holds (The Cargo Vet Book, imports.lock; that excluded
--- packages are left out is ours).
+-- The table of an imports file, as a function of its content (The Cargo Vet Book, imports.lock; that excluded packages
+-- are left out is ours).
 use Rattle.std.specs.Prelude.{pos, List, [], ◌∷◌, Option, Some, if◌then◌else◌, map}
 use Rattle.std.specs.FinSet as set
 use Rattle.std.specs.Str.{bytes_eq}
@@ -40,12 +40,12 @@ publishers_table packages = by_name (map (λ p. (p.«package», array (publisher
 
 -- ---- `audits`
 
--- the packages of which nothing is taken from a peer: those that the first settings of its name exclude
+-- the packages for which nothing is taken from a peer: those that the first settings with its name exclude
 abbrev pub excluded_of : List PeerSettings → Name → NameSet
 excluded_of [] name = set.empty
 excluded_of (s ∷ rest) name = if bytes_eq name s.name then s.exclude else excluded_of rest name
 
--- what was imported from a peer, less the entries of excluded packages
+-- the content imported from a peer, less the entries of excluded packages
 abbrev pub imported_peer_table : List PeerSettings → ImportedPeer → Members
 imported_peer_table settings peer = audits_file_table (excluded_of settings peer.name) peer.content.criteria
     peer.content.entries
@@ -55,7 +55,7 @@ imported_peers_table settings peers = by_name (map (λ p. (p.name, table (import
 
 -- ---- the file
 
--- the table of an imports file. The table `audits` is there even where it is empty.
+-- the table of an imports file. The table `audits` is there even if it is empty.
 abbrev pub imports_fields : List PeerSettings → ImportsContent → List (Key × Option Data)
 imports_fields settings content =
     (AUDITS, Some (table (imported_peers_table settings content.peers)))

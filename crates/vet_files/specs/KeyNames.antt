@@ -101,6 +101,6 @@ WHO = codes "who"
 abbrev pub WILDCARD_AUDITS : Key
 WILDCARD_AUDITS = codes "wildcard-audits"
 
--- the path of the table that a file is
+-- the path of a file's top-level table
 abbrev pub TOP : Path
 TOP = codes "top"

@@ -31,7 +31,7 @@ keys_of kind.Publisher = VERSION ∷ WHEN ∷ USER_ID ∷ USER_LOGIN ∷ USER_NA
 abbrev pub is_key : TableKind → Key → Bool
 is_key kind key = list_any (λ k. bytes_eq k key) (keys_of kind)
 
--- how many keys of a table have no meaning: each counts once, with all that stands below it
+-- the number of a table's keys that have no meaning; each counts once, with all that is below it
 abbrev pub unknown_keys : TableKind → Members → ℕ
 unknown_keys kind no_members = 0
 unknown_keys kind (member k d rest) = if is_key kind k then unknown_keys kind rest else suc (unknown_keys kind rest)

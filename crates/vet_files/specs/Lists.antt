@@ -1,5 +1,5 @@
--- Tables by name, as `[imports.mozilla]`, and lists of tables by package, as `[[audits.serde]]` (The Cargo Vet Book,
--- audits, config and imports files).
+-- Tables by name, such as `[imports.mozilla]`, and lists of tables by package, such as `[[audits.serde]]` (The Cargo
+-- Vet Book, audits, config and imports files).
 use Rattle.std.specs.Prelude.{ℕ, ◌-◌, List, [], ◌++◌, codes, Option, Some, None, Ok, Err, IfOk, if◌then◌else◌, length}
 use Rattle.std.specs.Fmt.{decimal}
 use Rattle.std.specs.Option.{option_to_list}
@@ -15,16 +15,16 @@ use Rattle.vet_files.specs.Notices.{no_notices, one_skipped, only_doubles, only_
 use Rattle.vet_files.specs.KeyNames.{TOP}
 use Rattle.vet_files.specs.Walk.{KeysRise, each_item, each_member}
 
--- nothing was found
+-- the result if nothing was found
 abbrev pub nothing : {A : Type 0} → Found (List A)
 nothing = record { content = []; notices = no_notices }
 
--- what was found, and then more
+-- a result, followed by another
 abbrev pub found_with : {A : Type 0} → Found (List A) → Found (List A) → Found (List A)
 found_with found more = record
     { content = found.content ++ more.content; notices = sum_of_notices found.notices more.notices }
 
--- one, with so many unknown keys; and none, where it is skipped
+-- one value with this many unknown keys, and the result for one that is skipped
 abbrev pub found_one : {A : Type 0} → A → ℕ → Found (Option A)
 found_one x keys = record { content = Some x; notices = only_keys keys }
 
@@ -49,11 +49,11 @@ table_of path key (Some d) = found_or (fault path key) (as_table d)
 abbrev pub table_at : Path → Key → Members → Told Members
 table_at path key ms = table_of path key (get_member key ms)
 
--- the keys of the table at a key rise
+-- the keys of the table at a key increase
 abbrev pub RisesAt : Path → Key → Members → Type 0
 RisesAt path key ms = IfOk (table_at path key ms) KeysRise
 
--- the path of what stands in a table at a key: `criteria.ours`
+-- the path of the value at a key of a table: `criteria.ours`
 abbrev pub path_below : Path → Key → Path
 path_below path key = path ++ (codes "." ++ key)
 
@@ -61,7 +61,7 @@ path_below path key = path ++ (codes "." ++ key)
 abbrev pub path_in_list : Path → Name → ℕ → Path
 path_in_list path name place = path ++ (codes "." ++ (name ++ (codes "[" ++ (decimal place ++ codes "]"))))
 
--- how a table is read, by the name of a package or its own, and by its path
+-- the reading of a table, given the name of a package or its own, and its path
 abbrev pub Reading : Type 0 → Type 0
 Reading A = Name → Path → Members → Told (Found (Option A))
 
@@ -75,11 +75,11 @@ next_named read path found name d =
     if is_name name then named_table read path name d >>= (λ more. Ok (found_with found (listed more)))
     else Err (fault path name)
 
--- the tables by name that stand in a file at a key
+-- the tables by name at a key of a file
 abbrev pub named_tables : {A : Type 0} → Reading A → Key → Members → Told (Found (List A))
 named_tables read key ms = table_at TOP key ms >>= each_member (next_named read key) nothing
 
--- what is told of one table of a package's list
+-- the result of reading one table of a package's list
 abbrev pub table_told : {A : Type 0} → Reading A → PackageTable → Told (Found (Option A))
 table_told read at = read at.«package».now at.path.now (table_view at.table.now)
 

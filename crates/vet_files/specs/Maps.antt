@@ -24,7 +24,7 @@ abbrev pub criteria_map : Path → Key → Data → Told NamesByName
 criteria_map path key d = found_or (fault path key) (as_table d) >>= each_member (next_mapped (path_below path key))
     map.empty
 
--- a map that isn't there is one without items
+-- a missing map is one without items
 abbrev pub or_no_map : Option NamesByName → NamesByName
 or_no_map o = option_map_or (λ m. m) o map.empty
 

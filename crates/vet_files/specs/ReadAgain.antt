@@ -1,4 +1,4 @@
--- What is written is read again as what it was written of (ours).
+-- Each written value is read back as the value for which it was written (ours).
 use Rattle.std.specs.Prelude.{◌≡◌, Bool, true, not, List, Some, Ok}
 use Rattle.std.specs.FinSet as set
 use Rattle.std.specs.List.{All}
@@ -39,16 +39,16 @@ use Rattle.vet_files.specs.Lists.{Reading, found_one}
 use Rattle.vet_files.specs.Notices.{no_notices}
 use Rattle.vet_files.specs.Tables.{set_data}
 
--- what stands at a key, whatever the key and its table's path, is read as this
+-- a value is read as this, whatever its key and its table's path
 abbrev pub IsReadAs : {A : Type 0} → (Path → Key → Data → Told A) → Data → A → Type 0
 IsReadAs told d x = (path : Path) (key : Key) → told path key d ≡ Ok x
 
--- a text is read as a content that is the same as one, with nothing passed over
+-- a text is read as a content that is the same as a given one, with nothing ignored
 abbrev pub GivesBack : {C : Type 0} → (Bytes → Told (Found C)) → (C → Type 0) → Bytes → Type 0
 GivesBack {C} told IsSame text = (found : C)
     × ((told text ≡ Ok (record { content = found; notices = no_notices })) × IsSame found)
 
--- how entries of a kind are read
+-- the reading of entries of a kind
 abbrev pub reading_of : Whose → Kind → Reading Entry
 reading_of whose (Full v a) = audit_told whose
 reading_of whose (Delta d a) = audit_told whose
@@ -62,13 +62,13 @@ abbrev pub is_taken : Whose → Kind → Bool
 is_taken Ours kind = not (has_last_day kind)
 is_taken Peers kind = is_peer_kind kind
 
--- an entry's table is read as the entry, and nothing in it is passed over
+-- an entry's table is read as the entry, and nothing in it is ignored
 pub record ReadsEntry (e : Entry) : Type 0 where
   pub named : is_package_name e.«package» ≡ true
   pub read : (whose : Whose) → is_own e.source ≡ true → is_taken whose e.kind ≡ true
       → (path : Path) → reading_of whose e.kind e.«package» path (entry_table e) ≡ Ok (found_one e 0)
 
--- all that audits have beside what they are of is read again
+-- all values that audits have besides their subject are read back
 pub record ReadsAudit (e : Entry) (audit : Audit) : Type 0 where
   pub named : is_package_name e.«package» ≡ true
   pub criteria : IsReadAs names (set_data e.criteria) e.criteria
@@ -94,7 +94,7 @@ pub record ReadsPublisher (p : Publisher) : Type 0 where
 
 -- ---- the tables of a file
 
--- all that an audits file's table is made of is read again
+-- all parts of an audits file's table are read back
 pub record ReadsAudits (exclude : NameSet) (criteria : List Criterion) (entries : List Entry) : Type 0 where
   pub each_criterion : All ReadsCriterion criteria
   pub audits : All ReadsEntry (listed_entries listing.Audits exclude entries)

@@ -1,4 +1,4 @@
--- Which entries of a file are read, and how the table of one is (ours, of cargo-vet's files).
+-- The tables of a file from which entries are read, and the reading of one entry (ours, of cargo-vet's files).
 use Rattle.vet_entries.specs.declared.entry.Entry.{Entry}
 use Rattle.vet_files.specs.Audits.{audit_told, trusted_told, wildcard_told}
 use Rattle.vet_files.specs.Config.{exemption_told}

@@ -1,4 +1,4 @@
--- What the readers can give, in any order, and when two contents are the same as sets (ours).
+-- The contents that the readers can give, in any order, and the sameness of contents as sets (ours).
 use Rattle.std.specs.Prelude.{◌≡◌, ◌≤◌, ◌&&◌, not, Bool, true, false, List, [], filter, length}
 use Rattle.std.specs.FinSet as set
 use Rattle.std.specs.List.{All}
@@ -26,7 +26,7 @@ use Rattle.vet_files.specs.declared.read.whose.Whose.TheVariants.{Ours, Peers}
 
 -- ---- audits files
 
--- the entries that an audits file can give: own ones, as each speaks of its own, of a kind that it may have
+-- the entries that an audits file can give: own ones, as in any author's file, of a kind that it may have
 abbrev pub is_kind_of : Whose → Kind → Bool
 is_kind_of Ours kind = not (is_exemption kind)
 is_kind_of Peers kind = is_peer_kind kind
@@ -34,12 +34,12 @@ is_kind_of Peers kind = is_peer_kind kind
 abbrev pub is_entry_of : Whose → Entry → Bool
 is_entry_of whose e = is_own e.source && is_kind_of whose e.kind
 
--- only so many criteria stand in a peer's file
+-- a peer's file has at most MOST_PEER_CRITERIA criteria
 abbrev pub AreFew : Whose → List Criterion → Type 0
 AreFew Ours criteria = Unit {0}
 AreFew Peers criteria = length criteria ≤ MOST_PEER_CRITERIA
 
--- what an audits file can give, in any order
+-- the contents that an audits file can give, in any order
 pub record CanStand (whose : Whose) (criteria : List Criterion) (entries : List Entry) : Type 0 where
   pub further : All (λ c. is_built_in c.name ≡ false) criteria
   pub named_once : NamedOnce (λ (c : Criterion). c.name) criteria
@@ -68,7 +68,7 @@ undated entries = filter (λ e. not (has_last_day e.kind)) entries
 abbrev pub AreUndated : List Entry → Type 0
 AreUndated entries = All (λ e. has_last_day e.kind ≡ false) entries
 
--- what a config file can give, in any order, and possibly exemptions with a last day, which the writer leaves out
+-- the content of a config file, in any order, possibly with exemptions with a last day, which the writer leaves out
 pub record IsConfig (content : ConfigContent) : Type 0 where
   pub named_once : NamedOnce (λ (p : PeerSettings). p.name) content.peers
   pub by_key : IsInKeyOrder content.policies
@@ -89,18 +89,18 @@ pub record SameConfig (a b : ConfigContent) : Type 0 where
 abbrev pub HasRecords : PackagePublishers → Type 0
 HasRecords p = (p.publishers ≡ [] → ⊥) × (in_order p.publishers ≡ p.publishers)
 
--- what an imports file can give, in any order
+-- the contents that an imports file can give, in any order
 pub record IsImports (content : ImportsContent) : Type 0 where
   pub published_once : NamedOnce (λ (p : PackagePublishers). p.«package») content.publishers
   pub published : All HasRecords content.publishers
   pub named_once : NamedOnce (λ (p : ImportedPeer). p.name) content.peers
   pub peers : All (λ (p : ImportedPeer). CanStand Peers p.content.criteria p.content.entries) content.peers
 
--- the entries that are taken from a peer
+-- the entries of packages that are not excluded
 abbrev pub taken : NameSet → List Entry → List Entry
 taken exclude entries = filter (λ e. not (set.contains exclude e.«package»)) entries
 
--- a peer as it is, and as it is read again: less the entries of excluded packages
+-- a peer as it is, and as it is read back, less the entries of excluded packages
 pub record SamePeer (settings : List PeerSettings) (a b : ImportedPeer) : Type 0 where
   pub name : a.name ≡ b.name
   pub criteria : SameItems a.content.criteria b.content.criteria

@@ -1,4 +1,4 @@
--- When three files hold the same as three others, taken as sets (ours).
+-- The sameness of the contents of three files and of three others, as sets (ours).
 use Rattle.std.specs.Prelude.{◌≡◌}
 use Rattle.vet_base.specs.Items.{SameItems}
 use Rattle.vet_files.specs.FilesContent.{FilesValue, files_of}
@@ -7,7 +7,7 @@ use Rattle.vet_files.specs.declared.audits_file.AuditsContent.{AuditsContent}
 use Rattle.vet_files.specs.declared.config_file.ConfigContent.{ConfigContent}
 use Rattle.vet_files.specs.declared.imports_file.ImportsContent.{ImportsContent}
 
--- the same criteria and entries in any order, and the same else
+-- the same criteria and entries in any order, and otherwise the same content
 pub record SameFiles (f g : FilesValue) : Type 0 where
   pub criteria : SameItems f.criteria g.criteria
   pub entries : SameItems f.entries g.entries
@@ -22,7 +22,7 @@ pub record SameFiles (f g : FilesValue) : Type 0 where
 abbrev pub SameLists : ImportsContent → ImportsContent → Type 0
 SameLists i j = SameItems i.peers j.peers × SameItems i.publishers j.publishers
 
--- files whose lists are the same as sets hold the same
+-- files whose lists are the same as sets have the same content
 abbrev pub SameListsAreSame : Type 0
 SameListsAreSame =
     (a b : AuditsContent) (c d : ConfigContent) (i j : ImportsContent) → IsConfig c → AreUndated c.exemptions

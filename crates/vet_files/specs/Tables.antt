@@ -1,4 +1,4 @@
--- The tables of which files are written (TOML 1.0.0, Keys, Array, Table; which form a value takes is ours).
+-- The tables from which files are printed (TOML 1.0.0, Keys, Array, Table; which form a value takes is ours).
 use Rattle.std.specs.Prelude.{List, [], ◌∷◌, Option, Some, None, map}
 use Rattle.std.specs.FinMap.{put}
 use Rattle.std.specs.FinMap.Entries.{by_order}
@@ -11,7 +11,7 @@ use Rattle.vet_base.specs.Words.{Key, Text}
 
 -- ---- tables of known keys
 
--- a key and what stands at it; where nothing does, the key is left out
+-- a key and the value at it; a key without a value is left out
 abbrev pub at_key : Key → Option Data → Members → Members
 at_key key None rest = rest
 at_key key (Some d) rest = member key d rest
@@ -29,7 +29,7 @@ put_member key d no_members = member key d no_members
 put_member key d (member k e rest) = by_order (slice_cmp nat_cmp key k) (member key d (member k e rest))
     (member k d rest) (member k e (put_member key d rest))
 
--- where there is a value
+-- the same if there is a value, and otherwise the table unchanged
 abbrev pub with_key : Members → Key → Option Data → Members
 with_key ms key None = ms
 with_key ms key (Some d) = put_member key d ms
@@ -41,7 +41,7 @@ abbrev pub members_from : List (Key × Data) → Members
 members_from [] = no_members
 members_from (p ∷ rest) = member p.0 p.1 (members_from rest)
 
--- one after the other is put in its place by the bytes of its name
+-- each name and value is put in its place, in the order of the names' bytes
 abbrev pub put_all : List (Key × Data) → List (Key × Data) → List (Key × Data)
 put_all found [] = found
 put_all found (p ∷ rest) = put_all (put (slice_cmp nat_cmp) p.0 p.1 found) rest
@@ -50,7 +50,7 @@ put_all found (p ∷ rest) = put_all (put (slice_cmp nat_cmp) p.0 p.1 found) res
 abbrev pub by_name : List (Key × Data) → Members
 by_name pairs = members_from (put_all [] pairs)
 
--- a table in which nothing stands is left out
+-- an empty table is left out
 abbrev pub unless_empty : Members → Option Data
 unless_empty no_members = None
 unless_empty (member k d rest) = Some (table (member k d rest))
@@ -61,7 +61,7 @@ unless_empty (member k d rest) = Some (table (member k d rest))
 abbrev pub text_items : List Text → Items
 text_items texts = items_of (map string texts)
 
--- one text as a text, and others as a list
+-- a single text as a text, and any other number as a list
 abbrev pub one_or_list : List Text → Data
 one_or_list (t ∷ []) = string t
 one_or_list texts = array (text_items texts)
@@ -74,7 +74,7 @@ set_data s = one_or_list (members s)
 abbrev pub list_data : NameSet → Data
 list_data s = array (text_items (members s))
 
--- a set without anything is left out
+-- an empty set is left out
 abbrev pub unless_none : List Text → Data → Option Data
 unless_none [] d = None
 unless_none (t ∷ rest) d = Some d

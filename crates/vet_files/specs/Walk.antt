@@ -1,5 +1,5 @@
--- Keys that rise, and walks over a table and over a list (ours).
--- Each step goes on from what was found before it, or tells a fault.
+-- Keys that increase, and walks over a table and over a list (ours). Each step continues from what was found before it,
+-- or returns a fault.
 use Rattle.std.specs.Prelude.{ℕ, ◌≡◌, ◌+◌, Ok}
 use Rattle.std.specs.Cmp.Lexicographic.{slice_cmp}
 use Rattle.std.specs.Ordering.{nat_cmp}

@@ -32,20 +32,20 @@ use vet_base::package_names::PackageNames;
 use vet_base::refusal::Refusal;
 use vet_entries::entry::Entry;
 
-/// What an audits file holds: criteria in the order of their names' bytes, and entries in the order of
-/// reading, each once.
+/// The content of an audits file: criteria in the order of their names' bytes, and entries in the order of reading,
+/// each once.
 #[derive(Drop)]
 pub struct AuditsContent {
     pub criteria: Listed<Criterion>,
     pub entries: Listed<Entry>,
 }
 
-/// The content of an audits file (The Cargo Vet Book, audits file). None of its criteria is named as a built-in
-/// one.
+/// Reads the content of an audits file (The Cargo Vet Book, audits file). None of its criteria has the name of a
+/// built-in one.
 ///
-/// Refused, the first of the walk: `TomlRefused` where the bytes are no TOML document in UTF-8, `FieldRefused`
-/// of what does not belong where it stands or is missing, and `TooLarge` of `text`. `NoMemory` can come at any
-/// point.
+/// Refused: `TomlRefused` if the bytes are not a TOML document in UTF-8; otherwise the first fault of the walk, which
+/// is `FieldRefused` if something does not belong in its place or is missing, or `TooLarge` with `text` if a text is
+/// too long. `NoMemory` can come at any point.
 pub fn read_audits(alloc: Global, bytes: &[u8]) -> Result<Found<AuditsContent>, Refusal>
     ensures told { Gives (λ f. f) (audits_told bytes.now) result }
     ensures further { IfOk result (λ f. All (λ c. is_built_in c.name ≡ false) f.content.criteria) }
@@ -55,10 +55,10 @@ pub fn read_audits(alloc: Global, bytes: &[u8]) -> Result<Found<AuditsContent>, 
     read_audits_file(alloc, Whose::Ours, TOP, "", &file)
 }
 
-/// An audits file of some content (The Cargo Vet Book, audits file; its layout is that of `toml`). What it says
-/// is `audits_table` of the content; where an audits file can give the content, it is read again as the same one.
+/// Writes an audits file of some content (The Cargo Vet Book, audits file; its layout is that of `toml`). Its table is
+/// `audits_table` of the content. If an audits file can give the content, the text is read back as the same content.
 ///
-/// Refused: `NoMemory` alone.
+/// Refused: `NoMemory`.
 pub fn write_audits(alloc: Global, content: &AuditsContent) -> Result<String, Refusal>
     ensures table { IfOk result (λ s. parse_document (string_bytes s) ≡ Some (audits_table content.now)) }
     ensures read { IfOk result (λ s.
@@ -72,8 +72,7 @@ pub fn write_audits(alloc: Global, content: &AuditsContent) -> Result<String, Re
     print(alloc, &file)
 }
 
-/// What an audits file holds, whose tables stand in one of this path and whose tables' paths begin with this
-/// prefix.
+/// The content of an audits file whose table has this path. The paths of the tables in it begin with this prefix.
 pub(crate) fn read_audits_file(
     alloc: Global,
     whose: Whose,
@@ -89,7 +88,7 @@ pub(crate) fn read_audits_file(
     read_further_entries(alloc, whose, path, prefix, file, criteria, audits)
 }
 
-/// What an audits file holds whose criteria and audits were read.
+/// The content of an audits file whose criteria and audits were read.
 fn read_further_entries(
     alloc: Global,
     whose: Whose,
@@ -116,7 +115,7 @@ fn read_further_entries(
     read_trusted_entries(alloc, whose, path, prefix, file, criteria, entries)
 }
 
-/// What an audits file holds whose criteria were read, and whose other entries.
+/// The content of an audits file of which all but the trusted publishers was read.
 fn read_trusted_entries(
     alloc: Global,
     whose: Whose,

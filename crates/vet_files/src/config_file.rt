@@ -29,24 +29,24 @@ use vet_demand::policies::Policies;
 use vet_entries::entry::Entry;
 use vet_entries::peer_settings::PeerSettings;
 
-/// What a config file holds: peers in the order of their names' bytes, policies in the order of their keys,
-/// and exemptions in the order of reading, each once. They may include exemptions with a last day, which no file has.
+/// The content of a config file: peers in the order of their names' bytes, policies in the order of their keys, and
+/// exemptions in the order of reading, each once. They may include exemptions with a last day, which no file has.
 #[derive(Drop)]
 pub struct ConfigContent {
     /// The version of cargo-vet that the file names.
     pub vet_version: Option<Text>,
-    /// The criteria that a new audit is for where nothing else is said. None of them is looked up.
+    /// The criteria of a new audit for which no others are given. None of them is looked up.
     pub default_criteria: Option<Names>,
     pub peers: Listed<PeerSettings>,
     pub policies: Policies,
     pub exemptions: Listed<Entry>,
 }
 
-/// The content of a config file (The Cargo Vet Book, config file).
+/// Reads the content of a config file (The Cargo Vet Book, config file).
 ///
-/// Refused, the first of the walk: `TomlRefused` where the bytes are no TOML document in UTF-8, `FieldRefused`
-/// of what does not belong where it stands or is missing, and `TooLarge` of `text`. `NoMemory` can come at any
-/// point.
+/// Refused: `TomlRefused` if the bytes are not a TOML document in UTF-8; otherwise the first fault of the walk, which
+/// is `FieldRefused` if something does not belong in its place or is missing, or `TooLarge` with `text` if a text is
+/// too long. `NoMemory` can come at any point.
 pub fn read_config(alloc: Global, bytes: &[u8]) -> Result<Found<ConfigContent>, Refusal>
     ensures told { Gives (λ f. f) (config_told bytes.now) result }
     ensures stands { IfOk result (λ f. IsConfig f.content) }
@@ -56,7 +56,7 @@ pub fn read_config(alloc: Global, bytes: &[u8]) -> Result<Found<ConfigContent>, 
     read_config_file(alloc, &file)
 }
 
-/// A config file of some content (The Cargo Vet Book, config file; its layout is that of `toml`). Its table is
+/// Writes a config file of some content (The Cargo Vet Book, config file; its layout is that of `toml`). Its table is
 /// `config_table` of the content. If a config file can give the content, the text is read back as the same content.
 /// Exemptions with a last day are left out.
 ///
@@ -71,7 +71,7 @@ pub fn write_config(alloc: Global, content: &ConfigContent) -> Result<String, Re
     print(alloc, &file)
 }
 
-/// What the table of a config file holds.
+/// The content of a config file's table.
 fn read_config_file(alloc: Global, file: &Table) -> Result<Found<ConfigContent>, Refusal>
     ensures { Gives (λ f. f) (config_file_told (table_view file.now)) result }
 {
@@ -86,7 +86,7 @@ fn read_config_file(alloc: Global, file: &Table) -> Result<Found<ConfigContent>,
     Ok(Found { content, notices })
 }
 
-/// Fills a content with what the table of a config file holds, and tells what is passed over.
+/// Fills a content from the table of a config file, and returns the counts of what is ignored.
 fn fill_content(
     alloc: Global,
     file: &Table,
@@ -102,7 +102,8 @@ fn fill_content(
     fill_lists(alloc, file, content, version.notices, keys)
 }
 
-/// Fills the lists of a content that has the rest, and tells what is passed over: `settings` and `keys` were before.
+/// Fills the lists of a content that has the rest. Returns the counts of what is ignored, including `settings` and
+/// `keys`, which were counted before.
 fn fill_lists(
     alloc: Global,
     file: &Table,
@@ -124,7 +125,7 @@ fn fill_lists(
     with_rules(settings, policies.notices, exemptions.notices, keys)
 }
 
-/// What was passed over in the settings, in both kinds of rules, and among the keys.
+/// The counts of what was ignored in the settings, in both kinds of rules, and among the keys.
 fn with_rules(
     settings: Notices,
     policies: Notices,

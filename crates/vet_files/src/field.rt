@@ -1,4 +1,4 @@
-//! What stands at a key of a table, by its type, and the faults that it can have.
+//! The value at a key of a table, by its type, and the faults that it can have.
 ghost use Rattle.std.specs.Prelude.{◌≡◌, ◌⊎◌, List, ℕ, pos, Option, Some, IfOk, option_map, option_and_then};
 ghost use Rattle.std.specs.Prelude.{string_bytes};
 ghost use Rattle.toml.specs.Data.{Data, as_integer, boolean, get_member, integer, string};
@@ -30,7 +30,7 @@ use vet_base::text::Text;
 use vet_base::version::{VetVersion, version_text_reads_back};
 use vet_entries::user::User;
 
-/// The refusal of the value at a key of a table, or `NoMemory` if there is none for it.
+/// The refusal of the value at a key of a table, or `NoMemory` if memory runs out.
 pub fn fault(alloc: Global, path: &str, key: &str) -> Refusal
     ensures { (result ≡ Refusal.NoMemory) ⊎ (result ≡ fault path.now key.now) }
 {
@@ -40,19 +40,19 @@ pub fn fault(alloc: Global, path: &str, key: &str) -> Refusal
     }
 }
 
-/// A type of what can stand at a key.
+/// A type of values at a key.
 pub trait Field: Drop {
-    /// What is told of a value that stands in the table of a path at a key.
+    /// The result of reading a value, given the path of its table and its key.
     ghost told: { List ℕ → List ℕ → Data → Told Self };
 
-    /// The value as which it is written.
+    /// The TOML value that is written for it.
     ghost written: { Self → Data };
 
-    /// Reads a value, or refuses it.
+    /// Reads a TOML value, or refuses it.
     fn read(alloc: Global, path: &str, key: &str, value: &Value) -> Result<Self, Refusal>
         ensures { Gives (λ v. v) (told path.now key.now (view value.now)) result };
 
-    /// Writes it, so that it is read again.
+    /// Writes it, so that it can be read back.
     fn write(&self, alloc: Global) -> Result<Value, AllocError>
         ensures value { IfOk result (λ v. view v ≡ written self.now) }
         ensures read { IfOk result (λ v. IsReadAs told (written self.now) self.now) };
@@ -65,7 +65,7 @@ pub fn value_at<'a>(table: &'a Table, key: &str) -> Option<&'a Value>
     table.get(key)
 }
 
-/// What stands at a key, where something does.
+/// Reads the value at a key, if the table has the key.
 pub fn optional<V: Field>(
     alloc: Global,
     path: &str,
@@ -80,7 +80,7 @@ pub fn optional<V: Field>(
     }
 }
 
-/// What stands at a key, where something must.
+/// Reads the value at a required key. A missing key is refused (`fault`).
 pub fn required<V: Field>(alloc: Global, path: &str, table: &Table, key: &str) -> Result<V, Refusal>
     ensures { Gives (λ v. v) (required V.told path.now key.now (table_view table.now)) result }
 {
@@ -129,20 +129,20 @@ pub trait FromText: Drop {
     /// The value that a text is, if it is one.
     ghost reads: { List ℕ → Option Self };
 
-    /// The text as which it is written.
+    /// The text that is written for it.
     ghost printed: { Self → List ℕ };
 
     /// Reads a text.
     fn from_text(alloc: Global, text: &str) -> Result<Option<Self>, AllocError>
         ensures { IfOk result (λ v. v ≡ reads text.now) };
 
-    /// Its text, which is read again.
+    /// Its text, which reads back as the value.
     fn to_text(&self, alloc: Global) -> Result<String, AllocError>
         ensures text { IfOk result (λ t. string_bytes t ≡ printed self.now) }
         ensures read { reads (printed self.now) ≡ Some self.now };
 }
 
-/// Reads a text that is a value of such a type, or refuses it.
+/// Reads a text as a value of such a type. Anything else is refused (`fault`).
 pub fn reading<V: FromText>(
     alloc: Global,
     path: &str,
@@ -328,7 +328,7 @@ impl Field for Day {
     }
 }
 
-/// The day that a value is: a text, or a local date.
+/// The day that a value is, as a text or a local date, if it is one.
 pub fn day_of(value: &Value) -> Option<Day>
     ensures { result ≡ day_of (view value.now) }
 {
@@ -367,7 +367,7 @@ impl Field for User {
     }
 }
 
-/// The user whose number a value is.
+/// The user whose number a value is, if it is one.
 pub fn user_of(value: &Value) -> Option<User>
     ensures { result ≡ option_and_then user_of (as_integer (view value.now)) }
 {

@@ -1,6 +1,6 @@
-//! What the three files hold together.
+//! The content of the three files together.
 //!
-//! **The content of three files is one value, in which each entry stands once, and each peer, package and policy
+//! **The content of three files is one value, in which each entry occurs once, and each peer, package and policy is
 //! under its own name.**
 ghost use Rattle.std.specs.List.{list_all};
 ghost use Rattle.std.specs.Option.{option_copied};
@@ -34,9 +34,9 @@ use vet_entries::entry::Entry;
 use vet_entries::peer_settings::PeerSettings;
 use vet_entries::publisher_records::PackagePublishers;
 
-/// What three files hold: an audits file, a config file and an imports file. One's own entries and then the exemptions
-/// are in the order of reading, each once, and none has a last day. No criterion has the name of a built-in one or of
-/// another.
+/// The content of three files: an audits file, a config file and an imports file. One's own entries and then the
+/// exemptions are in the order of reading, each once, and none has a last day. No criterion has the name of a built-in
+/// one or of another.
 pub struct FilesContent {
     criteria: Vec<Criterion>,
     entries: Vec<Entry>,
@@ -100,9 +100,9 @@ impl Drop for FilesContent {
 }
 
 impl FilesContent {
-    /// What three files hold. Asks that each content is one that its reader can give, so no exemption has a last day.
-    /// Takes a time of n log n, moves what it is given, and holds a copy of each entry while it looks for duplicates.
-    /// Refused: `NoMemory`.
+    /// The content of three files. Asks that each content is one that its reader can give, so no exemption has a last
+    /// day. Takes a time of n log n. Moves what it is given, and copies no entry to find duplicates. Refused:
+    /// `NoMemory`.
     pub fn of(
         alloc: Global,
         audits: AuditsContent,
@@ -158,21 +158,21 @@ impl FilesContent {
         self.entries.as_slice()
     }
 
-    /// How the peers of the config file are imported, in the order of their names. Takes no memory.
+    /// The settings of the config file's peers, in the order of their names. Takes no memory.
     pub fn settings(&self) -> &[PeerSettings]
         ensures { result.now ≡ self.now.settings }
     {
         self.settings.items()
     }
 
-    /// What was imported from the peers of the imports file, in the order of their names. Takes no memory.
+    /// The contents of the imports file's peers, in the order of their names. Takes no memory.
     pub fn contents(&self) -> &[ImportedPeer]
         ensures { result.now ≡ self.now.contents }
     {
         self.contents.items()
     }
 
-    /// What the imports file says of the peer of a name, if it is there. Takes no memory, and a time of log n.
+    /// The content of the peer with a name in the imports file, if it is there. Takes no memory, and a time of log n.
     pub fn content(&self, name: &Name) -> Option<&ImportedPeer>
         ensures { option_copied result ≡ item_of (slice_cmp nat_cmp) imported_name self.now.contents name.now }
     {
@@ -200,28 +200,29 @@ impl FilesContent {
         &self.vet_version
     }
 
-    /// The criteria that a new audit is for where nothing else is said. Takes no memory.
+    /// The criteria of a new audit for which no others are given, if the config file has them. Takes no memory.
     pub fn default_criteria(&self) -> &Option<Names>
         ensures { result.now ≡ self.now.default_criteria }
     {
         &self.default_criteria
     }
 
-    /// What is held is what three files can hold: a law, which does nothing.
+    /// Three files can give the content. A law, which does nothing.
     pub fn is_of_files(&self)
         ensures { IsFiles self.now }
     {
         let _ = &self.criteria;
     }
 
-    /// Whether each peer of the imports file stands in the config file. Takes no memory, and a binary search a peer.
+    /// Whether the config file has settings of each peer of the imports file. Takes no memory, and a binary search for
+    /// each peer.
     pub fn each_is_set(&self) -> bool
         ensures { result ≡ each_is_set self.now }
     {
         are_set(&self.settings, self.contents.items())
     }
 
-    /// Whether there are more publisher records than so many. Takes no memory.
+    /// Whether there are more than `most` publisher records. Takes no memory.
     pub fn has_more_records_than(&self, most: usize) -> bool
         ensures { result ≡ nat_lt most (records_total self.now.publishers) }
     {
@@ -229,7 +230,7 @@ impl FilesContent {
     }
 }
 
-// The lists of the files that are put in order, or looked through for doubles: all that takes memory.
+// The lists of the files that are put in order or searched for duplicates. Only this takes memory.
 #[derive(Drop)]
 struct Lists {
     entries: Vec<Entry>,
@@ -306,7 +307,7 @@ fn are_set(settings: &Keyed<PeerSettings>, peers: &[ImportedPeer]) -> bool
     peers.iter().all(|peer| settings.has(&peer.name))
 }
 
-/// Whether some packages have more records than so many. Stops at the first at which they do.
+/// Whether some packages have more than `most` records. Stops at the first package at which they do.
 fn has_more_records(packages: &[PackagePublishers], most: usize) -> bool
     ensures { result ≡ nat_lt most (records_total packages.now) }
 {
@@ -321,7 +322,8 @@ fn has_more_records(packages: &[PackagePublishers], most: usize) -> bool
     false
 }
 
-/// Files whose lists are the same as sets hold the same, if no exemption has a last day: a law, which does nothing.
+/// Files whose lists are the same as sets have the same content, if no exemption has a last day. A law, which does
+/// nothing.
 pub fn same_lists_are_same()
     ensures { SameListsAreSame }
 {}

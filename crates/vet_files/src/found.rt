@@ -1,4 +1,4 @@
-//! What a reader finds.
+//! The results of readers.
 ghost use Rattle.std.specs.Prelude.{◌≡◌, IfOk};
 ghost use Rattle.vet_files.specs.Lists.{listed, nothing, found_with};
 
@@ -6,7 +6,7 @@ use crate::listed::Listed;
 use crate::notices::Notices;
 use std::alloc::{AllocError, Global};
 
-/// What was found in a file, and what was passed over.
+/// The content found in a file, and the counts of what was ignored.
 #[derive(Drop)]
 pub struct Found<T> {
     pub content: T,
@@ -14,7 +14,7 @@ pub struct Found<T> {
 }
 
 impl<T: Drop> Found<Listed<T>> {
-    /// Nothing was found.
+    /// The result if nothing was found.
     pub(crate) fn nothing(alloc: Global) -> Found<Listed<T>>
         ensures { result ≡ nothing }
     {
@@ -24,7 +24,7 @@ impl<T: Drop> Found<Listed<T>> {
         }
     }
 
-    /// What was found, and then more.
+    /// This result, followed by another.
     pub(crate) fn followed_by(self, more: Found<Listed<T>>) -> Result<Found<Listed<T>>, AllocError>
         ensures { IfOk result (λ f. f ≡ found_with self more) }
     {
@@ -34,7 +34,7 @@ impl<T: Drop> Found<Listed<T>> {
         })
     }
 
-    /// What was found, and then one more, or one that was skipped.
+    /// This result, followed by one value or by one that was skipped.
     pub(crate) fn with(self, more: Found<Option<T>>) -> Result<Found<Listed<T>>, AllocError>
         ensures { IfOk result (λ f. f ≡ found_with self (listed more)) }
     {

@@ -29,7 +29,7 @@ use vet_entries::peer_content::PeerContent;
 use vet_entries::peer_settings::PeerSettings;
 use vet_entries::publisher_records::PackagePublishers;
 
-/// What was imported from a peer.
+/// A peer's name and the content imported from it.
 pub struct ImportedPeer {
     pub name: Name,
     pub content: PeerContent,
@@ -56,7 +56,7 @@ impl HasKey for ImportedPeer {
     }
 }
 
-/// What an imports file holds: the publisher records of packages that have some, and what was imported from
+/// The content of an imports file: the publisher records of packages that have some, and the contents imported from
 /// peers, both in the order of the names' bytes.
 #[derive(Drop)]
 pub struct ImportsContent {
@@ -64,11 +64,11 @@ pub struct ImportsContent {
     pub peers: Listed<ImportedPeer>,
 }
 
-/// The content of an imports file (The Cargo Vet Book, imports.lock).
+/// Reads the content of an imports file (The Cargo Vet Book, imports.lock).
 ///
-/// Refused, the first of the walk: `TomlRefused` where the bytes are no TOML document in UTF-8, `FieldRefused`
-/// of what does not belong where it stands or is missing, and `TooLarge` of `text` and of `peer-criteria`.
-/// `NoMemory` can come at any point.
+/// Refused: `TomlRefused` if the bytes are not a TOML document in UTF-8; otherwise the first fault of the walk, which
+/// is `FieldRefused` if something does not belong in its place or is missing, or `TooLarge` with `text` if a text is
+/// too long or with `peer-criteria` if a peer defines too many criteria. `NoMemory` can come at any point.
 pub fn read_imports(alloc: Global, bytes: &[u8]) -> Result<Found<ImportsContent>, Refusal>
     ensures told { Gives (λ f. f) (imports_told bytes.now) result }
     ensures stands { IfOk result (λ f. IsImports f.content) }
@@ -77,12 +77,12 @@ pub fn read_imports(alloc: Global, bytes: &[u8]) -> Result<Found<ImportsContent>
     read_imports_file(alloc, &file)
 }
 
-/// An imports file of some content, less the entries of the packages that the settings of a peer exclude (The Cargo
-/// Vet Book, imports.lock; that these are left out is ours, and its layout is that of `toml`). What it says is
-/// `imports_table` of settings and content; where an imports file can give the content, it is read again as the
-/// same one.
+/// Writes an imports file of some content, less the entries of the packages that the settings of a peer exclude (The
+/// Cargo Vet Book, imports.lock; that these are left out is ours, and its layout is that of `toml`). Its table is
+/// `imports_table` of settings and content. If an imports file can give the content, the text is read back as the same
+/// content, less these entries.
 ///
-/// Refused: `NoMemory` alone.
+/// Refused: `NoMemory`.
 pub fn write_imports(
     alloc: Global,
     settings: &[PeerSettings],
@@ -97,12 +97,13 @@ pub fn write_imports(
     print(alloc, &file)
 }
 
-/// The content of the audits file of a peer, in its own words. Its trusted publishers, and what is not
+/// Reads the content of a peer's audits file, in the peer's own words. Its trusted publishers, and audits that are not
 /// importable, are skipped.
 ///
-/// Refused, the first of the walk: `TomlRefused` where the bytes are no TOML document in UTF-8, `FieldRefused`
-/// of what does not belong where it stands or is missing, and `TooLarge` of `text` and, at the 127th criterion
-/// that it defines beside the built-in ones, of `peer-criteria`. `NoMemory` can come at any point.
+/// Refused: `TomlRefused` if the bytes are not a TOML document in UTF-8; otherwise the first fault of the walk, which
+/// is `FieldRefused` if something does not belong in its place or is missing, or `TooLarge` with `text` if a text is
+/// too long or with `peer-criteria` at the 127th criterion that it defines besides the built-in ones. `NoMemory` can
+/// come at any point.
 pub fn read_peer(alloc: Global, bytes: &[u8]) -> Result<Found<PeerContent>, Refusal>
     ensures told { Gives (λ f. f) (peer_content_told bytes.now) result }
     ensures stands { IfOk result (λ f. CanStand Peers f.content.criteria f.content.entries) }
@@ -111,14 +112,14 @@ pub fn read_peer(alloc: Global, bytes: &[u8]) -> Result<Found<PeerContent>, Refu
     read_peer_file(alloc, TOP, "", &file)
 }
 
-/// What a peer's content is, an imports file can give: a law, which does nothing.
+/// An imports file can give any content of a peer. A law, which does nothing.
 pub fn peers_can_stand(content: &PeerContent)
     ensures { CanStand Peers content.now.criteria content.now.entries }
 {
     let _ = content.criteria();
 }
 
-/// What the table of an imports file holds.
+/// The content of an imports file's table.
 fn read_imports_file(alloc: Global, file: &Table) -> Result<Found<ImportsContent>, Refusal>
     ensures { Gives (λ f. f) (imports_file_told (table_view file.now)) result }
 {
@@ -135,7 +136,7 @@ fn read_imports_file(alloc: Global, file: &Table) -> Result<Found<ImportsContent
     })
 }
 
-/// Reads what was imported from a peer.
+/// Reads the content imported from a peer.
 #[derive(Drop)]
 struct ReadImported {}
 
@@ -154,8 +155,7 @@ impl ReadNamed for ReadImported {
     }
 }
 
-/// What was imported from a peer, whose tables stand in one of this path and whose tables' paths begin with this
-/// prefix.
+/// The content imported from a peer, whose table has this path. The paths of the tables in it begin with this prefix.
 fn read_imported_from(
     alloc: Global,
     name: Name,
@@ -175,7 +175,7 @@ fn read_imported_from(
     })
 }
 
-/// What a peer's audits file holds, as its content.
+/// The content of a peer's audits file.
 fn read_peer_file(
     alloc: Global,
     path: &str,

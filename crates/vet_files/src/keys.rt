@@ -75,7 +75,7 @@ pub const WHO: &str = "who";
 
 pub const WILDCARD_AUDITS: &str = "wildcard-audits";
 
-/// The path of the table that a file is.
+/// The path of a file's top-level table.
 pub const TOP: &str = "top";
 
 /// The tables of the three files.
@@ -130,7 +130,7 @@ impl TableKind {
     }
 }
 
-/// How many keys of a table have no meaning.
+/// The number of a table's keys that have no meaning.
 pub(crate) fn unknown_keys(kind: TableKind, table: &Table) -> Result<Notices, AllocError>
     ensures { IfOk result (λ n. n ≡ only_keys (unknown_keys kind (table_view table.now))) }
 {

@@ -43,7 +43,7 @@ impl<T: Drop> Listed<T> {
         self.items.as_slice()
     }
 
-    /// The values, to be taken one by one.
+    /// The values as a vector.
     pub fn into_vec(self) -> Vec<T>
         ensures { result.items ≡ self }
     {
@@ -51,14 +51,14 @@ impl<T: Drop> Listed<T> {
         items
     }
 
-    /// How many there are.
+    /// The number of values.
     pub fn len(&self) -> usize
         ensures { result ≡ length self.now }
     {
         self.items.len()
     }
 
-    /// These values, and one more behind them where there is one.
+    /// These values, followed by one more if there is one.
     pub fn with(self, more: Option<T>) -> Result<Listed<T>, AllocError>
         ensures { IfOk result (λ l. l ≡ self ++ option_to_list more) }
     {
@@ -69,7 +69,7 @@ impl<T: Drop> Listed<T> {
         Ok(Listed { items })
     }
 
-    /// These values, and others behind them.
+    /// These values, followed by others.
     pub fn followed_by(self, more: Listed<T>) -> Result<Listed<T>, AllocError>
         ensures { IfOk result (λ l. l ≡ self ++ more) }
     {

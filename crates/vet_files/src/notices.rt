@@ -1,22 +1,22 @@
-//! What a reader passed over.
+//! Counts of what a reader ignored.
 ghost use Rattle.std.specs.Prelude.{◌≡◌, ◌+◌, IfOk};
 ghost use Rattle.vet_files.specs.Notices.{no_notices, one_key, one_skipped, only_doubles, sum_of_notices};
 
 use std::alloc::AllocError;
 
-/// How many things a reader passed over in a file.
+/// The numbers of things that a reader ignored in a file.
 #[derive(Clone, Copy, PartialEq, Eq)]
 pub struct Notices {
-    /// Keys that are none of the known, each once with all that stands below it.
+    /// Unknown keys, each counted once with all that is below it.
     pub keys: u64,
-    /// Entries and records of a kind that is not taken.
+    /// Entries and records that were skipped without being read.
     pub skipped: u64,
     /// Entries and records that equal an earlier one.
     pub doubles: u64,
 }
 
 impl Notices {
-    /// Nothing was passed over.
+    /// Nothing was ignored.
     pub fn none() -> Notices
         ensures { result ≡ no_notices }
     {
@@ -27,7 +27,7 @@ impl Notices {
         }
     }
 
-    /// One table was passed over as a whole, as an unknown key is.
+    /// One key was ignored, with all that is below it.
     pub(crate) fn key() -> Notices
         ensures { result ≡ one_key }
     {
@@ -49,7 +49,7 @@ impl Notices {
         }
     }
 
-    /// So many entries or records equal an earlier one.
+    /// This many entries or records equal an earlier one.
     pub(crate) fn doubles(count: usize) -> Notices
         ensures { result ≡ only_doubles count }
     {
@@ -60,7 +60,7 @@ impl Notices {
         }
     }
 
-    /// What both passed over. Refused where a count would pass 2^64 - 1, for which no memory holds the file.
+    /// The sum of both. Fails if a count would be greater than 2^64 - 1; no memory holds a file for which it would.
     pub(crate) fn and(self, other: Notices) -> Result<Notices, AllocError>
         ensures { IfOk result (λ n. n ≡ sum_of_notices self other) }
     {
@@ -71,7 +71,7 @@ impl Notices {
         })
     }
 
-    /// What all three passed over. Refused as `and` is.
+    /// The sum of all three. Fails as `and` does.
     pub(crate) fn and_both(self, other: Notices, further: Notices) -> Result<Notices, AllocError>
         ensures { IfOk result (λ n. n ≡ sum_of_notices (sum_of_notices self other) further) }
     {

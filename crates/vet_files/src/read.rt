@@ -1,4 +1,4 @@
-//! From the tables of a file to what it says: each reader gives what its definition tells of a table.
+//! Readers of the tables of a file. Each returns what its definition gives for a table.
 
 pub(crate) mod criteria;
 pub mod document;

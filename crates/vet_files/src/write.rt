@@ -1,4 +1,4 @@
-//! From values to the tables that a file is printed from.
+//! Writers, which make the tables from which files are printed.
 
 pub(crate) mod audits_table;
 pub(crate) mod config_records;

@@ -16,7 +16,7 @@ use vet_base::refusal::Refusal;
 use vet_demand::dependency_criteria::DependencyCriteria;
 use vet_entries::criteria_map::CriteriaMap;
 
-/// Reads what the criteria of a peer are in one's own, one after the other.
+/// Reads the own criteria that each criterion of a peer stands for, one after the other.
 #[derive(Drop)]
 struct ReadMapped<'a> {
     path: &'a str,

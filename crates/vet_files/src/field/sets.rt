@@ -15,7 +15,7 @@ use vet_base::package_names::PackageNames;
 use vet_base::refusal::Refusal;
 use vet_base::texts::Texts;
 
-/// Reads each item of a list that stands in the table of a path at a key, in its order.
+/// Reads each item of a list in order, given the path of its table and its key.
 pub fn read_items<V: Field>(
     alloc: Global,
     path: &str,
@@ -31,7 +31,7 @@ pub fn read_items<V: Field>(
     Ok(values)
 }
 
-/// Reads a text alone, or each item of a list.
+/// Reads a single text, or each item of a list. Anything else is refused (`fault`).
 pub fn read_one_or_list<V: Field>(
     alloc: Global,
     path: &str,
@@ -51,7 +51,7 @@ pub fn read_one_or_list<V: Field>(
     }
 }
 
-/// Writes a list, of which each item is read again.
+/// Writes a list. Each item is read back.
 fn write_items<V: Field>(alloc: Global, items: &[V]) -> Result<Array, AllocError>
     ensures items { IfOk result (λ a. array_view a ≡ items_of (map (λ v. V.written v) items.now)) }
     ensures read { IfOk result (λ a. All (λ v. IsReadAs V.told (V.written v) v) items.now) }

@@ -53,7 +53,7 @@ impl ReadMember for ReadCriteria<'_> {
 }
 
 impl ReadCriteria<'_> {
-    /// Counts the table of a built-in criterion as a whole.
+    /// Counts the table of a built-in criterion as one unknown key, without reading it.
     fn pass_over(
         &self,
         alloc: Global,
@@ -73,7 +73,7 @@ impl ReadCriteria<'_> {
         })
     }
 
-    /// Goes on with a criterion that is none of the built-in ones.
+    /// Reads a criterion that is not a built-in one.
     fn read_further(
         &self,
         alloc: Global,
@@ -90,7 +90,7 @@ impl ReadCriteria<'_> {
     }
 }
 
-/// Refuses one criterion more than a peer's file may define.
+/// Refuses a further criterion if a peer's file already defines as many as it may.
 fn check_room(whose: Whose, defined: usize) -> Result<(), Refusal>
     ensures { result ≡ room_for_criterion whose defined }
 {

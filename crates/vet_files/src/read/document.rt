@@ -1,4 +1,4 @@
-//! What each of the three readers begins with: the table of a file, and the tables in it.
+//! The first steps of each of the three readers: the table of a file, and the tables in it.
 ghost use Rattle.std.specs.Prelude.{◌≡◌, ◌++◌, IfOk, string_bytes};
 ghost use Rattle.std.specs.Option.{option_map_or};
 ghost use Rattle.toml.specs.Data.{no_members};
@@ -12,7 +12,7 @@ use std::alloc::{AllocError, Global};
 use toml::Table;
 use vet_base::refusal::Refusal;
 
-/// The table of a file.
+/// The table of a file. Refused: `TomlRefused` if `toml` refuses the bytes, and `NoMemory`.
 pub fn read_document(alloc: Global, bytes: &[u8]) -> Result<Table, Refusal>
     ensures { Gives (λ table. table_view table) (document_told bytes.now) result }
 {
@@ -28,7 +28,7 @@ pub fn read_document(alloc: Global, bytes: &[u8]) -> Result<Table, Refusal>
     }
 }
 
-/// The table at a key, where there is one.
+/// The table at a key, if the file has the key. Any other value there is refused (`fault`).
 pub fn table_at<'a>(
     alloc: Global,
     path: &str,
@@ -47,7 +47,7 @@ pub fn table_at<'a>(
     }
 }
 
-/// The path of a table: what its file's paths begin with, and its key.
+/// The path of a table: the prefix of its file's paths, and its key.
 pub fn joined(alloc: Global, prefix: &str, key: &str) -> Result<String, AllocError>
     ensures { IfOk result (λ s. string_bytes s ≡ prefix.now ++ key.now) }
 {

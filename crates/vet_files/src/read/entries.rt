@@ -25,7 +25,7 @@ use vet_base::texts::Texts;
 use vet_entries::entry::{Entry, Source};
 use vet_entries::kind::{Audit, Kind};
 
-/// The audit of a table, where it has one that isn't withheld.
+/// The audit of a table. The table is skipped if it has none, or if a peer withholds it.
 pub(crate) fn read_audit(
     alloc: Global,
     whose: Whose,
@@ -52,7 +52,7 @@ pub(crate) fn skipped<T: Drop>() -> Found<Option<T>>
     }
 }
 
-/// Whether something stands at a key.
+/// Whether a table has a key.
 pub(crate) fn has(table: &Table, key: &str) -> bool
     ensures { result ≡ has (table_view table.now) key.now }
 {
@@ -79,7 +79,7 @@ fn is_no(value: Option<&Value>) -> bool
     }
 }
 
-/// The first of the three keys that say what was audited.
+/// The first of the three keys that give the subject of an audit.
 fn first_key(table: &Table) -> Option<SubjectKey>
     ensures { result ≡ first_key (table_view table.now) }
 {
@@ -95,7 +95,7 @@ fn first_key(table: &Table) -> Option<SubjectKey>
     None
 }
 
-/// Refuses a second of the three keys.
+/// Refuses a table that has a second one of the three keys.
 fn refuse_second(alloc: Global, path: &str, table: &Table, key: &str) -> Result<(), Refusal>
     ensures { Gives (λ u. u) (absent path.now key.now (table_view table.now)) result }
 {
@@ -105,7 +105,7 @@ fn refuse_second(alloc: Global, path: &str, table: &Table, key: &str) -> Result<
     Ok(())
 }
 
-/// What an audit is of, by the first of the three keys.
+/// The subject of an audit, by the first of the three keys.
 fn read_subject(
     alloc: Global,
     path: &str,
@@ -133,7 +133,7 @@ fn read_subject(
     }
 }
 
-/// The audit of a table whose subject stands at this key.
+/// The audit of a table whose subject is at this key.
 fn read_audit_by(
     alloc: Global,
     at: &PackageTable<'_>,
@@ -147,7 +147,7 @@ fn read_audit_by(
     read_audit_of(alloc, at, criteria, subject)
 }
 
-/// The audit of a table, where its criteria and its subject were read.
+/// The audit of a table whose criteria and subject were read.
 fn read_audit_of(
     alloc: Global,
     at: &PackageTable<'_>,
@@ -173,7 +173,7 @@ fn read_audit_of(
     )
 }
 
-/// What a table of some kind is found to hold: an entry of the organisation's own, and keys that have no meaning.
+/// The result of reading a table of some kind: an own entry, and the count of keys that have no meaning.
 pub(crate) fn found_entry(
     at: &PackageTable<'_>,
     which: TableKind,

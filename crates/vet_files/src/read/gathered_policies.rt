@@ -10,8 +10,8 @@ use vet_demand::policies::{KeyedPolicy, Policies};
 use vet_demand::policy::Policy;
 use vet_demand::policy_key::PolicyKey;
 
-/// Policies in the order in which they were read, with their keys beside them in an order of their own. So one
-/// more moves none of those that were read.
+/// Policies in the order in which they were read, with their keys beside them in an order of their own. So adding one
+/// moves none of those that were read before.
 #[derive(Drop)]
 pub(crate) struct GatheredPolicies {
     keys: BTreeSet<PolicyKey>,
@@ -45,14 +45,14 @@ impl GatheredPolicies {
         }
     }
 
-    /// Whether a policy of a key was read. Takes no memory, and a time of log n.
+    /// Whether a policy with a key was read. Takes no memory, and a time of log n.
     pub(crate) fn has(&self, key: &PolicyKey) -> bool
         ensures { result ≡ has_policy (in_key_order self.now) key.now }
     {
         self.keys.contains(key)
     }
 
-    /// These policies, and one more behind them. Takes a time of log n.
+    /// These policies, and one more after them. Takes a time of log n.
     pub(crate) fn with(self, key: PolicyKey, policy: Policy) -> Result<GatheredPolicies, AllocError>
         ensures { IfOk result (λ g. g ≡ self ++ record { key = key; policy = policy } ∷ []) }
     {

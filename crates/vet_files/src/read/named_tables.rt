@@ -1,4 +1,4 @@
-//! Tables by name, as `[imports.mozilla]`.
+//! Tables by name, such as `[imports.mozilla]`.
 ghost use Rattle.toml.specs.View.{table_view, view};
 ghost use Rattle.vet_base.specs.Gives.{Gives};
 ghost use Rattle.vet_files.specs.Lists.{Reading, named_table, named_tables, next_named};
@@ -15,7 +15,7 @@ use toml::{Table, Value};
 use vet_base::name::Name;
 use vet_base::refusal::Refusal;
 
-/// One table of those that stand by name.
+/// A table by name, with its path.
 #[derive(Drop)]
 pub(crate) struct NamedTable<'a> {
     pub(crate) name: Name,
@@ -23,12 +23,12 @@ pub(crate) struct NamedTable<'a> {
     pub(crate) table: &'a Table,
 }
 
-/// Reads one table of those that stand by name.
+/// Reads a table by name.
 pub(crate) trait ReadNamed {
-    /// What such a table says.
+    /// The value of such a table.
     type Item: Drop;
 
-    /// What is told of a table of a name and a path.
+    /// The result of reading a table with a name and a path.
     ghost told: { Self → Reading Self.Item };
 
     /// Reads the table.
@@ -64,7 +64,7 @@ impl<R: ReadNamed> ReadMember for NextNamed<'_, R> {
     }
 }
 
-/// Reads the table that stands at a name.
+/// Reads the table at a name.
 pub(crate) fn named_table<R: ReadNamed>(
     alloc: Global,
     reader: &R,

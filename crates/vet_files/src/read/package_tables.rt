@@ -1,4 +1,4 @@
-//! Lists of tables by package, as `[[audits.serde]]`.
+//! Lists of tables by package, such as `[[audits.serde]]`.
 ghost use Rattle.std.specs.Prelude.{◌≡◌, IfOk, IfErr, List, ℕ, Option, OnOk, string_bytes};
 ghost use Rattle.toml.specs.Data.{Members};
 ghost use Rattle.toml.specs.View.{table_view, view};
@@ -25,10 +25,10 @@ pub(crate) struct PackageTable<'a> {
 
 /// Reads one table of a list.
 pub(crate) trait ReadTable {
-    /// What such a table says.
+    /// The value of such a table.
     type Item: Drop;
 
-    /// What is told of a table: what it says, or nothing where it is skipped.
+    /// The result of reading a table: its value, or nothing if it is skipped.
     ghost told: { Self → Reading Self.Item };
 
     /// Reads the table.
@@ -75,7 +75,7 @@ impl<R: ReadTable> ReadItem for NextTable<'_, R> {
     }
 }
 
-/// The path of what stands in a table at a key.
+/// The path of the value at a key of a table.
 pub fn path_below(alloc: Global, path: &str, key: &str) -> Result<String, AllocError>
     ensures { IfOk result (λ s. string_bytes s ≡ path_below path.now key.now) }
 {
@@ -89,7 +89,7 @@ fn path_in_list(alloc: Global, path: &str, name: &str, place: usize) -> Result<S
     format!(in alloc; "{path}.{name}[{place}]")
 }
 
-/// Reads the tables of a package, whose name is the key at which their list stands.
+/// Reads the tables of a package. The key of their list is the package's name.
 pub(crate) fn tables_of_package<R: ReadTable>(
     alloc: Global,
     reader: &R,

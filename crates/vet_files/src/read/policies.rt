@@ -77,7 +77,7 @@ impl ReadMember for ReadPolicies {
     }
 }
 
-/// The key that a text is, where no earlier policy has it.
+/// The key that a text is. Refuses a text that is not a key, or whose key an earlier policy has.
 fn new_key(alloc: Global, held: &GatheredPolicies, text: &str) -> Result<PolicyKey, Refusal>
     ensures { Gives (λ k. k) (new_key_told text.now (in_key_order held.now)) result }
 {
@@ -90,7 +90,7 @@ fn new_key(alloc: Global, held: &GatheredPolicies, text: &str) -> Result<PolicyK
     Ok(key)
 }
 
-/// The policy whose table stands at a key.
+/// The policy whose table is at a key.
 fn read_policy_at(alloc: Global, key: &str, value: &Value) -> Result<Found<Policy>, Refusal>
     ensures { Gives (λ f. f) (policy_at key.now (view value.now)) result }
 {
@@ -101,7 +101,7 @@ fn read_policy_at(alloc: Global, key: &str, value: &Value) -> Result<Found<Polic
     read_policy(alloc, path.as_str(), table)
 }
 
-/// What was found, and one more policy.
+/// The policies found, and one more.
 fn with_policy(
     found: Found<GatheredPolicies>,
     key: PolicyKey,
@@ -132,7 +132,7 @@ fn read_policy(alloc: Global, path: &str, table: &Table) -> Result<Found<Policy>
     )
 }
 
-/// The policy of a table, where what it says of its own package was read.
+/// The policy of a table, given the values about its own package, which were read before.
 fn read_dependency_policy(
     alloc: Global,
     path: &str,

@@ -69,7 +69,7 @@ impl ReadMember for ReadPackagePublishers {
     }
 }
 
-/// The records of a package in order, each once; none of a package without any.
+/// The records of a package in order, each once, or `None` for a package without any.
 fn publish(
     alloc: Global,
     package: PackageName,
@@ -101,7 +101,7 @@ fn sorted(alloc: Global, records: Vec<Publisher>) -> Result<Publishers, Refusal>
     Publishers::of(alloc, records)
 }
 
-/// Reads the publisher records of a package.
+/// Reads the publisher records of a package. A record that names no user is skipped.
 #[derive(Drop)]
 struct ReadPublisher {}
 

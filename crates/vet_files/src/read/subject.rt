@@ -1,4 +1,4 @@
-//! What an audit is of.
+//! The subjects of audits.
 ghost use Rattle.std.specs.Prelude.{◌≡◌};
 ghost use Rattle.vet_files.specs.Audits.{audit_kind};
 
@@ -7,7 +7,7 @@ use vet_base::req::Req;
 use vet_base::version::VetVersion;
 use vet_entries::kind::{Audit, Kind};
 
-/// The key that says what an audit is of.
+/// The key that gives the subject of an audit.
 #[derive(Clone, Copy)]
 pub(crate) enum SubjectKey {
     Version,
@@ -15,7 +15,7 @@ pub(crate) enum SubjectKey {
     Violation,
 }
 
-/// What an audit is of (The Cargo Vet Book, audit entries).
+/// The subject of an audit (The Cargo Vet Book, audit entries).
 pub(crate) enum Subject {
     Full(VetVersion),
     Delta(Delta),
@@ -33,7 +33,7 @@ impl Drop for Subject {
 }
 
 impl Subject {
-    /// The kind of an audit of this.
+    /// The kind of an audit with this subject.
     pub(crate) fn with_audit(self, audit: Audit) -> Kind
         ensures { result ≡ audit_kind self audit }
     {

@@ -1,25 +1,27 @@
 //! Walks over the keys of a table and over the items of a list.
 //!
-//! **A walk tells what the definition tells of the table: what was found at each key in turn, or the first fault.**
+//! **A walk returns what the definition gives for the table: the values found at each key in turn, or the first
+//! fault.**
 //!
-//! The bytes of a file go to `toml`, which gives a table or refuses them. Nothing is judged before all of it is TOML.
-//! Then one walk goes over that table, and what it finds are values of the lower crates. What is no such value ends
-//! the walk with its refusal, so the fault that is told is the first one in the order of the walk.
+//! `toml` reads the bytes of a file as a table, or refuses them. Nothing is checked before all of them are TOML. Then
+//! one walk goes over the table, and finds values of the lower crates. Anything that is not such a value ends the walk
+//! with its refusal, so the fault returned is the first one in the order of the walk.
 //!
-//! The walk is two calls, over the keys of a table (`each_member`) and over the items of a list (`each_item`). What is
-//! read at a key, and how it goes on from what was found before, is handed to them. So each table of the files is one
-//! small reader. It asks for its keys in their order by `required` and `optional`, and the type of each key is the
-//! type of the value that is wanted (`Field`). The walk is proved once for all readers, since what one tells is a
-//! ghost member of its trait.
+//! The walk consists of two calls, one over the keys of a table (`each_member`) and one over the items of a list
+//! (`each_item`). Each takes a reader, which reads the value at a key and continues from what was found before. So each
+//! table of the files has one small reader. It asks for its keys in their order by `required` and `optional`, and the
+//! type of each key is the type of the value asked for (`Field`). The walk is proved once for all readers, since the
+//! result of a reader is a ghost member of its trait.
 //!
-//! The keys come in the order of their bytes, each once. The loop keeps one equation: what is told of all keys is what
-//! is told of the rest, going on from what was found. At the end nothing is left, and the equation is the contract.
+//! The keys come in the order of their bytes, each once. The loop keeps one equation: the result for all keys is the
+//! result for the remaining ones, continued from what was found. At the end no key remains, and the equation is the
+//! contract.
 //!
-//! A peer's audits are read by the same readers as one's own. They differ in whose words they are (`Whose`) and in the
-//! path that a fault tells. Beside what it found a reader carries what it passed over (`Found`, `Notices`).
+//! A peer's audits are read by the same readers as one's own. They differ in their author (`Whose`) and in the path
+//! that a fault names. Besides what it found, a reader carries the counts of what it ignored (`Found`, `Notices`).
 //!
-//! What is to be a set is gathered in the order of the file and put in its own order once. So no order of a file takes
-//! the square of its length.
+//! Values that form a set are gathered in the order of the file and sorted once. So no order of a file makes the time
+//! to read it quadratic in its length.
 ghost use Rattle.std.specs.Prelude.{◌≡◌, ℕ, List};
 ghost use Rattle.toml.specs.Data.{Data};
 ghost use Rattle.toml.specs.View.{array_view, table_view, view};
@@ -31,15 +33,15 @@ use toml::value::Array;
 use toml::{Table, Value};
 use vet_base::refusal::Refusal;
 
-/// Reads what stands at one key of a table.
+/// Reads the value at one key of a table.
 pub trait ReadMember {
-    /// What was found so far.
+    /// The values found so far.
     type Found: Drop;
 
-    /// What is found with this key, or its fault.
+    /// The values found after this key, or its fault.
     ghost told: { Self → Self.Found → List ℕ → Data → Told Self.Found };
 
-    /// Goes on from what was found so far.
+    /// Continues from the values found so far.
     fn read(
         &self,
         alloc: Global,
@@ -50,7 +52,7 @@ pub trait ReadMember {
         ensures { Gives (λ found. found) (told self.now found key.now (view value.now)) result };
 }
 
-/// Reads each key of a table, in the order of their bytes, and goes on from a start. No key comes twice.
+/// Reads each key of a table, in the order of their bytes, beginning with the values in `start`. No key comes twice.
 pub fn each_member<R: ReadMember>(
     alloc: Global,
     reader: &R,
@@ -69,13 +71,13 @@ pub fn each_member<R: ReadMember>(
 
 /// Reads one item of a list.
 pub trait ReadItem {
-    /// What was found so far.
+    /// The values found so far.
     type Found: Drop;
 
-    /// What is found with the item at this place, or its fault.
+    /// The values found after the item at this place, or its fault.
     ghost told: { Self → Self.Found → ℕ → Data → Told Self.Found };
 
-    /// Goes on from what was found so far.
+    /// Continues from the values found so far.
     fn read(
         &self,
         alloc: Global,
@@ -86,7 +88,7 @@ pub trait ReadItem {
         ensures { Gives (λ found. found) (told self.now found place (view value.now)) result };
 }
 
-/// Reads each item of a list, in its order, and goes on from a start.
+/// Reads each item of a list, in its order, beginning with the values in `start`.
 pub fn each_item<R: ReadItem>(
     alloc: Global,
     reader: &R,

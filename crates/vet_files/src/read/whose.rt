@@ -1,10 +1,10 @@
-//! Whose words a file holds.
+//! The authors of audits files.
 
-/// Whose words an audits file holds.
+/// The author whose words an audits file uses.
 #[derive(Clone, Copy)]
 pub(crate) enum Whose {
-    /// The organisation's own.
+    /// The organisation itself.
     Ours,
-    /// A peer's: of these, trusted entries and what isn't importable are skipped.
+    /// A peer. Its trusted publishers, and audits that are not importable, are skipped.
     Peers,
 }

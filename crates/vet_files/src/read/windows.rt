@@ -19,7 +19,7 @@ use vet_base::texts::Texts;
 use vet_entries::entry::Entry;
 use vet_entries::kind::{Grant, Kind, Window};
 
-/// Whether a trusted publisher is taken.
+/// Whether a trusted publisher is read and not skipped.
 fn is_trusted(whose: Whose, table: &Table) -> bool
     ensures { result ≡ is_trusted whose (table_view table.now) }
 {
@@ -39,7 +39,7 @@ fn read_window(alloc: Global, path: &str, table: &Table) -> Result<Window, Refus
     Ok(Window { user, first, last })
 }
 
-/// The wildcard audit of a table, where it names a user.
+/// The wildcard audit of a table. It is skipped if it names no user.
 pub(crate) fn read_wildcard(
     alloc: Global,
     at: &PackageTable<'_>,
@@ -54,7 +54,7 @@ pub(crate) fn read_wildcard(
     read_wildcard_of(alloc, at, criteria, window)
 }
 
-/// The wildcard audit of a table, where its criteria and its window were read.
+/// The wildcard audit of a table whose criteria and window were read.
 fn read_wildcard_of(
     alloc: Global,
     at: &PackageTable<'_>,
@@ -75,7 +75,7 @@ fn read_wildcard_of(
     found_entry(at, TableKind::Wildcard, kind, criteria, notes)
 }
 
-/// The trusted publisher of a table, where it is taken.
+/// The trusted publisher of a table. It is skipped if it names no user or is in a peer's file.
 pub(crate) fn read_trusted(
     alloc: Global,
     whose: Whose,

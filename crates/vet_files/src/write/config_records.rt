@@ -26,7 +26,7 @@ use vet_demand::policy_key::key_text_reads_back;
 use vet_entries::criteria_map::CriteriaMap;
 use vet_entries::peer_settings::PeerSettings;
 
-/// The table `cargo-vet`, which names the version of cargo-vet. It is read again as this version.
+/// The table `cargo-vet`, which names the version of cargo-vet. It is read back as this version.
 pub(crate) fn cargo_vet_table(alloc: Global, version: &Text) -> Result<Table, AllocError>
     ensures table { IfOk result (λ t. table_view t ≡ cargo_vet_table version.now) }
     ensures read { IfOk result (λ t. IsReadAs a_text (string version.now) version.now) }
@@ -36,7 +36,7 @@ pub(crate) fn cargo_vet_table(alloc: Global, version: &Text) -> Result<Table, Al
     Ok(table)
 }
 
-/// The packages of a set, where there are some.
+/// The packages of a set, or `None` if it is empty.
 fn some_packages(packages: &PackageNames) -> Option<&PackageNames>
     ensures written { option_map list_data (option_copied result) ≡ some_list packages.now }
     ensures value { or_none (option_copied result) ≡ packages.now }
@@ -47,7 +47,7 @@ fn some_packages(packages: &PackageNames) -> Option<&PackageNames>
     Some(packages)
 }
 
-/// A map from a peer's criteria, where something stands in it.
+/// A map from a peer's criteria, or `None` if it is empty.
 fn some_mapped(map: &CriteriaMap) -> Option<&CriteriaMap>
     ensures written { option_map (λ m. table (mapped_table m)) (option_copied result)
         ≡ unless_empty (mapped_table map.now) }
@@ -59,12 +59,12 @@ fn some_mapped(map: &CriteriaMap) -> Option<&CriteriaMap>
     Some(map)
 }
 
-/// The table of a peer's settings. It is read again as these settings.
+/// The table of a peer's settings. It is read back as these settings.
 pub(crate) fn peer_table(alloc: Global, peer: &PeerSettings) -> Result<Table, AllocError>
     ensures table { IfOk result (λ t. table_view t ≡ peer_table peer.now) }
     ensures read { IfOk result (λ t. ReadsPeer peer.now) }
 {
-    // A reader takes only a name here: the contract of this call says that it is one.
+    // A reader accepts only a name here. The contract of this call says that it is one.
     let _ = peer.name.as_str();
     let mut table = Table::new(alloc);
     put_some(alloc, &mut table, CRITERIA_MAP, some_mapped(&peer.map))?;
@@ -73,7 +73,7 @@ pub(crate) fn peer_table(alloc: Global, peer: &PeerSettings) -> Result<Table, Al
     Ok(table)
 }
 
-/// The criteria along edges to dependencies, where there are some.
+/// The criteria along edges to dependencies, or `None` if there are none.
 fn some_dependencies(criteria: &DependencyCriteria) -> Option<&DependencyCriteria>
     ensures written { option_map (λ d. table (dependencies_table d)) (option_copied result)
         ≡ unless_empty (dependencies_table criteria.now) }
@@ -85,7 +85,7 @@ fn some_dependencies(criteria: &DependencyCriteria) -> Option<&DependencyCriteri
     Some(criteria)
 }
 
-/// The table of a policy. It is read again as this policy, and the text of its key as its key.
+/// The table of a policy. It is read back as this policy, and the text of its key as its key.
 pub(crate) fn policy_table(alloc: Global, policy: &KeyedPolicy) -> Result<Table, AllocError>
     ensures table { IfOk result (λ t. table_view t ≡ policy_table policy.now.policy) }
     ensures read { IfOk result (λ t. ReadsPolicy policy.now) }

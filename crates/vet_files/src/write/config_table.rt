@@ -80,7 +80,7 @@ pub(crate) fn config_table(alloc: Global, content: &ConfigContent) -> Result<Tab
     Ok(file)
 }
 
-/// Puts what a config file holds into its table.
+/// Puts the content of a config file into its table.
 fn fill_config(alloc: Global, file: &mut Table, content: &ConfigContent) -> Result<(), AllocError>
     requires { table_view file.old ≡ no_members }
     ensures table { OnOk result (table_view file.new ≡ config_table content.now) }
@@ -102,7 +102,7 @@ fn fill_config(alloc: Global, file: &mut Table, content: &ConfigContent) -> Resu
     Ok(())
 }
 
-/// Puts the table `cargo-vet`, where a version is held.
+/// Puts the table `cargo-vet`, if a version is held.
 fn put_version(alloc: Global, file: &mut Table, version: &Option<Text>) -> Result<(), AllocError>
     ensures put { OnOk result (table_view file.new
         ≡ with_key (table_view file.old) (codes "cargo-vet")

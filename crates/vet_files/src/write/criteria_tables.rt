@@ -16,7 +16,7 @@ pub(crate) fn criterion_table(alloc: Global, criterion: &Criterion) -> Result<Ta
     ensures table { IfOk result (λ t. table_view t ≡ criterion_table criterion.now) }
     ensures read { IfOk result (λ t. ReadsCriterion criterion.now) }
 {
-    // Called for its clause that this is a name: no other would be read again.
+    // Called for its clause that this is a name, since nothing else would be read back.
     let _ = criterion.name.as_str();
     let mut table = Table::new(alloc);
     put_some(

@@ -41,21 +41,21 @@ pub(crate) fn entry_table(alloc: Global, entry: &Entry) -> Result<Table, AllocEr
     }
 }
 
-/// A table with an entry's criteria, which stand in front of all else.
+/// A table with an entry's criteria, whose key comes before all others.
 fn with_criteria(alloc: Global, entry: &Entry) -> Result<Table, AllocError>
     ensures put { IfOk result (λ t. table_view t
         ≡ with_key no_members (codes "criteria") (Some (set_data entry.now.criteria))) }
     ensures read { IfOk result (λ t. IsReadAs names (set_data entry.now.criteria) entry.now.criteria) }
     ensures named { is_package_name entry.now.«package» ≡ true }
 {
-    // Called for its clause that this is a name: no other would be read again.
+    // Called for its clause that this is a name, since nothing else would be read back.
     let _ = entry.package.as_str();
     let mut table = Table::new(alloc);
     put(alloc, &mut table, CRITERIA, &entry.criteria)?;
     Ok(table)
 }
 
-/// The table of an audit, which has what it is of at a key of its kind.
+/// The table of an audit, which has its subject at the key of its kind.
 fn audit_table<V: Field>(
     alloc: Global,
     entry: &Entry,

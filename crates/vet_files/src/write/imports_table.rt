@@ -20,7 +20,7 @@ use vet_base::package_names::PackageNames;
 use vet_entries::peer_settings::PeerSettings;
 use vet_entries::publisher_records::PackagePublishers;
 
-/// Writes publisher records, those of a package at its name.
+/// Writes publisher records, those of each package at its name.
 #[derive(Drop)]
 struct WritePublishers {}
 
@@ -41,8 +41,8 @@ impl WriteMember for WritePublishers {
     }
 }
 
-/// Writes what was imported, that of a peer at its name, less the entries of the packages that its settings
-/// exclude.
+/// Writes the contents imported from peers, each at the peer's name, less the entries of the packages that the peer's
+/// settings exclude.
 #[derive(Drop)]
 struct WriteImported<'a> {
     settings: &'a [PeerSettings],
@@ -82,7 +82,7 @@ pub(crate) fn imports_table(
     Ok(file)
 }
 
-/// The packages of which nothing is taken from a peer, by the first settings of its name.
+/// The packages excluded by the first settings with a peer's name, or `None` if there are no such settings.
 fn excluded<'a>(settings: &'a [PeerSettings], name: &Name) -> Option<&'a PackageNames>
     ensures { option_map_or (λ s. s) (option_copied result) set.empty ≡ excluded_of settings.now name.now }
 {
@@ -94,7 +94,7 @@ fn excluded<'a>(settings: &'a [PeerSettings], name: &Name) -> Option<&'a Package
     None
 }
 
-/// The table of what was imported from a peer.
+/// The table of the content imported from a peer.
 fn imported_peer_table(
     alloc: Global,
     settings: &[PeerSettings],

@@ -44,7 +44,7 @@ pub(crate) fn package_lists(
     Ok(table)
 }
 
-/// The items of a list; what is no list has none.
+/// The items of a list, or none if the value is not a list.
 fn array_of(alloc: Global, value: Value) -> Array
     ensures { array_view result ≡ items_in (Some (view value)) }
 {
@@ -54,18 +54,18 @@ fn array_of(alloc: Global, value: Value) -> Array
     }
 }
 
-/// Puts a value at the end of a list; what is no list is made one.
+/// Puts a value at the end of a list. If there is another value in place of the list, it becomes a list of one item.
 fn push(alloc: Global, list: &mut Value, value: Value) -> Result<(), AllocError>
     ensures { OnOk result (view list.new ≡ array (push_item (items_in (Some (view list.old))) (view value))) }
 {
-    // The list is taken out while it grows, and what holds its place is of no account.
+    // The list is moved out while it grows, and the value in its place does not matter.
     let mut items = array_of(alloc, mem::replace(list, Value::Boolean(false)));
     items.push(value)?;
     *list = Value::Array(items);
     Ok(())
 }
 
-/// Puts a value at the end of the list at a key; where there is none, one begins.
+/// Puts a value at the end of the list at a key, or begins a list if there is none.
 fn push_at(alloc: Global, table: &mut Table, key: &str, value: Value) -> Result<(), AllocError>
     ensures { OnOk result (table_view table.new
         ≡ put_member key.now (array (push_item (list_at key.now (table_view table.old)) (view value)))
@@ -79,7 +79,7 @@ fn push_at(alloc: Global, table: &mut Table, key: &str, value: Value) -> Result<
     put_value(alloc, table, key, Value::Array(items))
 }
 
-/// Whether an entry stands in a listing: one of its kinds, and of no excluded package.
+/// Whether an entry is in a listing: it is of one of its kinds, and not of an excluded package.
 fn is_written(which: Listing, exclude: &PackageNames, entry: &Entry) -> bool
     ensures { result ≡ (is_listed which entry.now.kind && not (set.contains exclude.now entry.now.«package»)) }
 {

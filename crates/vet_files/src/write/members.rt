@@ -7,25 +7,25 @@ ghost use Rattle.vet_files.specs.Tables.{by_name};
 use std::alloc::{AllocError, Global};
 use toml::{Table, Value};
 
-/// What stands at a name of a table.
+/// A name of a table, and the value at it.
 #[derive(Drop)]
 pub(crate) struct Member {
     pub(crate) name: String,
     pub(crate) value: Value,
 }
 
-/// Writes what stands at one name of a table.
+/// Writes the value at one name of a table.
 pub(crate) trait WriteMember {
-    /// Of what it is written.
+    /// The type of the items that are written.
     type Item: Drop;
 
-    /// The name at which an item stands.
+    /// The name at which an item is written.
     ghost name: { Self.Item → List ℕ };
 
-    /// The value as which it is written.
+    /// The TOML value that is written for an item.
     ghost written: { Self → Self.Item → Data };
 
-    /// What is known of an item once it is written: that it is read again.
+    /// The fact that a written item is read back.
     ghost Reads: { Self → Self.Item → Type 0 };
 
     /// Writes an item.

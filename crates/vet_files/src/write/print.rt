@@ -1,17 +1,17 @@
 //! Tables printed as documents.
 //!
-//! **What is written is a text that `toml` reads as exactly the table of the content.**
+//! **The text that is written is one that `toml` reads as exactly the table of the content.**
 //!
-//! A writer builds the table of its file and has `toml` print it. No text of a file is put together here. The table is
-//! a function of what the file holds (`audits_table` and its like, in `specs/`). Each type that stands at a key says
-//! how it is read and also as what it is written (`Field`). Tables of known keys are made of these, a small function a
-//! table. Tables by name (of criteria, peers, policies) are made by one walk over a list, the lists of a package's
-//! entries by another.
+//! A writer builds the table of its file and has `toml` print it. This crate assembles no text of a file. The table is
+//! a function of the file's content (`audits_table` and the like, in `specs/`). Each type of values at a key says how
+//! they are read and what is written for them (`Field`). Tables of known keys are made of these, with a small function
+//! for each table. Tables by name (of criteria, peers, policies) are made by one walk over a list, and the lists of a
+//! package's entries by another.
 //!
-//! That what is written is read again is proved in three parts. What the types alone know goes up in the contracts, as
-//! that the text of a version is read as that version (`specs/ReadAgain.antt`). Lemmas show of any table made of such
-//! parts that the reader's definition tells the same content. The two meet in the writer's contract, where `toml`
-//! gives the text. So nothing of the code of readers is looked at again, only what they tell.
+//! The proof that a written text is read back has three parts. Contracts pass on the facts that only the types know,
+//! such as that the text of a version is read as that version (`specs/ReadAgain.antt`). Lemmas show for any table made
+//! of such parts that the reader's definition gives the same content. The two meet in the writer's contract, in which
+//! `toml` gives the text. So the proof looks at the definitions of the readers, and not again at their code.
 ghost use Rattle.std.specs.Prelude.{◌≡◌, ◌≤◌, IfErr, IfOk, Ok, Some, string_bytes};
 ghost use Rattle.toml.specs.Data.{members_depth};
 ghost use Rattle.toml.specs.Parse.{parse_document};
@@ -22,7 +22,7 @@ use std::alloc::Global;
 use toml::Table;
 use vet_base::refusal::Refusal;
 
-/// Prints a table in which no date stands, and which is no deeper than `toml` reads.
+/// Prints a table. If it is at most 80 deep, `toml` reads the text as this table.
 pub(crate) fn print(alloc: Global, table: &Table) -> Result<String, Refusal>
     ensures parsed { IfOk result (λ s. members_depth (table_view table.now) ≤ 80
         → parse_document (string_bytes s) ≡ Some (table_view table.now)) }

@@ -11,7 +11,7 @@ use toml::value::Array;
 use toml::{Table, Value};
 use vet_entries::publisher::Publisher;
 
-/// The table of a publisher record. It is read again as the record.
+/// The table of a publisher record. It is read back as the record.
 pub(crate) fn publisher_table(alloc: Global, publisher: &Publisher) -> Result<Table, AllocError>
     ensures table { IfOk result (λ t. table_view t ≡ publisher_table publisher.now) }
     ensures read { IfOk result (λ t. ReadsPublisher publisher.now) }
@@ -25,7 +25,7 @@ pub(crate) fn publisher_table(alloc: Global, publisher: &Publisher) -> Result<Ta
     Ok(table)
 }
 
-/// The tables of publisher records, in order. Each is read again as its record.
+/// The tables of publisher records, in order. Each is read back as its record.
 pub(crate) fn publisher_items(alloc: Global, records: &[Publisher]) -> Result<Array, AllocError>
     ensures items { IfOk result (λ v. array_view v ≡ publisher_items records.now) }
     ensures read { IfOk result (λ v. All ReadsPublisher records.now) }

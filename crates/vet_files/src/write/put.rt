@@ -10,7 +10,7 @@ use crate::field::Field;
 use std::alloc::{AllocError, Global};
 use toml::{Table, Value};
 
-/// Puts a value at a key.
+/// Puts a TOML value at a key.
 pub(crate) fn put_value(
     alloc: Global,
     table: &mut Table,
@@ -23,7 +23,7 @@ pub(crate) fn put_value(
     Ok(())
 }
 
-/// Puts what a key must have.
+/// Puts a value at a key that must have one.
 pub(crate) fn put<V: Field>(
     alloc: Global,
     table: &mut Table,
@@ -38,7 +38,7 @@ pub(crate) fn put<V: Field>(
     put_value(alloc, table, key, written)
 }
 
-/// Puts what a key may have, where it is there.
+/// Puts a value at a key that may have one, if there is a value.
 pub(crate) fn put_some<V: Field>(
     alloc: Global,
     table: &mut Table,
@@ -55,7 +55,7 @@ pub(crate) fn put_some<V: Field>(
     }
 }
 
-/// Puts a table, which is left out where nothing stands in it.
+/// Puts a table at a key, unless it is empty.
 pub(crate) fn put_unless_empty(
     alloc: Global,
     table: &mut Table,

@@ -1,4 +1,4 @@
-//! Sets put into tables, which are left out where they are empty.
+//! Sets put into tables, unless they are empty.
 ghost use Rattle.std.specs.Prelude.{◌≡◌, OnOk};
 ghost use Rattle.toml.specs.View.{table_view};
 ghost use Rattle.vet_files.specs.Field.{names, texts};
@@ -11,7 +11,7 @@ use toml::Table;
 use vet_base::names::Names;
 use vet_base::texts::Texts;
 
-/// Puts names, where there are any.
+/// Puts names at a key, if there are any.
 pub(crate) fn put_names(
     alloc: Global,
     table: &mut Table,
@@ -27,7 +27,7 @@ pub(crate) fn put_names(
     put(alloc, table, key, value)
 }
 
-/// Puts texts, where there are any.
+/// Puts texts at a key, if there are any.
 pub(crate) fn put_texts(
     alloc: Global,
     table: &mut Table,

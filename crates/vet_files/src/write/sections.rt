@@ -1,4 +1,4 @@
-//! In which of a file's tables of lists an entry stands.
+//! The tables of lists of a file, and the entries that are in each.
 ghost use Rattle.std.specs.Prelude.{◌≡◌};
 ghost use Rattle.vet_files.specs.EntryTables.{is_listed};
 
